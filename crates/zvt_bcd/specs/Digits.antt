@@ -1,0 +1,20 @@
+-- Binary coded decimals: two digits in each byte, the higher one in the upper half.
+use Rattle.std.specs.Prelude.{ℕ, ◌+◌, ◌*◌, ◌/◌, ◌%◌, ◌^◌, ◌≤◌, List, [], ◌∷◌, length}
+use Rattle.std.specs.List.{All}
+
+-- both halves of the byte are decimal digits
+abbrev pub IsDigitPair : ℕ → Type 0
+IsDigitPair byte = (byte / 16 ≤ 9) × (byte % 16 ≤ 9)
+
+-- each byte is two digits
+abbrev pub AreDigits : List ℕ → Type 0
+AreDigits = All IsDigitPair
+
+-- the number of a byte's two digits
+abbrev pub pair_number : ℕ → ℕ
+pair_number byte = byte / 16 * 10 + byte % 16
+
+-- each byte's two digits count a hundred to the power of the bytes after it
+abbrev pub number_of : List ℕ → ℕ
+number_of [] = 0
+number_of (byte ∷ rest) = pair_number byte * 100 ^ length rest + number_of rest

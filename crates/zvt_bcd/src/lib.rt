@@ -1,0 +1,15 @@
+//! Binary coded decimals, two digits in a byte, and the small values that are written in them.
+#![tactic(auto)]
+
+mod amount;
+mod currency;
+mod digits;
+mod trace;
+
+pub use amount::Amount;
+pub use currency::Currency;
+pub use digits::{is_digits, number, put};
+pub use trace::Trace;
+
+#[cfg(test)]
+mod tests;

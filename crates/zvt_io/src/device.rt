@@ -1,0 +1,40 @@
+//! What contracts know of a reader and of a writer.
+ghost use Rattle.std.specs.Prelude.{◌≡◌, ℕ, ◌+◌, List, Option};
+ghost use Rattle.zvt_io.specs.Devices.{Reads, Writes, CountsFailure};
+
+/// A read or a write failed. The device has counted it.
+#[derive(Clone, Copy, Debug, PartialEq, Eq)]
+pub struct Failed;
+
+/// Where bytes come from.
+pub trait Source {
+    /// The bytes that are still to come, where they are known.
+    ghost remaining: { Self → Option (List ℕ) };
+
+    /// How many reads have failed.
+    ghost failures: { Self → ℕ };
+
+    /// How many reads were made, failed ones included.
+    ghost reads: { Self → ℕ };
+
+    /// Reads into the front of the buffer, and answers how many bytes: 0 at the end, or where the
+    /// buffer is empty. A read that failed took no byte.
+    fn read(&mut self, buffer: &mut [u8]) -> Result<usize, Failed>
+        ensures bytes { Reads (remaining self.old) (remaining self.new) result buffer.new }
+        ensures failures { CountsFailure (failures self.old) (failures self.new) result }
+        ensures counted { reads self.new ≡ reads self.old + 1 };
+}
+
+/// Where bytes go.
+pub trait Sink {
+    /// The bytes that were written, where they are known.
+    ghost written: { Self → Option (List ℕ) };
+
+    /// How many writes have failed.
+    ghost failures: { Self → ℕ };
+
+    /// Writes all the bytes. A write that failed has written some front of them.
+    fn write_all(&mut self, bytes: &[u8]) -> Result<(), Failed>
+        ensures bytes { Writes (written self.old) (written self.new) result bytes.now }
+        ensures failures { CountsFailure (failures self.old) (failures self.new) result };
+}
