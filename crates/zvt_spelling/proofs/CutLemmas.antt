@@ -1,5 +1,5 @@
 -- What follows from spellings that end themselves, the grammar aside.
-use Rattle.std.proofs.Common.{◌≡◌, ℕ, List, [], ◌∷◌, ◌++◌, length, take, drop, refl, sym, ◌∙◌, ap, subst, append_assoc, append-nil}
+use Rattle.std.proofs.Common.{◌≡◌, ℕ, List, [], ◌∷◌, ◌++◌, length, drop, refl, sym, ◌∙◌, ap, subst, append_assoc, append-nil}
 use Rattle.std.proofs.Math.Seq.{drop-append_seam}
 use Rattle.zvt_spelling.specs.Beginnings.{NoneWhole}
 use Rattle.zvt_spelling.specs.Cuts.{Spelled}

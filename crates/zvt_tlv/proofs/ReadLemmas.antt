@@ -1,8 +1,7 @@
 -- Reading objects one after another.
-use Rattle.std.proofs.Common.{◌≡◌, ℕ, zero, suc, ◌+◌, ◌-◌, ◌*◌, ◌^◌, ◌<◌, ◌≤◌, Bool, true, false, cond, List, [], ◌∷◌, ◌++◌, length, map, take, drop, Option, Some, None, refl, sym, ◌∙◌, ap, arith, length-drop, append_assoc, append-nil}
+use Rattle.std.proofs.Common.{◌≡◌, ℕ, zero, suc, ◌+◌, ◌*◌, ◌<◌, ◌≤◌, Bool, true, false, cond, List, [], ◌∷◌, ◌++◌, length, take, drop, Option, Some, None, refl, sym, ◌∙◌, ap, arith, length-drop, append_assoc, append-nil}
 use Rattle.std.proofs.lemmas.List.{map-append}
 use Rattle.std.specs.Prelude.{option_map, nat_le, nat_lt, ◌==◌}
-use Rattle.zvt_spelling.specs.Reading.{AreBytes}
 use Rattle.zvt_tlv.specs.declared.Tlv.{Tlv}
 use Rattle.zvt_tlv.specs.Objects.{Object, objects_of, counted, counted_81, counted_82, with_content, first_of, before, read_from, read_of}
 

@@ -1,5 +1,5 @@
 -- Reading what was written.
-use Rattle.std.proofs.Common.{◌≡◌, ℕ, zero, suc, ◌+◌, ◌*◌, ◌/◌, ◌%◌, ◌^◌, ◌<◌, ◌≤◌, Bool, true, false, cond, List, [], ◌∷◌, ◌++◌, length, take, drop, Option, Some, None, refl, ap, arith, length-append, length-take, append_assoc, append-nil, add-one, drop-cons, get_or, sym, ◌∙◌}
+use Rattle.std.proofs.Common.{◌≡◌, ℕ, zero, suc, ◌+◌, ◌*◌, ◌/◌, ◌%◌, ◌^◌, ◌<◌, ◌≤◌, Bool, true, false, cond, List, [], ◌∷◌, ◌++◌, length, take, drop, Option, Some, None, refl, arith, length-append, length-take, append_assoc, append-nil, add-one, drop-cons, get_or, sym, ◌∙◌}
 use Rattle.std.specs.Prelude.{option_map, nat_le, nat_lt, ◌==◌}
 use Rattle.std.proofs.lemmas.Bool.Decides.{nat_tests}
 use Rattle.std.proofs.lemmas.List.{drop_all}
@@ -7,7 +7,7 @@ use Rattle.std.proofs.Math.Seq.{take-append_seam, drop-append_seam}
 use Rattle.zvt_spelling.specs.Reading.{AreBytes}
 use Rattle.zvt_tlv.specs.declared.Tlv.{Tlv}
 use Rattle.zvt_tlv.specs.Objects.{Object, objects_of, counted, counted_81, counted_82, length_bytes, with_content, first_of, before, read_from, read_of, write_of, ReadsWhatItWrites}
-use Rattle.zvt_tlv.proofs.ReadLemmas.{read_from-enough, read_of-step}
+use Rattle.zvt_tlv.proofs.ReadLemmas.{read_of-step}
 
 abbrev Counts : ℕ → List ℕ → Type 0
 Counts n bytes = (inside : List ℕ) → counted (bytes ++ inside) ≡ Some (n, inside)

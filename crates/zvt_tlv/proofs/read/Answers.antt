@@ -1,6 +1,6 @@
-use Rattle.std.proofs.Common.{◌≡◌, ◌<◌, ◌++◌, ◌∷◌, [], length, rules, sym, ◌∙◌, ap, subst, List, Option}
-use Rattle.zvt_tlv.specs.Objects.{Object, objects_of, read_of}
-use Rattle.zvt_tlv.proofs.ReadLemmas.{ends, goes_on, objects_of-push, prepend, stops}
+use Rattle.std.proofs.Common.{◌≡◌, ◌<◌, length, rules}
+use Rattle.zvt_tlv.specs.Objects.{objects_of, read_of}
+use Rattle.zvt_tlv.proofs.ReadLemmas.{ends, goes_on, objects_of-push, stops}
 use Rattle.zvt_tlv.proofs.read.Goals as goal
 
 pub returns-in_default : goal.returns-in_default

@@ -1,5 +1,4 @@
 use Rattle.std.proofs.Common.{rules}
-use Rattle.zvt_tlv.specs.Objects.{objects_of, write_of}
 use Rattle.zvt_tlv.proofs.WriteLemmas.{write_of-all, write_of-next}
 use Rattle.zvt_tlv.proofs.write.Goals as goal
 

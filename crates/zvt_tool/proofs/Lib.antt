@@ -1,0 +1,13 @@
+pub mod DataMoves
+pub mod FieldLemmas
+pub mod FieldLists
+pub mod FieldMoves
+pub mod Frames
+pub mod InputLemmas
+pub mod LineLemmas
+pub mod ListMoves
+pub mod OpeningMoves
+pub mod PieceLemmas
+pub mod SmallRows
+pub mod TraceLemmas
+pub mod Writing

@@ -1,0 +1,30 @@
+-- The lines that speak of a stream, not of a message.
+use Rattle.std.specs.Prelude.{ℕ, List, [], ◌∷◌, ◌++◌, codes}
+use Rattle.std.specs.Fmt.{decimal}
+use Rattle.zvt_spelling.specs.Names.{why_name}
+use Rattle.zvt_spelling.specs.declared.why.Why.{Why}
+use Rattle.zvt_tool.specs.declared.style.Direction.{Direction}
+use Rattle.zvt_tool.specs.declared.style.Direction.TheVariants.{FromTill, FromTerminal}
+use Rattle.zvt_tool.specs.declared.style.Style.{Style}
+use Rattle.zvt_tool.specs.declared.style.Style.TheVariants.{Join, Show}
+
+abbrev pub direction_text : Direction → List ℕ
+direction_text FromTill = codes ">"
+direction_text FromTerminal = codes "<"
+
+-- what stands before a line that is no part of a trace
+abbrev pub mark_of : Style → List ℕ
+mark_of Show = []
+mark_of Join = codes "# "
+
+abbrev pub refused_text : Style → Direction → ℕ → Why → List ℕ
+refused_text style from place why =
+    mark_of style ++ direction_text from ++ codes " refused at " ++ decimal place ++ codes ": " ++ why_name why ++ 10 ∷ []
+
+abbrev pub truncated_text : Style → Direction → ℕ → List ℕ
+truncated_text style from have =
+    mark_of style ++ direction_text from ++ codes " truncated after " ++ decimal have ++ 10 ∷ []
+
+abbrev pub lost_text : Style → List ℕ
+lost_text Show = codes "! line lost" ++ 10 ∷ []
+lost_text Join = codes "!" ++ 10 ∷ []

@@ -1,0 +1,61 @@
+//! What a command answers.
+ghost use Rattle.std.specs.Prelude.{◌≡◌};
+ghost use Rattle.zvt_tool.specs.declared.fault.ToolFault.TheVariants.{Memory};
+
+use std::alloc::{AllocError, AllocFailed};
+use std::fmt;
+use thiserror::Error;
+
+/// How many whole messages were read, and how many streams were refused or cut off.
+#[derive(Clone, Copy, Debug, PartialEq, Eq)]
+pub struct Tally {
+    pub messages: u64,
+    pub bad: u64,
+}
+
+/// What is wrong with a line of a trace.
+#[derive(Clone, Copy, Debug, PartialEq, Eq)]
+pub enum What {
+    /// It is no piece, no comment and no loss.
+    Form,
+    /// What follows the direction is no hexadecimal text.
+    Hex,
+}
+
+impl fmt::Display for What {
+    fn fmt<W: fmt::Write>(&self, f: &mut fmt::Formatter<W>) -> fmt::Result {
+        f.write_str(match self {
+            What::Form =>
+                "a line begins with '>' or '<' and goes on in hexadecimal, or is '!' alone, or begins with '#'",
+            What::Hex => "after '>' or '<' stand two hexadecimal digits for each byte, and spaces",
+        })
+    }
+}
+
+/// Why a command ended early. What earlier lines of the trace caused to be written stays written.
+#[derive(Debug, Drop, Error)]
+pub enum ToolFault {
+    /// A line of the trace, counted from 1, can't be read.
+    #[error("line {line} of the trace: {what}")]
+    Trace { line: u64, what: What },
+    /// Nothing was written.
+    #[error("the trace has more than 16777216 bytes: cut it at a line, and give the parts one by one")]
+    TooLong,
+    /// Nothing was written.
+    #[error("the trace can't be read to its end: see where standard input comes from")]
+    Read,
+    /// Some front of the text was written.
+    #[error("the text can't be written: see where standard output goes, and whether there is room")]
+    Write,
+    /// The text of the lines before the one that was being read was written.
+    #[error("there is too little memory for the trace: cut it at a line, and give the parts one by one")]
+    Memory,
+}
+
+impl From<AllocError> for ToolFault {
+    ghost from_gives = { λ _ fault. fault ≡ Memory };
+
+    fn from(_refused: AllocError) -> ToolFault {
+        ToolFault::Memory
+    }
+}
