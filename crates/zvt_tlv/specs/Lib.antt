@@ -1,1 +1,11 @@
-pub mod Objects
+pub mod Grammar
+pub mod Judging
+pub mod Trees
+pub mod Answers
+pub mod Spelled
+pub mod Coding
+pub mod Laws
+pub mod Sizes
+pub mod Checks
+pub mod Sized
+pub mod Lengths

@@ -1,8 +1,10 @@
--- The lines that speak of a stream, not of a message.
+-- What is said of a stream or a line, not of a message.
 use Rattle.std.specs.Prelude.{ℕ, List, [], ◌∷◌, ◌++◌, codes}
 use Rattle.std.specs.Fmt.{decimal}
 use Rattle.zvt_spelling.specs.Names.{why_name}
 use Rattle.zvt_spelling.specs.declared.why.Why.{Why}
+use Rattle.zvt_tool.specs.declared.fault.What.{What}
+use Rattle.zvt_tool.specs.declared.fault.What.TheVariants.{Form, Hex}
 use Rattle.zvt_tool.specs.declared.style.Direction.{Direction}
 use Rattle.zvt_tool.specs.declared.style.Direction.TheVariants.{FromTill, FromTerminal}
 use Rattle.zvt_tool.specs.declared.style.Style.{Style}
@@ -28,3 +30,8 @@ truncated_text style from have =
 abbrev pub lost_text : Style → List ℕ
 lost_text Show = codes "! line lost" ++ 10 ∷ []
 lost_text Join = codes "!" ++ 10 ∷ []
+
+-- what is wrong with a line of a trace, and what one looks like
+abbrev pub what_text : What → List ℕ
+what_text Form = codes "a line begins with '>' or '<' and goes on in hexadecimal, or is '!' alone, or begins with '#'"
+what_text Hex = codes "after '>' or '<' stand two hexadecimal digits for each byte, and spaces"

@@ -23,6 +23,11 @@ pub enum What {
 }
 
 impl fmt::Display for What {
+    ghost use Rattle.std.specs.Prelude.{Some};
+    ghost use Rattle.zvt_tool.specs.Lines.{what_text};
+
+    ghost output = { λ what. Some (what_text what) };
+
     fn fmt<W: fmt::Write>(&self, f: &mut fmt::Formatter<W>) -> fmt::Result {
         f.write_str(match self {
             What::Form =>

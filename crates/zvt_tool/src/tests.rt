@@ -118,6 +118,19 @@ fn faults_name_their_line(rt: HostRuntime) {
     }
 }
 
+#[test]
+fn faults_say_where_and_what_to_do(rt: HostRuntime) -> Result<(), Fail> {
+    let fault = ToolFault::Trace {
+        line: 2,
+        what: What::Hex,
+    };
+    let text = fault.to_string(rt.alloc())?;
+    let wanted =
+        "line 2 of the trace: after '>' or '<' stand two hexadecimal digits for each byte, and spaces";
+    assert_eq!(rt; text.as_str(), wanted);
+    Ok(())
+}
+
 /// Gives so many bytes of a remark, and then fails or ends.
 #[derive(Drop)]
 struct Remark {

@@ -1,0 +1,48 @@
+//! Laws of the grammar, each the contract of a function that does nothing.
+
+ghost use Rattle.zvt_tlv.specs.Laws.{EachSizeIsFilled, EachBeginningStands, PositionsAreOne, TestsDecide, EachSizedBeginningStands, SizedPositionsAreOne, SizedTestsDecide, AnswersAreOne, SizedAnswersAreOne, AnswersStay, SizedAnswersStay, ObjectsEndThemselves, RoomsEndThemselves, SizedEndThemselves, SpellingsAreOne, SizedSpellingsAreOne};
+
+/// Some objects have exactly that size, for each size but one byte.
+pub fn each_size_is_filled()
+    ensures { EachSizeIsFilled }
+{}
+
+/// What is alive and unfinished stands at one position, whose tests decide of each next byte whether it leaves the bytes
+/// alive.
+pub fn tests_decide()
+    ensures decide { TestsDecide }
+    ensures some { EachBeginningStands }
+    ensures one { PositionsAreOne }
+{}
+
+/// The same for a length and its objects.
+pub fn sized_tests_decide()
+    ensures decide { SizedTestsDecide }
+    ensures some { EachSizedBeginningStands }
+    ensures one { SizedPositionsAreOne }
+{}
+
+/// Whole, more and refused exclude one another, and a refusal has one place and one reason.
+pub fn answers_are_one()
+    ensures rooms { AnswersAreOne }
+    ensures sized { SizedAnswersAreOne }
+{}
+
+/// Bytes that come later change no answer but more.
+pub fn answers_stay()
+    ensures rooms { AnswersStay }
+    ensures sized { SizedAnswersStay }
+{}
+
+/// Where two spellings stand at the front of the same bytes, they are one, and of one value.
+pub fn spellings_end_themselves()
+    ensures objects { ObjectsEndThemselves }
+    ensures rooms { RoomsEndThemselves }
+    ensures sized { SizedEndThemselves }
+{}
+
+/// In the shortest reading each value has one spelling.
+pub fn spellings_are_one()
+    ensures objects { SpellingsAreOne }
+    ensures sized { SizedSpellingsAreOne }
+{}

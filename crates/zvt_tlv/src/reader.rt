@@ -1,0 +1,209 @@
+//! The readers. Each looks at no byte behind its room, and takes nothing from the bytes: after `More` the caller comes
+//! again with more of them from the same start. `Err` is want of memory alone.
+
+ghost use Rattle.std.specs.Prelude.{◌≢◌, [], ◌≤◌, ◌<◌, ◌^◌, IfOk};
+ghost use Rattle.zvt_spelling.specs.Beginnings.{Alive};
+ghost use Rattle.zvt_spelling.specs.Reading.{shortest, padded};
+ghost use Rattle.zvt_tlv.specs.Answers.{Answers, AnswersForest, ObjectFound, ObjectsFound};
+ghost use Rattle.zvt_tlv.specs.Lengths.{reading_of};
+ghost use Rattle.zvt_tlv.specs.Sized.{SizedIn, AnswersSized};
+
+use crate::heads::{scan_head, scan_size};
+use crate::lengths::Lengths;
+use crate::tags::Tag;
+use crate::trees::{Body, Forest, Tlv};
+use std::alloc::{AllocError, Global};
+use zvt_spelling::Scan;
+
+/// Reads the objects at that depth whose bytes are exactly the first `room` bytes, each length in its shortest form.
+/// No objects fill a room of a single byte.
+pub fn scan(
+    alloc: Global,
+    bytes: &[u8],
+    room: usize,
+    depth: usize,
+) -> Result<Scan<Forest>, AllocError>
+    requires small { room < 2 ^ 16 }
+    requires filled { room ≢ 1 }
+    requires least { 1 ≤ depth }
+    requires deepest { depth ≤ 6 }
+    ensures { IfOk result (AnswersForest shortest depth room bytes.now) }
+{
+    scan_forest(alloc, bytes, room, depth, Lengths::Shortest)
+}
+
+/// The same, where each length may stand in any form that holds it.
+pub fn scan_loose(
+    alloc: Global,
+    bytes: &[u8],
+    room: usize,
+    depth: usize,
+) -> Result<Scan<Forest>, AllocError>
+    requires small { room < 2 ^ 16 }
+    requires filled { room ≢ 1 }
+    requires least { 1 ≤ depth }
+    requires deepest { depth ≤ 6 }
+    ensures { IfOk result (AnswersForest padded depth room bytes.now) }
+{
+    scan_forest(alloc, bytes, room, depth, Lengths::Padded)
+}
+
+/// Reads a length and the objects at depth 1 that it counts, in a room of so many bytes of which not a single one may be
+/// left over: the objects, and the size of both. Each length stands in its shortest form. No such bytes fit a room of
+/// two.
+pub fn scan_sized(
+    alloc: Global,
+    bytes: &[u8],
+    room: usize,
+) -> Result<Scan<(Forest, usize)>, AllocError>
+    requires some { room ≢ 0 }
+    requires filled { room ≢ 2 }
+    requires small { room < 2 ^ 16 }
+    ensures { IfOk result (AnswersSized shortest room bytes.now) }
+{
+    scan_sized_forest(alloc, bytes, room, Lengths::Shortest)
+}
+
+/// The same, where each length may stand in any form that holds it. In a room of two stands `81 00`.
+pub fn scan_sized_loose(
+    alloc: Global,
+    bytes: &[u8],
+    room: usize,
+) -> Result<Scan<(Forest, usize)>, AllocError>
+    requires some { room ≢ 0 }
+    requires small { room < 2 ^ 16 }
+    ensures { IfOk result (AnswersSized padded room bytes.now) }
+{
+    scan_sized_forest(alloc, bytes, room, Lengths::Padded)
+}
+
+fn scan_forest(
+    alloc: Global,
+    bytes: &[u8],
+    room: usize,
+    depth: usize,
+    lengths: Lengths,
+) -> Result<Scan<Forest>, AllocError>
+    requires small { room < 2 ^ 16 }
+    requires filled { room ≢ 1 }
+    requires least { 1 ≤ depth }
+    requires deepest { depth ≤ 6 }
+    ensures { IfOk result (AnswersForest (reading_of lengths) depth room bytes.now) }
+{
+    Ok(match scan_objects(alloc, bytes, room, depth, lengths)? {
+        Scan::Whole(objects) => Scan::Whole(Forest::of(objects)),
+        Scan::More => Scan::More,
+        Scan::Refused { place, why } => Scan::Refused { place, why },
+    })
+}
+
+fn scan_sized_forest(
+    alloc: Global,
+    bytes: &[u8],
+    room: usize,
+    lengths: Lengths,
+) -> Result<Scan<(Forest, usize)>, AllocError>
+    requires small { room < 2 ^ 16 }
+    requires begun { Alive (SizedIn (reading_of lengths) room) [] }
+    ensures { IfOk result (AnswersSized (reading_of lengths) room bytes.now) }
+{
+    let (start, size) = match scan_size(bytes, room, lengths) {
+        Scan::Whole(found) => found,
+        Scan::More => return Ok(Scan::More),
+        Scan::Refused { place, why } => return Ok(Scan::Refused { place, why }),
+    };
+    Ok(
+        match scan_objects(alloc, &bytes[start..], size, 1, lengths)? {
+            Scan::Whole(objects) => Scan::Whole((Forest::of(objects), start + size)),
+            Scan::More => Scan::More,
+            Scan::Refused { place, why } => Scan::Refused {
+                place: start + place,
+                why,
+            },
+        },
+    )
+}
+
+/// Reads the objects that fill a room of so many bytes.
+#[cycle(scan)]
+fn scan_objects(
+    alloc: Global,
+    bytes: &[u8],
+    room: usize,
+    depth: usize,
+    lengths: Lengths,
+) -> Result<Scan<Vec<Tlv>>, AllocError>
+    requires filled { room ≢ 1 }
+    requires small { room < 2 ^ 16 }
+    requires depth { depth ≤ 6 }
+    ensures { IfOk result (Answers (reading_of lengths) depth room bytes.now (λ objects. ObjectsFound (reading_of lengths) depth room bytes.now objects.items)) }
+{
+    let mut objects = Vec::new(alloc);
+    let mut taken = 0;
+    while taken < room {
+        match scan_object(alloc, &bytes[taken..], room - taken, depth, lengths)? {
+            Scan::Whole((object, size)) => {
+                objects.push(object)?;
+                taken += size;
+            }
+            Scan::More => return Ok(Scan::More),
+            Scan::Refused { place, why } => return Ok(Scan::Refused {
+                place: taken + place,
+                why,
+            }),
+        }
+    }
+    Ok(Scan::Whole(objects))
+}
+
+/// Reads one object, in a room of so many bytes: the object and its size.
+#[cycle(scan)]
+fn scan_object(
+    alloc: Global,
+    bytes: &[u8],
+    room: usize,
+    depth: usize,
+    lengths: Lengths,
+) -> Result<Scan<(Tlv, usize)>, AllocError>
+    requires some { 0 < room }
+    requires filled { room ≢ 1 }
+    requires small { room < 2 ^ 16 }
+    requires depth { depth ≤ 6 }
+    ensures { IfOk result (Answers (reading_of lengths) depth room bytes.now (λ found. ObjectFound (reading_of lengths) depth room bytes.now found.0 found.1)) }
+{
+    let head = match scan_head(bytes, room, depth, lengths) {
+        Scan::Whole(head) => head,
+        Scan::More => return Ok(Scan::More),
+        Scan::Refused { place, why } => return Ok(Scan::Refused { place, why }),
+    };
+    let tag = Tag::of(&bytes[..head.tag_size]);
+    let content = &bytes[head.size..];
+    let size = head.size + head.content;
+    if head.constructed {
+        return match scan_objects(alloc, content, head.content, depth + 1, lengths)? {
+            Scan::Whole(objects) => Ok(Scan::Whole((
+                Tlv {
+                    tag,
+                    body: Body::Cons(objects),
+                },
+                size,
+            ))),
+            Scan::More => Ok(Scan::More),
+            Scan::Refused { place, why } => Ok(Scan::Refused {
+                place: head.size + place,
+                why,
+            }),
+        };
+    }
+    if content.len() < head.content {
+        return Ok(Scan::More);
+    }
+    let bytes = Vec::from_slice(alloc, &content[..head.content])?;
+    Ok(Scan::Whole((
+        Tlv {
+            tag,
+            body: Body::Prim(bytes),
+        },
+        size,
+    )))
+}

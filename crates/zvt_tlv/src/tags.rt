@@ -1,0 +1,88 @@
+//! Tags.
+
+ghost use Rattle.std.specs.Prelude.{◌≡◌, length, ◌≤◌, IfSome, IfNone};
+ghost use Rattle.zvt_tlv.specs.Grammar.{IsTag, is_constructed};
+
+use std::marker::Model;
+
+/// One to three bytes that name an object and say whether it holds other objects. Contracts see their list.
+#[derive(Drop)]
+pub struct Tag {
+    bytes: [u8; 3],
+    count: usize,
+}
+
+impl Model for Tag {
+    ghost use Rattle.std.specs.Prelude.{ℕ, List, take, ◌≤◌};
+    ghost use Rattle.zvt_tlv.specs.Grammar.{IsTag};
+
+    ghost Value = { List ℕ };
+
+    ghost view = { λ t. take t.count t.bytes };
+
+    ghost invariant = { λ t. (t.count ≤ 3) × IsTag (take t.count t.bytes) };
+}
+
+impl Tag {
+    /// The tag of these bytes, if they are one and no more: where the low five bits of the first are all ones a
+    /// second follows, and where bit 8 of that is set a third, whose bit 8 is clear.
+    pub fn checked(bytes: &[u8]) -> Option<Tag>
+        ensures some { IfSome result (λ t. (t ≡ bytes.now) × IsTag bytes.now) }
+        ensures none { IfNone result (IsTag bytes.now → ⊥) }
+    {
+        match bytes {
+            [first] if *first % 32 != 31 => Some(Tag::of(bytes)),
+            [first, second] if *first % 32 == 31 && *second < 128 => Some(Tag::of(bytes)),
+            [first, second, third] if *first % 32 == 31 && *second >= 128 && *third < 128 => Some(
+                Tag::of(bytes),
+            ),
+            _ => None,
+        }
+    }
+
+    /// The tag of bytes that are one.
+    pub(crate) fn of(bytes: &[u8]) -> Tag
+        requires { IsTag bytes.now }
+        ensures { result ≡ bytes.now }
+    {
+        match bytes {
+            [first] => Tag {
+                bytes: [*first, 0, 0],
+                count: 1,
+            },
+            [first, second] => Tag {
+                bytes: [*first, *second, 0],
+                count: 2,
+            },
+            [first, second, third] => Tag {
+                bytes: [*first, *second, *third],
+                count: 3,
+            },
+            _ => unreachable!(),
+        }
+    }
+
+    /// Its bytes.
+    pub fn bytes(&self) -> &[u8]
+        ensures value { result.now ≡ self.now }
+        ensures tag { IsTag self.now }
+    {
+        &self.bytes[..self.count]
+    }
+
+    /// Whether it says that the content is objects: bit 6 of the first byte.
+    pub fn constructed(&self) -> bool
+        ensures value { result ≡ is_constructed self.now }
+        ensures tag { IsTag self.now }
+    {
+        self.bytes[0] / 32 % 2 == 1
+    }
+
+    /// How many bytes it has.
+    pub(crate) fn size(&self) -> usize
+        ensures value { result ≡ length self.now }
+        ensures small { result ≤ 3 }
+    {
+        self.count
+    }
+}

@@ -1,0 +1,92 @@
+//! Objects and their trees.
+
+ghost use Rattle.std.specs.Prelude.{◌≡◌, ◌↔◌, IsOk, IfOk, IfErr};
+ghost use Rattle.zvt_tlv.specs.Checks.{HasFault};
+ghost use Rattle.zvt_tlv.specs.Spelled.{HasSpelling};
+ghost use Rattle.zvt_tlv.specs.Trees.{objects_of};
+
+use crate::checks::first_fault;
+use crate::tags::Tag;
+use std::marker::Model;
+
+/// An object: its tag and what it holds.
+#[derive(Drop)]
+#[cycle(tree)]
+pub struct Tlv {
+    pub tag: Tag,
+    pub body: Body,
+}
+
+/// What an object holds.
+#[derive(Drop)]
+#[cycle(tree)]
+pub enum Body {
+    /// Bytes, under a primitive tag.
+    Prim(Vec<u8>),
+    /// Objects in order, under a constructed tag.
+    Cons(Vec<Tlv>),
+}
+
+/// Objects that have a spelling: from depth 1 on, of at most 65,535 bytes. Contracts see their tree.
+#[derive(Drop)]
+pub struct Forest {
+    objects: Vec<Tlv>,
+}
+
+impl Model for Forest {
+    ghost use Rattle.zvt_tlv.specs.Grammar.{Objects};
+    ghost use Rattle.zvt_tlv.specs.Coding.{objects_code};
+
+    ghost Value = { Objects };
+
+    ghost coded = { objects_code };
+
+    ghost use Rattle.zvt_tlv.specs.Trees.{objects_of};
+    ghost use Rattle.zvt_tlv.specs.Spelled.{HasSpelling};
+
+    ghost view = { λ f. objects_of f.objects.items };
+
+    ghost invariant = { λ f. HasSpelling (objects_of f.objects.items) };
+}
+
+/// Why objects have no spelling.
+#[derive(Clone, Copy, Debug, PartialEq, Eq)]
+pub enum BadForest {
+    /// A tag and its body disagree: one says objects, the other holds bytes, or the other way round.
+    Kind,
+    /// More than six objects stand in one another, or six do and the innermost is constructed.
+    TooDeep,
+    /// The spelling would have more than 65,535 bytes.
+    TooLarge,
+}
+
+impl Forest {
+    /// The forest of these objects, if they have a spelling; else the list again, and the first of the three reasons
+    /// that holds.
+    pub fn checked(objects: Vec<Tlv>) -> Result<Forest, (Vec<Tlv>, BadForest)>
+        ensures value { IfOk result (λ f. f ≡ objects_of objects.items) }
+        ensures exact { IsOk result ↔ HasSpelling (objects_of objects.items) }
+        ensures refused { IfErr result (λ e. (e.0 ≡ objects) × HasFault (objects_of objects.items) e.1) }
+    {
+        match first_fault(&objects) {
+            Some(fault) => Err((objects, fault)),
+            None => Ok(Forest { objects }),
+        }
+    }
+
+    /// The forest of objects that have a spelling.
+    pub(crate) fn of(objects: Vec<Tlv>) -> Forest
+        requires { HasSpelling (objects_of objects.items) }
+        ensures { result ≡ objects_of objects.items }
+    {
+        Forest { objects }
+    }
+
+    /// Its objects, in order.
+    pub fn objects(&self) -> &[Tlv]
+        ensures list { objects_of result.now ≡ self.now }
+        ensures spelled { HasSpelling self.now }
+    {
+        &self.objects
+    }
+}
