@@ -25,6 +25,19 @@ fn numbers_fill_their_digits(rt: HostRuntime) {
 }
 
 #[test]
+fn lengths_have_a_digit_in_each_byte(rt: HostRuntime) {
+    let mut two = [0; 2];
+    ll_put(37, &mut two);
+    assert_eq!(rt; two, [0xF3, 0xF7]);
+    let mut three = [0; 3];
+    lll_put(128, &mut three);
+    assert_eq!(rt; three, [0xF1, 0xF2, 0xF8]);
+    assert_eq!(rt; ll_digit(0xF9), Some(9));
+    assert_eq!(rt; ll_digit(0xFA), None);
+    assert_eq!(rt; ll_digit(0x39), None);
+}
+
+#[test]
 fn values_have_their_limits(rt: HostRuntime) -> Result<(), Fail> {
     assert!(rt; Amount::new(0).is_none());
     assert_eq!(rt; Amount::new(1234).ok_or("an amount")?.get(), 1234);

@@ -1,5 +1,5 @@
 -- Each beginning that can be completed, and is not whole, stands at a position.
-use Rattle.std.proofs.Common.{◌≡◌, ℕ, ◌+◌, ◌-◌, ◌<◌, Bool, true, false, List, [], ◌∷◌, ◌++◌, length, refl, sym, ◌∙◌, ap, subst, append_assoc, arith, length-append, ◌⊎◌, suc, inl, inr}
+use Rattle.std.proofs.Common.{◌≡◌, ℕ, ◌+◌, ◌-◌, ◌<◌, ◌≤◌, Bool, true, false, List, [], ◌∷◌, ◌++◌, length, refl, sym, ◌∙◌, ap, subst, append_assoc, arith, length-append, ◌⊎◌, suc, inl, inr}
 use Rattle.std.proofs.lemmas.List.{append-nil}
 use Rattle.zvt_spelling.specs.Reading.{Reading}
 use Rattle.zvt_tlv.specs.Grammar.{Objects, none, primitive, constructed, IsLength, Spells}
@@ -60,7 +60,7 @@ here : (r : Reading) (d room : ℕ) (b : List ℕ) → Part r d b → length b <
 here r d room b p lt = record { openers = []; at = d; role = p.role; left = room - length b - 1; position = (none, [], b, refl, refl, p.begins, omega arith, refl) }
 
 -- where the rest of a front begins
-split : (a x b y : List ℕ) → a ++ x ≡ b ++ y → (((m : List ℕ) × (z : ℕ) × (a ≡ b ++ z ∷ m)) ⊎ ((m : List ℕ) × (b ≡ a ++ m) × (x ≡ m ++ y)))
+pub split : (a x b y : List ℕ) → a ++ x ≡ b ++ y → (((m : List ℕ) × (z : ℕ) × (a ≡ b ++ z ∷ m)) ⊎ ((m : List ℕ) × (b ≡ a ++ m) × (x ≡ m ++ y)))
 split [] x b y e = inr (b, refl, e)
 split (z ∷ a) x [] y e = inl (a, z, refl)
 split (z ∷ a) x (w ∷ b) y e =
@@ -146,27 +146,34 @@ pub record SizedStands (r : Reading) (room : ℕ) (b : List ℕ) : Type 0 where
   pub left : ℕ
   pub position : PositionSized r room openers b at role left
 
-pub sized_stands : (r : Reading) (room : ℕ) (b : List ℕ) → Unfinished (SizedIn r room) b → SizedStands r room b
-sized_stands r room b u = by_size (split p.size p.content b u.alive.rest (sym p.whole))
+-- a front of a length and its objects
+pub sized_front : (r : Reading) (room : ℕ) (f : Objects) (one b : List ℕ) (y : ℕ) (x : List ℕ) → Sized r f one → one ≡ b ++ y ∷ x → length one ≤ room → SizedStands r room b
+sized_front r room f one b y x p e within = by_size (split p.size p.content b (y ∷ x) (sym p.whole ∙ e))
   where
-    p : Sized r u.alive.value (b ++ u.alive.rest)
-    p = u.alive.spelled.spelled
-
-    by_rest : (rest m : List ℕ) → u.alive.rest ≡ rest → b ≡ p.size ++ m → p.content ≡ m ++ rest → SizedStands r room b
-    by_rest [] m e k c = absurd (u.none_whole u.alive.value b [] (sym (append-nil b)) (subst (SizedIn r room u.alive.value) (ap (λ (v : List ℕ). b ++ v) e ∙ append-nil b) u.alive.spelled))
-    by_rest (y ∷ x) m e k c =
-        let h = position_exists r 1 u.alive.value p.content m y x p.inside c in
+    by_size : (((m : List ℕ) × (z : ℕ) × (p.size ≡ b ++ z ∷ m)) ⊎ ((m : List ℕ) × (b ≡ p.size ++ m) × (p.content ≡ m ++ y ∷ x))) → SizedStands r room b
+    by_size (inl q) =
+        let h = size_part r 0 (length p.content) true (0x25 ∷ []) p.size b q.1 q.0 (record { is_tag = (omega arith, refl); is_kind = refl; deep = λ e. omega arith }) p.is_length q.2 in
+        record {
+          openers = [];
+          at = 0;
+          role = h.role;
+          left = room - length b - 1;
+          position = (h.begins, omega (arith, within, ap length e, length-append b (y ∷ x)), refl);
+        }
+    by_size (inr q) =
+        let h = position_exists r 1 f p.content q.0 y x p.inside q.2 in
         record {
           openers = record { items = none; done = []; tag = []; size = p.size; content = length p.content } ∷ h.openers;
           at = h.at;
           role = h.role;
           left = h.left;
-          position = (m, k, p.is_length, omega (arith, ap length c, length-append m (y ∷ x)), h.position);
+          position = (q.0, q.1, p.is_length, omega (arith, ap length q.2, length-append q.0 (y ∷ x)), h.position);
         }
 
-    by_size : (((m : List ℕ) × (z : ℕ) × (p.size ≡ b ++ z ∷ m)) ⊎ ((m : List ℕ) × (b ≡ p.size ++ m) × (p.content ≡ m ++ u.alive.rest))) → SizedStands r room b
-    by_size (inl q) =
-        let h = size_part r 0 (length p.content) true (0x25 ∷ []) p.size b q.1 q.0 (record { is_tag = (omega arith, refl); is_kind = refl; deep = λ e. omega arith }) p.is_length q.2 in
-        let longer : length b < length (b ++ u.alive.rest) = omega (arith, ap length p.whole, length-append p.size p.content, ap length q.2, length-append b (q.1 ∷ q.0)) in
-        record { openers = []; at = 0; role = h.role; left = room - length b - 1; position = (h.begins, omega (arith, longer, u.alive.spelled.filled), refl) }
-    by_size (inr q) = by_rest u.alive.rest q.0 refl q.1 q.2
+pub sized_stands : (r : Reading) (room : ℕ) (b : List ℕ) → Unfinished (SizedIn r room) b → SizedStands r room b
+sized_stands r room b u = by_rest u.alive.rest refl
+  where
+    by_rest : (rest : List ℕ) → u.alive.rest ≡ rest → SizedStands r room b
+    by_rest [] e = absurd (u.none_whole u.alive.value b [] (sym (append-nil b)) (subst (SizedIn r room u.alive.value) (ap (λ (v : List ℕ). b ++ v) e ∙ append-nil b) u.alive.spelled))
+    by_rest (y ∷ x) e =
+        sized_front r room u.alive.value (b ++ u.alive.rest) b y x u.alive.spelled.spelled (ap (λ (v : List ℕ). b ++ v) e) (omega (arith, u.alive.spelled.filled))

@@ -4,6 +4,7 @@ ghost use Rattle.std.specs.Prelude.{◌≡◌, ℕ, List, length, ◌+◌, ◌<�
 ghost use Rattle.zvt_spelling.specs.Reading.{shortest};
 ghost use Rattle.zvt_tlv.specs.Grammar.{none, Spells};
 ghost use Rattle.zvt_tlv.specs.Sizes.{length_size, whole_size, size_of};
+ghost use Rattle.zvt_tlv.specs.Spelled.{HasSpelling};
 ghost use Rattle.zvt_tlv.specs.Trees.{before, objects_of};
 
 use crate::trees::{Body, Forest, Tlv};
@@ -12,6 +13,7 @@ use crate::trees::{Body, Forest, Tlv};
 pub fn size(forest: &Forest) -> usize
     ensures value { result ≡ size_of forest.now }
     ensures spelling { (bytes : List ℕ) → Spells shortest 1 forest.now bytes → length bytes ≡ result }
+    ensures spelled { HasSpelling forest.now }
     ensures small { result < 2 ^ 16 }
 {
     objects_size(forest.objects())

@@ -1,0 +1,17 @@
+use Rattle.std.proofs.Common.{arith}
+use Rattle.zvt_field.proofs.NamedLemmas.{trace_digits, trace_small, is_trace}
+use Rattle.zvt_field.proofs.named.trace.Goals as goal
+
+pub number-requires-clause-digits : goal.number-requires-clause-digits
+number-requires-clause-digits c = (trace_digits c.in_ok-content.field-0.now c.in_ok-content.ensures.spelled).0
+
+pub number-requires-clause-short : goal.number-requires-clause-short
+number-requires-clause-short c = omega (arith, trace_digits c.in_ok-content.field-0.now c.in_ok-content.ensures.spelled)
+
+pub overflow_cast-number : goal.overflow_cast-number
+overflow_cast-number c = omega (arith, trace_small c.in_ok-content.field-0.now c.number.result c.number.ensures.bound c.in_ok-content.ensures.spelled)
+
+pub returns : goal.returns
+returns c =
+    is_trace c.args.fields.now c.in_ok-content.field-0.now c.number.result c.new.result c.in_ok-content.ensures.content c.number.ensures.value
+    (trace_small c.in_ok-content.field-0.now c.number.result c.number.ensures.bound c.in_ok-content.ensures.spelled) c.new.ensures.given c.new.ensures.value

@@ -1,0 +1,72 @@
+-- What the reader answers, in the terms of the grammar.
+use Rattle.std.specs.Prelude.{◌≡◌, ◌≢◌, ℕ, ◌+◌, ◌*◌, ◌-◌, ◌<◌, ◌≤◌, Some, None, Result, Ok, Err, List, [], ◌∷◌, length, take, suc}
+use Rattle.zvt_spelling.specs.declared.why.Why.{Why}
+use Rattle.zvt_spelling.specs.declared.answer.Scan.{Scan}
+use Rattle.zvt_spelling.specs.declared.answer.Scan.TheVariants.{Whole, More, Refused}
+use Rattle.zvt_spelling.specs.Reading.{Reading, shortest}
+use Rattle.zvt_field.specs.Grammar.{Field, FieldOf, FieldList, IsHead}
+use Rattle.zvt_field.specs.declared.shapes.Shape.{Shape}
+use Rattle.zvt_field.specs.declared.shapes.Shape.TheVariants.{Tree}
+use Rattle.zvt_field.specs.declared.reader.Head.{Head}
+use Rattle.zvt_field.specs.Shapes.{shape_of}
+use Rattle.zvt_field.specs.Judging.{AliveIn, PlaceIn, WhyIn, name, digit, count_digits, fault}
+
+-- Whole with the fields that fill the room; More where the bytes are too few and alive; else the place and the reason.
+abbrev pub Answers : Reading → (room : ℕ) → (bytes : List ℕ) → Scan (List Field) → Type 0
+Answers r room bytes (Whole fields) = (room ≤ length bytes) × FieldList r fields (take room bytes)
+Answers r room bytes More = (length bytes < room) × AliveIn r room bytes
+Answers r room bytes (Refused place why) = PlaceIn r room bytes place × WhyIn r room bytes place why
+
+-- A field stands first, and not a single byte is left over behind it.
+pub record FieldFound (r : Reading) (room : ℕ) (bytes : List ℕ) (field : Field) (size : ℕ) : Type 0 where
+  pub present : size ≤ length bytes
+  pub spelled : FieldOf r field (take size bytes)
+  pub left : ℕ
+  pub filled : size + left ≡ room
+  pub apart : left ≢ 1
+
+abbrev pub AnswersOne : Reading → (room : ℕ) → (bytes : List ℕ) → Scan (Field × ℕ) → Type 0
+AnswersOne r room bytes (Whole found) = FieldFound r room bytes found.0 found.1
+AnswersOne r room bytes More = (length bytes < room) × AliveIn r room bytes
+AnswersOne r room bytes (Refused place why) = PlaceIn r room bytes place × WhyIn r room bytes place why
+
+-- What stands before a content stands first, and the bytes are alive behind it.
+pub record HeadFound (room : ℕ) (bytes : List ℕ) (head : Head) : Type 0 where
+  pub bmp : ℕ
+  pub size : List ℕ
+  pub present : head.start ≤ length bytes
+  pub whole : take head.start bytes ≡ bmp ∷ size
+  pub is_head : IsHead (shape_of bmp) head.digits head.size size
+  pub alive : AliveIn shortest room (take head.start bytes)
+
+abbrev pub AnswersHead : (room : ℕ) → (bytes : List ℕ) → Scan Head → Type 0
+AnswersHead room bytes (Whole head) = HeadFound room bytes head
+AnswersHead room bytes More = (length bytes < room) × AliveIn shortest room bytes
+AnswersHead room bytes (Refused place why) = PlaceIn shortest room bytes place × WhyIn shortest room bytes place why
+
+-- A name whose length has so many digits stands first, and is alive.
+pub record InName (room : ℕ) (bytes : List ℕ) (digits : ℕ) : Type 0 where
+  pub bmp : ℕ
+  pub whole : take 1 bytes ≡ bmp ∷ []
+  pub counts : count_digits (shape_of bmp) ≡ digits
+  pub alive : AliveIn shortest room (bmp ∷ [])
+
+-- A container's name stands first, and is alive.
+pub record InContainer (room : ℕ) (bytes : List ℕ) : Type 0 where
+  pub bmp : ℕ
+  pub inside : List ℕ
+  pub whole : bytes ≡ bmp ∷ inside
+  pub is_tree : shape_of bmp ≡ Some Tree
+  pub level : ℕ
+  pub filled : suc level ≡ room
+  pub some : level ≢ 0
+  pub apart : level ≢ 2
+
+-- A byte's tests, and what they let through.
+abbrev pub JudgesName : (left byte : ℕ) → Result Shape Why → Type 0
+JudgesName left byte (Ok shape) = (fault shortest name left byte ≡ None) × (shape_of byte ≡ Some shape)
+JudgesName left byte (Err why) = fault shortest name left byte ≡ Some why
+
+abbrev pub JudgesDigit : (more before left byte : ℕ) → Result ℕ Why → Type 0
+JudgesDigit more before left byte (Ok number) = (fault shortest (digit more before) left byte ≡ None) × (number ≡ 10 * before + (byte - 0xF0))
+JudgesDigit more before left byte (Err why) = fault shortest (digit more before) left byte ≡ Some why

@@ -1,0 +1,9 @@
+pub mod Shapes
+pub mod Grammar
+pub mod Judging
+pub mod Spelling
+pub mod Bodies
+pub mod Lists
+pub mod Named
+pub mod Answers
+pub mod Laws

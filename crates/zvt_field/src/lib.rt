@@ -1,0 +1,24 @@
+//! The fields of a message: a byte, the BMP, that names each one, and a content of the kind that the BMP says.
+#![tactic(auto)]
+
+mod bodies;
+pub mod judging;
+pub mod laws;
+mod lists;
+mod named;
+mod reader;
+mod shapes;
+mod sizes;
+mod table;
+#[cfg(test)]
+mod tests;
+mod writer;
+
+pub use bodies::{BadField, Field, FieldBody};
+pub use lists::{Fields, PushRefusal};
+pub use named::{amount, count, currency, only, original, receipt, result, trace};
+pub use reader::scan;
+pub use shapes::Shape;
+pub use sizes::size;
+pub use table::shape;
+pub use writer::write_into;

@@ -1,0 +1,89 @@
+//! Fields that stand together, and what they need to have a spelling.
+
+ghost use Rattle.std.specs.Prelude.{◌≡◌, [], ◌∷◌, ◌++◌, OnOk, OnErr, IfErr};
+ghost use Rattle.zvt_field.specs.Bodies.{HaveSpelling};
+ghost use Rattle.zvt_field.specs.Lists.{HaveSize, Refuses};
+
+use crate::Field;
+use crate::sizes::{LARGEST, field_size};
+use std::alloc::Global;
+use std::marker::Model;
+
+/// Fields that have a spelling together, and its size.
+#[derive(Drop)]
+pub struct Fields {
+    list: Vec<Field>,
+    pub(crate) size: usize,
+}
+
+impl Model for Fields {
+    ghost use Rattle.std.specs.Prelude.{List};
+    ghost use Rattle.std.specs.Coded.{coded_list};
+    ghost use Rattle.zvt_field.specs.Grammar.{Field, field_code};
+
+    ghost Value = { List Field };
+
+    ghost coded = { coded_list field_code };
+
+    ghost use Rattle.zvt_field.specs.Lists.{HaveSize};
+
+    ghost view = { λ f. f.list.items };
+
+    ghost invariant = { λ f. HaveSize f.list.items f.size };
+}
+
+/// Why a field can't stand behind others. The field is handed back.
+#[derive(Drop)]
+pub enum PushRefusal {
+    /// The fields would have more than 65,535 bytes with it.
+    TooLarge(Field),
+    /// No memory was left.
+    Memory(Field),
+}
+
+impl Fields {
+    /// No fields.
+    pub fn new(alloc: Global) -> Fields
+        ensures { result ≡ [] }
+    {
+        Fields {
+            list: Vec::new(alloc),
+            size: 0,
+        }
+    }
+
+    /// The fields of a list whose spelling has that size.
+    pub(crate) fn of(list: Vec<Field>, size: usize) -> Fields
+        requires { HaveSize list.items size }
+        ensures { result ≡ list.items }
+    {
+        Fields { list, size }
+    }
+
+    /// Puts a field behind the others, where 65,535 bytes hold them all.
+    pub fn push(&mut self, field: Field) -> Result<(), PushRefusal>
+        ensures ok { OnOk result (self.new ≡ self.old ++ field ∷ []) }
+        ensures spelled { OnOk result (HaveSpelling (self.old ++ field ∷ [])) }
+        ensures err { OnErr result (self.new ≡ self.old) }
+        ensures refused { IfErr result (Refuses self.old field) }
+    {
+        let size = self.size + field_size(&field);
+        if size > LARGEST {
+            return Err(PushRefusal::TooLarge(field));
+        }
+        if self.list.reserve(1).is_err() {
+            return Err(PushRefusal::Memory(field));
+        }
+        self.list.push_reserved(field);
+        self.size = size;
+        Ok(())
+    }
+
+    /// The fields, in order.
+    pub fn list(&self) -> &[Field]
+        ensures list { result.now ≡ self.now }
+        ensures spelled { HaveSpelling self.now }
+    {
+        &self.list
+    }
+}

@@ -1,0 +1,96 @@
+//! What single fields say.
+
+ghost use Rattle.std.specs.Prelude.{◌≡◌, ℕ, IfSome};
+ghost use Rattle.std.specs.Option.{option_copied};
+ghost use Rattle.zvt_field.specs.Grammar.{plain};
+ghost use Rattle.zvt_field.specs.Bodies.{HasSpelling};
+ghost use Rattle.zvt_field.specs.Named.{count_of, only_of, content_of, amount_of, trace_of, result_of, receipt_of, currency_of, original_of};
+
+use crate::{Field, FieldBody, Fields};
+use zvt_bcd::{Amount, Currency, Trace, number};
+
+/// The field of that BMP, where it stands exactly once.
+pub fn only(fields: &Fields, bmp: u8) -> Option<&Field>
+    ensures { option_copied result ≡ only_of bmp fields.now }
+{
+    let mut found = None;
+    for field in fields.list() {
+        if field.bmp() == bmp {
+            if found.is_some() {
+                return None;
+            }
+            found = Some(field);
+        }
+    }
+    found
+}
+
+/// How often that BMP stands.
+pub fn count(fields: &Fields, bmp: u8) -> usize
+    ensures { result ≡ count_of bmp fields.now }
+{
+    fields
+        .list()
+        .iter()
+        .filter(|field| field.bmp() == bmp)
+        .count()
+}
+
+/// The bytes of the field of that BMP, where it stands exactly once.
+fn content(fields: &Fields, bmp: u8) -> Option<&[u8]>
+    ensures content { option_copied result ≡ content_of bmp fields.now }
+    ensures spelled { IfSome result (λ bytes. HasSpelling (plain bmp bytes.now)) }
+{
+    match only(fields, bmp)?.body() {
+        FieldBody::Bytes(bytes) => Some(bytes),
+        FieldBody::Tree(_) => None,
+    }
+}
+
+/// The amount in BMP 04, where it stands exactly once and isn't zero.
+pub fn amount(fields: &Fields) -> Option<Amount>
+    ensures { result ≡ amount_of fields.now }
+{
+    Amount::new(number(content(fields, 0x04)?))
+}
+
+/// The trace number in BMP 0B, where it stands exactly once.
+pub fn trace(fields: &Fields) -> Option<Trace>
+    ensures { result ≡ trace_of fields.now }
+{
+    Trace::new(number(content(fields, 0x0B)?) as u32)
+}
+
+/// The result code in BMP 27, where it stands exactly once.
+pub fn result(fields: &Fields) -> Option<u8>
+    ensures { result ≡ result_of fields.now }
+{
+    content(fields, 0x27)?.first().copied()
+}
+
+/// The receipt number in BMP 87, where it stands exactly once: two bytes as they were read, digits or not.
+pub fn receipt(fields: &Fields) -> Option<[u8; 2]>
+    ensures { result ≡ receipt_of fields.now }
+{
+    match content(fields, 0x87)? {
+        [high, low] => Some([*high, *low]),
+        _ => None,
+    }
+}
+
+/// The currency in BMP 49, where it stands exactly once.
+pub fn currency(fields: &Fields) -> Option<Currency>
+    ensures { result ≡ currency_of fields.now }
+{
+    Currency::new(number(content(fields, 0x49)?) as u16)
+}
+
+/// The original trace number in BMP 37, where it stands exactly once: three bytes as they were read.
+pub fn original(fields: &Fields) -> Option<[u8; 3]>
+    ensures { result ≡ original_of fields.now }
+{
+    match content(fields, 0x37)? {
+        [high, middle, low] => Some([*high, *middle, *low]),
+        _ => None,
+    }
+}

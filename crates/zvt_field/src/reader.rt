@@ -1,0 +1,193 @@
+//! The reader of a room of fields.
+
+ghost use Rattle.std.specs.Prelude.{◌≡◌, ◌≢◌, ◌≤◌, ◌<◌, ◌^◌, not, if◌then◌else◌, IfOk, position};
+ghost use Rattle.zvt_spelling.specs.Reading.{shortest};
+ghost use Rattle.zvt_field.specs.Judging.{is_digit_pair};
+ghost use Rattle.zvt_field.specs.Answers.{Answers, AnswersOne, AnswersHead, InName, InContainer, HeadFound};
+
+use crate::judging::{judge_digit, judge_name};
+use crate::{Field, FieldBody, Fields, Shape};
+use std::alloc::{AllocError, Global};
+use zvt_spelling::{Scan, Why};
+use zvt_tlv::reader::scan_sized;
+
+/// What stands before a content: how many bytes, how many follow, and whether these are digits.
+#[derive(Clone, Copy)]
+pub struct Head {
+    pub start: usize,
+    pub size: usize,
+    pub digits: bool,
+}
+
+/// Reads the digits of a length behind a BMP.
+fn scan_count(bytes: &[u8], room: usize, digits: usize) -> Scan<Head>
+    requires digits { 1 ≤ digits }
+    requires few { digits ≤ 3 }
+    requires begun { InName room bytes.now digits }
+    ensures { AnswersHead room bytes.now result }
+{
+    let mut number = 0;
+    for count in 1..digits + 1 {
+        if count >= bytes.len() {
+            return Scan::More;
+        }
+        match judge_digit(digits - count, number, room - count - 1, bytes[count]) {
+            Err(why) => return Scan::Refused { place: count, why },
+            Ok(longer) => number = longer,
+        }
+    }
+    Scan::Whole(Head {
+        start: digits + 1,
+        size: number,
+        digits: false,
+    })
+}
+
+/// Where the first byte stands that isn't two decimal digits.
+fn first_bad_pair(bytes: &[u8]) -> Option<usize>
+    ensures { result ≡ position (λ byte. not (is_digit_pair byte)) bytes.now }
+{
+    bytes
+        .iter()
+        .position(|byte| !(byte / 16 <= 9 && byte % 16 <= 9))
+}
+
+/// The same where digits are demanded.
+fn first_bad(bytes: &[u8], digits: bool) -> Option<usize>
+    ensures { result ≡ (if digits then position (λ byte. not (is_digit_pair byte)) bytes.now else None) }
+{
+    if digits { first_bad_pair(bytes) } else { None }
+}
+
+/// Reads a content that is bytes.
+fn scan_content(
+    alloc: Global,
+    bytes: &[u8],
+    room: usize,
+    head: Head,
+) -> Result<Scan<(Field, usize)>, AllocError>
+    requires small { room < 2 ^ 16 }
+    requires begun { HeadFound room bytes.now head }
+    ensures { IfOk result (AnswersOne shortest room bytes.now) }
+{
+    let end = (head.start + head.size).min(bytes.len());
+    let content = &bytes[head.start..end];
+    if let Some(at) = first_bad(content, head.digits) {
+        return Ok(Scan::Refused {
+            place: head.start + at,
+            why: Why::NotDigit,
+        });
+    }
+    if content.len() < head.size {
+        return Ok(Scan::More);
+    }
+    let content = Vec::from_slice(alloc, content)?;
+    Ok(Scan::Whole((Field::of(bytes[0], FieldBody::Bytes(content)), end)))
+}
+
+/// Reads a length of so many digits, and a content that is bytes.
+fn scan_counted(
+    alloc: Global,
+    bytes: &[u8],
+    room: usize,
+    digits: usize,
+) -> Result<Scan<(Field, usize)>, AllocError>
+    requires digits { 1 ≤ digits }
+    requires few { digits ≤ 3 }
+    requires small { room < 2 ^ 16 }
+    requires begun { InName room bytes.now digits }
+    ensures { IfOk result (AnswersOne shortest room bytes.now) }
+{
+    match scan_count(bytes, room, digits) {
+        Scan::Whole(head) => scan_content(alloc, bytes, room, head),
+        Scan::More => Ok(Scan::More),
+        Scan::Refused { place, why } => Ok(Scan::Refused { place, why }),
+    }
+}
+
+/// Reads a content that is objects.
+fn scan_container(
+    alloc: Global,
+    bytes: &[u8],
+    room: usize,
+) -> Result<Scan<(Field, usize)>, AllocError>
+    requires small { room < 2 ^ 16 }
+    requires begun { InContainer room bytes.now }
+    ensures { IfOk result (AnswersOne shortest room bytes.now) }
+{
+    Ok(match scan_sized(alloc, &bytes[1..], room - 1)? {
+        Scan::Whole((objects, size)) => Scan::Whole((
+            Field::of(bytes[0], FieldBody::Tree(objects)),
+            size + 1,
+        )),
+        Scan::More => Scan::More,
+        Scan::Refused { place, why } => Scan::Refused {
+            place: place + 1,
+            why,
+        },
+    })
+}
+
+/// Reads one field, in a room of so many bytes: the field and its size.
+fn scan_field(alloc: Global, bytes: &[u8], room: usize) -> Result<Scan<(Field, usize)>, AllocError>
+    requires some { 0 < room }
+    requires filled { room ≢ 1 }
+    requires small { room < 2 ^ 16 }
+    ensures { IfOk result (AnswersOne shortest room bytes.now) }
+{
+    let Some(first) = bytes.first() else {
+        return Ok(Scan::More);
+    };
+    match judge_name(room - 1, *first) {
+        Err(why) => Ok(Scan::Refused { place: 0, why }),
+        Ok(Shape::Fixed(size)) => scan_content(
+            alloc,
+            bytes,
+            room,
+            Head {
+                start: 1,
+                size,
+                digits: false,
+            },
+        ),
+        Ok(Shape::Digits(size)) => scan_content(
+            alloc,
+            bytes,
+            room,
+            Head {
+                start: 1,
+                size,
+                digits: true,
+            },
+        ),
+        Ok(Shape::Ll) => scan_counted(alloc, bytes, room, 2),
+        Ok(Shape::Lll) => scan_counted(alloc, bytes, room, 3),
+        Ok(Shape::Tree) => scan_container(alloc, bytes, room),
+    }
+}
+
+/// Reads the fields whose bytes are exactly the first `room` bytes; bytes behind the room are not looked at.
+/// `More` where fewer are there and can be completed, `Refused` with the first byte after which no fields
+/// can fill the room, counted from 0. The only error is want of memory.
+pub fn scan(alloc: Global, bytes: &[u8], room: usize) -> Result<Scan<Fields>, AllocError>
+    requires small { room < 2 ^ 16 }
+    requires filled { room ≢ 1 }
+    ensures { IfOk result (Answers shortest room bytes.now) }
+{
+    let mut list = Vec::new(alloc);
+    let mut taken = 0;
+    while taken < room {
+        match scan_field(alloc, &bytes[taken..], room - taken)? {
+            Scan::Whole((field, size)) => {
+                list.push(field)?;
+                taken += size;
+            }
+            Scan::More => return Ok(Scan::More),
+            Scan::Refused { place, why } => return Ok(Scan::Refused {
+                place: taken + place,
+                why,
+            }),
+        }
+    }
+    Ok(Scan::Whole(Fields::of(list, room)))
+}
