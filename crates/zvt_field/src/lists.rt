@@ -60,7 +60,8 @@ impl Fields {
         Fields { list, size }
     }
 
-    /// Puts a field behind the others, where 65,535 bytes hold them all.
+    /// Puts a field behind the others, where 65,535 bytes hold them all. Else nothing changes and the field
+    /// comes back: its size is looked at before memory.
     pub fn push(&mut self, field: Field) -> Result<(), PushRefusal>
         ensures ok { OnOk result (self.new ≡ self.old ++ field ∷ []) }
         ensures spelled { OnOk result (HaveSpelling (self.old ++ field ∷ [])) }
