@@ -1,0 +1,17 @@
+pub mod Rows
+pub mod Frames
+pub mod Named
+pub mod Within
+pub mod OneMessage
+pub mod Opened
+pub mod OpeningMoves
+pub mod KindLemmas
+pub mod DataMoves
+pub mod OneSpelling
+pub mod SizeLemmas
+pub mod Writing
+pub mod LawLemmas
+pub mod Fit
+pub mod Positions
+pub mod Exists
+pub mod OneAnswer

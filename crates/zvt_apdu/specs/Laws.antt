@@ -1,0 +1,41 @@
+-- Laws of the grammar.
+use Rattle.std.specs.Prelude.{◌≡◌, ◌↔◌, ℕ, ◌<◌, None, List, [], ◌∷◌, ◌++◌, length}
+use Rattle.zvt_spelling.specs.declared.why.Why.{Why}
+use Rattle.zvt_spelling.specs.declared.answer.Scan.{Scan}
+use Rattle.zvt_spelling.specs.declared.answer.Scan.TheVariants.{Whole}
+use Rattle.zvt_spelling.specs.Reading.{Reading}
+use Rattle.zvt_tlv.specs.Judging.{Opener}
+use Rattle.zvt_spelling.specs.Beginnings.{Alive, Unfinished, Place}
+use Rattle.zvt_apdu.specs.Message.{Message}
+use Rattle.zvt_apdu.specs.Grammar.{Spells}
+use Rattle.zvt_apdu.specs.Judging.{Role, Position, WhyOf, fault, Answers}
+
+-- No spelling begins another, and two messages share none.
+abbrev pub MessagesEndThemselves : Type 0
+MessagesEndThemselves = (r : Reading) (m n : Message) (a b x y : List ℕ) → Spells r m a → Spells r n b → a ++ x ≡ b ++ y → (m ≡ n) × (a ≡ b)
+
+-- Of a spelling with anything behind it, the answer is its message and its size.
+abbrev pub SpellingsAreRead : Type 0
+SpellingsAreRead = (r : Reading) (m : Message) (b rest : List ℕ) (answer : Scan (Message × ℕ)) → Spells r m b → Answers r (b ++ rest) answer → answer ≡ Whole (m, length b)
+
+-- Bytes that are alive and hold no message stand at a position.
+abbrev pub EachBeginningStands : Type 0
+EachBeginningStands = (r : Reading) (b : List ℕ) → Unfinished (Spells r) b → (os : List Opener) × (role : Role) × Position r os b role
+
+-- And at one alone.
+abbrev pub PositionsAreOne : Type 0
+PositionsAreOne = (r : Reading) (os qs : List Opener) (b : List ℕ) (role role' : Role) → Position r os b role → Position r qs b role' → role ≡ role'
+
+-- There, one more byte leaves them alive exactly where its tests pass.
+abbrev pub TestsDecide : Type 0
+TestsDecide = (r : Reading) (os : List Opener) (b : List ℕ) (role : Role) (x : ℕ) → Unfinished (Spells r) b → Position r os b role → x < 256 →
+    (fault r role x ≡ None) ↔ Alive (Spells r) (b ++ x ∷ [])
+
+-- A refusal has one place and one reason.
+abbrev pub RefusalsAreOne : Type 0
+RefusalsAreOne = (r : Reading) (j k : ℕ) (b : List ℕ) (v w : Why) → Place (Spells r) b j → Place (Spells r) b k →
+    WhyOf r b j v → WhyOf r b k w → (j ≡ k) × (v ≡ w)
+
+-- Bytes have one answer.
+abbrev pub AnswersAreOne : Type 0
+AnswersAreOne = (r : Reading) (b : List ℕ) (p q : Scan (Message × ℕ)) → Answers r b p → Answers r b q → p ≡ q

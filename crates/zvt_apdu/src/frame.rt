@@ -1,0 +1,143 @@
+//! The frame of a message: control bytes, a length, and what stands behind them.
+
+ghost use Rattle.std.specs.Prelude.{◌≡◌, ◌≤◌};
+ghost use Rattle.zvt_spelling.specs.Reading.{shortest};
+ghost use Rattle.zvt_apdu.specs.Grammar.{form_of};
+ghost use Rattle.zvt_apdu.specs.Judging.{AnswersOpening, bytes_after, can_fill, head_size, layout_of};
+
+use zvt_spelling::{Scan, Why};
+
+/// What the data of a message is: so many bytes and then bytes of any number, so many bytes and fields, or a registration's.
+#[derive(Clone, Copy)]
+pub(crate) enum Form {
+    BytesFrom(usize),
+    FieldsFrom(usize),
+    Registration,
+}
+
+/// What stands in data: so many bytes, so many bytes of digits, then fields, or bytes.
+#[derive(Clone, Copy)]
+pub(crate) struct Layout {
+    pub(crate) free: usize,
+    pub(crate) digits: usize,
+    pub(crate) fields: bool,
+}
+
+/// The control bytes and the length of a message, and where its data starts.
+#[derive(Clone, Copy)]
+pub(crate) struct Opening {
+    pub(crate) high: u8,
+    pub(crate) low: u8,
+    pub(crate) start: usize,
+    pub(crate) size: usize,
+}
+
+/// The form of the data behind these control bytes, where the message has a name of its own.
+#[tactic(auto, unfolding(crate::specs::Grammar::form_of))]
+pub(crate) fn form_of(high: u8, low: u8) -> Option<Form>
+    ensures { result ≡ form_of high low }
+{
+    match high {
+        0x04 => match low {
+            0x0F => Some(Form::FieldsFrom(0)),
+            0xFF => Some(Form::BytesFrom(1)),
+            _ => None,
+        },
+        0x06 => match low {
+            0x00 => Some(Form::Registration),
+            0x01 | 0x0F | 0xB0 | 0xD3 => Some(Form::FieldsFrom(0)),
+            0x1E | 0xD1 => Some(Form::BytesFrom(1)),
+            0x30 | 0x50 => Some(Form::FieldsFrom(3)),
+            _ => None,
+        },
+        0x80 => match low {
+            0x00 => Some(Form::BytesFrom(0)),
+            _ => None,
+        },
+        0x84 => Some(Form::BytesFrom(0)),
+        _ => None,
+    }
+}
+
+/// The layout of data of that size behind these control bytes.
+pub(crate) fn layout_of(high: u8, low: u8, size: usize) -> Layout
+    ensures { result ≡ layout_of high low size }
+{
+    match form_of(high, low) {
+        None => bytes_after(0),
+        Some(Form::BytesFrom(count)) => bytes_after(count),
+        Some(Form::FieldsFrom(count)) => Layout {
+            free: count,
+            digits: 0,
+            fields: true,
+        },
+        Some(Form::Registration) => if size <= 4 {
+            bytes_after(4)
+        } else {
+            Layout {
+                free: 4,
+                digits: 2,
+                fields: true,
+            }
+        },
+    }
+}
+
+fn bytes_after(count: usize) -> Layout
+    ensures { result ≡ bytes_after count }
+{
+    Layout {
+        free: count,
+        digits: 0,
+        fields: false,
+    }
+}
+
+/// Whether data of so many bytes can have that layout.
+fn can_fill(layout: Layout, size: usize) -> bool
+    requires { head_size layout ≤ 6 }
+    ensures { result ≡ can_fill layout size }
+{
+    let head = layout.free + layout.digits;
+    head <= size && !(layout.fields && size == head + 1)
+}
+
+/// Reads the control bytes and the length.
+pub(crate) fn scan_opening(bytes: &[u8]) -> Scan<Opening>
+    ensures { AnswersOpening shortest bytes.now result }
+{
+    let [high, low, first, ..] = bytes else {
+        return Scan::More;
+    };
+    if *first == 0xFF {
+        let [_, _, _, size_low, size_high, ..] = bytes else {
+            return Scan::More;
+        };
+        let size = usize::from(*size_low) + 256 * usize::from(*size_high);
+        if size < 255 {
+            return Scan::Refused {
+                place: 4,
+                why: Why::NotShortest,
+            };
+        }
+        return Scan::Whole(Opening {
+            high: *high,
+            low: *low,
+            start: 5,
+            size,
+        });
+    }
+    let size = usize::from(*first);
+    if !can_fill(layout_of(*high, *low, size), size) {
+        return Scan::Refused {
+            place: 2,
+            why: Why::DoesNotFit,
+        };
+    }
+    Scan::Whole(Opening {
+        high: *high,
+        low: *low,
+        start: 3,
+        size,
+    })
+}

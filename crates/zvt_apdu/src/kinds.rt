@@ -1,0 +1,107 @@
+//! Which message the control bytes name.
+
+ghost use Rattle.std.specs.Prelude.{◌≡◌, ◌≤◌, ◌+◌, ◌++◌, ℕ, List, length, drop, Some, true};
+ghost use Rattle.zvt_bcd.specs.Digits.{AreDigits};
+ghost use Rattle.zvt_spelling.specs.Reading.{AreBytes, shortest};
+ghost use Rattle.zvt_field.specs.Grammar.{FieldList};
+ghost use Rattle.zvt_apdu.specs.Grammar.{form_of, BytesFrom, FieldsFrom};
+ghost use Rattle.zvt_apdu.specs.Judging.{bytes_after, head_size, layout_of};
+ghost use Rattle.zvt_apdu.specs.Messages.{message_of, IsMessage};
+
+use crate::frame::{Form, form_of};
+use crate::messages::{Message, Rest};
+use zvt_bcd::{Currency, number};
+use zvt_field::Fields;
+
+/// The message whose data are these first bytes and bytes of any value.
+pub(crate) fn bytes_message(high: u8, low: u8, first: &[u8], payload: Vec<u8>) -> Message
+    requires laid { layout_of high low (length first.now + length payload.items) ≡ bytes_after (length first.now) }
+    requires are_bytes { AreBytes (first.now ++ payload.items) }
+    ensures { IsMessage high low (first.now ++ payload.items) (message_of result) }
+{
+    match form_of(high, low) {
+        None => Message::Other {
+            control: [high, low],
+            payload,
+        },
+        Some(Form::Registration) => Message::Registration {
+            password: [first[0], first[1], first[2]],
+            config: first[3],
+            rest: None,
+        },
+        Some(_) => named_bytes(high, low, first, payload),
+    }
+}
+
+fn named_bytes(high: u8, low: u8, first: &[u8], payload: Vec<u8>) -> Message
+    requires named { form_of high low ≡ Some (BytesFrom (length first.now)) }
+    requires are_bytes { AreBytes (first.now ++ payload.items) }
+    ensures { IsMessage high low (first.now ++ payload.items) (message_of result) }
+{
+    let [byte, ..] = first else {
+        return if high == 0x84 {
+            Message::Nack { code: low, payload }
+        } else {
+            Message::Ack { payload }
+        };
+    };
+    if high == 0x04 {
+        return Message::Intermediate {
+            status: *byte,
+            payload,
+        };
+    }
+    if low == 0x1E {
+        return Message::Abort {
+            code: *byte,
+            payload,
+        };
+    }
+    Message::PrintLine {
+        attribute: *byte,
+        text: payload,
+    }
+}
+
+/// The message whose data are these first bytes and fields.
+pub(crate) fn fields_message(high: u8, low: u8, first: &[u8], fields: Fields) -> Message
+    requires fields { (n : ℕ) × ((layout_of high low n).fields ≡ true) × (head_size (layout_of high low n) ≡ length first.now) × AreDigits (drop (layout_of high low n).free first.now) }
+    requires are_bytes { AreBytes first.now }
+    ensures { (listed : List ℕ) → FieldList shortest fields listed → IsMessage high low (first.now ++ listed) (message_of result) }
+{
+    let Some(Form::Registration) = form_of(high, low) else {
+        return named_fields(high, low, first, fields);
+    };
+    let Some(currency) = Currency::new(number(&first[4..]) as u16) else {
+        unreachable!()
+    };
+    Message::Registration {
+        password: [first[0], first[1], first[2]],
+        config: first[3],
+        rest: Some(Rest { currency, fields }),
+    }
+}
+
+fn named_fields(high: u8, low: u8, first: &[u8], fields: Fields) -> Message
+    requires named { form_of high low ≡ Some (FieldsFrom (length first.now)) }
+    requires are_bytes { AreBytes first.now }
+    ensures { (listed : List ℕ) → FieldList shortest fields listed → IsMessage high low (first.now ++ listed) (message_of result) }
+{
+    if first.len() == 3 {
+        let password = [first[0], first[1], first[2]];
+        return if low == 0x30 {
+            Message::Reversal { password, fields }
+        } else {
+            Message::EndOfDay { password, fields }
+        };
+    }
+    if high == 0x04 {
+        return Message::Status(fields);
+    }
+    match low {
+        0x01 => Message::Authorisation(fields),
+        0x0F => Message::Completion(fields),
+        0xB0 => Message::AbortOrder(fields),
+        _ => Message::TextBlock(fields),
+    }
+}

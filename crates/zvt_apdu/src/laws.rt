@@ -1,0 +1,60 @@
+//! Laws of the grammar, each the contract of a function that does nothing.
+
+ghost use Rattle.std.specs.Prelude.{ℕ, List};
+ghost use Rattle.zvt_spelling.specs.Laws.{SpellingsAreOne, CutsAreOne, FrontsOfCut, Growth, FrontsAlive};
+ghost use Rattle.zvt_spelling.specs.Reading.{Reading, shortest};
+ghost use Rattle.zvt_apdu.specs.Grammar.{Spells};
+ghost use Rattle.zvt_apdu.specs.Laws.{AnswersAreOne, EachBeginningStands, MessagesEndThemselves, PositionsAreOne, RefusalsAreOne, SpellingsAreRead, TestsDecide};
+
+/// No spelling begins another, and two messages share none.
+pub fn messages_end_themselves()
+    ensures { MessagesEndThemselves }
+{}
+
+/// A message has one spelling.
+pub fn spellings_are_one()
+    ensures { SpellingsAreOne (Spells shortest) }
+{}
+
+/// A line has one cut into messages, what is spelled at its front is a front of the cut, and more bytes leave the
+/// messages that stand.
+pub fn cuts_are_one()
+    ensures one { (r : Reading) → CutsAreOne (Spells r) }
+    ensures fronts { (r : Reading) → FrontsOfCut (Spells r) }
+    ensures growth { (r : Reading) → Growth (Spells r) }
+{}
+
+/// Each front of what can be completed can be completed.
+pub fn fronts_are_alive()
+    ensures { (r : Reading) → FrontsAlive (Spells r) }
+{}
+
+/// Of a spelling with anything behind it, the answer is its message and its size.
+pub fn spellings_are_read()
+    ensures { SpellingsAreRead }
+{}
+
+/// Each beginning that can be completed, and holds no message, stands at a position.
+pub fn each_beginning_stands()
+    ensures { EachBeginningStands }
+{}
+
+/// The same bytes stand at one position alone.
+pub fn positions_are_one()
+    ensures { PositionsAreOne }
+{}
+
+/// At a position, one more byte leaves the bytes alive exactly where its tests pass.
+pub fn tests_decide()
+    ensures { TestsDecide }
+{}
+
+/// A refusal has one place and one reason.
+pub fn refusals_are_one()
+    ensures { RefusalsAreOne }
+{}
+
+/// Bytes have one answer.
+pub fn answers_are_one()
+    ensures { AnswersAreOne }
+{}

@@ -1,0 +1,80 @@
+//! The messages, and why one has no spelling.
+
+use zvt_bcd::Currency;
+use zvt_field::Fields;
+
+/// A registration's currency, and the fields behind it.
+#[derive(Drop)]
+pub struct Rest {
+    pub currency: Currency,
+    pub fields: Fields,
+}
+
+/// A message between a till and its terminal. Its control bytes are given in hexadecimal.
+#[derive(Drop)]
+pub enum Message {
+    /// 80 00: the other end's message was taken.
+    Ack {
+        payload: Vec<u8>,
+    },
+    /// 84 and the code: it was refused.
+    Nack {
+        code: u8,
+        payload: Vec<u8>,
+    },
+    /// 06 00: the till registers.
+    Registration {
+        password: [u8; 3],
+        config: u8,
+        rest: Option<Rest>,
+    },
+    /// 06 01: a payment.
+    Authorisation(Fields),
+    /// 06 30: a payment is taken back.
+    Reversal {
+        password: [u8; 3],
+        fields: Fields,
+    },
+    /// 06 50: the day is closed.
+    EndOfDay {
+        password: [u8; 3],
+        fields: Fields,
+    },
+    /// 06 B0: the till gives up the running order.
+    AbortOrder(Fields),
+    /// 04 0F: what became of a payment.
+    Status(Fields),
+    /// 04 FF: what the terminal is at.
+    Intermediate {
+        status: u8,
+        payload: Vec<u8>,
+    },
+    /// 06 D1: a line to print.
+    PrintLine {
+        attribute: u8,
+        text: Vec<u8>,
+    },
+    /// 06 D3: lines to print.
+    TextBlock(Fields),
+    /// 06 0F: the order ended.
+    Completion(Fields),
+    /// 06 1E: the order was given up.
+    Abort {
+        code: u8,
+        payload: Vec<u8>,
+    },
+    /// All other control bytes.
+    Other {
+        control: [u8; 2],
+        payload: Vec<u8>,
+    },
+}
+
+/// Why a message has no spelling.
+#[derive(Clone, Copy, Debug, PartialEq, Eq)]
+pub enum BadValue {
+    /// The data has more than 65,535 bytes.
+    TooLarge,
+    /// The control bytes are those of a message with a name of its own.
+    NamedControl,
+}

@@ -1,0 +1,99 @@
+//! The reader of messages.
+
+ghost use Rattle.std.specs.Prelude.{◌≡◌, ◌≤◌, ◌+◌, false, length, true, IfOk};
+ghost use Rattle.zvt_spelling.specs.Reading.{shortest};
+ghost use Rattle.zvt_apdu.specs.Judging.{Answers, FindsDigit, Headed, head_size};
+
+use crate::apdu::Apdu;
+use crate::frame::{Layout, Opening, layout_of, scan_opening};
+use crate::kinds::{bytes_message, fields_message};
+use std::alloc::{AllocError, Global};
+use zvt_spelling::{Scan, Why};
+
+/// Reads the message that stands first: the message and its size. Bytes behind it are not looked at. It answers `More`
+/// where the bytes begin a message and hold none, as the empty slice does, and refuses with the first byte after which
+/// no message can follow.
+pub fn scan(alloc: Global, bytes: &[u8]) -> Result<Scan<(Apdu, usize)>, AllocError>
+    ensures { IfOk result (Answers shortest bytes.now) }
+{
+    let opening = match scan_opening(bytes) {
+        Scan::Whole(opening) => opening,
+        Scan::More => return Ok(Scan::More),
+        Scan::Refused { place, why } => return Ok(Scan::Refused { place, why }),
+    };
+    let layout = layout_of(opening.high, opening.low, opening.size);
+    let data = &bytes[opening.start..];
+    if let Some(at) = wrong_digit(data, layout.free, layout.digits) {
+        return Ok(Scan::Refused {
+            place: opening.start + at,
+            why: Why::NotDigit,
+        });
+    }
+    if data.len() < layout.free + layout.digits {
+        return Ok(Scan::More);
+    }
+    if layout.fields {
+        scan_listed(alloc, bytes, &opening, &layout)
+    } else {
+        scan_bytes(alloc, bytes, &opening, &layout)
+    }
+}
+
+/// The place of the first byte that is no pair of digits, of so many that stand behind others.
+fn wrong_digit(bytes: &[u8], free: usize, digits: usize) -> Option<usize>
+    requires { free + digits ≤ 6 }
+    ensures { FindsDigit free digits bytes.now result }
+{
+    for at in free..bytes.len().min(free + digits) {
+        if bytes[at] / 16 > 9 || bytes[at] % 16 > 9 {
+            return Some(at);
+        }
+    }
+    None
+}
+
+/// Reads data that ends in bytes of any value.
+fn scan_bytes(
+    alloc: Global,
+    bytes: &[u8],
+    opening: &Opening,
+    layout: &Layout,
+) -> Result<Scan<(Apdu, usize)>, AllocError>
+    requires headed { Headed shortest bytes.now opening.now layout.now }
+    requires kind { layout.now.fields ≡ false }
+    ensures { IfOk result (Answers shortest bytes.now) }
+{
+    let data = &bytes[opening.start..];
+    if data.len() < opening.size {
+        return Ok(Scan::More);
+    }
+    let payload = data[layout.free..opening.size].to_vec(alloc)?;
+    let message = bytes_message(opening.high, opening.low, &data[..layout.free], payload);
+    Ok(Scan::Whole((Apdu { message }, opening.start + opening.size)))
+}
+
+/// Reads data that ends in fields.
+fn scan_listed(
+    alloc: Global,
+    bytes: &[u8],
+    opening: &Opening,
+    layout: &Layout,
+) -> Result<Scan<(Apdu, usize)>, AllocError>
+    requires headed { Headed shortest bytes.now opening.now layout.now }
+    requires kind { layout.now.fields ≡ true }
+    ensures { IfOk result (Answers shortest bytes.now) }
+{
+    let data = &bytes[opening.start..];
+    let head = layout.free + layout.digits;
+    match zvt_field::scan(alloc, &data[head..], opening.size - head)? {
+        Scan::Whole(fields) => {
+            let message = fields_message(opening.high, opening.low, &data[..head], fields);
+            Ok(Scan::Whole((Apdu { message }, opening.start + opening.size)))
+        }
+        Scan::More => Ok(Scan::More),
+        Scan::Refused { place, why } => Ok(Scan::Refused {
+            place: opening.start + head + place,
+            why,
+        }),
+    }
+}
