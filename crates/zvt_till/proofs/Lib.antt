@@ -1,0 +1,15 @@
+mod Digits
+pub mod Segments
+pub mod Summaries
+pub mod Payment
+pub mod Marks
+pub mod Settled
+pub mod Worth
+pub mod Endings
+pub mod Tied
+pub mod Registrations
+pub mod Steps
+pub mod Approvals
+pub mod Kept
+pub mod Distinct
+mod Rows

@@ -1,0 +1,141 @@
+-- Worked logs: what they are worth, computed from the whole log and by the machine.
+use Rattle.std.specs.Prelude.{◌≡◌, ℕ, false, true, List, [], ◌∷◌, ◌++◌, Some, None, refl}
+use Rattle.zvt_till.specs.declared.happenings.Happening.{Happening}
+use Rattle.zvt_till.specs.declared.happenings.Happening.TheVariants.{Connected, Sent as SentOut, Heard as HeardIn, Malformed, Lost}
+use Rattle.zvt_till.specs.declared.happenings.Sent.TheVariants.{Register, Pay, Reverse}
+use Rattle.zvt_till.specs.declared.orders.Order.TheVariants.{Pay as PayOrder}
+use Rattle.zvt_till.specs.declared.messages.Heard.TheVariants.{Positive, Negative, Status, Completion, Abort}
+use Rattle.zvt_till.specs.declared.messages.Original.TheVariants.{Absent, Once}
+use Rattle.zvt_till.specs.declared.messages.Original.{Original}
+use Rattle.zvt_till.specs.declared.outcomes.Outcome.TheVariants.{Refused, Unclear}
+use Rattle.zvt_till.specs.declared.orders.OrderRefusal.TheVariants.{Offline}
+use Rattle.zvt_till.specs.declared.entries.Entry.{Entry}
+use Rattle.zvt_till.specs.declared.outcomes.Cause.TheVariants.{NoStatus, NoTrace, Conflict, AmountDiffers, AbortAfterApproval, TraceUsed, Line as LineCause, Malformed as MalformedCause}
+use Rattle.zvt_till.specs.Marks.{total, entries}
+use Rattle.zvt_till.specs.Sending.{Settings}
+use Rattle.zvt_till.specs.Till.{facts_of, state_after}
+use Rattle.zvt_till.specs.Refusals.{refusal}
+use Rattle.zvt_till.specs.Log.{facts_in}
+
+euro : Settings
+euro = record { password = 0 ∷ 0 ∷ 0 ∷ []; config = 190; currency = 978 }
+
+start : List Happening
+start = Connected ∷ SentOut Register ∷ HeardIn Positive ∷ HeardIn Completion ∷ []
+
+approval : Happening
+approval = HeardIn (Status (record { result = Some 0; amount = Some 1234; trace = Some 17; receipt = Some (0 ∷ 5 ∷ []); original = Absent }))
+
+paid_twice_over : List Happening
+unfolding start approval
+paid_twice_over = start ++ (SentOut (Pay 1234) ∷ HeardIn Positive ∷ approval ∷ approval ∷ HeardIn Completion ∷ HeardIn Completion ∷ [])
+
+entry : ℕ → ℕ → Entry
+entry trace receipt = record { amount = 1234; trace = trace; receipt = Some (0 ∷ receipt ∷ []); reversed = false }
+
+one_entry : (facts_in paid_twice_over).book ≡ entry 17 5 ∷ []
+unfolding start approval paid_twice_over entry
+one_entry = refl
+
+same_by_steps : facts_of (state_after euro paid_twice_over) ≡ facts_in paid_twice_over
+unfolding euro start approval paid_twice_over entry
+same_by_steps = refl
+
+total_stands : total (entries paid_twice_over) ≡ 1234
+unfolding start approval paid_twice_over entry
+total_stands = refl
+
+-- an abort after an approval
+aborted : (facts_in (start ++ (SentOut (Pay 1234) ∷ HeardIn Positive ∷ approval ∷ HeardIn (Abort 108) ∷ []))).unclear ≡ (1234, AbortAfterApproval) ∷ []
+unfolding start approval
+aborted = refl
+
+-- a trace that was booked before, and then one that was not
+again : List Happening
+unfolding start approval paid_twice_over
+again =
+    paid_twice_over
+    ++ (SentOut (Pay 1234) ∷ HeardIn Positive ∷ approval ∷ HeardIn Completion ∷ [])
+    ++ (SentOut (Pay 1234) ∷ HeardIn Positive ∷ HeardIn (Status (record { result = Some 0; amount = Some 1234; trace = Some 18; receipt = Some (0 ∷ 6 ∷ []); original = Absent })) ∷ HeardIn Completion ∷ [])
+
+again_books : (facts_in again).book ≡ entry 17 5 ∷ entry 18 6 ∷ []
+unfolding start approval paid_twice_over again entry
+again_books = refl
+
+again_unclear : (facts_in again).unclear ≡ (1234, TraceUsed) ∷ []
+unfolding start approval paid_twice_over again entry
+again_unclear = refl
+
+-- another amount; a reversal's status; no status
+other_amount : (facts_in (start ++ (SentOut (Pay 1234) ∷ HeardIn Positive ∷ HeardIn (Status (record { result = Some 0; amount = Some 1235; trace = Some 17; receipt = None; original = Absent })) ∷ HeardIn Completion ∷ []))).unclear ≡ (1234, AmountDiffers) ∷ []
+unfolding start
+other_amount = refl
+
+of_reversal : (facts_in (start ++ (SentOut (Pay 1234) ∷ HeardIn Positive ∷ HeardIn (Status (record { result = Some 0; amount = Some 1234; trace = Some 18; receipt = None; original = Once (0 ∷ 0 ∷ 23 ∷ []) })) ∷ HeardIn Completion ∷ []))).unclear ≡ (1234, Conflict) ∷ []
+unfolding start
+of_reversal = refl
+
+no_status : (facts_in (start ++ (SentOut (Pay 1234) ∷ HeardIn Positive ∷ HeardIn Completion ∷ []))).unclear ≡ (1234, NoStatus) ∷ []
+unfolding start
+no_status = refl
+
+-- refused at once; refused after an approval; a line lost
+refused : List Happening
+unfolding start
+refused = start ++ (SentOut (Pay 1234) ∷ HeardIn (Negative 108) ∷ [])
+
+refused_unclear : (facts_in refused).unclear ≡ []
+unfolding start refused
+refused_unclear = refl
+
+refused_outcome : (state_after euro refused).last_outcome ≡ Some (Refused 108)
+unfolding euro start refused
+refused_outcome = refl
+
+refused_late : (facts_in (start ++ (SentOut (Pay 1234) ∷ approval ∷ HeardIn (Negative 108) ∷ []))).unclear ≡ (1234, AbortAfterApproval) ∷ []
+unfolding start approval
+refused_late = refl
+
+cut : List Happening
+unfolding start
+cut = start ++ (SentOut (Pay 1234) ∷ HeardIn Positive ∷ Lost ∷ [])
+
+cut_unclear : (facts_in cut).unclear ≡ (1234, LineCause) ∷ []
+unfolding start cut
+cut_unclear = refl
+
+cut_offline : refusal (facts_in cut) (PayOrder 1) ≡ Some Offline
+unfolding start cut
+cut_offline = refl
+
+-- malformed; a negative answer after a positive one
+malformed : (facts_in (start ++ (SentOut (Pay 1234) ∷ Malformed ∷ []))).unclear ≡ (1234, MalformedCause) ∷ []
+unfolding start
+malformed = refl
+
+late_negative : (facts_in (start ++ (SentOut (Pay 1234) ∷ HeardIn Positive ∷ approval ∷ HeardIn (Negative 131) ∷ HeardIn Completion ∷ []))).book ≡ entry 17 5 ∷ []
+unfolding start approval entry
+late_negative = refl
+
+-- a reversal names the payment by the three bytes of its trace number; bytes that are no digits name none
+taken_back : Original → List Happening
+unfolding start approval paid_twice_over
+taken_back original =
+    paid_twice_over
+    ++ (SentOut (Reverse 0) ∷ HeardIn Positive ∷ HeardIn (Status (record { result = Some 0; amount = Some 1234; trace = Some 18; receipt = None; original = original })) ∷ HeardIn Completion ∷ [])
+
+marked : (facts_in (taken_back (Once (0 ∷ 0 ∷ 23 ∷ [])))).book ≡ record { amount = 1234; trace = 17; receipt = Some (0 ∷ 5 ∷ []); reversed = true } ∷ []
+unfolding start approval paid_twice_over taken_back
+marked = refl
+
+nothing_stands : total (entries (taken_back (Once (0 ∷ 0 ∷ 23 ∷ [])))) ≡ 0
+unfolding start approval paid_twice_over taken_back
+nothing_stands = refl
+
+no_digits : (state_after euro (taken_back (Once (0 ∷ 0 ∷ 17 ∷ [])))).last_outcome ≡ Some (Unclear NoTrace)
+unfolding euro start approval paid_twice_over taken_back
+no_digits = refl
+
+not_marked : (facts_in (taken_back (Once (0 ∷ 1 ∷ 13 ∷ [])))).book ≡ entry 17 5 ∷ []
+unfolding start approval paid_twice_over taken_back entry
+not_marked = refl

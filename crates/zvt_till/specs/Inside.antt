@@ -1,0 +1,30 @@
+-- The fields of a till, and what is true of them.
+use Rattle.std.specs.Prelude.{ℕ, ◌-◌, ◌≤◌, min, length, vec_len, vec_capacity}
+use Rattle.zvt_till.specs.Refusals.{most_rows}
+use Rattle.zvt_till.specs.View.{TillValue, CanEndRunning}
+use Rattle.zvt_till.specs.declared.till.Till.TheInside.{Inside}
+
+abbrev pub spare_of : Inside → ℕ
+spare_of t = min (vec_capacity t.book - vec_len t.book) (vec_capacity t.unclear - vec_len t.unclear)
+
+abbrev pub value_of : Inside → TillValue
+value_of t =
+    record {
+      state =
+          record {
+            settings = record { password = t.password; config = t.config; currency = t.currency };
+            line_up = t.line_up;
+            registered = t.registered;
+            running = t.running;
+            book = t.book.items;
+            unclear = t.unclear.items;
+            last_outcome = t.last_outcome;
+          };
+      spare = spare_of t;
+    }
+
+abbrev pub IsSound : Inside → Type 0
+IsSound t =
+    (length t.book.items ≤ most_rows)
+    × (length t.unclear.items ≤ most_rows)
+    × CanEndRunning t.running (length t.book.items) (length t.unclear.items) (spare_of t)

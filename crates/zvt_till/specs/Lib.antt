@@ -1,0 +1,12 @@
+pub mod Statuses
+pub mod Segments
+pub mod Books
+pub mod Marks
+pub mod Outcomes
+pub mod Refusals
+pub mod Sending
+pub mod Till
+pub mod Log
+pub mod View
+pub mod Inside
+pub mod Laws

@@ -1,0 +1,94 @@
+-- Which logs a till can have, by what the log itself says.
+use Rattle.std.specs.Prelude.{◌≡◌, Bool, true, false, cond, List, [], ◌∷◌, ◌++◌, Option, Some, None, fold}
+use Rattle.std.specs.List.{list_any}
+use Rattle.zvt_till.specs.declared.happenings.Happening.{Happening}
+use Rattle.zvt_till.specs.declared.happenings.Happening.TheVariants.{Connected, Sent as SentOut, Heard as HeardIn, Malformed, Lost}
+use Rattle.zvt_till.specs.declared.happenings.Sent.{Sent}
+use Rattle.zvt_till.specs.declared.happenings.Sent.TheVariants.{Register, Pay, Reverse, CloseDay, Cancel, Foreign}
+use Rattle.zvt_till.specs.Segments.{Opening, Segment, Ended, segments, end_of, is_positive, completes}
+use Rattle.zvt_till.specs.Books.{books_of, settled}
+use Rattle.zvt_till.specs.Marks.{entries_of}
+use Rattle.zvt_till.specs.Refusals.{Facts, Awaited, refusal, order_in}
+use Rattle.zvt_till.specs.Sending.{Settings}
+use Rattle.zvt_till.specs.Till.{facts_of, state_after}
+
+-- whether the last of these was Connected
+abbrev pub line_after : Bool → Happening → Bool
+line_after up Connected = true
+line_after up (SentOut o) = up
+line_after up (HeardIn m) = up
+line_after up Malformed = false
+line_after up Lost = false
+
+abbrev pub line_up : List Happening → Bool
+line_up log = fold line_after false log
+
+abbrev pub is_break : Happening → Bool
+is_break Connected = false
+is_break (SentOut o) = false
+is_break (HeardIn m) = false
+is_break Malformed = true
+is_break Lost = true
+
+abbrev pub registered_as : Sent → Bool → Option Ended → Bool
+registered_as Register before end = completes (λ ss. true) end
+registered_as (Pay a) before end = before
+registered_as (Reverse e) before end = before
+registered_as CloseDay before end = before
+registered_as Cancel before end = before
+registered_as Foreign before end = before
+
+abbrev pub registered_by : Bool → Opening → Option Ended → Bool
+registered_by before opening end = registered_as opening.order before end
+
+-- registered by the last registration, where its end is a completion and the line stood since
+abbrev pub registered_after : Bool → Segment → Bool
+registered_after before s = cond (list_any is_break s.answers) false (registered_by before s.opening (end_of s.answers))
+
+abbrev pub registered_of : List Segment → Bool
+registered_of ss = fold registered_after false ss
+
+-- the last order, where it has no end yet
+abbrev pub awaited_by_end : Segment → Option Ended → Option Awaited
+awaited_by_end s None = Some (record { order = s.opening.order; positive = list_any is_positive s.answers })
+awaited_by_end s (Some e) = None
+
+abbrev pub awaited_after : Option Awaited → Segment → Option Awaited
+awaited_after before s = awaited_by_end s (end_of s.answers)
+
+abbrev pub awaited_of : List Segment → Option Awaited
+awaited_of ss = fold awaited_after None ss
+
+abbrev pub facts_in_segments : Bool → List Segment → Facts
+facts_in_segments up ss =
+    record {
+      line_up = up;
+      registered = registered_of ss;
+      awaited = awaited_of ss;
+      book = entries_of ss;
+      unclear = settled (books_of ss).unclear;
+    }
+
+-- what a log says of the till that has it
+abbrev pub facts_in : List Happening → Facts
+facts_in log = facts_in_segments (line_up log) (segments log)
+
+-- nothing is heard on a line that is down, and an order is sent only where nothing refuses it
+abbrev pub CanFollow : Facts → Happening → Type 0
+CanFollow f Connected = Unit {0}
+CanFollow f (SentOut o) = elim (order_in o) [ None ↦ ⊥ | Some order ↦ refusal f order ≡ None ]
+CanFollow f (HeardIn m) = f.line_up ≡ true
+CanFollow f Malformed = f.line_up ≡ true
+CanFollow f Lost = Unit {0}
+
+abbrev pub IsLogFrom : List Happening → List Happening → Type 0
+IsLogFrom log [] = Unit {0}
+IsLogFrom log (h ∷ more) = CanFollow (facts_in log) h × IsLogFrom (log ++ h ∷ []) more
+
+-- a log that a till can have
+abbrev pub IsLog : List Happening → Type 0
+IsLog log = IsLogFrom [] log
+
+-- the state that the steps reach has the book, the marks and the unclear payments of the log, and takes the same orders
+abbrev pub StepsMeetLog : Type 0
+StepsMeetLog = (settings : Settings) (log : List Happening) → IsLog log → facts_of (state_after settings log) ≡ facts_in log

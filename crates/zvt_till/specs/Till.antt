@@ -1,0 +1,122 @@
+-- The till as a small machine: what each thing that happens on its line does to it.
+use Rattle.std.specs.Prelude.{ℕ, Bool, true, false, cond, List, [], ◌∷◌, ◌++◌, Option, Some, None, fold, slice_get, slice_set, option_map}
+use Rattle.zvt_till.specs.declared.happenings.Happening.{Happening}
+use Rattle.zvt_till.specs.declared.happenings.Happening.TheVariants.{Connected, Sent as SentOut, Heard as HeardIn, Malformed, Lost}
+use Rattle.zvt_till.specs.declared.orders.Order.{Order}
+use Rattle.zvt_till.specs.declared.orders.Order.TheVariants.{Register as RegisterOrder, Pay as PayOrder, Reverse as ReverseOrder, CloseDay as CloseDayOrder, Cancel as CancelOrder}
+use Rattle.zvt_till.specs.declared.messages.Heard.{Heard}
+use Rattle.zvt_till.specs.declared.statuses.Running.{Running}
+use Rattle.zvt_till.specs.declared.statuses.Statuses.TheVariants.{Nothing}
+use Rattle.zvt_till.specs.declared.entries.Entry.{Entry}
+use Rattle.zvt_till.specs.declared.outcomes.Cause.{Cause}
+use Rattle.zvt_till.specs.declared.outcomes.Outcome.{Outcome}
+use Rattle.zvt_till.specs.declared.outcomes.Outcome.TheVariants.{Registered, Paid, Unclear, Reversed}
+use Rattle.zvt_till.specs.Segments.{ends}
+use Rattle.zvt_till.specs.Outcomes.{demand_of, outcome_by, listened}
+use Rattle.zvt_till.specs.Refusals.{Awaited, Facts, sent_as, order_in}
+use Rattle.zvt_till.specs.Sending.{Settings}
+
+pub record TillState : Type 0 where
+  pub settings : Settings
+  pub line_up : Bool
+  pub registered : Bool
+  pub running : Option Running
+  pub book : List Entry
+  pub unclear : List (ℕ × Cause)
+  pub last_outcome : Option Outcome
+
+-- the line down, nobody registered, an empty book
+abbrev pub new_till : Settings → TillState
+new_till settings = record { settings = settings; line_up = false; registered = false; running = None; book = []; unclear = []; last_outcome = None }
+
+-- the entry at this place is taken back
+abbrev pub reversed_at : List Entry → ℕ → List Entry
+reversed_at book e = elim (slice_get book e) [ None ↦ book | Some row ↦ slice_set book e (record row { reversed = true }) ]
+
+-- the book after an order ended so
+abbrev pub book_after : List Entry → Order → Outcome → List Entry
+book_after book (PayOrder a) (Paid t receipt) = book ++ record { amount = a; trace = t; receipt = receipt; reversed = false } ∷ []
+book_after book (ReverseOrder e) Reversed = reversed_at book e
+book_after book _ _ = book
+
+-- the list of unclear payments: of other orders nothing is kept
+abbrev pub unclear_after : List (ℕ × Cause) → Order → Outcome → List (ℕ × Cause)
+unclear_after rows (PayOrder a) (Unclear cause) = rows ++ (a, cause) ∷ []
+unclear_after rows _ _ = rows
+
+abbrev pub registered_after_outcome : Bool → Outcome → Bool
+registered_after_outcome before Registered = true
+registered_after_outcome before _ = before
+
+-- the running order ends
+abbrev pub finish : TillState → Order → Outcome → TillState
+finish s order outcome =
+    record {
+      settings = s.settings;
+      line_up = s.line_up;
+      registered = registered_after_outcome s.registered outcome;
+      running = None;
+      book = book_after s.book order outcome;
+      unclear = unclear_after s.unclear order outcome;
+      last_outcome = Some outcome;
+    }
+
+abbrev pub meet_running : TillState → Running → Happening → TillState
+meet_running s r h =
+    cond (ends r.positive h)
+    (finish s r.order (outcome_by s.book r.order r.statuses h))
+    (record s { running = Some (listened (demand_of s.book r.order) r h) })
+
+-- what the running order makes of it: it ends, or it listens
+abbrev pub meet : TillState → Happening → TillState
+meet s h = elim s.running [ None ↦ s | Some r ↦ meet_running s r h ]
+
+-- nobody is registered on a line that is down
+abbrev pub line_down : TillState → TillState
+line_down s = record s { line_up = false; registered = false }
+
+abbrev pub fresh : Order → Running
+fresh o = record { order = o; positive = false; statuses = Nothing }
+
+-- an accepted order
+abbrev pub accept : TillState → Order → TillState
+accept s RegisterOrder = record s { registered = false; running = Some (fresh RegisterOrder) }
+accept s (PayOrder a) = record s { running = Some (fresh (PayOrder a)) }
+accept s (ReverseOrder e) = record s { running = Some (fresh (ReverseOrder e)) }
+accept s CloseDayOrder = record s { running = Some (fresh CloseDayOrder) }
+accept s CancelOrder = s
+
+abbrev pub heard_step : TillState → Heard → TillState
+heard_step s m = cond s.line_up (meet s (HeardIn m)) s
+
+-- one thing that happens on the line; a till never sends what is not its own
+abbrev pub step : TillState → Happening → TillState
+step s Connected = record s { line_up = true }
+step s (SentOut o) = elim (order_in o) [ None ↦ s | Some order ↦ accept s order ]
+step s (HeardIn m) = heard_step s m
+step s Malformed = line_down (meet s Malformed)
+step s Lost = line_down (meet s Lost)
+
+abbrev pub state_after : Settings → List Happening → TillState
+state_after settings log = fold step (new_till settings) log
+
+-- how the running order ended by this, if it did
+abbrev pub outcome_at : TillState → Happening → Option Outcome
+outcome_at s h =
+    elim s.running [
+      | None ↦ None
+      | Some r ↦ cond (ends r.positive h) (Some (outcome_by s.book r.order r.statuses h)) None
+    ]
+
+abbrev pub awaited_by : Running → Awaited
+awaited_by r = record { order = sent_as r.order; positive = r.positive }
+
+abbrev pub facts_of : TillState → Facts
+facts_of s =
+    record {
+      line_up = s.line_up;
+      registered = s.registered;
+      awaited = option_map awaited_by s.running;
+      book = s.book;
+      unclear = s.unclear;
+    }

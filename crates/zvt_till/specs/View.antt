@@ -1,0 +1,35 @@
+-- What contracts see of a till.
+use Rattle.std.specs.Prelude.{◌≡◌, ℕ, ◌<◌, Option, Some, None}
+use Rattle.zvt_till.specs.declared.orders.Order.{Order}
+use Rattle.zvt_till.specs.declared.orders.Order.TheVariants.{Register, Pay, Reverse, CloseDay, Cancel}
+use Rattle.zvt_till.specs.declared.orders.OrderRefusal.{OrderRefusal}
+use Rattle.zvt_till.specs.declared.orders.OrderRefusal.TheVariants.{Memory}
+use Rattle.zvt_till.specs.declared.statuses.Running.{Running}
+use Rattle.zvt_till.specs.Refusals.{Facts, refusal, most_rows}
+use Rattle.zvt_till.specs.Till.{TillState}
+
+-- the state, and how many payments can surely be written down without more memory
+pub record TillValue : Type 0 where
+  pub state : TillState
+  pub spare : ℕ
+
+-- an order is refused for the first reason that holds; want of memory comes last, for a payment without a spare place
+abbrev pub IsRefusedAs : Facts → ℕ → Order → OrderRefusal → Type 0
+IsRefusedAs f spare (Pay a) Memory = (refusal f (Pay a) ≡ None) × (spare ≡ 0)
+IsRefusedAs f spare Register why = refusal f Register ≡ Some why
+IsRefusedAs f spare (Pay a) why = refusal f (Pay a) ≡ Some why
+IsRefusedAs f spare (Reverse e) why = refusal f (Reverse e) ≡ Some why
+IsRefusedAs f spare CloseDay why = refusal f CloseDay ≡ Some why
+IsRefusedAs f spare Cancel why = refusal f Cancel ≡ Some why
+
+-- a running order can be ended: its payment has a place in both lists, its reversal an entry
+abbrev pub CanEnd : Order → ℕ → ℕ → ℕ → Type 0
+CanEnd Register booked unclear spare = Unit {0}
+CanEnd (Pay a) booked unclear spare = (0 < spare) × (booked < most_rows) × (unclear < most_rows)
+CanEnd (Reverse e) booked unclear spare = e < booked
+CanEnd CloseDay booked unclear spare = Unit {0}
+CanEnd Cancel booked unclear spare = Unit {0}
+
+abbrev pub CanEndRunning : Option Running → ℕ → ℕ → ℕ → Type 0
+CanEndRunning None booked unclear spare = Unit {0}
+CanEndRunning (Some r) booked unclear spare = CanEnd r.order booked unclear spare

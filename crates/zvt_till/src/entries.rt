@@ -1,0 +1,24 @@
+//! The rows of the book.
+ghost use Rattle.std.specs.Prelude.{◌≡◌};
+ghost use Rattle.zvt_till.specs.Outcomes.{trace_used};
+
+use zvt_bcd::{Amount, Trace};
+
+/// A payment that the terminal completed.
+#[derive(Clone, Copy, Debug, PartialEq, Eq)]
+pub struct Entry {
+    pub amount: Amount,
+    /// The number under which the terminal keeps it, which no other entry has.
+    pub trace: Trace,
+    /// The receipt number that the first status named, which a reversal needs.
+    pub receipt: Option<[u8; 2]>,
+    /// Whether it was taken back.
+    pub reversed: bool,
+}
+
+/// Whether some entry has this trace number, reversed entries included.
+pub fn trace_used(trace: Trace, book: &[Entry]) -> bool
+    ensures { result ≡ trace_used trace book.now }
+{
+    book.iter().any(|entry| entry.trace == trace)
+}

@@ -1,0 +1,50 @@
+//! What happens on a till's line, and what of it ends an order.
+ghost use Rattle.std.specs.Prelude.{◌≡◌};
+ghost use Rattle.zvt_till.specs.Segments.{ends, is_positive};
+
+use crate::messages::Heard;
+use zvt_bcd::Amount;
+
+/// An order as it went out.
+#[derive(Clone, Copy, Debug, PartialEq, Eq)]
+pub enum Sent {
+    Register,
+    Pay(Amount),
+    Reverse(usize),
+    CloseDay,
+    Cancel,
+    /// An order that no till of this crate sends, as a trace of another maker's till may have it.
+    Foreign,
+}
+
+/// One thing that happened on the line.
+#[derive(Clone, Copy, Debug, PartialEq, Eq)]
+pub enum Happening {
+    Connected,
+    Sent(Sent),
+    Heard(Heard),
+    /// What came is no message, and the line is given up.
+    Malformed,
+    Lost,
+}
+
+/// Whether this ends the running order, of which a positive answer was heard or not: once the terminal
+/// has taken an order up, a negative answer is none to the order.
+pub fn ends(positive: bool, happening: &Happening) -> bool
+    ensures { result ≡ ends positive happening.now }
+{
+    match happening {
+        Happening::Heard(Heard::Completion | Heard::Abort(_))
+        | Happening::Malformed
+        | Happening::Lost => true,
+        Happening::Heard(Heard::Negative(_)) => !positive,
+        _ => false,
+    }
+}
+
+/// Whether this is a positive answer.
+pub fn is_positive(happening: &Happening) -> bool
+    ensures { result ≡ is_positive happening.now }
+{
+    matches!(happening, Happening::Heard(Heard::Positive))
+}

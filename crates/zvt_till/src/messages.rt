@@ -1,0 +1,93 @@
+//! What the terminal says, as far as a till cares, and what is answered to it at once.
+ghost use Rattle.std.specs.Prelude.{◌≡◌};
+ghost use Rattle.zvt_till.specs.Sending.{reply_to};
+ghost use Rattle.zvt_till.specs.Statuses.{spells};
+
+use crate::orders::Outgoing;
+use zvt_bcd::{Amount, Trace, is_digits, number};
+
+/// The answer code of a message that a till does not understand.
+const UNKNOWN_MESSAGE: u8 = 0x83;
+
+/// The payment that a status takes back, by its trace number (BMP 37), as three bytes that need not be digits.
+#[derive(Clone, Copy, Debug, PartialEq, Eq)]
+pub enum Original {
+    Absent,
+    Once([u8; 3]),
+    Many,
+}
+
+impl Original {
+    ghost use Rattle.std.specs.Prelude.{◌≡◌};
+    ghost use Rattle.zvt_till.specs.Statuses.{is_absent, names};
+
+    /// Whether no payment is named.
+    pub fn is_absent(&self) -> bool
+        ensures { result ≡ is_absent self.now }
+    {
+        matches!(self, Original::Absent)
+    }
+
+    /// Whether the payment with this trace number is named, and none else.
+    pub fn names(&self, trace: Trace) -> bool
+        ensures { result ≡ names self.now trace }
+    {
+        match self {
+            Original::Once(digits) => spells(*digits, trace),
+            _ => false,
+        }
+    }
+}
+
+/// What a status information says. A field that stands more than once is as good as absent; that BMP 37
+/// stands more than once is told.
+#[derive(Clone, Copy, Debug, PartialEq, Eq)]
+pub struct StatusFacts {
+    /// The result code (BMP 27), 0 where the terminal approves.
+    pub result: Option<u8>,
+    /// The amount (BMP 04).
+    pub amount: Option<Amount>,
+    /// The trace number (BMP 0B).
+    pub trace: Option<Trace>,
+    /// The receipt number (BMP 87) as it was read, two bytes that need not be digits.
+    pub receipt: Option<[u8; 2]>,
+    /// The payment taken back (BMP 37).
+    pub original: Original,
+}
+
+/// A message of the terminal.
+#[derive(Clone, Copy, Debug, PartialEq, Eq)]
+pub enum Heard {
+    /// 80 00, or 84 00, which is no refusal either.
+    Positive,
+    /// 84 and a code other than 0.
+    Negative(u8),
+    /// A status information, 04 0F.
+    Status(StatusFacts),
+    /// What the till only acknowledges: intermediate status, print line, text block.
+    Passing,
+    /// 06 0F, which ends an order.
+    Completion,
+    /// 06 1E with its code, which ends an order too.
+    Abort(u8),
+    /// A message that no terminal sends to a till.
+    Strange,
+}
+
+/// Whether these bytes are digits that spell the trace number.
+fn spells(digits: [u8; 3], trace: Trace) -> bool
+    ensures { result ≡ spells digits trace }
+{
+    is_digits(digits.as_slice()) && number(digits.as_slice()) == u64::from(trace.get())
+}
+
+/// What is answered to a message at once, if anything is: an acknowledgement is not acknowledged.
+pub fn reply_to(heard: &Heard) -> Option<Outgoing>
+    ensures { result ≡ reply_to heard.now }
+{
+    match heard {
+        Heard::Positive | Heard::Negative(_) => None,
+        Heard::Strange => Some(Outgoing::Nack(UNKNOWN_MESSAGE)),
+        _ => Some(Outgoing::Ack),
+    }
+}

@@ -1,0 +1,137 @@
+//! How an order ends.
+ghost use Rattle.std.specs.Prelude.{◌≡◌};
+ghost use Rattle.zvt_till.specs.Outcomes.{payment_outcome, reversal_outcome, closing_outcome, completion_outcome, broken_outcome, outcome_by};
+
+use crate::entries::{Entry, trace_used};
+use crate::happenings::Happening;
+use crate::messages::Heard;
+use crate::orders::Order;
+use crate::statuses::Statuses;
+use zvt_bcd::Trace;
+
+/// Why it is not known what became of an order.
+#[derive(Clone, Copy, Debug, PartialEq, Eq)]
+pub enum Cause {
+    /// It was completed without a status.
+    NoStatus,
+    /// A status names no one result, or another payment, or disagrees with the first.
+    Conflict,
+    /// A status does not name the amount.
+    AmountDiffers,
+    /// A status does not name a trace number, or for a reversal that of the payment.
+    NoTrace,
+    /// The trace number is that of an entry of the book.
+    TraceUsed,
+    /// It was broken off after a status that was no decline.
+    AbortAfterApproval,
+    /// The line was lost.
+    Line,
+    /// What came on the line was no message.
+    Malformed,
+    /// It has no end yet. Never in a till.
+    Unfinished,
+}
+
+/// How an order ended.
+#[derive(Clone, Copy, Debug, PartialEq, Eq)]
+pub enum Outcome {
+    Registered,
+    /// Booked, under this trace number and with the first status's receipt number.
+    Paid {
+        trace: Trace,
+        receipt: Option<[u8; 2]>,
+    },
+    /// Completed, every status naming a result other than 0; this is the first.
+    Declined(u8),
+    /// Not taken up, with this code.
+    Refused(u8),
+    /// Broken off with this code, after no status but declines.
+    Aborted(u8),
+    /// It may have happened or not. A payment stands in the unclear list.
+    Unclear(Cause),
+    Reversed,
+    DayClosed,
+}
+
+/// How a completed payment ends.
+fn payment_outcome(book: &[Entry], so_far: Statuses) -> Outcome
+    ensures { result ≡ payment_outcome book.now so_far }
+{
+    match so_far {
+        Statuses::Nothing => Outcome::Unclear(Cause::NoStatus),
+        Statuses::Good(None, _) => Outcome::Unclear(Cause::NoTrace),
+        Statuses::Good(Some(trace), receipt) => {
+            if trace_used(trace, book) {
+                Outcome::Unclear(Cause::TraceUsed)
+            } else {
+                Outcome::Paid { trace, receipt }
+            }
+        }
+        Statuses::Declining(code) => Outcome::Declined(code),
+        Statuses::Fault(cause) => Outcome::Unclear(cause),
+    }
+}
+
+/// How a completed reversal ends.
+fn reversal_outcome(so_far: Statuses) -> Outcome
+    ensures { result ≡ reversal_outcome so_far }
+{
+    match so_far {
+        Statuses::Nothing => Outcome::Unclear(Cause::NoStatus),
+        Statuses::Good(_, _) => Outcome::Reversed,
+        Statuses::Declining(code) => Outcome::Declined(code),
+        Statuses::Fault(cause) => Outcome::Unclear(cause),
+    }
+}
+
+/// How a completed end of day ends.
+fn closing_outcome(so_far: Statuses) -> Outcome
+    ensures { result ≡ closing_outcome so_far }
+{
+    match so_far {
+        Statuses::Nothing | Statuses::Good(_, _) => Outcome::DayClosed,
+        Statuses::Declining(code) => Outcome::Declined(code),
+        Statuses::Fault(cause) => Outcome::Unclear(cause),
+    }
+}
+
+/// How an order ends by a completion.
+fn completion_outcome(book: &[Entry], order: &Order, so_far: Statuses) -> Outcome
+    ensures { result ≡ completion_outcome book.now order.now so_far }
+{
+    match order {
+        Order::Register => Outcome::Registered,
+        Order::Pay(_) => payment_outcome(book, so_far),
+        Order::Reverse(_) => reversal_outcome(so_far),
+        Order::CloseDay | Order::Cancel => closing_outcome(so_far),
+    }
+}
+
+/// How an order ends that was broken off: plainly, where nothing but declines were heard.
+fn broken_outcome(so_far: Statuses, plain: Outcome) -> Outcome
+    ensures { result ≡ broken_outcome so_far plain }
+{
+    match so_far {
+        Statuses::Nothing | Statuses::Declining(_) => plain,
+        Statuses::Good(_, _) | Statuses::Fault(_) => Outcome::Unclear(Cause::AbortAfterApproval),
+    }
+}
+
+/// How the running order ends by this.
+pub fn outcome_by(
+    book: &[Entry],
+    order: &Order,
+    so_far: &Statuses,
+    happening: &Happening,
+) -> Outcome
+    ensures { result ≡ outcome_by book.now order.now so_far.now happening.now }
+{
+    match happening {
+        Happening::Heard(Heard::Completion) => completion_outcome(book, order, *so_far),
+        Happening::Heard(Heard::Abort(code)) => broken_outcome(*so_far, Outcome::Aborted(*code)),
+        Happening::Heard(Heard::Negative(code)) => broken_outcome(*so_far, Outcome::Refused(*code)),
+        Happening::Lost => Outcome::Unclear(Cause::Line),
+        Happening::Malformed => Outcome::Unclear(Cause::Malformed),
+        _ => Outcome::Unclear(Cause::Unfinished),
+    }
+}

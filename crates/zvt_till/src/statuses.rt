@@ -1,0 +1,169 @@
+//! What one status says under an order, and what the statuses of an order say together.
+ghost use Rattle.std.specs.Prelude.{◌≡◌};
+ghost use Rattle.zvt_till.specs.Statuses.{class_of, class_undeclined, same_trace};
+ghost use Rattle.zvt_till.specs.Outcomes.{note, note_class, demand_of, listened};
+
+use crate::entries::Entry;
+use crate::happenings::{Happening, is_positive};
+use crate::messages::{Heard, StatusFacts};
+use crate::orders::Order;
+use crate::outcomes::Cause;
+use zvt_bcd::{Amount, Trace};
+
+/// What a status has to name as charged.
+#[derive(Clone, Copy, Debug, PartialEq, Eq)]
+pub struct Charge {
+    pub amount: Amount,
+}
+
+/// What the statuses of an order are measured against.
+#[derive(Clone, Copy, Debug, PartialEq, Eq)]
+pub enum Demand {
+    Payment(Charge),
+    Reversal(Charge, Trace),
+    Closing,
+}
+
+/// What one status says under an order. Good has a trace number for payments alone.
+#[derive(Clone, Copy, Debug, PartialEq, Eq)]
+pub enum Class {
+    Good(Option<Trace>),
+    Declining(u8),
+    Doubtful(Cause),
+}
+
+/// What the statuses of the running order say together: with the first receipt where all are good, the
+/// first code where all decline, and what the first that did not agree is blamed for.
+#[derive(Clone, Copy, Debug, PartialEq, Eq)]
+pub enum Statuses {
+    Nothing,
+    Good(Option<Trace>, Option<[u8; 2]>),
+    Declining(u8),
+    Fault(Cause),
+}
+
+/// The order that runs: whether a positive answer came, and what its statuses say so far.
+#[derive(Clone, Copy, Debug, PartialEq, Eq)]
+pub struct Running {
+    pub order: Order,
+    pub positive: bool,
+    pub statuses: Statuses,
+}
+
+/// Whether these are the same number, or both none.
+fn same_trace(one: &Option<Trace>, other: &Option<Trace>) -> bool
+    ensures { result ≡ same_trace one.now other.now }
+{
+    one == other
+}
+
+/// The class of a status that names one result, and that no decline.
+fn class_undeclined(demand: &Demand, status: &StatusFacts) -> Class
+    ensures { result ≡ class_undeclined demand.now status.now }
+{
+    match demand {
+        Demand::Payment(charge) => {
+            if !status.original.is_absent() {
+                Class::Doubtful(Cause::Conflict)
+            } else if status.amount != Some(charge.amount) {
+                Class::Doubtful(Cause::AmountDiffers)
+            } else {
+                match status.trace {
+                    None => Class::Doubtful(Cause::NoTrace),
+                    Some(trace) => Class::Good(Some(trace)),
+                }
+            }
+        }
+        Demand::Reversal(charge, trace) => {
+            if status.amount != Some(charge.amount) {
+                Class::Doubtful(Cause::AmountDiffers)
+            } else if status.original.names(*trace) {
+                Class::Good(None)
+            } else {
+                Class::Doubtful(Cause::NoTrace)
+            }
+        }
+        Demand::Closing => Class::Good(None),
+    }
+}
+
+/// What the status says under the order.
+fn class_of(demand: &Demand, status: &StatusFacts) -> Class
+    ensures { result ≡ class_of demand.now status.now }
+{
+    match status.result {
+        None => Class::Doubtful(Cause::Conflict),
+        Some(0) => class_undeclined(demand, status),
+        Some(code) => Class::Declining(code),
+    }
+}
+
+/// What the statuses say together with one more of this class.
+fn note_class(so_far: Statuses, class: Class, receipt: Option<[u8; 2]>) -> Statuses
+    ensures { result ≡ note_class so_far class receipt }
+{
+    match so_far {
+        Statuses::Nothing => match class {
+            Class::Good(trace) => Statuses::Good(trace, receipt),
+            Class::Declining(code) => Statuses::Declining(code),
+            Class::Doubtful(cause) => Statuses::Fault(cause),
+        },
+        Statuses::Good(trace, first) => match class {
+            Class::Good(next) => {
+                if same_trace(&next, &trace) {
+                    Statuses::Good(trace, first)
+                } else {
+                    Statuses::Fault(Cause::Conflict)
+                }
+            }
+            Class::Declining(_) => Statuses::Fault(Cause::Conflict),
+            Class::Doubtful(cause) => Statuses::Fault(cause),
+        },
+        Statuses::Declining(code) => match class {
+            Class::Good(_) => Statuses::Fault(Cause::Conflict),
+            Class::Declining(_) => Statuses::Declining(code),
+            Class::Doubtful(cause) => Statuses::Fault(cause),
+        },
+        Statuses::Fault(cause) => Statuses::Fault(cause),
+    }
+}
+
+/// What the statuses say together with one more.
+fn note(demand: &Option<Demand>, so_far: Statuses, status: &StatusFacts) -> Statuses
+    ensures { result ≡ note demand.now so_far status.now }
+{
+    match demand {
+        None => so_far,
+        Some(demand) => note_class(so_far, class_of(demand, status), status.receipt),
+    }
+}
+
+/// What the statuses of the order are measured against; those of a registration say nothing.
+pub fn demand_of(book: &[Entry], order: &Order) -> Option<Demand>
+    ensures { result ≡ demand_of book.now order.now }
+{
+    match order {
+        Order::Register | Order::Cancel => None,
+        Order::Pay(amount) => Some(Demand::Payment(Charge { amount: *amount })),
+        Order::Reverse(entry) => {
+            let row = book.get(*entry)?;
+            Some(Demand::Reversal(Charge { amount: row.amount }, row.trace))
+        }
+        Order::CloseDay => Some(Demand::Closing),
+    }
+}
+
+/// The running order after something that does not end it.
+pub fn listened(demand: &Option<Demand>, running: &Running, happening: &Happening) -> Running
+    ensures { result ≡ listened demand.now running.now happening.now }
+{
+    let statuses = match happening {
+        Happening::Heard(Heard::Status(status)) => note(demand, running.statuses, status),
+        _ => running.statuses,
+    };
+    Running {
+        order: running.order,
+        positive: running.positive || is_positive(happening),
+        statuses,
+    }
+}
