@@ -6,6 +6,7 @@ use Rattle.std.proofs.lemmas.List.Elements.{All-take, All-same, All-tail, All-he
 use Rattle.std.proofs.lemmas.Option.{get_or_from_slice_get}
 use Rattle.std.proofs.Math.Seq.{take-append-add, drop-append_seam, take-append_seam, take-suc, take-add}
 use Rattle.zvt_bcd.specs.Digits.{AreDigits, IsDigitPair}
+use Rattle.zvt_bcd.proofs.PairTests.{is_pair_test}
 use Rattle.zvt_spelling.specs.declared.why.Why.{Why}
 use Rattle.zvt_spelling.specs.declared.why.Why.TheVariants.{NotDigit}
 use Rattle.zvt_spelling.specs.declared.answer.Scan.{Scan}
@@ -18,7 +19,6 @@ use Rattle.zvt_tlv.proofs.Alive.{front_of}
 use Rattle.zvt_tlv.proofs.Levels.{byte_from}
 use Rattle.zvt_field.specs.Grammar.{Field, FieldList}
 use Rattle.zvt_field.specs.Judging as field
-use Rattle.zvt_field.specs.Judging.{is_digit_pair}
 use Rattle.zvt_field.specs.Answers as field_answers
 use Rattle.zvt_apdu.specs.Message.{Message}
 use Rattle.zvt_apdu.specs.Grammar.{IsFrameLength, Spells}
@@ -78,14 +78,6 @@ last_digits (y ∷ a) x p = last_digits a x (All-tail IsDigitPair y (a ++ x ∷ 
 
 pub front_digits : (a b : List ℕ) → AreDigits (a ++ b) → AreDigits a
 front_digits a b p = All-same IsDigitPair a (take (length a) (a ++ b)) (sym (take-append_seam a b)) (All-take IsDigitPair (length a) (a ++ b) p)
-
-pub is_pair_test : (x : ℕ) → IsDigitPair x → is_digit_pair x ≡ true
-is_pair_test x p = and_from (nat_le (x / 16) 9) (nat_le (x % 16) 9) (le-leb (x / 16) 9 p.0) (le-leb (x % 16) 9 p.1)
-
-pub is_pair : (x : ℕ) → is_digit_pair x ≡ true → IsDigitPair x
-is_pair x e =
-    let both = and_parts (nat_le (x / 16) 9) (nat_le (x % 16) 9) e in
-    (leb-true (x / 16) 9 both.0, leb-true (x % 16) 9 both.1)
 
 -- a byte of the digits of what goes with a beginning is a pair of digits
 pub digit_holds : (r : Reading) (high low n : ℕ) (size front rest f d later : List ℕ) (x : ℕ) (inside : List ℕ) → Goes r high low n size inside front rest → inside ≡ f ++ ((d ++ x ∷ []) ++ later) → length f ≡ (layout_of high low n).free → length d < (layout_of high low n).digits → IsDigitPair x

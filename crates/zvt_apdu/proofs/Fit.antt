@@ -3,7 +3,8 @@ use Rattle.std.proofs.Common.{◌≡◌, ◌≢◌, ℕ, ◌+◌, ◌*◌, ◌<�
 use Rattle.std.proofs.lemmas.List.{append-nil}
 use Rattle.std.proofs.lemmas.List.Elements.{All-push}
 use Rattle.std.proofs.lemmas.Bool.{cases_eq, cond-false, ne_eqb, leb-true, leb-false, false≢true}
-use Rattle.zvt_bcd.specs.Digits.{AreDigits, IsDigitPair}
+use Rattle.zvt_bcd.specs.Digits.{AreDigits, IsDigitPair, is_digit_pair}
+use Rattle.zvt_bcd.proofs.PairTests.{is_pair, is_pair_test}
 use Rattle.zvt_spelling.specs.declared.why.Why.{Why}
 use Rattle.zvt_spelling.specs.declared.why.Why.TheVariants.{NotShortest, DoesNotFit, NotDigit}
 use Rattle.zvt_spelling.specs.Reading.{Reading, shortest, padded, AreBytes, least}
@@ -14,7 +15,6 @@ use Rattle.zvt_tlv.proofs.Spelling.{same_front}
 use Rattle.zvt_tlv.proofs.Alive.{front_of, bytes_front, bytes_joined}
 use Rattle.zvt_tlv.proofs.Room.{Says}
 use Rattle.zvt_tlv.specs.Judging.{Opener}
-use Rattle.zvt_field.specs.Judging.{is_digit_pair}
 use Rattle.zvt_apdu.specs.Grammar.{IsFrameLength, Spells}
 use Rattle.zvt_apdu.specs.Judging.{layout_of, head_size, can_fill, Role, first_control, second_control, first_size, low_size, high_size, free, digit, in_fields, InData, layout_in, Position, fault}
 use Rattle.zvt_apdu.specs.Laws.{TestsDecide}
@@ -22,7 +22,7 @@ use Rattle.zvt_apdu.proofs.Frames.{Tail}
 use Rattle.zvt_apdu.proofs.Within.{fit_fields}
 use Rattle.zvt_apdu.proofs.Opened.{begun, Goes, goes_alive, parts_fill, fills_long, alive_open, alive_free, alive_digits, alive_bytes}
 use Rattle.zvt_apdu.proofs.OpeningMoves.{long}
-use Rattle.zvt_apdu.proofs.DataMoves.{digit_holds, front_digits, is_pair_test, is_pair}
+use Rattle.zvt_apdu.proofs.DataMoves.{digit_holds, front_digits}
 
 always : (P : Type 0) → P → Says None P
 always P p = (λ e. p, λ w e q. absurd (cc (e)))

@@ -1,7 +1,7 @@
 -- Which bytes may follow in a message, and why a byte may not.
 use Rattle.std.specs.Prelude.{◌≡◌, ℕ, ◌+◌, ◌*◌, ◌-◌, ◌<◌, ◌≤◌, ◌==◌, ◌&&◌, not, nat_le, Bool, true, false, cond, Option, Some, None, List, [], ◌∷◌, ◌++◌, length, take, drop, slice_get}
 use Rattle.std.proofs.Common.{◌⊎◌}
-use Rattle.zvt_bcd.specs.Digits.{AreDigits}
+use Rattle.zvt_bcd.specs.Digits.{AreDigits, is_digit_pair}
 use Rattle.zvt_spelling.specs.declared.why.Why.{Why}
 use Rattle.zvt_spelling.specs.declared.why.Why.TheVariants.{NotShortest, DoesNotFit, NotDigit}
 use Rattle.zvt_spelling.specs.declared.answer.Scan.{Scan}
@@ -10,7 +10,6 @@ use Rattle.zvt_spelling.specs.Reading.{Reading, least}
 use Rattle.zvt_spelling.specs.Tests.{check}
 use Rattle.zvt_tlv.specs.Judging.{Opener}
 use Rattle.zvt_spelling.specs.Beginnings.{NoneWhole, Unfinished, Place}
-use Rattle.zvt_field.specs.Judging.{is_digit_pair}
 use Rattle.zvt_field.specs.Judging as field
 pub use Rattle.zvt_apdu.specs.declared.frame.Layout.{Layout}
 pub use Rattle.zvt_apdu.specs.declared.frame.Opening.{Opening}

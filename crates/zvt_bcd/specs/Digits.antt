@@ -1,10 +1,14 @@
 -- Binary coded decimals: two digits in each byte, the higher one in the upper half.
-use Rattle.std.specs.Prelude.{ℕ, ◌+◌, ◌*◌, ◌/◌, ◌%◌, ◌^◌, ◌≤◌, List, [], ◌∷◌, length}
+use Rattle.std.specs.Prelude.{ℕ, ◌+◌, ◌*◌, ◌/◌, ◌%◌, ◌^◌, ◌≤◌, ◌&&◌, nat_le, Bool, List, [], ◌∷◌, length}
 use Rattle.std.specs.List.{All}
 
 -- both halves of the byte are decimal digits
 abbrev pub IsDigitPair : ℕ → Type 0
 IsDigitPair byte = (byte / 16 ≤ 9) × (byte % 16 ≤ 9)
+
+-- the same as a test
+abbrev pub is_digit_pair : ℕ → Bool
+is_digit_pair byte = nat_le (byte / 16) 9 && nat_le (byte % 16) 9
 
 -- each byte is two digits
 abbrev pub AreDigits : List ℕ → Type 0

@@ -5,7 +5,8 @@ use Rattle.std.proofs.lemmas.List.{append-nil, length-take, length-take-le, take
 use Rattle.std.proofs.lemmas.List.Sums.{fails_before_first, passes_at_first}
 use Rattle.std.proofs.lemmas.List.Elements.{All-from_get_or}
 use Rattle.std.proofs.lemmas.Bool.{ltb-true, ltb-false, not-true}
-use Rattle.zvt_bcd.specs.Digits.{AreDigits, IsDigitPair}
+use Rattle.zvt_bcd.specs.Digits.{AreDigits, IsDigitPair, is_digit_pair}
+use Rattle.zvt_bcd.proofs.PairTests.{is_pair}
 use Rattle.zvt_spelling.specs.declared.why.Why.TheVariants.{NotDigit}
 use Rattle.zvt_spelling.specs.Reading.{shortest, AreBytes}
 use Rattle.zvt_spelling.specs.Tests.{check}
@@ -13,10 +14,10 @@ use Rattle.zvt_tlv.proofs.Alive.{bytes_front}
 use Rattle.zvt_tlv.proofs.Levels.{take_from, are_bytes}
 use Rattle.zvt_field.specs.Shapes.{shape_of}
 use Rattle.zvt_field.specs.Grammar.{plain, IsHead, IsContent}
-use Rattle.zvt_field.specs.Judging.{AliveIn, PlaceIn, WhyIn, in_content, is_digit_pair}
+use Rattle.zvt_field.specs.Judging.{AliveIn, PlaceIn, WhyIn, in_content}
 use Rattle.zvt_field.specs.declared.reader.Head.{Head}
 use Rattle.zvt_field.specs.Answers.{HeadFound, FieldFound}
-use Rattle.zvt_field.proofs.Fit.{Content, alive_content, content_alive, is_pair}
+use Rattle.zvt_field.proofs.Fit.{Content, alive_content, content_alive}
 use Rattle.zvt_field.proofs.HeadMoves.{failed}
 
 -- a byte that isn't two digits

@@ -1,9 +1,10 @@
 -- Which bytes may follow the beginning of a field.
 use Rattle.std.proofs.Common.{◌≡◌, ◌≢◌, ℕ, ◌+◌, ◌-◌, ◌/◌, ◌%◌, ◌<◌, ◌≤◌, Bool, true, false, Option, Some, None, List, [], ◌∷◌, ◌++◌, length, refl, sym, ◌∙◌, ap, subst, append_assoc, arith, length-append, ◌⊎◌, suc, zero, inl, inr}
 use Rattle.std.proofs.lemmas.List.{append-nil, append_cancel_left}
-use Rattle.std.proofs.lemmas.Bool.{leb-true, leb-false, eqb-true, eqb-false, and_parts, and_cases, or_cases, or_parts}
+use Rattle.std.proofs.lemmas.Bool.{leb-true, leb-false, eqb-true, eqb-false, and_parts, and_cases, or_cases, or_parts, false≢true}
 use Rattle.std.proofs.lemmas.List.Elements.{All-nil, All-cons, All-append}
-use Rattle.zvt_bcd.specs.Digits.{AreDigits, IsDigitPair}
+use Rattle.zvt_bcd.specs.Digits.{AreDigits, IsDigitPair, is_digit_pair}
+use Rattle.zvt_bcd.proofs.PairTests.{is_pair, is_pair_test}
 use Rattle.zvt_spelling.specs.declared.why.Why.{Why}
 use Rattle.zvt_spelling.specs.declared.why.Why.TheVariants.{DoesNotFit, NotDigit}
 use Rattle.zvt_spelling.specs.Reading.{Reading}
@@ -19,7 +20,7 @@ use Rattle.zvt_field.specs.declared.shapes.Shape.{Shape}
 use Rattle.zvt_field.specs.declared.shapes.Shape.TheVariants.{Tree}
 use Rattle.zvt_field.specs.Shapes.{shape_of}
 use Rattle.zvt_field.specs.Grammar.{Field, plain, tree, IsHead, IsContent, FieldList}
-use Rattle.zvt_field.specs.Judging.{AliveIn, in_content, is_digit_pair, fault}
+use Rattle.zvt_field.specs.Judging.{AliveIn, in_content, fault}
 use Rattle.zvt_field.proofs.FieldLists.{head_front, not_single, filler, filling, filling_size, filled}
 
 pub says_check : (b : Bool) (why : Why) (P : Type 0) → (b ≡ true → P) → (b ≡ false → P → ⊥) → Says (check b why None) P
@@ -165,12 +166,6 @@ fit_size r bmp n digits size room left head e =
     (λ t h. let c = alive_content r bmp n digits size [] room head (omega arith) h in fits_false n left c.over t (omega (arith, c.sized)) c.apart))
 
 -- a byte of a content
-pub is_pair : (x : ℕ) → is_digit_pair x ≡ true → IsDigitPair x
-is_pair x e = let both = and_parts _ _ e in (leb-true (x / 16) 9 both.0, leb-true (x % 16) 9 both.1)
-
-pub no_pair : (x : ℕ) → is_digit_pair x ≡ false → IsDigitPair x → ⊥
-no_pair x e p = elim (and_cases _ _ e) [ inl h ↦ (let less : 9 < x / 16 = leb-false (x / 16) 9 h in omega (arith, p.0)) | inr h ↦ (let less : 9 < x % 16 = leb-false (x % 16) 9 h in omega (arith, p.1)) ]
-
 last_digit : (part : List ℕ) (x : ℕ) → AreDigits (part ++ x ∷ []) → IsDigitPair x
 last_digit [] x h = h 0 0 (omega arith)
 last_digit (y ∷ part) x h = last_digit part x (λ k d lt. h (suc k) d (omega arith))
@@ -186,4 +181,4 @@ fit_content r bmp n digits size part room left x head short lt a = by_kind digit
     )
     by_kind true head c = says_check (is_digit_pair x) NotDigit _
         (λ e. content_alive r bmp n true size (part ++ x ∷ []) room head (omega (arith, length-append part (x ∷ []))) (record { over = c.over; sized = c.sized; apart = c.apart; is_content = content_joined true part (x ∷ []) c.is_content (All-cons IsDigitPair x [] (is_pair x e) (All-nil IsDigitPair)) }))
-        (λ e h. no_pair x e (last_digit part x (alive_content r bmp n true size (part ++ x ∷ []) room head (omega (arith, length-append part (x ∷ []))) h).is_content))
+        (λ e h. false≢true (sym e ∙ is_pair_test x (last_digit part x (alive_content r bmp n true size (part ++ x ∷ []) room head (omega (arith, length-append part (x ∷ []))) h).is_content)))

@@ -1,5 +1,6 @@
 -- Which bytes may follow in a list of fields, and why a byte may not.
 use Rattle.std.specs.Prelude.{◌≡◌, ℕ, ◌+◌, ◌*◌, ◌^◌, ◌-◌, ◌<◌, ◌==◌, ◌/◌, ◌%◌, ◌&&◌, nat_le, Bool, true, false, cond, Option, Some, None, List, [], ◌∷◌, ◌++◌, length, take, slice_get, suc}
+use Rattle.zvt_bcd.specs.Digits.{is_digit_pair}
 use Rattle.zvt_bcd.specs.LengthDigits.{AreLengthDigits, counted}
 use Rattle.zvt_spelling.specs.declared.why.Why.{Why}
 use Rattle.zvt_spelling.specs.declared.why.Why.TheVariants.{DoesNotFit, UnknownField, NotDigit, LengthDigit}
@@ -94,10 +95,6 @@ name_fault r (Some shape) left = check (shape_fits r shape left) DoesNotFit None
 -- Whether a content can follow whose length begins with that number and has so many more digits.
 abbrev pub count_fits : (more number left : ℕ) → Bool
 count_fits more number left = cond (more == 0) (fits number left) (nat_le (more + 10 ^ more * number) left)
-
--- Both halves of the byte are decimal digits.
-abbrev pub is_digit_pair : ℕ → Bool
-is_digit_pair x = nat_le (x / 16) 9 && nat_le (x % 16) 9
 
 abbrev pub is_length_digit : ℕ → Bool
 is_length_digit x = nat_le 0xF0 x && nat_le x 0xF9

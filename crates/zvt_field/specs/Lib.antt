@@ -5,5 +5,6 @@ pub mod Spelling
 pub mod Bodies
 pub mod Lists
 pub mod Named
+pub mod Names
 pub mod Answers
 pub mod Laws

@@ -2,7 +2,7 @@
 
 ghost use Rattle.std.specs.Prelude.{◌≡◌, ◌≢◌, ◌≤◌, ◌<◌, ◌^◌, not, if◌then◌else◌, IfOk, position};
 ghost use Rattle.zvt_spelling.specs.Reading.{shortest};
-ghost use Rattle.zvt_field.specs.Judging.{is_digit_pair};
+ghost use Rattle.zvt_bcd.specs.Digits.{is_digit_pair};
 ghost use Rattle.zvt_field.specs.Answers.{Answers, AnswersOne, AnswersHead, InName, InContainer, HeadFound};
 
 use crate::judging::{judge_digit, judge_name};

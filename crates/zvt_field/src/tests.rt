@@ -296,3 +296,12 @@ fn largest(rt: HostRuntime) -> Result<(), Fail> {
     assert_eq!(rt; fields.list().len(), 1);
     Ok(())
 }
+
+#[test]
+fn names(rt: HostRuntime) -> Result<(), Fail> {
+    assert_eq!(rt; name(0x04), Some("amount"));
+    assert_eq!(rt; name(0x3A), Some("verification"));
+    assert_eq!(rt; name(0x92), Some("field-92"));
+    assert_eq!(rt; name(0x07), None);
+    Ok(())
+}

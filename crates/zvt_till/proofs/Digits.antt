@@ -1,18 +1,15 @@
 -- Bytes that are digits pass the test for it.
 use Rattle.std.proofs.Common.{◌≡◌, ℕ, ◌/◌, ◌%◌, Bool, true, ◌&&◌, nat_eq, IsTrue, ◌↔◌, List, [], ◌∷◌, refl, sym, ap, ap₂, subst, ◌∙◌, arith}
 use Rattle.std.specs.List.{list_all}
-use Rattle.std.proofs.lemmas.Bool.{lt-ltb}
 use Rattle.std.proofs.lemmas.List.Elements.{All-head, All-tail}
-use Rattle.zvt_bcd.specs.Digits.{IsDigitPair, AreDigits, number_of}
-use Rattle.zvt_till.specs.Statuses.{is_digit_pair, spells}
-
-digit_pair : (byte : ℕ) → IsDigitPair byte → is_digit_pair byte ≡ true
-digit_pair byte p = ap₂ (λ a b. a && b) (lt-ltb (byte / 16) 10 (omega arith)) (lt-ltb (byte % 16) 10 (omega arith))
+use Rattle.zvt_bcd.specs.Digits.{IsDigitPair, AreDigits, is_digit_pair, number_of}
+use Rattle.zvt_bcd.proofs.PairTests.{is_pair_test}
+use Rattle.zvt_till.specs.Statuses.{spells}
 
 pub digits-test : (bytes : List ℕ) → AreDigits bytes → list_all is_digit_pair bytes ≡ true
 digits-test [] d = refl
 digits-test (byte ∷ bytes) d =
-    ap₂ (λ a b. a && b) (digit_pair byte (All-head IsDigitPair byte bytes d)) (digits-test bytes (All-tail IsDigitPair byte bytes d))
+    ap₂ (λ a b. a && b) (is_pair_test byte (All-head IsDigitPair byte bytes d)) (digits-test bytes (All-tail IsDigitPair byte bytes d))
 
 -- the test as the code makes it, over copies of the bytes and of the number
 pub spells-tested : (bytes first second : List ℕ) (trace wide n : ℕ) (b : Bool)

@@ -1,7 +1,7 @@
 -- What one status says under an order, and what the statuses of an order say together.
 use Rattle.std.specs.Prelude.{ℕ, ◌/◌, ◌%◌, Bool, true, false, not, cond, ◌&&◌, ◌==◌, nat_lt, List, [], ◌∷◌, Option, Some, None}
 use Rattle.std.specs.List.{list_all, find}
-use Rattle.zvt_bcd.specs.Digits.{number_of}
+use Rattle.zvt_bcd.specs.Digits.{is_digit_pair, number_of}
 use Rattle.zvt_till.specs.declared.messages.StatusFacts.{StatusFacts}
 use Rattle.zvt_till.specs.declared.messages.Original.{Original}
 use Rattle.zvt_till.specs.declared.messages.Original.TheVariants.{Absent, Once, Many}
@@ -17,10 +17,6 @@ pub use Rattle.zvt_till.specs.declared.statuses.Class.TheVariants.{Good, Declini
 abbrev pub is_value : Option ℕ → ℕ → Bool
 is_value None x = false
 is_value (Some y) x = y == x
-
--- both halves of the byte are decimal digits
-abbrev pub is_digit_pair : ℕ → Bool
-is_digit_pair byte = nat_lt (byte / 16) 10 && nat_lt (byte % 16) 10
 
 -- digits that spell the number
 abbrev pub spells : List ℕ → ℕ → Bool
