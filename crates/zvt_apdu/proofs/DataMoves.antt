@@ -1,6 +1,6 @@
 -- The steps of the reader of a message's data.
-use Rattle.std.proofs.Common.{◌≡◌, ◌≢◌, ℕ, ◌+◌, ◌-◌, ◌<◌, ◌≤◌, ◌/◌, ◌%◌, nat_le, Bool, true, false, Some, None, List, [], ◌∷◌, ◌++◌, length, take, drop, get_or, slice_get, refl, sym, ◌∙◌, ap, subst, append_assoc, arith, length-append, length-drop, ◌⊎◌, suc, inl, inr}
-use Rattle.std.proofs.lemmas.Bool.{cases_lt, false≢true, and_from, and_parts, le-leb, leb-true}
+use Rattle.std.proofs.Common.{◌≡◌, ◌≢◌, ℕ, ◌+◌, ◌-◌, ◌<◌, ◌≤◌, Bool, true, false, Some, None, List, [], ◌∷◌, ◌++◌, length, take, drop, get_or, slice_get, refl, sym, ◌∙◌, ap, subst, append_assoc, arith, length-append, length-drop, ◌⊎◌, suc, inl, inr}
+use Rattle.std.proofs.lemmas.Bool.{cases_lt, false≢true}
 use Rattle.std.proofs.lemmas.List.{append-nil, length-take-le, take-append-drop, take-append-le, take_all, drop-drop}
 use Rattle.std.proofs.lemmas.List.Elements.{All-take, All-same, All-tail, All-head}
 use Rattle.std.proofs.lemmas.Option.{get_or_from_slice_get}

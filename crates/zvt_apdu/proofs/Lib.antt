@@ -7,11 +7,13 @@ pub mod Opened
 pub mod OpeningMoves
 pub mod KindLemmas
 pub mod DataMoves
+pub mod Encoding
 pub mod OneSpelling
 pub mod SizeLemmas
 pub mod Writing
 pub mod LawLemmas
 pub mod Fit
 pub mod Positions
+pub mod BriefLemmas
 pub mod Exists
 pub mod OneAnswer

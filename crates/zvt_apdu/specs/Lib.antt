@@ -4,3 +4,4 @@ pub mod Messages
 pub mod Grammar
 pub mod Judging
 pub mod Laws
+pub mod Briefs

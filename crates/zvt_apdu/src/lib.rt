@@ -2,6 +2,7 @@
 #![tactic(auto)]
 
 mod apdu;
+mod brief;
 mod frame;
 mod kinds;
 pub mod laws;
@@ -10,10 +11,13 @@ mod reader;
 mod writer;
 
 pub use apdu::Apdu;
+pub use brief::{Brief, brief_message, put_brief};
 pub use messages::{BadValue, Message, Rest};
 pub use reader::scan;
-pub use writer::{NoRoom, encode_into, size};
+pub use writer::{NoRoom, encode, encode_into, size};
 
+#[cfg(test)]
+mod brief_tests;
 #[cfg(test)]
 mod field_tests;
 #[cfg(test)]

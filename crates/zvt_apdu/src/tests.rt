@@ -1,6 +1,6 @@
 //! Messages worked by hand.
 
-use crate::{Apdu, BadValue, Message, NoRoom, encode_into, scan, size};
+use crate::{Apdu, BadValue, Message, NoRoom, encode, encode_into, scan, size};
 use std::alloc::Global;
 use std::process::Abort;
 use std::test::Fail;
@@ -24,6 +24,7 @@ fn read(rt: &impl Abort, alloc: Global, bytes: &[u8]) -> Result<(Apdu, usize), F
     assert!(rt; taken < out.len());
     assert_eq!(rt; &out[..taken], &bytes[..taken]);
     assert_eq!(rt; out[taken], 0x55);
+    assert_eq!(rt; encode(alloc, &apdu)?.as_slice(), &bytes[..taken]);
     Ok((apdu, taken))
 }
 

@@ -1,17 +1,18 @@
 //! The writer of messages, and what they need.
 
-ghost use Rattle.std.specs.Prelude.{◌≡◌, ◌+◌, ◌++◌, ◌<◌, ◌≤◌, ◌^◌, ℕ, List, ◌∷◌, length};
+ghost use Rattle.std.specs.Prelude.{◌≡◌, ◌+◌, ◌++◌, ◌<◌, ◌≤◌, ◌^◌, ℕ, List, ◌∷◌, length, IfOk};
 ghost use Rattle.zvt_spelling.specs.Reading.{AreBytes, shortest};
 ghost use Rattle.zvt_bcd.specs.Digits.{AreDigits, number_of};
 ghost use Rattle.zvt_tlv.specs.Sizes.{Puts};
 ghost use Rattle.zvt_field.specs.Grammar.{FieldList};
 ghost use Rattle.zvt_apdu.specs.Grammar.{Data, Spells};
 ghost use Rattle.zvt_apdu.specs.Message.{registration};
-ghost use Rattle.zvt_apdu.specs.Messages.{message_of, rest_of, ControlOf, Encodes, FreeControl, Fitting, HasData, ListedIn, length_bytes};
+ghost use Rattle.zvt_apdu.specs.Messages.{message_of, rest_of, ControlOf, Encodes, FreeControl, Fitting, HasData, HasSpelling, ListedIn, length_bytes};
 
 use crate::apdu::Apdu;
 use crate::frame::form_of;
 use crate::messages::{Message, Rest};
+use std::alloc::{AllocError, Global};
 use zvt_bcd::{Currency, put};
 use zvt_field::{Fields, write_into};
 
@@ -54,7 +55,7 @@ fn free_control(high: u8, low: u8) -> Option<[u8; 2]>
 }
 
 /// The size of bytes of any value.
-fn bytes_size(bytes: &[u8]) -> usize
+pub(crate) fn bytes_size(bytes: &[u8]) -> usize
     ensures value { result ≡ length bytes.now }
     ensures bytes { AreBytes bytes.now }
     ensures most { result < 2 ^ 63 }
@@ -71,7 +72,7 @@ fn behind_byte(byte: u8, bytes: &[u8]) -> usize
 }
 
 /// The size of a password.
-fn password_size(password: &[u8; 3]) -> usize
+pub(crate) fn password_size(password: &[u8; 3]) -> usize
     ensures value { result ≡ 3 }
     ensures three { length password.now ≡ 3 }
     ensures bytes { AreBytes password.now }
@@ -87,7 +88,7 @@ fn fields_size(fields: &Fields) -> usize
 }
 
 /// A currency's two bytes of digits.
-fn currency_digits(currency: Currency) -> [u8; 2]
+pub(crate) fn currency_digits(currency: Currency) -> [u8; 2]
     ensures two { length result ≡ 2 }
     ensures digits { AreDigits result }
     ensures number { number_of result ≡ currency }
@@ -135,7 +136,7 @@ fn registration_size(password: &[u8; 3], config: u8, rest: &Option<Rest>) -> usi
 }
 
 /// Puts bytes at the front, and says how many.
-fn put_bytes(bytes: &[u8], out: &mut [u8]) -> usize
+pub(crate) fn put_bytes(bytes: &[u8], out: &mut [u8]) -> usize
     requires { length bytes.now ≤ length out.old }
     ensures { Puts bytes.now out.old out.new result }
 {
@@ -144,7 +145,7 @@ fn put_bytes(bytes: &[u8], out: &mut [u8]) -> usize
 }
 
 /// Puts bytes at the front, and others behind them, and says how many.
-fn put_behind(first: &[u8], bytes: &[u8], out: &mut [u8]) -> usize
+pub(crate) fn put_behind(first: &[u8], bytes: &[u8], out: &mut [u8]) -> usize
     requires { length first.now + length bytes.now ≤ length out.old }
     ensures { Puts (first.now ++ bytes.now) out.old out.new result }
 {
@@ -229,7 +230,8 @@ fn put_head(high: u8, low: u8, size: usize, out: &mut [u8]) -> usize
 
 /// The size of the message's spelling.
 pub fn size(apdu: &Apdu) -> usize
-    ensures { (bytes : List ℕ) → Spells shortest apdu.now bytes → result ≡ length bytes }
+    ensures value { (bytes : List ℕ) → Spells shortest apdu.now bytes → result ≡ length bytes }
+    ensures spelled { HasSpelling apdu.now }
 {
     let size = data_size(apdu.message());
     head_size(size) + size
@@ -251,4 +253,16 @@ pub fn encode_into(apdu: &Apdu, out: &mut [u8]) -> Result<usize, NoRoom>
     };
     let at = put_head(control[0], control[1], size, out);
     Ok(at + write_data(message, &mut out[at..]))
+}
+
+/// The message's spelling.
+pub fn encode(alloc: Global, apdu: &Apdu) -> Result<Vec<u8>, AllocError>
+    ensures { IfOk result (λ bytes. Spells shortest apdu.now bytes.items) }
+{
+    let mut bytes = Vec::new(alloc);
+    bytes.resize(size(apdu), 0)?;
+    let Ok(_) = encode_into(apdu, &mut bytes) else {
+        unreachable!()
+    };
+    Ok(bytes)
 }

@@ -1,11 +1,9 @@
 -- Each beginning that can be completed, and is not whole, stands at a position.
-use Rattle.std.proofs.Common.{◌≡◌, ℕ, ◌+◌, ◌-◌, ◌<◌, ◌≤◌, Bool, true, Option, Some, None, List, [], ◌∷◌, ◌++◌, length, refl, sym, ◌∙◌, ap, subst, arith, length-append, ◌⊎◌, suc, inl, inr}
+use Rattle.std.proofs.Common.{◌≡◌, ℕ, ◌+◌, ◌-◌, ◌<◌, ◌≤◌, Bool, Option, Some, None, List, [], ◌∷◌, ◌++◌, length, refl, sym, ◌∙◌, ap, subst, arith, length-append, ◌⊎◌, suc, inl, inr}
 use Rattle.std.proofs.lemmas.List.{append-nil}
 use Rattle.zvt_bcd.specs.LengthDigits.{AreLengthDigits, counted}
 use Rattle.zvt_spelling.specs.Reading.{Reading}
-use Rattle.zvt_tlv.specs.Grammar as tlv
 use Rattle.zvt_tlv.specs.Judging as judging
-use Rattle.zvt_tlv.specs.Sized.{Sized, PositionSized}
 use Rattle.zvt_tlv.proofs.Exists.{split, sized_front}
 use Rattle.zvt_field.specs.declared.shapes.Shape.{Shape}
 use Rattle.zvt_field.specs.declared.shapes.Shape.TheVariants.{Fixed, Digits, Ll, Lll, Tree}

@@ -15,7 +15,7 @@ use Rattle.zvt_field.specs.declared.bodies.FieldBody.TheVariants.{Bytes, Tree}
 use Rattle.zvt_field.specs.Shapes.{shape_of}
 use Rattle.zvt_field.specs.Grammar.{Field, plain, tree, FieldList}
 use Rattle.zvt_field.specs.Spelling.{count_bytes, spelling_of, spelling_of_all}
-use Rattle.zvt_field.specs.Bodies.{field_of, name_of, HasSpelling, HaveSpelling}
+use Rattle.zvt_field.specs.Bodies.{field_of, name_of, HaveSpelling}
 use Rattle.zvt_field.proofs.Spellings.{list_spelled, all_joined}
 
 pub puts_plain : (f : Field) (body : FieldBody) (v : Vec ℕ Global) (bmp n k m : ℕ) (content old mid sub : List ℕ) → field_of (name_of f) body ≡ f → body ≡ Bytes v → bmp ≡ name_of f → n ≡ length v.items → content ≡ v.items →

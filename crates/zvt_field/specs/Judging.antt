@@ -1,5 +1,5 @@
 -- Which bytes may follow in a list of fields, and why a byte may not.
-use Rattle.std.specs.Prelude.{◌≡◌, ℕ, ◌+◌, ◌*◌, ◌^◌, ◌-◌, ◌<◌, ◌==◌, ◌/◌, ◌%◌, ◌&&◌, nat_le, Bool, true, false, cond, Option, Some, None, List, [], ◌∷◌, ◌++◌, length, take, slice_get, suc}
+use Rattle.std.specs.Prelude.{◌≡◌, ℕ, ◌+◌, ◌*◌, ◌^◌, ◌-◌, ◌<◌, ◌==◌, ◌&&◌, nat_le, Bool, true, false, cond, Option, Some, None, List, [], ◌∷◌, ◌++◌, length, take, slice_get, suc}
 use Rattle.zvt_bcd.specs.Digits.{is_digit_pair}
 use Rattle.zvt_bcd.specs.LengthDigits.{AreLengthDigits, counted}
 use Rattle.zvt_spelling.specs.declared.why.Why.{Why}

@@ -1,0 +1,131 @@
+//! The messages that a till sends, without memory of their own.
+
+ghost use Rattle.std.specs.Prelude.{◌≡◌, ◌+◌, ◌++◌, [], ◌∷◌, ◌<◌, ◌≤◌, length, IfOk};
+ghost use Rattle.zvt_spelling.specs.Reading.{AreBytes};
+ghost use Rattle.zvt_tlv.specs.Sizes.{Puts};
+ghost use Rattle.zvt_bcd.specs.Digits.{AreDigits, number_of};
+ghost use Rattle.zvt_apdu.specs.Briefs.{message_of_brief, PutsMessage};
+
+use crate::apdu::Apdu;
+use crate::reader::scan;
+use crate::writer::{bytes_size, currency_digits, password_size, put_behind, put_bytes};
+use std::alloc::{AllocError, Global};
+use zvt_bcd::{Amount, Currency, put};
+use zvt_spelling::Scan;
+
+/// A message that a till sends, by the few values that it is made of. Its control bytes are given in hexadecimal.
+#[derive(Clone, Copy, Debug, PartialEq, Eq)]
+pub enum Brief {
+    /// 80 00: the terminal's message was taken.
+    Ack,
+    /// 84 and the code: it was refused.
+    Nack(u8),
+    /// 06 00: the till registers, and names its currency.
+    Register {
+        password: [u8; 3],
+        config: u8,
+        currency: Currency,
+    },
+    /// 06 01: a payment of this amount (BMP 04) in this currency (BMP 49).
+    Pay(Amount, Currency),
+    /// 06 30: the payment with this receipt number (BMP 87) is taken back.
+    Reverse {
+        password: [u8; 3],
+        receipt: [u8; 2],
+    },
+    /// 06 50: the day is closed.
+    CloseDay {
+        password: [u8; 3],
+    },
+    /// 06 B0: the running order is given up.
+    AbortOrder,
+}
+
+/// An amount's six bytes of digits.
+fn amount_digits(amount: Amount) -> [u8; 6]
+    ensures six { length result ≡ 6 }
+    ensures digits { AreDigits result }
+    ensures number { number_of result ≡ amount }
+{
+    let mut digits = [0; 6];
+    put(amount.get(), &mut digits);
+    digits
+}
+
+/// Puts a message without data at the front, and says its size.
+fn put_bare(high: u8, low: u8, out: &mut [u8; 32]) -> usize
+    ensures written { Puts (high ∷ low ∷ 0 ∷ []) out.old out.new result }
+    ensures fits { result ≤ 32 }
+    ensures byte { low < 256 }
+{
+    put_bytes(&[high, low, 0], out)
+}
+
+/// Puts a message 06 at the front whose data is a password and what stands behind it, and says its size.
+fn put_with_password(low: u8, password: [u8; 3], more: &[u8], out: &mut [u8; 32]) -> usize
+    requires { length more.now ≤ 3 }
+    ensures written { Puts (0x06 ∷ low ∷ (3 + length more.now) ∷ (password ++ more.now)) out.old out.new result }
+    ensures fits { result ≤ 32 }
+    ensures three { length password ≡ 3 }
+    ensures bytes { AreBytes password }
+    ensures more_bytes { AreBytes more.now }
+{
+    let size = password_size(&password) + bytes_size(more);
+    let [first, second, third] = password;
+    put_behind(&[0x06, low, size as u8, first, second, third], more, out)
+}
+
+/// Puts a payment at the front, and says its size.
+fn put_payment(amount: Amount, currency: Currency, out: &mut [u8]) -> usize
+    requires { 13 ≤ length out.old }
+    ensures written { PutsMessage (message_of_brief (Brief.Pay amount currency)) out.old out.new result }
+    ensures fits { result ≤ 32 }
+{
+    let at = put_behind(&[0x06, 0x01, 0x0A, 0x04], &amount_digits(amount), out);
+    at + put_behind(&[0x49], &currency_digits(currency), &mut out[at..])
+}
+
+/// Puts a reversal at the front, and says its size.
+fn put_reversal(password: [u8; 3], receipt: &[u8; 2], out: &mut [u8; 32]) -> usize
+    ensures written { PutsMessage (message_of_brief (Brief.Reverse password receipt.now)) out.old out.new result }
+    ensures fits { result ≤ 32 }
+{
+    let [high, low] = *receipt;
+    put_with_password(0x30, password, &[0x87, high, low], out)
+}
+
+/// Writes the message's spelling at the front of the buffer, and says its size. It always fits, and what stands behind
+/// it stays.
+pub fn put_brief(brief: &Brief, buffer: &mut [u8; 32]) -> usize
+    ensures written { PutsMessage (message_of_brief brief.now) buffer.old buffer.new result }
+    ensures fits { result ≤ 32 }
+{
+    match *brief {
+        Brief::Ack => put_bare(0x80, 0x00, buffer),
+        Brief::Nack(code) => put_bare(0x84, code, buffer),
+        Brief::Register {
+            password,
+            config,
+            currency,
+        } => {
+            let [high, low] = currency_digits(currency);
+            put_with_password(0x00, password, &[config, high, low], buffer)
+        }
+        Brief::Pay(amount, currency) => put_payment(amount, currency, buffer),
+        Brief::Reverse { password, receipt } => put_reversal(password, &receipt, buffer),
+        Brief::CloseDay { password } => put_with_password(0x50, password, &[], buffer),
+        Brief::AbortOrder => put_bare(0x06, 0xB0, buffer),
+    }
+}
+
+/// The message that the brief stands for.
+pub fn brief_message(alloc: Global, brief: &Brief) -> Result<Apdu, AllocError>
+    ensures { IfOk result (λ apdu. apdu ≡ message_of_brief brief.now) }
+{
+    let mut buffer = [0; 32];
+    let size = put_brief(brief, &mut buffer);
+    let Scan::Whole((apdu, _)) = scan(alloc, &buffer[..size])? else {
+        unreachable!()
+    };
+    Ok(apdu)
+}
