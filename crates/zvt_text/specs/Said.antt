@@ -1,0 +1,84 @@
+-- The text of a message: a head, and a line for each field.
+use Rattle.std.specs.Prelude.{ℕ, ◌+◌, ◌/◌, ◌%◌, List, [], ◌∷◌, ◌++◌, Option, Some, None, codes}
+use Rattle.hex.specs.Hex.{encode_upper}
+use Rattle.zvt_field.specs.Grammar.{Field}
+use Rattle.zvt_apdu.specs.Message.{Message, ack, nack, registration, authorisation, reversal, end_of_day, abort_order, status, intermediate, print_line, text_block, completion, abort, other}
+use Rattle.zvt_text.specs.Bytes.{hex_of, quoted}
+use Rattle.zvt_text.specs.Results.{result_words}
+use Rattle.zvt_text.specs.Lines.{field_lines}
+
+-- the payload of a message, if there is any
+abbrev pub data_text : List ℕ → List ℕ
+data_text [] = []
+data_text (byte ∷ bytes) = codes " data " ++ encode_upper (byte ∷ bytes)
+
+-- four decimal digits
+abbrev pub four_digits : ℕ → List ℕ
+four_digits n = (48 + n / 1000 % 10) ∷ (48 + n / 100 % 10) ∷ (48 + n / 10 % 10) ∷ (48 + n % 10) ∷ []
+
+-- the currency of a registration, where it stands
+abbrev pub currency_text : Option (ℕ × List Field) → List ℕ
+currency_text None = []
+currency_text (Some rest) = codes " currency " ++ four_digits rest.0
+
+-- the name of a message's kind
+abbrev pub kind_text : Message → List ℕ
+kind_text (ack payload) = codes "Ack"
+kind_text (nack code payload) = codes "Nack"
+kind_text (registration password config rest) = codes "Registration"
+kind_text (authorisation fields) = codes "Authorisation"
+kind_text (reversal password fields) = codes "Reversal"
+kind_text (end_of_day password fields) = codes "EndOfDay"
+kind_text (abort_order fields) = codes "AbortOrder"
+kind_text (status fields) = codes "Status"
+kind_text (intermediate step payload) = codes "Intermediate"
+kind_text (print_line attribute text) = codes "PrintLine"
+kind_text (text_block fields) = codes "TextBlock"
+kind_text (completion fields) = codes "Completion"
+kind_text (abort code payload) = codes "Abort"
+kind_text (other high low payload) = codes "Other"
+
+-- what a head says behind the name; a password is never written
+abbrev pub detail_text : Message → List ℕ
+detail_text (ack payload) = data_text payload
+detail_text (nack code payload) = 32 ∷ hex_of code ++ data_text payload
+detail_text (registration password config rest) = codes " config " ++ hex_of config ++ currency_text rest
+detail_text (authorisation fields) = []
+detail_text (reversal password fields) = []
+detail_text (end_of_day password fields) = []
+detail_text (abort_order fields) = []
+detail_text (status fields) = []
+detail_text (intermediate step payload) = 32 ∷ hex_of step ++ data_text payload
+detail_text (print_line attribute text) = 32 ∷ hex_of attribute ++ 32 ∷ quoted text
+detail_text (text_block fields) = []
+detail_text (completion fields) = []
+detail_text (abort code payload) = 32 ∷ result_words code ++ data_text payload
+detail_text (other high low payload) = 32 ∷ encode_upper (high ∷ low ∷ []) ++ data_text payload
+
+abbrev pub head_text : Message → List ℕ
+head_text message = kind_text message ++ detail_text message
+
+abbrev pub registered_fields : Option (ℕ × List Field) → List Field
+registered_fields None = []
+registered_fields (Some rest) = rest.1
+
+-- the fields of a message, where it has some
+abbrev pub fields_of : Message → List Field
+fields_of (ack payload) = []
+fields_of (nack code payload) = []
+fields_of (registration password config rest) = registered_fields rest
+fields_of (authorisation fields) = fields
+fields_of (reversal password fields) = fields
+fields_of (end_of_day password fields) = fields
+fields_of (abort_order fields) = fields
+fields_of (status fields) = fields
+fields_of (intermediate step payload) = []
+fields_of (print_line attribute text) = []
+fields_of (text_block fields) = fields
+fields_of (completion fields) = fields
+fields_of (abort code payload) = []
+fields_of (other high low payload) = []
+
+-- the head, the end of its line, and the lines of the fields
+abbrev pub said : Message → List ℕ
+said message = head_text message ++ 10 ∷ field_lines (fields_of message)

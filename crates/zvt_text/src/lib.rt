@@ -1,0 +1,19 @@
+//! The text of messages, as it is shown to people: a head, and a line for each field.
+#![tactic(auto)]
+
+mod bytes;
+mod details;
+mod heads;
+pub mod laws;
+mod lines;
+mod objects;
+mod results;
+mod said;
+mod values;
+
+pub use bytes::escaped;
+pub use results::result_words;
+pub use said::message;
+
+#[cfg(test)]
+mod tests;

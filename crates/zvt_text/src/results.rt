@@ -1,0 +1,41 @@
+//! The words of result codes.
+ghost use Rattle.std.specs.Prelude.{◌≡◌, ◌++◌, OnOk, option_map};
+ghost use Rattle.std.specs.String.{string_bytes};
+ghost use Rattle.zvt_text.specs.Results.{meaning_of, result_words};
+
+use crate::bytes::byte;
+use std::alloc::{AllocError, Global};
+use std::fmt::Write;
+
+/// Writes a result code and what it means behind the text, as `6F wrong currency`; a code without a meaning of
+/// its own is `code` and two digits in hexadecimal. Fails where no memory is left, and the text then ends anywhere.
+pub fn result_words(alloc: Global, text: &mut String, code: u8) -> Result<(), AllocError>
+    ensures { OnOk result (string_bytes text.new ≡ string_bytes text.old ++ result_words code) }
+{
+    match meaning(code) {
+        Some(meaning) => {
+            byte(alloc, text, code)?;
+            write!(text, " {meaning}")
+        }
+        None => {
+            text.push_str("code ")?;
+            byte(alloc, text, code)
+        }
+    }
+}
+
+fn meaning(code: u8) -> Option<&'static str>
+    ensures { option_map (λ meaning. meaning.now) result ≡ meaning_of code }
+{
+    Some(match code {
+        0x00 => "success",
+        0x64 => "card not readable",
+        0x6C => "abort by time-out or abort key",
+        0x6F => "wrong currency",
+        0x83 => "function not possible",
+        0xB4 => "already reversed",
+        0xB5 => "reversal not possible",
+        0xFF => "system error",
+        _ => return None,
+    })
+}

@@ -1,0 +1,55 @@
+//! The values of fields whose content is bytes.
+ghost use Rattle.std.specs.Prelude.{◌≡◌, ◌++◌, OnOk};
+ghost use Rattle.std.specs.String.{string_bytes};
+ghost use Rattle.zvt_bcd.specs.Digits.{number_of};
+ghost use Rattle.zvt_field.specs.Bodies.{HasSpelling};
+ghost use Rattle.zvt_field.specs.Grammar.{plain};
+ghost use Rattle.zvt_text.specs.Lines.{result_text, value_text};
+
+use crate::bytes::{bytes_or_dash, quote};
+use crate::results::result_words;
+use std::alloc::{AllocError, Global};
+use std::fmt::Write;
+use zvt_bcd::number;
+
+/// An amount in its smallest unit, a result in words, quoted text, the size of what is hidden, or bytes in hexadecimal.
+pub(crate) fn value(
+    alloc: Global,
+    text: &mut String,
+    bmp: u8,
+    content: &[u8],
+) -> Result<(), AllocError>
+    requires { HasSpelling (plain bmp content.now) }
+    ensures { OnOk result (string_bytes text.new ≡ string_bytes text.old ++ value_text bmp content.now) }
+{
+    match bmp {
+        0x04 => {
+            let units = units(content);
+            write!(text, "{units}")
+        }
+        0x27 => outcome(alloc, text, content),
+        0x2A | 0x8B => quote(alloc, text, content),
+        0x22 | 0x23 | 0x24 | 0x2D | 0x3A | 0x3D => {
+            let hidden = content.len();
+            write!(text, "hidden {hidden}")
+        }
+        _ => bytes_or_dash(alloc, text, content),
+    }
+}
+
+/// The units of an amount.
+fn units(content: &[u8]) -> u64
+    requires { HasSpelling (plain 0x04 content.now) }
+    ensures { result ≡ number_of content.now }
+{
+    number(content)
+}
+
+fn outcome(alloc: Global, text: &mut String, content: &[u8]) -> Result<(), AllocError>
+    ensures { OnOk result (string_bytes text.new ≡ string_bytes text.old ++ result_text content.now) }
+{
+    match content {
+        [code] => result_words(alloc, text, *code),
+        _ => bytes_or_dash(alloc, text, content),
+    }
+}
