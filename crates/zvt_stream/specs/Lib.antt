@@ -1,0 +1,9 @@
+pub mod Apdus
+pub mod StreamState
+pub mod Feeds
+pub mod Cutting
+pub mod Answered
+pub mod Hearing
+pub mod Replies
+pub mod Course
+pub mod Turns

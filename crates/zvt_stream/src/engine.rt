@@ -1,0 +1,206 @@
+//! The line engine: reads, hears and answers.
+
+ghost use Rattle.std.specs.Prelude.{◌≡◌, ◌≢◌, ℕ, ◌+◌, ◌≤◌, Bool, false, true, List, [], ◌++◌, IfOk, IfErr, IsOk, OnOk, OnErr, MatchResult, length};
+ghost use Rattle.std.specs.Result.{IsErrOf};
+ghost use Rattle.std.specs.Io.KnownBytes.{Consumes, Appends};
+ghost use Rattle.zvt_apdu.specs.Message.{Message};
+ghost use Rattle.zvt_stream.specs.Apdus.{Unfinished};
+ghost use Rattle.zvt_stream.specs.Answered.{Answered};
+ghost use Rattle.zvt_stream.specs.Hearing.{Heard};
+ghost use Rattle.zvt_stream.specs.Course.{Course, Breaks, Pumped, Broken, Told, failed_reads, failed_writes, there_at_once, reached, IsPieceFault};
+ghost use Rattle.zvt_stream.specs.Turns.{Arrives, Ends, Falters, line_state, line_ends};
+ghost use Rattle.zvt_stream.specs.Replies.{Replies, Unanswered};
+
+use crate::feeding::{Fed, FeedError, Stream};
+use crate::line::{LineFault, Machine, Until};
+use std::alloc::Global;
+use zvt_apdu::Apdu;
+use zvt_io::{Sink, Source};
+
+/// Writes all the bytes. Its one fault is `Write`, where the writer counted a failure; no machine is told.
+pub fn send<W: Sink>(writer: &mut W, bytes: &[u8]) -> Result<(), LineFault>
+    ensures bytes { IfOk result (λ _. Appends (W.written writer.old) (W.written writer.new) bytes.now) }
+    ensures err { IfErr result (λ fault. fault ≡ LineFault.Write) }
+    ensures failures { MatchResult result (λ _. W.failures writer.new ≡ W.failures writer.old) (λ fault. W.failures writer.new ≡ W.failures writer.old + 1) }
+{
+    match writer.write_all(bytes) {
+        Ok(()) => Ok(()),
+        Err(_) => Err(LineFault::Write),
+    }
+}
+
+// Lets the machine hear one message, and writes its answers. Says whether there were any.
+fn answer<W: Sink, M: Machine>(
+    alloc: Global,
+    writer: &mut W,
+    machine: &mut M,
+    apdu: &Apdu,
+) -> Result<bool, LineFault>
+    ensures ok { IfOk result (λ sent. Replies M.hears machine.old apdu.now machine.new (W.written writer.old) (W.written writer.new) sent) }
+    ensures err { IfErr result (λ fault. Unanswered M.hears fault machine.old apdu.now machine.new (W.written writer.old) (W.written writer.new)) }
+    ensures failures { MatchResult result (λ _. W.failures writer.new ≡ W.failures writer.old) (λ fault. W.failures writer.new ≡ W.failures writer.old + failed_writes fault) }
+    ensures frugal { M.wants_memory ≡ false → IsErrOf result LineFault.Memory → ⊥ }
+{
+    let Ok(answers) = machine.hear(alloc, apdu) else {
+        return Err(LineFault::Memory);
+    };
+    if answers.count() == 0 {
+        return Ok(false);
+    }
+    match writer.write_all(answers.bytes()) {
+        Ok(()) => Ok(true),
+        Err(_) => Err(LineFault::Write),
+    }
+}
+
+// Feeds a piece: the machine hears each message that ends in it, and its answers are written before
+// the next one is heard. Says whether any message was written.
+fn hear_piece<W: Sink, M: Machine>(
+    alloc: Global,
+    writer: &mut W,
+    stream: &mut Stream,
+    machine: &mut M,
+    piece: &[u8],
+) -> Result<bool, LineFault>
+    ensures ok { IfOk result (λ sent. (written : List ℕ) × Appends (W.written writer.old) (W.written writer.new) written
+        × Course M.hears stream.old piece.now stream.new machine.old machine.new written sent) }
+    ensures err { IfErr result (λ fault. (written : List ℕ) × Appends (W.written writer.old) (W.written writer.new) written
+        × Breaks M.hears fault stream.old piece.now stream.new machine.old machine.new written) }
+    ensures kinds { IfErr result (λ fault. IsPieceFault fault) }
+    ensures failures { MatchResult result (λ _. W.failures writer.new ≡ W.failures writer.old) (λ fault. W.failures writer.new ≡ W.failures writer.old + failed_writes fault) }
+{
+    let mut rest = piece;
+    let mut sent = false;
+    'messages: loop {
+        match stream.feed(alloc, rest) {
+            Ok(Fed::Message { apdu, taken }) => {
+                let replied = answer(alloc, writer, machine, &apdu);
+                drop(apdu);
+                sent |= replied?;
+                rest = &rest[taken..];
+            }
+            Ok(Fed::More) => return Ok(sent),
+            Ok(Fed::Refused { place, why }) => return Err(LineFault::Malformed { place, why }),
+            Err(FeedError::Stopped) => return Err(LineFault::Stopped),
+            Err(FeedError::Memory) => return Err(LineFault::Memory),
+        }
+    }
+}
+
+// One read, and all that it brings.
+fn turn<R: Source, W: Sink, M: Machine>(
+    alloc: Global,
+    reader: &mut R,
+    writer: &mut W,
+    stream: &mut Stream,
+    machine: &mut M,
+) -> Result<bool, LineFault>
+    ensures ok { IfOk result (λ sent. (pumped : Pumped M.hears stream.old stream.new machine.old machine.new
+        (R.remaining reader.old) (R.remaining reader.new) (W.written writer.old) (W.written writer.new) sent)
+        × (length pumped.read ≤ 1024)) }
+    ensures err { IfErr result (λ fault. Broken M.hears fault stream.old stream.new machine.old machine.new
+        (R.remaining reader.old) (R.remaining reader.new) (W.written writer.old) (W.written writer.new)) }
+    ensures kinds { IfErr result (λ fault. fault ≢ LineFault.Turns) }
+    ensures reads { R.reads reader.new ≡ R.reads reader.old + 1 }
+    ensures reader_failures { MatchResult result (λ _. R.failures reader.new ≡ R.failures reader.old) (λ fault. R.failures reader.new ≡ R.failures reader.old + failed_reads fault) }
+    ensures writer_failures { MatchResult result (λ _. W.failures writer.new ≡ W.failures writer.old) (λ fault. W.failures writer.new ≡ W.failures writer.old + failed_writes fault) }
+{
+    let have = stream.held();
+    let mut buffer = [0; 1024];
+    let Ok(count) = reader.read(&mut buffer) else {
+        return Err(LineFault::Read);
+    };
+    if count == 0 {
+        return Err(LineFault::Ended { have });
+    }
+    hear_piece(alloc, writer, stream, machine, &buffer[..count])
+}
+
+// Makes turns until the line has come to where it is to go. The machine isn't told of a fault.
+fn run_turns<R: Source, W: Sink, M: Machine>(
+    alloc: Global,
+    reader: &mut R,
+    writer: &mut W,
+    stream: &mut Stream,
+    machine: &mut M,
+    until: Until,
+    turns: u64,
+) -> Result<(), LineFault>
+    ensures ok { OnOk result ((sent : Bool) × Pumped M.hears stream.old stream.new machine.old machine.new
+        (R.remaining reader.old) (R.remaining reader.new) (W.written writer.old) (W.written writer.new) sent
+        × (reached until (M.is_resting machine.new) sent ≡ true)) }
+    ensures err { IfErr result (λ fault. Broken M.hears fault stream.old stream.new machine.old machine.new
+        (R.remaining reader.old) (R.remaining reader.new) (W.written writer.old) (W.written writer.new)) }
+    ensures reads { R.reads reader.new ≤ R.reads reader.old + turns }
+    // The line ends at the first turn after which it has come to where it was to go.
+    ensures first { OnOk result (Arrives M.hears M.is_resting until turns (R.reads reader.old) (R.reads reader.new)
+        (line_state stream.old machine.old (R.remaining reader.old) (W.written writer.old))
+        (line_ends stream.new machine.new (R.remaining reader.new) (W.written writer.new))) }
+    // No turn after which it had stands before a fault.
+    ensures falters { IfErr result (λ fault. Falters M.hears M.is_resting until fault turns (R.reads reader.old) (R.reads reader.new)
+        (line_state stream.old machine.old (R.remaining reader.old) (W.written writer.old))
+        (line_ends stream.new machine.new (R.remaining reader.new) (W.written writer.new))) }
+    ensures reader_failures { MatchResult result (λ _. R.failures reader.new ≡ R.failures reader.old) (λ fault. R.failures reader.new ≡ R.failures reader.old + failed_reads fault) }
+    ensures writer_failures { MatchResult result (λ _. W.failures writer.new ≡ W.failures writer.old) (λ fault. W.failures writer.new ≡ W.failures writer.old + failed_writes fault) }
+{
+    // What is held begins a message: nothing of it is still to be heard.
+    let _ = stream.held();
+    let mut sent = false;
+    'turns: for made in 0..turns {
+        sent |= turn(alloc, reader, writer, stream, machine)?;
+        if until.is_reached(machine.resting(), sent) {
+            return Ok(());
+        }
+    }
+    Err(LineFault::Turns)
+}
+
+/// Makes turns until the line has come to where it is to go, `turns` at most. A turn is one read of at most 1,024 bytes:
+/// the machine hears each message that ends in them, in order, and its answers are written before the next is heard.
+/// Under `Until::Rest` a machine that rests ends the line before the first turn.
+///
+/// Before a fault is answered the machine is told of it, once: `malformed` for `Malformed` and `Stopped`, `lost` for
+/// the others. `Read` and `Write` come only where the reader or the writer counted a failure. After `Read`, `Ended`,
+/// `Turns` and `Malformed` all whole messages were heard and answered, after `Write` and `Memory` a front of them,
+/// after `Stopped` none.
+pub fn pump<R: Source, W: Sink, M: Machine>(
+    alloc: Global,
+    reader: &mut R,
+    writer: &mut W,
+    stream: &mut Stream,
+    machine: &mut M,
+    until: Until,
+    turns: u64,
+) -> Result<(), LineFault>
+    ensures ok { OnOk result ((sent : Bool) × Pumped M.hears stream.old stream.new machine.old machine.new
+        (R.remaining reader.old) (R.remaining reader.new) (W.written writer.old) (W.written writer.new) sent
+        × (reached until (M.is_resting machine.new) sent ≡ true)) }
+    ensures err { IfErr result (λ fault. (middle : M) × Broken M.hears fault stream.old stream.new machine.old middle
+        (R.remaining reader.old) (R.remaining reader.new) (W.written writer.old) (W.written writer.new)
+        × Falters M.hears M.is_resting until fault turns (R.reads reader.old) (R.reads reader.new)
+        (line_state stream.old machine.old (R.remaining reader.old) (W.written writer.old))
+        (line_ends stream.new middle (R.remaining reader.new) (W.written writer.new))
+        × Told M.loses M.malforms fault middle machine.new) }
+    ensures at_once { there_at_once until (M.is_resting machine.old) ≡ true → IsOk result × (R.reads reader.new ≡ R.reads reader.old) }
+    ensures reads { R.reads reader.new ≤ R.reads reader.old + turns }
+    // The line ends at the first turn after which it has come to where it was to go.
+    ensures first { OnOk result (Ends M.hears M.is_resting until turns (R.reads reader.old) (R.reads reader.new)
+        (line_state stream.old machine.old (R.remaining reader.old) (W.written writer.old))
+        (line_ends stream.new machine.new (R.remaining reader.new) (W.written writer.new))) }
+    ensures reader_failures { MatchResult result (λ _. R.failures reader.new ≡ R.failures reader.old) (λ fault. R.failures reader.new ≡ R.failures reader.old + failed_reads fault) }
+    ensures writer_failures { MatchResult result (λ _. W.failures writer.new ≡ W.failures writer.old) (λ fault. W.failures writer.new ≡ W.failures writer.old + failed_writes fault) }
+{
+    // What is held begins a message: nothing of it is still to be heard.
+    let _ = stream.held();
+    if until.is_there(machine.resting()) {
+        return Ok(());
+    }
+    let Err(fault) = run_turns(alloc, reader, writer, stream, machine, until, turns) else {
+        return Ok(());
+    };
+    match fault {
+        LineFault::Malformed { .. } | LineFault::Stopped => machine.malformed(),
+        _ => machine.lost(),
+    }
+    Err(fault)
+}
