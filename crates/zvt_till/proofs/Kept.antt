@@ -14,6 +14,7 @@ use Rattle.zvt_till.specs.Segments.{ends}
 use Rattle.zvt_till.specs.Outcomes.{demand_of, outcome_by, listened}
 use Rattle.zvt_till.specs.Refusals.{order_in}
 use Rattle.zvt_till.specs.Books.{Booked, booked_as}
+use Rattle.zvt_till.specs.Sending.{Settings}
 use Rattle.zvt_till.specs.Till.{TillState, new_till, finish, meet_running, meet, accept, step, state_after, book_after}
 use Rattle.zvt_till.specs.Laws.{row_of, Grows, EntriesStay}
 
@@ -114,3 +115,40 @@ pub entries_stay : EntriesStay
 entries_stay settings log more =
     subst (λ x. Grows (map row_of (state_after settings log).book) (map row_of x.book)) (sym (fold-append step (new_till settings) log more))
     (run-rows (state_after settings log) more)
+
+-- no step changes what the till was made with
+
+settings-by-end : (s : TillState) (r : Running) (h : Happening) (b : Bool)
+    → (cond b (finish s r.order (outcome_by s.book r.order r.statuses h)) (record s { running = Some (listened (demand_of s.book r.order) r h) })).settings ≡ s.settings
+settings-by-end s r h true = refl
+settings-by-end s r h false = refl
+
+settings-by-running : (s : TillState) (h : Happening) (run : Option Running) → (elim run as (λ x. TillState) [ None ↦ s | Some r ↦ meet_running s r h ]).settings ≡ s.settings
+settings-by-running s h None = refl
+settings-by-running s h (Some r) = settings-by-end s r h (ends r.positive h)
+
+settings-by-line : (s : TillState) (h : Happening) (up : Bool) → (cond up (meet s h) s).settings ≡ s.settings
+settings-by-line s h true = settings-by-running s h s.running
+settings-by-line s h false = refl
+
+settings-accepted : (s : TillState) (o : Option Order) → (elim o as (λ x. TillState) [ None ↦ s | Some order ↦ accept s order ]).settings ≡ s.settings
+settings-accepted s None = refl
+settings-accepted s (Some Register) = refl
+settings-accepted s (Some (Pay a)) = refl
+settings-accepted s (Some (Reverse e)) = refl
+settings-accepted s (Some CloseDay) = refl
+settings-accepted s (Some Cancel) = refl
+
+settings-step : (s : TillState) (h : Happening) → (step s h).settings ≡ s.settings
+settings-step s Connected = refl
+settings-step s (SentOut o) = settings-accepted s (order_in o)
+settings-step s (HeardIn m) = settings-by-line s (HeardIn m) s.line_up
+settings-step s Malformed = settings-by-running s Malformed s.running
+settings-step s Lost = settings-by-running s Lost s.running
+
+settings-run : (s : TillState) (log : List Happening) → (fold step s log).settings ≡ s.settings
+settings-run s [] = refl
+settings-run s (h ∷ log) = settings-run (step s h) log ∙ settings-step s h
+
+pub settings-kept : (settings : Settings) (log : List Happening) → (state_after settings log).settings ≡ settings
+settings-kept settings log = settings-run (new_till settings) log

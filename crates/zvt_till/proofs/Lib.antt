@@ -12,4 +12,10 @@ pub mod Steps
 pub mod Approvals
 pub mod Kept
 pub mod Distinct
+pub mod Runs
+pub mod Lines
+pub mod Accepted
+pub mod Pieces
+pub mod Carrying
+pub mod BooksLemmas
 mod Rows

@@ -10,3 +10,10 @@ pub mod Log
 pub mod View
 pub mod Inside
 pub mod Laws
+pub mod Hearing
+pub mod Events
+pub mod Line
+pub mod Cuttings
+pub mod Carried
+pub mod Judging
+pub mod Names

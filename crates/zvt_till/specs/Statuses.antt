@@ -1,5 +1,5 @@
 -- What one status says under an order, and what the statuses of an order say together.
-use Rattle.std.specs.Prelude.{ℕ, ◌/◌, ◌%◌, Bool, true, false, not, cond, ◌&&◌, ◌==◌, nat_lt, List, [], ◌∷◌, Option, Some, None}
+use Rattle.std.specs.Prelude.{ℕ, Bool, true, false, not, cond, ◌&&◌, ◌==◌, List, [], ◌∷◌, Option, Some, None}
 use Rattle.std.specs.List.{list_all, find}
 use Rattle.zvt_bcd.specs.Digits.{is_digit_pair, number_of}
 use Rattle.zvt_till.specs.declared.messages.StatusFacts.{StatusFacts}

@@ -1,5 +1,7 @@
 //! What holds of every till and every log, as functions whose contracts are these laws.
 ghost use Rattle.zvt_till.specs.Log.{StepsMeetLog};
+ghost use Rattle.zvt_till.specs.Carried.{RunsAreLogged, FaultsAreLogged};
+ghost use Rattle.zvt_till.specs.Cuttings.{LogsAreOne, CuttingsAgree};
 ghost use Rattle.zvt_till.specs.Laws.{NoApprovalDropped, TracesStayDistinct, EntriesStay};
 
 /// The state of a till after a log is what the log says, judged by whole orders.
@@ -20,4 +22,26 @@ pub fn traces_stay_distinct()
 /// Whatever happens, no entry leaves the book or changes but for its mark.
 pub fn entries_stay()
     ensures { EntriesStay }
+{}
+
+/// Events have one log.
+pub fn logs_are_one()
+    ensures { LogsAreOne }
+{}
+
+/// However the bytes of a line are cut into pieces, the log is the same: two pieces are as good as one of all their
+/// bytes.
+pub fn cuttings_agree()
+    ensures { CuttingsAgree }
+{}
+
+/// Of a till that some log leads to, an order that ran to its end adds itself to the log, and the messages of the bytes
+/// that were read. So the till's book is again that of its log.
+pub fn runs_are_logged()
+    ensures { RunsAreLogged }
+{}
+
+/// An order whose line broke adds itself, messages at the front of the bytes that were read, and what the till was told.
+pub fn faults_are_logged()
+    ensures { FaultsAreLogged }
 {}

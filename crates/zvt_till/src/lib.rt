@@ -2,9 +2,14 @@
 //! and its book.
 #![tactic(auto)]
 
+pub mod books;
 mod entries;
+mod events;
 mod happenings;
+pub mod hearing;
+mod judging;
 pub mod laws;
+mod line;
 mod messages;
 mod orders;
 mod outcomes;
@@ -12,11 +17,22 @@ mod statuses;
 mod till;
 
 pub use entries::Entry;
+pub use events::{Event, Run, replay};
 pub use happenings::{Happening, Sent};
+pub use judging::{Booked, Books};
+pub use line::{RunFault, run_order};
 pub use messages::{Heard, Original, StatusFacts};
 pub use orders::{Order, OrderRefusal, Outgoing, Reply};
 pub use outcomes::{Cause, Outcome};
 pub use till::{MOST_ROWS, Till};
 
+#[cfg(test)]
+mod books_tests;
+#[cfg(test)]
+mod events_tests;
+#[cfg(test)]
+mod hearing_tests;
+#[cfg(test)]
+mod line_tests;
 #[cfg(test)]
 mod tests;

@@ -4,6 +4,7 @@ ghost use Rattle.zvt_till.specs.Sending.{reply_to};
 ghost use Rattle.zvt_till.specs.Statuses.{spells};
 
 use crate::orders::Outgoing;
+use zvt_apdu::Brief;
 use zvt_bcd::{Amount, Trace, is_digits, number};
 
 /// The answer code of a message that a till does not understand.
@@ -85,9 +86,10 @@ fn spells(digits: [u8; 3], trace: Trace) -> bool
 pub fn reply_to(heard: &Heard) -> Option<Outgoing>
     ensures { result ≡ reply_to heard.now }
 {
-    match heard {
-        Heard::Positive | Heard::Negative(_) => None,
-        Heard::Strange => Some(Outgoing::Nack(UNKNOWN_MESSAGE)),
-        _ => Some(Outgoing::Ack),
-    }
+    let brief = match heard {
+        Heard::Positive | Heard::Negative(_) => return None,
+        Heard::Strange => Brief::Nack(UNKNOWN_MESSAGE),
+        _ => Brief::Ack,
+    };
+    Some(Outgoing { brief })
 }

@@ -1,6 +1,9 @@
 //! What a caller asks of the till, what is sent for it, and why not.
 use crate::outcomes::Outcome;
-use zvt_bcd::{Amount, Currency};
+use std::alloc::{AllocError, Global};
+use std::fmt;
+use zvt_apdu::{Apdu, Brief, brief_message, put_brief};
+use zvt_bcd::Amount;
 
 /// What a caller asks of the till.
 #[derive(Clone, Copy, Debug, PartialEq, Eq)]
@@ -40,27 +43,65 @@ pub enum OrderRefusal {
     Memory,
 }
 
+impl OrderRefusal {
+    ghost use Rattle.std.specs.Prelude.{◌≡◌};
+    ghost use Rattle.zvt_till.specs.Names.{refusal_name};
+
+    /// The name of the refusal, as it is written in every output.
+    pub fn name(self) -> &'static str
+        ensures { result.now ≡ refusal_name self }
+    {
+        match self {
+            OrderRefusal::Offline => "Offline",
+            OrderRefusal::NotRegistered => "NotRegistered",
+            OrderRefusal::Busy => "Busy",
+            OrderRefusal::NothingToCancel => "NothingToCancel",
+            OrderRefusal::BookFull => "BookFull",
+            OrderRefusal::UnknownEntry => "UnknownEntry",
+            OrderRefusal::AlreadyReversed => "AlreadyReversed",
+            OrderRefusal::NoReceipt => "NoReceipt",
+            OrderRefusal::Memory => "Memory",
+        }
+    }
+}
+
+impl fmt::Display for OrderRefusal {
+    ghost use Rattle.std.specs.Prelude.{Some};
+    ghost use Rattle.zvt_till.specs.Names.{refusal_name};
+
+    ghost output = { λ refusal. Some (refusal_name refusal) };
+
+    fn fmt<W: fmt::Write>(&self, f: &mut fmt::Formatter<W>) -> fmt::Result {
+        f.write_str(self.name())
+    }
+}
+
 /// A message that the till sends.
 #[derive(Clone, Copy, Debug, PartialEq, Eq)]
-pub enum Outgoing {
-    /// A positive acknowledgement.
-    Ack,
-    /// A negative acknowledgement with its code.
-    Nack(u8),
-    Register {
-        password: [u8; 3],
-        config: u8,
-        currency: Currency,
-    },
-    Pay(Amount, Currency),
-    Reverse {
-        password: [u8; 3],
-        receipt: [u8; 2],
-    },
-    CloseDay {
-        password: [u8; 3],
-    },
-    AbortOrder,
+pub struct Outgoing {
+    /// The values that it is made of.
+    pub brief: Brief,
+}
+
+impl Outgoing {
+    ghost use Rattle.std.specs.Prelude.{◌≡◌, ◌≤◌, IfOk};
+    ghost use Rattle.zvt_apdu.specs.Briefs.{message_of_brief, PutsMessage};
+
+    /// Writes its bytes at the front of the buffer, and says how many. They always fit, and what stands behind them
+    /// stays.
+    pub fn put(&self, buffer: &mut [u8; 32]) -> usize
+        ensures written { PutsMessage (message_of_brief self.now.brief) buffer.old buffer.new result }
+        ensures fits { result ≤ 32 }
+    {
+        put_brief(&self.brief, buffer)
+    }
+
+    /// The message itself.
+    pub fn message(&self, alloc: Global) -> Result<Apdu, AllocError>
+        ensures { IfOk result (λ apdu. apdu ≡ message_of_brief self.now.brief) }
+    {
+        brief_message(alloc, &self.brief)
+    }
 }
 
 /// What a message of the terminal leads to: what is answered, and how the running order ended, if it did.

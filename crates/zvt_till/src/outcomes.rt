@@ -7,6 +7,7 @@ use crate::happenings::Happening;
 use crate::messages::Heard;
 use crate::orders::Order;
 use crate::statuses::Statuses;
+use std::fmt;
 use zvt_bcd::Trace;
 
 /// Why it is not known what became of an order.
@@ -30,6 +31,38 @@ pub enum Cause {
     Malformed,
     /// It has no end yet. Never in a till.
     Unfinished,
+}
+
+impl Cause {
+    ghost use Rattle.zvt_till.specs.Names.{cause_name};
+
+    /// The name of the cause, as it is written in every output.
+    pub fn name(self) -> &'static str
+        ensures { result.now ≡ cause_name self }
+    {
+        match self {
+            Cause::NoStatus => "NoStatus",
+            Cause::Conflict => "Conflict",
+            Cause::AmountDiffers => "AmountDiffers",
+            Cause::NoTrace => "NoTrace",
+            Cause::TraceUsed => "TraceUsed",
+            Cause::AbortAfterApproval => "AbortAfterApproval",
+            Cause::Line => "Line",
+            Cause::Malformed => "Malformed",
+            Cause::Unfinished => "Unfinished",
+        }
+    }
+}
+
+impl fmt::Display for Cause {
+    ghost use Rattle.std.specs.Prelude.{Some};
+    ghost use Rattle.zvt_till.specs.Names.{cause_name};
+
+    ghost output = { λ cause. Some (cause_name cause) };
+
+    fn fmt<W: fmt::Write>(&self, f: &mut fmt::Formatter<W>) -> fmt::Result {
+        f.write_str(self.name())
+    }
 }
 
 /// How an order ended.

@@ -3,6 +3,7 @@ use super::*;
 use std::alloc::Global;
 use std::process::Abort;
 use std::test::Fail;
+use zvt_apdu::Brief;
 use zvt_bcd::{Amount, Currency, Trace};
 
 const EURO: u16 = 978;
@@ -22,6 +23,10 @@ fn euro() -> Result<Currency, Fail> {
     Ok(Currency::new(EURO).ok_or("a currency")?)
 }
 
+fn outgoing(brief: Brief) -> Outgoing {
+    Outgoing { brief }
+}
+
 /// A till that is registered on its line.
 fn registered_till(rt: &impl Abort, alloc: Global) -> Result<Till, Fail> {
     let mut till = Till::new(alloc, [0; 3], 0xBE, euro()?);
@@ -32,16 +37,16 @@ fn registered_till(rt: &impl Abort, alloc: Global) -> Result<Till, Fail> {
         till.order(Order::CloseDay),
         Err(OrderRefusal::NotRegistered)
     );
-    let register = Outgoing::Register {
+    let register = outgoing(Brief::Register {
         password: [0; 3],
         config: 0xBE,
         currency: euro()?,
-    };
+    });
     assert_eq!(rt; till.order(Order::Register), Ok(register));
     assert_eq!(rt; till.running(), Some(Order::Register));
     assert_eq!(rt; till.hear(Heard::Positive).send, None);
     let reply = till.hear(Heard::Completion);
-    assert_eq!(rt; reply.send, Some(Outgoing::Ack));
+    assert_eq!(rt; reply.send, Some(outgoing(Brief::Ack)));
     assert_eq!(rt; reply.outcome, Some(Outcome::Registered));
     assert!(rt; till.registered());
     Ok(till)
@@ -81,7 +86,7 @@ fn pays(rt: &impl Abort, till: &mut Till, heard: &[Heard]) -> Result<Option<Outc
     let price = amount(PRICE)?;
     assert_eq!(rt;
         till.order(Order::Pay(price)),
-        Ok(Outgoing::Pay(price, euro()?))
+        Ok(outgoing(Brief::Pay(price, euro()?)))
     );
     assert_eq!(rt; till.running(), Some(Order::Pay(price)));
     let mut outcome = None;
@@ -113,7 +118,7 @@ fn stands(
 /// The till acknowledges the message, which ends the running order so, if it does.
 fn acknowledges(rt: &impl Abort, till: &mut Till, heard: &Heard, outcome: Option<Outcome>) {
     let reply = till.hear(*heard);
-    assert_eq!(rt; reply.send, Some(Outgoing::Ack));
+    assert_eq!(rt; reply.send, Some(outgoing(Brief::Ack)));
     assert_eq!(rt; reply.outcome, outcome);
 }
 
@@ -269,10 +274,10 @@ fn a_payment_is_taken_back_once(rt: HostRuntime) -> Result<(), Fail> {
         till.order(Order::Reverse(1)),
         Err(OrderRefusal::UnknownEntry)
     );
-    let message = Outgoing::Reverse {
+    let message = outgoing(Brief::Reverse {
         password: [0; 3],
         receipt: [0, 5],
-    };
+    });
     assert_eq!(rt; till.order(Order::Reverse(0)), Ok(message));
     let status = Heard::Status(StatusFacts {
         result: Some(0),
@@ -284,7 +289,7 @@ fn a_payment_is_taken_back_once(rt: HostRuntime) -> Result<(), Fail> {
     assert_eq!(rt;
         till.hear(status),
         Reply {
-            send: Some(Outgoing::Ack),
+            send: Some(outgoing(Brief::Ack)),
             outcome: None
         }
     );
@@ -315,15 +320,18 @@ fn other_orders_end_too(rt: HostRuntime) -> Result<(), Fail> {
     );
     assert_eq!(rt;
         till.order(Order::CloseDay),
-        Ok(Outgoing::CloseDay { password: [0; 3] })
+        Ok(outgoing(Brief::CloseDay { password: [0; 3] }))
     );
     assert_eq!(rt;
         till.order(Order::Cancel),
         Err(OrderRefusal::NothingToCancel)
     );
     till.hear(Heard::Positive);
-    assert_eq!(rt; till.order(Order::Cancel), Ok(Outgoing::AbortOrder));
-    assert_eq!(rt; till.hear(Heard::Strange).send, Some(Outgoing::Nack(0x83)));
+    assert_eq!(rt; till.order(Order::Cancel), Ok(outgoing(Brief::AbortOrder)));
+    assert_eq!(rt;
+        till.hear(Heard::Strange).send,
+        Some(outgoing(Brief::Nack(0x83)))
+    );
     assert_eq!(rt;
         till.hear(Heard::Completion).outcome,
         Some(Outcome::DayClosed)

@@ -9,6 +9,7 @@ use crate::outcomes::{Cause, Outcome, outcome_by};
 use crate::statuses::{Running, Statuses, demand_of, listened};
 use std::alloc::{AllocError, Global};
 use std::marker::Model;
+use zvt_apdu::Brief;
 use zvt_bcd::{Amount, Currency};
 
 /// The rows that the book, and the list of unclear payments, can have at most.
@@ -71,6 +72,13 @@ impl Till {
         ensures { self.new.state ≡ step self.old.state Happening.Connected }
     {
         self.line_up = true;
+    }
+
+    /// Whether the line is up.
+    pub(crate) fn line_up(&self) -> bool
+        ensures { result ≡ self.now.state.line_up }
+    {
+        self.line_up
     }
 
     /// The payments that were booked, in the order of their completions.
@@ -286,28 +294,29 @@ impl Till {
         if let Some(why) = self.line_refusal(order) {
             return Err(why);
         }
-        match order {
-            Order::Register => Ok(Outgoing::Register {
+        let brief = match order {
+            Order::Register => Brief::Register {
                 password: self.password,
                 config: self.config,
                 currency: self.currency,
-            }),
+            },
             Order::Pay(amount) => match self.room_refusal() {
-                Some(why) => Err(why),
-                None => Ok(Outgoing::Pay(*amount, self.currency)),
+                Some(why) => return Err(why),
+                None => Brief::Pay(*amount, self.currency),
             },
             Order::Reverse(entry) => match self.receipt_at(*entry) {
-                Err(why) => Err(why),
-                Ok(receipt) => Ok(Outgoing::Reverse {
+                Err(why) => return Err(why),
+                Ok(receipt) => Brief::Reverse {
                     password: self.password,
                     receipt,
-                }),
+                },
             },
-            Order::CloseDay => Ok(Outgoing::CloseDay {
+            Order::CloseDay => Brief::CloseDay {
                 password: self.password,
-            }),
-            Order::Cancel => Ok(Outgoing::AbortOrder),
-        }
+            },
+            Order::Cancel => Brief::AbortOrder,
+        };
+        Ok(Outgoing { brief })
     }
 
     /// Sees to it that one more payment can be written down without more memory.

@@ -1,0 +1,120 @@
+-- From an accepted order on, an order runs or it is known how one ended.
+use Rattle.std.proofs.Common.{◌≡◌, ℕ, Bool, true, false, cond, List, [], ◌∷◌, Option, Some, None, IsSome, refl, sym, subst, ◌∙◌, option_map}
+use Rattle.zvt_apdu.specs.Message.{Message}
+use Rattle.zvt_stream.specs.Answered.{Answered}
+use Rattle.zvt_stream.specs.StreamState.{StreamState}
+use Rattle.zvt_stream.specs.Hearing.{Hears}
+use Rattle.zvt_stream.specs.Course.{Breaks, Told}
+use Rattle.zvt_stream.specs.declared.line.LineFault.{LineFault}
+use Rattle.zvt_stream.specs.declared.line.LineFault.TheVariants as faults
+use Rattle.zvt_till.specs.declared.happenings.Happening.{Happening}
+use Rattle.zvt_till.specs.declared.happenings.Happening.TheVariants.{Heard as HeardIn, Malformed, Lost}
+use Rattle.zvt_till.specs.declared.orders.Order.{Order}
+use Rattle.zvt_till.specs.declared.orders.Order.TheVariants.{Register, Pay, Reverse, CloseDay, Cancel}
+use Rattle.zvt_till.specs.declared.statuses.Running.{Running}
+use Rattle.zvt_till.specs.declared.outcomes.Outcome.{Outcome}
+use Rattle.zvt_till.specs.Segments.{ends}
+use Rattle.zvt_till.specs.Outcomes.{demand_of, outcome_by, listened}
+use Rattle.zvt_till.specs.Refusals.{refusal, or_else, cancel_refusal}
+use Rattle.zvt_till.specs.Till.{TillState, finish, meet_running, meet, accept, step, awaited_by, facts_of}
+use Rattle.zvt_till.specs.View.{TillValue}
+use Rattle.zvt_till.specs.Hearing.{heard_as}
+use Rattle.zvt_till.specs.Line.{till_hears, till_loses, till_malforms, is_idle, Sends, IsOver}
+use Rattle.zvt_till.specs.declared.line.RunFault.TheVariants.{Line}
+
+-- where no order runs, it is known how the last one ended
+abbrev pub IsKnown : TillState → Type 0
+IsKnown s = s.running ≡ None → IsSome s.last_outcome
+
+some-none : {A : Type 0} (x : A) (o : Option A) → o ≡ Some x → o ≡ None → ⊥
+some-none x o e n = let f : Some x ≡ None = sym e ∙ n in cc
+
+runs : (s : TillState) (r : Running) → s.running ≡ Some r → IsKnown s
+runs s r e none = absurd (some-none r s.running e none)
+
+no-cancel : (up : Bool) → or_else (cond up (cancel_refusal None) (Some Rattle.zvt_till.specs.declared.orders.OrderRefusal.TheVariants.Offline)) None ≡ None → ⊥
+no-cancel true e = cc
+no-cancel false e = cc
+
+cancelled : (s : TillState) (run : Option Running) → s.running ≡ run → or_else (cond s.line_up (cancel_refusal (option_map awaited_by run)) (Some Rattle.zvt_till.specs.declared.orders.OrderRefusal.TheVariants.Offline)) None ≡ None → IsKnown s
+cancelled s None e r = absurd (no-cancel s.line_up r)
+cancelled s (Some run) e r = runs s run e
+
+known-accepted : (s : TillState) (o : Order) → refusal (facts_of s) o ≡ None → IsKnown (accept s o)
+known-accepted s Register r = λ e. absurd cc
+known-accepted s (Pay a) r = λ e. absurd cc
+known-accepted s (Reverse k) r = λ e. absurd cc
+known-accepted s CloseDay r = λ e. absurd cc
+known-accepted s Cancel r = cancelled s s.running refl r
+
+pub known-sent : (o : Order) (old new : TillValue) (first last : Option (List ℕ)) → Sends o old new first last → IsKnown new.state
+known-sent o old new first last sent = subst IsKnown (sym sent.runs) (known-accepted old.state o sent.taken)
+
+by-end : (s : TillState) (r : Running) (h : Happening) (b : Bool)
+    → IsKnown (cond b (finish s r.order (outcome_by s.book r.order r.statuses h)) (record s { running = Some (listened (demand_of s.book r.order) r h) }))
+by-end s r h true = λ e. refl
+by-end s r h false = λ e. absurd cc
+
+by-running : (s : TillState) (h : Happening) (run : Option Running) → IsKnown s → IsKnown (elim run as (λ x. TillState) [ None ↦ s | Some r ↦ meet_running s r h ])
+by-running s h None k = k
+by-running s h (Some r) k = by-end s r h (ends r.positive h)
+
+by-line : (s : TillState) (h : Happening) (up : Bool) → IsKnown s → IsKnown (cond up (meet s h) s)
+by-line s h true k = by-running s h s.running k
+by-line s h false k = k
+
+-- hearing keeps it
+pub known-heard : (old new : TillValue) (messages : List Message) (answers : List Answered) → Hears till_hears old messages answers new → IsKnown old.state → IsKnown new.state
+known-heard old new [] [] h k = subst (λ (t : TillValue). IsKnown t.state) h k
+known-heard old new (m ∷ messages) (a ∷ answers) h k =
+    known-heard h.0 new messages answers h.2 (subst IsKnown (sym h.1.0) (by-line old.state (HeardIn (heard_as m)) old.state.line_up k))
+known-heard old new [] (a ∷ answers) h k = absurd h
+known-heard old new (m ∷ messages) [] h k = absurd h
+
+pub known-broken : (fault : LineFault) (before after : StreamState) (read written : List ℕ) (old new : TillValue) → Breaks till_hears fault before read after old new written → IsKnown old.state → IsKnown new.state
+known-broken faults.Read before after read written old new b k = known-heard old new _ _ b.1.heard.heard k
+known-broken (faults.Ended have) before after read written old new b k = known-heard old new _ _ b.1.heard.heard k
+known-broken faults.Turns before after read written old new b k = known-heard old new _ _ b.1.heard.heard k
+known-broken (faults.Malformed place why) before after read written old new b k = known-heard old new _ _ b.2.heard k
+known-broken faults.Memory before after read written old new b k = known-heard old new _ _ b.2.heard k
+known-broken faults.Write before after read written old new b k = known-heard old new _ _ b.heard k
+known-broken faults.Stopped before after read written old new b k = subst (λ (t : TillValue). IsKnown t.state) b.1 k
+
+abbrev Over : TillState → Type 0
+Over s = (s.running ≡ None) × (s.line_up ≡ false) × IsSome s.last_outcome
+
+over-lost : (s : TillState) (run : Option Running) → s.running ≡ run → IsKnown s → ((elim run as (λ x. TillState) [ None ↦ s | Some r ↦ meet_running s r Lost ]).running ≡ None) × IsSome (elim run as (λ x. TillState) [ None ↦ s | Some r ↦ meet_running s r Lost ]).last_outcome
+over-lost s None e k = (e, k e)
+over-lost s (Some r) e k = (refl, refl)
+
+over-malformed : (s : TillState) (run : Option Running) → s.running ≡ run → IsKnown s → ((elim run as (λ x. TillState) [ None ↦ s | Some r ↦ meet_running s r Malformed ]).running ≡ None) × IsSome (elim run as (λ x. TillState) [ None ↦ s | Some r ↦ meet_running s r Malformed ]).last_outcome
+over-malformed s None e k = (e, k e)
+over-malformed s (Some r) e k = (refl, refl)
+
+lost-over : (old new : TillState) → new ≡ step old Lost → IsKnown old → Over new
+lost-over old new e k = let o = over-lost old old.running refl k in subst Over (sym e) (o.0, refl, o.1)
+
+malformed-over : (old new : TillState) → new ≡ step old Malformed → IsKnown old → Over new
+malformed-over old new e k = let o = over-malformed old old.running refl k in subst Over (sym e) (o.0, refl, o.1)
+
+-- a till that was told of a fault
+pub told-over : (fault : LineFault) (old new : TillValue) → Told till_loses till_malforms fault old new → IsKnown old.state → IsOver (Line fault) new.state
+told-over faults.Read old new t k = lost-over old.state new.state t k
+told-over (faults.Ended have) old new t k = lost-over old.state new.state t k
+told-over faults.Turns old new t k = lost-over old.state new.state t k
+told-over (faults.Malformed place why) old new t k = malformed-over old.state new.state t k
+told-over faults.Memory old new t k = lost-over old.state new.state t k
+told-over faults.Write old new t k = lost-over old.state new.state t k
+told-over faults.Stopped old new t k = malformed-over old.state new.state t k
+
+idle-none : (run : Option Running) → is_idle run ≡ true → run ≡ None
+idle-none None e = refl
+idle-none (Some r) e = absurd cc
+
+none-not-some : (o : Option Outcome) → o ≡ None → IsSome o → ⊥
+none-not-some None e s = absurd cc
+none-not-some (Some x) e s = absurd cc
+
+-- a till that rests knows how the order ended
+pub rests-known : (s : TillState) → is_idle s.running ≡ true → IsKnown s → s.last_outcome ≡ None → ⊥
+rests-known s idle k e = none-not-some s.last_outcome e (k (idle-none s.running idle))

@@ -1,0 +1,5 @@
+use Rattle.zvt_till.proofs.Carrying.{faults_are_logged}
+use Rattle.zvt_till.proofs.laws.faults_are_logged.Goals as goal
+
+pub returns : goal.returns
+returns c = faults_are_logged

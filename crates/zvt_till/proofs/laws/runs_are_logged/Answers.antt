@@ -1,0 +1,5 @@
+use Rattle.zvt_till.proofs.Carrying.{runs_are_logged}
+use Rattle.zvt_till.proofs.laws.runs_are_logged.Goals as goal
+
+pub returns : goal.returns
+returns c = runs_are_logged

@@ -1,0 +1,15 @@
+use Rattle.std.proofs.Common.{sym, ◌∙◌}
+use Rattle.zvt_till.proofs.Accepted.{known-sent, known-heard, known-broken, told-over, rests-known}
+use Rattle.zvt_till.proofs.line.run_order.Goals as goal
+
+pub returns-in-Err-pump-clause-over : goal.returns-in-Err-pump-clause-over
+returns-in-Err-pump-clause-over g c =
+    let known = known-sent c.args.order c.args.till.now c.send_order.new.till _ _ c.in_default.ensures.ok in
+    let broken = c.in-Err-pump.ensures.err in
+    told-over c.in-Err-pump.fault broken.0 c.pump.new.machine broken.3 (known-broken c.in-Err-pump.fault _ _ broken.1.read broken.1.written c.send_order.new.till broken.0 broken.1.breaks known)
+
+pub unreachable-requires : goal.unreachable-requires
+unreachable-requires g c =
+    let known = known-sent c.args.order c.args.till.now c.send_order.new.till _ _ c.in_default.ensures.ok in
+    let pumped = c.in_default-pump.ensures.ok in
+    rests-known c.pump.new.machine.state pumped.2 (known-heard c.send_order.new.till c.pump.new.machine _ _ pumped.1.course.heard.heard known) (sym c.last_outcome.ensures ∙ c.in_default-last_outcome.is)

@@ -1,0 +1,93 @@
+-- What is known of a log that is judged from the left.
+use Rattle.std.specs.Prelude.{◌≡◌, ℕ, Bool, true, false, List, [], ◌∷◌, ◌++◌, Option, Some, None, map, fold}
+use Rattle.std.specs.List.{list_any}
+use Rattle.zvt_till.specs.declared.happenings.Happening.{Happening}
+use Rattle.zvt_till.specs.declared.happenings.Sent.{Sent}
+use Rattle.zvt_till.specs.declared.happenings.Sent.TheVariants.{Register, Pay, Reverse, CloseDay, Cancel, Foreign}
+use Rattle.zvt_till.specs.declared.entries.Entry.{Entry}
+use Rattle.zvt_till.specs.declared.outcomes.Outcome.{Outcome}
+use Rattle.zvt_till.specs.declared.outcomes.Outcome.TheVariants.{Registered, Paid, Declined, Refused, Aborted, Unclear, Reversed, DayClosed}
+use Rattle.zvt_till.specs.declared.statuses.Statuses.TheVariants.{Nothing}
+use Rattle.zvt_till.specs.declared.judging.Booked.{Booked as BookedRow}
+use Rattle.zvt_till.specs.declared.judging.Books.{Books as BooksFound}
+use Rattle.zvt_till.specs.declared.judging.OpenPayment.{OpenPayment}
+use Rattle.zvt_till.specs.Statuses.{Demand, Payment}
+use Rattle.zvt_till.specs.Segments.{Segment, Ended, segments, is_positive, end_of, statuses}
+use Rattle.zvt_till.specs.Books.{Booked, booked_as, Books, books_of}
+use Rattle.zvt_till.specs.Marks.{entry_of}
+use Rattle.zvt_till.specs.Outcomes.{charged, note}
+
+-- rows as the definitions of a log's books see them
+
+abbrev pub row_value : BookedRow → Booked
+row_value row = booked_as row.amount row.trace row.receipt
+
+abbrev pub rows_value : List BookedRow → List Booked
+rows_value rows = map row_value rows
+
+abbrev pub books_value : BooksFound → Books
+books_value found = record { booked = rows_value found.booked.items; unclear = found.unclear.items }
+
+-- rows as a book of which nothing was taken back
+abbrev pub as_book : List Booked → List Entry
+as_book rows = map (entry_of false) rows
+
+-- what a payment with this outcome adds
+abbrev pub written : Books → ℕ → Outcome → Books
+written b amount Registered = b
+written b amount (Paid trace receipt) = record { booked = b.booked ++ booked_as amount trace receipt ∷ []; unclear = b.unclear }
+written b amount (Declined code) = b
+written b amount (Refused code) = b
+written b amount (Aborted code) = b
+written b amount (Unclear cause) = record { booked = b.booked; unclear = b.unclear ++ (amount, cause) ∷ [] }
+written b amount Reversed = b
+written b amount DayClosed = b
+
+-- what the statuses of a payment are measured against
+abbrev pub paying : ℕ → Option Demand
+paying amount = Some (Payment (charged amount))
+
+-- the order is a payment without an end
+abbrev pub is_open_as : Sent → Option Ended → Bool
+is_open_as Register end = false
+is_open_as (Pay a) None = true
+is_open_as (Pay a) (Some e) = false
+is_open_as (Reverse e) end = false
+is_open_as CloseDay end = false
+is_open_as Cancel end = false
+is_open_as Foreign end = false
+
+abbrev pub open_after : Bool → Segment → Bool
+open_after before s = is_open_as s.opening.order (end_of s.answers)
+
+-- the last order is a payment without an end
+abbrev pub ends_open : List Segment → Bool
+ends_open ss = fold open_after false ss
+
+-- the last segment is this payment, and what came before it is in the books
+pub record Runs (ss : List Segment) (b : Books) (p : OpenPayment) : Type 0 where
+  pub closed : List Segment
+  pub answers : List Happening
+  pub is : ss ≡ closed ++ record { opening = record { order = Pay p.amount }; answers = answers } ∷ []
+  pub earlier : b ≡ books_of closed
+  pub unended : end_of answers ≡ None
+  pub positive : p.positive ≡ list_any is_positive answers
+  pub noted : p.statuses ≡ fold (note (paying p.amount)) Nothing (statuses answers)
+
+-- no payment runs, and the books are those of all segments
+pub record Rests (ss : List Segment) (b : Books) : Type 0 where
+  pub all : b ≡ books_of ss
+  pub ended : ends_open ss ≡ false
+
+-- the books of a log but for the payment that runs at its end
+abbrev pub IsJudged : List Happening → Books → Option OpenPayment → Type 0
+IsJudged log b None = Rests (segments log) b
+IsJudged log b (Some p) = Runs (segments log) b p
+
+abbrev pub opened : Sent → Option OpenPayment
+opened Register = None
+opened (Pay a) = Some (record { amount = a; positive = false; statuses = Nothing })
+opened (Reverse e) = None
+opened CloseDay = None
+opened Cancel = None
+opened Foreign = None

@@ -1,0 +1,248 @@
+//! A till's run over the events of its line.
+ghost use Rattle.std.specs.Prelude.{◌≡◌, ◌++◌, ◌∷◌, [], ℕ, List, true, false, if◌then◌else◌, OnOk, IfOk};
+ghost use Rattle.zvt_apdu.specs.Message.{Message};
+ghost use Rattle.zvt_apdu.specs.Briefs.{message_of_brief};
+ghost use Rattle.zvt_stream.specs.Apdus.{Spelled};
+ghost use Rattle.zvt_stream.specs.StreamState.{holding};
+ghost use Rattle.zvt_till.specs.Refusals.{refusal, sent_as};
+ghost use Rattle.zvt_till.specs.Till.{facts_of, new_till, state_after};
+ghost use Rattle.zvt_till.specs.Log.{IsLog, facts_in, line_up};
+ghost use Rattle.zvt_till.specs.Books.{books, settled};
+ghost use Rattle.zvt_till.specs.Marks.{entries};
+ghost use Rattle.zvt_till.specs.Events.{IsTied, HoldsLine, Follows, IsLogOf, run_settings, sent_over, log_after_order, message_out, ReadsPiece};
+
+use crate::happenings::{Happening, Sent};
+use crate::hearing::heard;
+use crate::messages::{Heard, Original, StatusFacts};
+use crate::orders::{Order, OrderRefusal, Outgoing};
+use crate::till::Till;
+use std::alloc::{AllocError, Global};
+use zvt_bcd::{Amount, Currency, Trace};
+use zvt_stream::{Fed, FeedError, Stream};
+
+/// What a run of a till is made of.
+#[derive(Drop)]
+pub enum Event {
+    /// The line is up. Where it was down, it is a new line.
+    Connected,
+    /// The till is asked for this.
+    Order(Order),
+    /// These bytes came on the line: any part of it, cut anywhere.
+    Piece(Vec<u8>),
+    /// The line was lost.
+    Lost,
+}
+
+/// A run: what happened, the till after it, and all bytes that the till sent.
+#[derive(Drop)]
+pub struct Run {
+    pub log: Vec<Happening>,
+    pub till: Till,
+    pub sent: Vec<u8>,
+}
+
+/// The order as a log has it.
+fn sent_as(order: &Order) -> Sent
+    ensures { result ≡ sent_as order.now }
+{
+    match order {
+        Order::Register => Sent::Register,
+        Order::Pay(amount) => Sent::Pay(*amount),
+        Order::Reverse(entry) => Sent::Reverse(*entry),
+        Order::CloseDay => Sent::CloseDay,
+        Order::Cancel => Sent::Cancel,
+    }
+}
+
+/// Adds what happened to a log. Its first lines do nothing: they name the types that a happening is made of, which the
+/// proof of `push` asks for.
+fn add(log: &mut Vec<Happening>, happening: Happening) -> Result<(), AllocError>
+    ensures { OnOk result (log.new.items ≡ log.old.items ++ happening ∷ []) }
+{
+    let _sent: Option<Sent> = None;
+    let _heard: Option<Heard> = None;
+    let _status: Option<StatusFacts> = None;
+    let _amount: Option<Amount> = None;
+    let _trace: Option<Trace> = None;
+    let _original: Option<Original> = None;
+    log.push(happening)?;
+    Ok(())
+}
+
+/// Adds the bytes of a message to what was sent.
+fn send(sent: &mut Vec<u8>, outgoing: &Outgoing) -> Result<(), AllocError>
+    ensures { OnOk result ((before : List Message) → Spelled sent.old.items before [] → Spelled sent.new.items (before ++ message_out outgoing.now ∷ []) []) }
+{
+    let mut buffer = [0; 32];
+    let size = outgoing.put(&mut buffer);
+    sent.extend_from_slice(&buffer[..size])?;
+    Ok(())
+}
+
+/// A line that comes up where it was down has a new stream.
+fn start_line(alloc: Global, stream: &mut Stream, up: bool)
+    ensures { stream.new ≡ (if up then stream.old else holding []) }
+{
+    if !up {
+        *stream = Stream::new(alloc);
+    }
+}
+
+impl Run {
+    /// An order, which leaves nothing where it is refused.
+    fn order(&mut self, order: Order) -> Result<(), AllocError>
+        requires { IsTied self.old.log.items self.old.till.state self.old.sent.items }
+        ensures tied { OnOk result (IsTied self.new.log.items self.new.till.state self.new.sent.items) }
+        ensures log { OnOk result (self.new.log.items ≡ log_after_order self.old.log.items order (refusal (facts_in self.old.log.items) order)) }
+    {
+        let as_sent = sent_as(&order);
+        match self.till.order(order) {
+            Ok(outgoing) => {
+                add(&mut self.log, Happening::Sent(as_sent))?;
+                send(&mut self.sent, &outgoing)?;
+                Ok(())
+            }
+            Err(why) => match why {
+                OrderRefusal::Memory => Err(AllocError),
+                _ => Ok(()),
+            },
+        }
+    }
+
+    /// The line is up.
+    fn connected(&mut self) -> Result<(), AllocError>
+        requires { IsTied self.old.log.items self.old.till.state self.old.sent.items }
+        ensures tied { OnOk result (IsTied self.new.log.items self.new.till.state self.new.sent.items) }
+        ensures log { OnOk result (self.new.log.items ≡ self.old.log.items ++ Happening.Connected ∷ []) }
+    {
+        self.till.connected();
+        add(&mut self.log, Happening::Connected)?;
+        Ok(())
+    }
+
+    /// The line was lost.
+    fn lost(&mut self) -> Result<(), AllocError>
+        requires { IsTied self.old.log.items self.old.till.state self.old.sent.items }
+        ensures tied { OnOk result (IsTied self.new.log.items self.new.till.state self.new.sent.items) }
+        ensures log { OnOk result (self.new.log.items ≡ self.old.log.items ++ Happening.Lost ∷ []) }
+    {
+        let _ = self.till.lost();
+        add(&mut self.log, Happening::Lost)?;
+        Ok(())
+    }
+
+    /// One message of a line that is up.
+    fn heard(&mut self, heard: &Heard) -> Result<(), AllocError>
+        requires tied { IsTied self.old.log.items self.old.till.state self.old.sent.items }
+        requires up { line_up self.old.log.items ≡ true }
+        ensures tied { OnOk result (IsTied self.new.log.items self.new.till.state self.new.sent.items) }
+        ensures log { OnOk result (self.new.log.items ≡ self.old.log.items ++ Happening.Heard heard.now ∷ []) }
+    {
+        let answer = self.till.hear(*heard).send;
+        add(&mut self.log, Happening::Heard(*heard))?;
+        if let Some(outgoing) = answer {
+            send(&mut self.sent, &outgoing)?;
+        }
+        Ok(())
+    }
+
+    /// What came on a line that is up is no message.
+    fn malformed(&mut self) -> Result<(), AllocError>
+        requires tied { IsTied self.old.log.items self.old.till.state self.old.sent.items }
+        requires up { line_up self.old.log.items ≡ true }
+        ensures tied { OnOk result (IsTied self.new.log.items self.new.till.state self.new.sent.items) }
+        ensures log { OnOk result (self.new.log.items ≡ self.old.log.items ++ Happening.Malformed ∷ []) }
+    {
+        let _ = self.till.malformed();
+        add(&mut self.log, Happening::Malformed)?;
+        Ok(())
+    }
+
+    /// A piece of a line that is up: its messages, up to where it is malformed.
+    fn piece(&mut self, alloc: Global, stream: &mut Stream, piece: &[u8]) -> Result<(), AllocError>
+        requires tied { IsTied self.old.log.items self.old.till.state self.old.sent.items }
+        requires up { line_up self.old.log.items ≡ true }
+        requires runs { stream.old.stopped ≡ false }
+        ensures tied { OnOk result (IsTied self.new.log.items self.new.till.state self.new.sent.items) }
+        ensures read { OnOk result (ReadsPiece self.old.log.items stream.old.held piece.now self.new.log.items stream.new) }
+    {
+        let mut rest = piece;
+        'messages: loop {
+            match stream.feed(alloc, rest) {
+                Ok(Fed::Message { apdu, taken }) => {
+                    let message = heard(&apdu);
+                    drop(apdu);
+                    self.heard(&message)?;
+                    rest = &rest[taken..];
+                }
+                Ok(Fed::More) => return Ok(()),
+                Ok(Fed::Refused { .. }) => {
+                    self.malformed()?;
+                    return Ok(());
+                }
+                Err(FeedError::Stopped) => unreachable!(),
+                Err(FeedError::Memory) => return Err(AllocError),
+            }
+        }
+    }
+
+    /// One event.
+    fn event(&mut self, alloc: Global, stream: &mut Stream, event: &Event) -> Result<(), AllocError>
+        requires tied { IsTied self.old.log.items self.old.till.state self.old.sent.items }
+        requires runs { line_up self.old.log.items ≡ true → stream.old.stopped ≡ false }
+        ensures tied { OnOk result (IsTied self.new.log.items self.new.till.state self.new.sent.items) }
+        ensures follows { OnOk result ((bytes : List ℕ) → HoldsLine self.old.log.items bytes stream.old → (later : List ℕ) × Follows self.old.log.items bytes event.now self.new.log.items later × HoldsLine self.new.log.items later stream.new) }
+    {
+        match event {
+            Event::Connected => {
+                start_line(alloc, stream, self.till.line_up());
+                self.connected()?;
+            }
+            Event::Order(order) => self.order(*order)?,
+            Event::Piece(piece) => {
+                if self.till.line_up() {
+                    self.piece(alloc, stream, piece.as_slice())?;
+                }
+            }
+            Event::Lost => self.lost()?,
+        }
+        Ok(())
+    }
+}
+
+/// The till of a run: with the password 00 00 00, the configuration BE and the euro.
+fn run_till(alloc: Global) -> Till
+    ensures { result.state ≡ new_till run_settings }
+{
+    let Some(euro) = Currency::new(978) else {
+        unreachable!()
+    };
+    Till::new(alloc, [0; 3], 0xBE, euro)
+}
+
+/// Runs a new till over the events. A refused order leaves nothing in the log. Where memory is refused the run ends
+/// with the error.
+pub fn replay(alloc: Global, events: &[Event]) -> Result<Run, AllocError>
+    // The log is that of the events, however the line's bytes are cut into pieces.
+    ensures log { IfOk result (λ run. IsLogOf events.now run.log.items) }
+    ensures allowed { IfOk result (λ run. IsLog run.log.items) }
+    // The till stands as the log says,
+    ensures state { IfOk result (λ run. run.till.state ≡ state_after run_settings run.log.items) }
+    ensures facts { IfOk result (λ run. facts_of run.till.state ≡ facts_in run.log.items) }
+    // with the book, its marks and the unclear payments that whole orders of the log are worth.
+    ensures book { IfOk result (λ run. run.till.state.book ≡ entries run.log.items) }
+    ensures unclear { IfOk result (λ run. run.till.state.unclear ≡ settled (books run.log.items).unclear) }
+    // What it sent are the accepted orders and the answers, in the order in which they arose.
+    ensures sent { IfOk result (λ run. Spelled run.sent.items (sent_over run.log.items) []) }
+{
+    let mut run = Run {
+        log: Vec::new(alloc),
+        till: run_till(alloc),
+        sent: Vec::new(alloc),
+    };
+    let mut stream = Stream::new(alloc);
+    for event in events {
+        run.event(alloc, &mut stream, event)?;
+    }
+    Ok(run)
+}

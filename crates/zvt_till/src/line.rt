@@ -1,0 +1,113 @@
+//! A till on a line: as a machine that hears and answers, and one order from end to end.
+ghost use Rattle.std.specs.Prelude.{◌≡◌, ◌+◌, ◌≤◌, OnOk, IfOk, IfErr, MatchResult};
+ghost use Rattle.zvt_till.specs.Line.{Sends, NotSent, Runs, Fails, IsOver, reads_failed, writes_failed};
+
+use crate::hearing::heard;
+use crate::orders::{Order, OrderRefusal};
+use crate::outcomes::Outcome;
+use crate::till::Till;
+use std::alloc::{AllocError, Global};
+use zvt_apdu::Apdu;
+use zvt_io::{Sink, Source};
+use zvt_stream::{Answers, LineFault, Machine, Stream, Until, pump, send};
+
+/// A till rests where no order runs. It never wants memory.
+impl Machine for Till {
+    ghost use Rattle.std.specs.Prelude.{false};
+    ghost use Rattle.zvt_till.specs.Line.{till_hears, till_loses, till_malforms, till_rests};
+
+    ghost hears = { till_hears };
+
+    ghost loses = { till_loses };
+
+    ghost malforms = { till_malforms };
+
+    ghost is_resting = { till_rests };
+
+    ghost wants_memory = { false };
+
+    fn hear(&mut self, _alloc: Global, apdu: &Apdu) -> Result<Answers, AllocError> {
+        let answer = Till::hear(self, heard(apdu)).send;
+        let mut answers = Answers::new();
+        if let Some(outgoing) = answer {
+            let mut buffer = [0; 32];
+            let size = outgoing.put(&mut buffer);
+            answers.add(&buffer[..size]);
+        }
+        Ok(answers)
+    }
+
+    fn resting(&self) -> bool {
+        self.running().is_none()
+    }
+
+    fn lost(&mut self) {
+        let _ = Till::lost(self);
+    }
+
+    fn malformed(&mut self) {
+        let _ = Till::malformed(self);
+    }
+}
+
+/// Why an order did not come to its end.
+#[derive(Clone, Copy, Debug, PartialEq, Eq)]
+pub enum RunFault {
+    /// It was refused. Nothing was sent or read, and the till is as it was.
+    Order(OrderRefusal),
+    /// The line broke. The till was told of it, and its last outcome is what became of the order. The line is given up:
+    /// a new one has a new stream.
+    Line(LineFault),
+}
+
+/// Takes an order, and writes its message. Where that fails the till has lost its line.
+fn send_order<W: Sink>(writer: &mut W, till: &mut Till, order: Order) -> Result<(), RunFault>
+    ensures ok { OnOk result (Sends order till.old till.new (W.written writer.old) (W.written writer.new)) }
+    ensures err { IfErr result (λ fault. NotSent fault order till.old till.new (W.written writer.old) (W.written writer.new)) }
+    ensures failures { MatchResult result (λ _. W.failures writer.new ≡ W.failures writer.old) (λ fault. W.failures writer.new ≡ W.failures writer.old + writes_failed fault) }
+{
+    let outgoing = match till.order(order) {
+        Err(why) => return Err(RunFault::Order(why)),
+        Ok(outgoing) => outgoing,
+    };
+    let mut buffer = [0; 32];
+    let size = outgoing.put(&mut buffer);
+    if let Err(fault) = send(writer, &buffer[..size]) {
+        let _ = Till::lost(till);
+        return Err(RunFault::Line(fault));
+    }
+    Ok(())
+}
+
+/// Gives the till an order, and goes on with the line, for so many turns of one read each at most, until no order runs.
+/// It answers what became of the order.
+pub fn run_order<R: Source, W: Sink>(
+    alloc: Global,
+    reader: &mut R,
+    writer: &mut W,
+    stream: &mut Stream,
+    till: &mut Till,
+    order: Order,
+    turns: u64,
+) -> Result<Outcome, RunFault>
+    ensures ok { IfOk result (λ outcome. Runs order outcome stream.old stream.new till.old till.new
+        (R.remaining reader.old) (R.remaining reader.new) (W.written writer.old) (W.written writer.new) turns (R.reads reader.old) (R.reads reader.new)) }
+    ensures err { IfErr result (λ fault. Fails fault order stream.old stream.new till.old till.new
+        (R.remaining reader.old) (R.remaining reader.new) (W.written writer.old) (W.written writer.new) turns (R.reads reader.old) (R.reads reader.new)) }
+    // After a broken line it is known what became of the order.
+    ensures over { IfErr result (λ fault. IsOver fault till.new.state) }
+    ensures reads { R.reads reader.new ≤ R.reads reader.old + turns }
+    ensures reader_failures { MatchResult result (λ _. R.failures reader.new ≡ R.failures reader.old) (λ fault. R.failures reader.new ≡ R.failures reader.old + reads_failed fault) }
+    ensures writer_failures { MatchResult result (λ _. W.failures writer.new ≡ W.failures writer.old) (λ fault. W.failures writer.new ≡ W.failures writer.old + writes_failed fault) }
+{
+    if let Err(fault) = send_order(writer, till, order) {
+        return Err(fault);
+    }
+    if let Err(fault) = pump(alloc, reader, writer, stream, till, Until::Rest, turns) {
+        return Err(RunFault::Line(fault));
+    }
+    let Some(outcome) = till.last_outcome() else {
+        unreachable!()
+    };
+    Ok(outcome)
+}
