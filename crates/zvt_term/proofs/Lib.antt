@@ -1,0 +1,12 @@
+pub mod DigitLemmas
+pub mod SpellingLemmas
+pub mod TurnLemmas
+pub mod Facts
+pub mod Matching
+pub mod FactsMatch
+pub mod Meanings
+pub mod WorldMeans
+pub mod Accounts
+pub mod Answering
+pub mod Accounting
+mod Rows

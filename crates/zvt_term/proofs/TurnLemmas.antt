@@ -1,0 +1,133 @@
+-- What a turn writes down has the next number, and what it says has few enough digits.
+use Rattle.std.proofs.Common.{◌≡◌, ℕ, ◌+◌, ◌<◌, ◌≤◌, Bool, true, false, cond, List, [], ◌∷◌, ◌++◌, length, Option, Some, None, option_to_list, refl, sym, subst, arith, length-append, append-nil}
+use Rattle.std.proofs.lemmas.Bool.{ltb-true}
+use Rattle.std.specs.List.{find}
+use Rattle.zvt_term.specs.declared.messages.Asked.{Asked}
+use Rattle.zvt_term.specs.declared.messages.Asked.TheVariants.{Registration, Authorisation, Reversal, EndOfDay, AbortOrder, Answer, Unknown}
+use Rattle.zvt_term.specs.declared.messages.Line.TheVariants.{Reversed as ReversedLine}
+use Rattle.zvt_term.specs.declared.messages.Report.TheVariants.{TakenBack}
+use Rattle.zvt_term.specs.declared.ledger.Row.{Row}
+use Rattle.zvt_term.specs.declared.turns.Verdict.{Verdict}
+use Rattle.zvt_term.specs.declared.turns.Verdict.TheVariants.{Approve, Decline}
+use Rattle.zvt_term.specs.declared.turns.Phase.{Phase}
+use Rattle.zvt_term.specs.declared.turns.Phase.TheVariants.{Idle, Printing, Completing, Aborting, Ending}
+use Rattle.zvt_term.specs.declared.turns.Turn.{Turn}
+use Rattle.zvt_term.specs.Inside.{IsSound}
+use Rattle.zvt_term.specs.Ledger.{NumberedFrom, approval_by, is_approval_named, is_taken_back}
+use Rattle.zvt_term.specs.Steps.{AreWritable, IsNext}
+use Rattle.zvt_term.specs.Terminal.{TerminalState, most_rows, has_room, next_number, is_idle, is_ready, writes, aborts, refuses, registers, decides, authorises, takes_back_row, reverses_found, reverses, closes, goes_on, when, turn_of, after, state_after, reports_of}
+
+pub numbered-append : (n : ℕ) (rows : List Row) (row : Row) → NumberedFrom n rows → row.number ≡ n + length rows → NumberedFrom n (rows ++ row ∷ [])
+numbered-append n [] row h e = (omega arith, tt)
+numbered-append n (first ∷ rows) row h e = (h.0, numbered-append (n + 1) rows row h.1 (omega arith))
+
+-- each number has four digits
+abbrev pub AllShort : List Row → Type 0
+AllShort [] = Unit {0}
+AllShort (row ∷ rows) = (row.number ≤ 9999) × AllShort rows
+
+pub numbered-short : (n : ℕ) (rows more : List Row) → NumberedFrom n (rows ++ more) → n + length (rows ++ more) ≤ 10000 → AllShort rows
+numbered-short n [] more h few = tt
+numbered-short n (row ∷ rows) more h few = (omega (arith, h.0), numbered-short (n + 1) rows more h.1 (omega arith))
+
+pub short-found : (test : Row → Bool) (rows : List Row) (row : Row) → AllShort rows → find test rows ≡ Some row → row.number ≤ 9999
+short-found test [] row h e = absurd cc
+short-found test (first ∷ rows) row h e = by_test (test first) (short-found test rows row h.1) e
+  where
+    by_test : (b : Bool) → (find test rows ≡ Some row → row.number ≤ 9999) → cond b (Some first) (find test rows) ≡ Some row → row.number ≤ 9999
+    by_test true later e = let same : first ≡ row = cc in subst (λ (r : Row). r.number ≤ 9999) same h.0
+    by_test false later e = later e
+
+-- the numbers of a terminal have few enough digits
+pub record Short (s : TerminalState) : Type 0 where
+  pub tid : s.tid ≤ 99999999
+  pub rows : AllShort s.ledger
+
+-- the row of a turn is the next one, and its reports can be written
+pub record Sound (s : TerminalState) (turn : Turn) : Type 0 where
+  pub next : IsNext s turn.row
+  pub writable : Short s → AreWritable (reports_of turn.reply)
+
+when-sound : (s : TerminalState) (ready : Bool) (turn : Turn) → Sound s turn → Sound s (when ready s turn)
+when-sound s true turn h = h
+when-sound s false turn h = record { next = tt; writable = λ k. (tt, tt) }
+
+refuses-sound : (s : TerminalState) (code : ℕ) → Sound s (refuses s code)
+refuses-sound s code = record { next = tt; writable = λ k. (tt, tt) }
+
+aborts-sound : (s : TerminalState) (code : ℕ) → Sound s (aborts s code)
+aborts-sound s code = record { next = tt; writable = λ k. (tt, (tt, tt)) }
+
+decides-sound : (s : TerminalState) (amount : ℕ) (v : Verdict) → length s.ledger < most_rows → Sound s (decides s amount v)
+decides-sound s amount Approve h = record { next = (h, refl); writable = λ k. (tt, (omega (arith, h), tt)) }
+decides-sound s amount (Decline code) h = record { next = tt; writable = λ k. (tt, (tt, tt)) }
+
+authorises-sound : (s : TerminalState) (amount : Option ℕ) (v : Verdict) → Sound s (authorises s amount v)
+authorises-sound s None v = refuses-sound s 255
+authorises-sound s (Some amount) v = by_room (has_room s) refl
+  where
+    by_room : (b : Bool) → has_room s ≡ b → Sound s (cond b (decides s amount v) (refuses s 255))
+    by_room true is = decides-sound s amount v (ltb-true (length s.ledger) most_rows is)
+    by_room false is = refuses-sound s 255
+
+abbrev pub taken_back : TerminalState → Row → Turn
+taken_back s row =
+    writes s (Printing (ReversedLine row.amount)) (record { number = next_number s; amount = row.amount; reverses = Some row.number })
+    (TakenBack row.amount (next_number s) row.number)
+
+takes_back-sound : (s : TerminalState) (row : Row) → (Short s → row.number ≤ 9999) → Sound s (takes_back_row s row)
+takes_back-sound s row few = by_both (is_taken_back row.number s.ledger) (has_room s) refl
+  where
+    by_both : (a b : Bool) → has_room s ≡ b → Sound s (cond a (aborts s 180) (cond b (taken_back s row) (aborts s 255)))
+    by_both true b is = aborts-sound s 180
+    by_both false true is = let h : length s.ledger < most_rows = ltb-true (length s.ledger) most_rows is in record { next = (h, refl); writable = λ k. (tt, ((omega (arith, h), few k), tt)) }
+    by_both false false is = aborts-sound s 255
+
+reverses-sound : (s : TerminalState) (receipt : Option (List ℕ)) → Sound s (reverses s receipt)
+reverses-sound s None = aborts-sound s 181
+reverses-sound s (Some receipt) = by_row (approval_by receipt s.ledger) refl
+  where
+    by_row : (row : Option Row) → approval_by receipt s.ledger ≡ row → Sound s (reverses_found s row)
+    by_row None is = aborts-sound s 181
+    by_row (Some row) is = takes_back-sound s row (λ k. short-found (is_approval_named receipt) s.ledger row k.rows is)
+
+goes_on-sound : (s : TerminalState) (phase : Phase) → Sound s (goes_on s phase)
+goes_on-sound s Idle = record { next = tt; writable = λ k. tt }
+goes_on-sound s (Printing line) = record { next = tt; writable = λ k. (tt, tt) }
+goes_on-sound s Completing = record { next = tt; writable = λ k. (tt, tt) }
+goes_on-sound s (Aborting code) = record { next = tt; writable = λ k. (tt, tt) }
+goes_on-sound s Ending = record { next = tt; writable = λ k. tt }
+
+pub turn-sound : (s : TerminalState) (asked : Asked) (v : Verdict) → Sound s (turn_of s asked v)
+turn-sound s (Registration currency) v = when-sound s (is_idle s.phase) (registers s currency) (record { next = tt; writable = λ k. (tt, (k.tid, tt)) })
+turn-sound s (Authorisation amount) v = when-sound s (is_ready s) (authorises s amount v) (authorises-sound s amount v)
+turn-sound s (Reversal receipt) v = when-sound s (is_ready s) (reverses s receipt) (reverses-sound s receipt)
+turn-sound s EndOfDay v = when-sound s (is_ready s) (closes s) (record { next = tt; writable = λ k. (tt, (tt, tt)) })
+turn-sound s AbortOrder v = record { next = tt; writable = λ k. (tt, tt) }
+turn-sound s Answer v = goes_on-sound s s.phase
+turn-sound s Unknown v = refuses-sound s 131
+
+-- a terminal stays sound by one row more
+pub one_more : (s v : TerminalState) (given : Option Row) (row : Row) (rows : List Row) → IsSound v → v ≡ s → given ≡ Some row → IsNext s given → rows ≡ v.ledger ++ row ∷ []
+    → IsSound (record v { ledger = rows })
+one_more s v given row rows sound is gives next grown =
+    let room : IsNext v (Some row) = subst (λ (o : Option Row). IsNext v o) gives (subst (λ (u : TerminalState). IsNext u given) (sym is) next) in
+    subst (λ (l : List Row). IsSound (record v { ledger = l })) (sym grown)
+    (sound.0, omega (arith, room.0, length-append v.ledger (row ∷ [])), numbered-append 1 v.ledger row sound.2 (omega (arith, room.1)))
+
+-- what is sound after a turn was short before
+pub short-before : {new : TerminalState} (s : TerminalState) (turn : Turn) → new ≡ after s turn → IsSound new → Short s
+short-before s turn made sound =
+    let k : IsSound (after s turn) = subst IsSound made sound in
+    record { tid = k.0; rows = numbered-short 1 s.ledger (option_to_list turn.row) k.2 (omega (arith, k.1)) }
+
+-- the terminal is sound after each turn
+pub sound-after : (s : TerminalState) (asked : Asked) (v : Verdict) → IsSound s → IsSound (state_after s asked v)
+sound-after s asked v sound = by_row (turn_of s asked v).row (turn-sound s asked v).next
+  where
+    by_row : (row : Option Row) → IsNext s row → IsSound (record s { ledger = s.ledger ++ option_to_list row })
+    by_row None next = subst (λ (l : List Row). IsSound (record s { ledger = l })) (sym (append-nil s.ledger)) sound
+    by_row (Some row) next = one_more s s (Some row) row (s.ledger ++ row ∷ []) sound refl refl next refl
+
+pub short-of : (s : TerminalState) → IsSound s → Short s
+short-of s sound = record { tid = sound.0; rows = numbered-short 1 s.ledger [] (subst (λ (l : List Row). NumberedFrom 1 l) (sym (append-nil s.ledger)) sound.2) (omega (arith, sound.1, length-append s.ledger [])) }

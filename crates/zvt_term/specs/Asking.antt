@@ -1,0 +1,34 @@
+-- What a message of the till asks of the terminal.
+use Rattle.std.specs.Prelude.{ℕ, Option, Some, None, List}
+use Rattle.zvt_field.specs.Grammar.{Field}
+use Rattle.zvt_field.specs.Named.{amount_of, receipt_of}
+use Rattle.zvt_apdu.specs.declared.messages.Rest.{Rest}
+use Rattle.zvt_apdu.specs.Message.{Message, ack, nack, registration, authorisation, reversal, end_of_day, abort_order, status, intermediate, print_line, text_block, completion, abort, other}
+use Rattle.zvt_term.specs.declared.messages.Asked.{Asked}
+use Rattle.zvt_term.specs.declared.messages.Asked.TheVariants.{Registration, Authorisation, Reversal, EndOfDay, AbortOrder, Answer, Unknown}
+
+abbrev pub currency_in : Option Rest → Option ℕ
+currency_in None = None
+currency_in (Some rest) = Some rest.currency
+
+-- the same of a registration's value
+abbrev pub currency_named : Option (ℕ × List Field) → Option ℕ
+currency_named None = None
+currency_named (Some rest) = Some rest.0
+
+-- of an authorisation the amount counts, of a reversal the receipt number, each where it stands exactly once
+abbrev pub asked_as : Message → Asked
+asked_as (ack payload) = Answer
+asked_as (nack code payload) = Answer
+asked_as (registration password config rest) = Registration (currency_named rest)
+asked_as (authorisation fields) = Authorisation (amount_of fields)
+asked_as (reversal password fields) = Reversal (receipt_of fields)
+asked_as (end_of_day password fields) = EndOfDay
+asked_as (abort_order fields) = AbortOrder
+asked_as (status fields) = Unknown
+asked_as (intermediate step payload) = Unknown
+asked_as (print_line attribute text) = Unknown
+asked_as (text_block fields) = Unknown
+asked_as (completion fields) = Unknown
+asked_as (abort code payload) = Unknown
+asked_as (other high low payload) = Unknown

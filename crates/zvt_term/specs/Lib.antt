@@ -1,0 +1,10 @@
+pub mod Asking
+pub mod Ledger
+pub mod Terminal
+pub mod Inside
+pub mod Reports
+pub mod Steps
+pub mod Served
+pub mod World
+pub mod Simulation
+pub mod Orderly

@@ -1,0 +1,121 @@
+-- Both ends of a line, with all that each ever sent: what a list of moves makes of them, and what must match.
+use Rattle.std.specs.Prelude.{◌≡◌, ℕ, ◌≤◌, true, cond, nat_eq, List, [], ◌∷◌, ◌++◌, Option, Some, None, fold, map, slice_get, option_to_list}
+use Rattle.std.specs.List.{IsDistinct}
+use Rattle.zvt_apdu.specs.Message.{Message}
+use Rattle.zvt_apdu.specs.Briefs.{digits, message_of_brief}
+use Rattle.zvt_till.specs.declared.entries.Entry.{Entry}
+use Rattle.zvt_till.specs.declared.happenings.Happening.TheVariants.{Connected, Heard as HeardIn, Lost}
+use Rattle.zvt_till.specs.declared.orders.Order.{Order}
+use Rattle.zvt_till.specs.declared.orders.Order.TheVariants.{Register, Pay, Reverse, CloseDay, Cancel}
+use Rattle.zvt_till.specs.declared.orders.OrderRefusal.{OrderRefusal}
+use Rattle.zvt_till.specs.declared.orders.Outgoing.{Outgoing}
+use Rattle.zvt_till.specs.Events.{run_settings}
+use Rattle.zvt_till.specs.Hearing.{heard_as}
+use Rattle.zvt_till.specs.Laws.{trace_of}
+use Rattle.zvt_till.specs.Refusals.{refusal}
+use Rattle.zvt_till.specs.Sending.{message_of, reply_to}
+use Rattle.zvt_till.specs.Till.{TillState, new_till, accept, step, facts_of}
+use Rattle.zvt_term.specs.declared.ledger.Row.{Row}
+use Rattle.zvt_term.specs.declared.turns.Verdict.{Verdict}
+use Rattle.zvt_term.specs.declared.world.Move.{Move}
+use Rattle.zvt_term.specs.declared.world.Move.TheVariants.{Connect, Order as Ordered, ToTerminal, ToTill, TillLost, TerminalLost}
+use Rattle.zvt_term.specs.Asking.{asked_as}
+use Rattle.zvt_term.specs.Reports.{message_of_report}
+use Rattle.zvt_term.specs.Terminal.{TerminalState, new_terminal, lost_terminal, state_after, reports_to}
+
+pub record Ends : Type 0 where
+  pub till : TillState
+  pub terminal : TerminalState
+  pub from_till : List Message
+  pub from_terminal : List Message
+
+-- the till is that of a run over events
+abbrev pub new_ends : Ends
+new_ends = record { till = new_till run_settings; terminal = new_terminal 12345678; from_till = []; from_terminal = [] }
+
+-- what the till sends, if anything
+abbrev pub sent_out : Option Outgoing → List Message
+sent_out outgoing = map (λ o. message_of_brief o.brief) (option_to_list outgoing)
+
+-- a refused order does nothing
+abbrev pub orders : Ends → Order → Option OrderRefusal → Ends
+orders w order None = record w { till = accept w.till order; from_till = w.from_till ++ sent_out (message_of w.till.settings w.till.book order) }
+orders w order (Some why) = w
+
+-- a message that was never sent does nothing
+abbrev pub reaches_terminal : Ends → Verdict → Option Message → Ends
+reaches_terminal w v None = w
+reaches_terminal w v (Some m) =
+    record w {
+      terminal = state_after w.terminal (asked_as m) v;
+      from_terminal = w.from_terminal ++ map message_of_report (reports_to w.terminal (asked_as m) v);
+    }
+
+abbrev pub reaches_till : Ends → Option Message → Ends
+reaches_till w None = w
+reaches_till w (Some m) =
+    record w {
+      till = step w.till (HeardIn (heard_as m));
+      from_till = w.from_till ++ cond w.till.line_up (sent_out (reply_to (heard_as m))) [];
+    }
+
+-- one move: a delivery is of the message with that number among all that the other end ever sent
+abbrev pub move : Ends → Move → Ends
+move w Connect = record w { till = step w.till Connected }
+move w (Ordered order) = orders w order (refusal (facts_of w.till) order)
+move w (ToTerminal k v) = reaches_terminal w v (slice_get w.from_till k)
+move w (ToTill k) = reaches_till w (slice_get w.from_terminal k)
+move w TillLost = record w { till = step w.till Lost }
+move w TerminalLost = record w { terminal = lost_terminal w.terminal }
+
+abbrev pub world : List Move → Ends
+world moves = fold move new_ends moves
+
+-- a payment asks for an amount that there is
+abbrev pub IsAmount : ℕ → Type 0
+IsAmount amount = (1 ≤ amount) × (amount ≤ 999999999999)
+
+abbrev pub FitOrder : Order → Type 0
+FitOrder Register = Unit {0}
+FitOrder (Pay amount) = IsAmount amount
+FitOrder (Reverse entry) = Unit {0}
+FitOrder CloseDay = Unit {0}
+FitOrder Cancel = Unit {0}
+
+abbrev pub FitMove : Move → Type 0
+FitMove Connect = Unit {0}
+FitMove (Ordered order) = FitOrder order
+FitMove (ToTerminal k v) = Unit {0}
+FitMove (ToTill k) = Unit {0}
+FitMove TillLost = Unit {0}
+FitMove TerminalLost = Unit {0}
+
+abbrev pub FitMoves : List Move → Type 0
+FitMoves [] = Unit {0}
+FitMoves (x ∷ moves) = FitMove x × FitMoves moves
+
+-- the ledger holds this approval
+abbrev pub IsApproved : List Row → (amount number : ℕ) → Type 0
+IsApproved ledger amount number = (k : ℕ) × (slice_get ledger k ≡ Some (record { number = number; amount = amount; reverses = None }))
+
+-- the ledger holds a row that takes this number back
+abbrev pub IsTakenBack : List Row → (number : ℕ) → Type 0
+IsTakenBack ledger number = (k : ℕ) × (row : Row) × (slice_get ledger k ≡ Some row) × (row.reverses ≡ Some number)
+
+-- an entry is an approval of the ledger under its trace number, which its receipt number spells too
+pub record EntryMatches (ledger : List Row) (entry : Entry) : Type 0 where
+  pub approved : IsApproved ledger entry.amount entry.trace
+  pub receipt : entry.receipt ≡ Some (digits 2 entry.trace)
+  pub reversed : entry.reversed ≡ true → IsTakenBack ledger entry.trace
+
+abbrev pub AllMatch : List Row → List Entry → Type 0
+AllMatch ledger [] = Unit {0}
+AllMatch ledger (entry ∷ book) = EntryMatches ledger entry × AllMatch ledger book
+
+-- no trace number stands twice in the book, and each entry has its row
+pub record Matches (book : List Entry) (ledger : List Row) : Type 0 where
+  pub distinct : IsDistinct nat_eq (map trace_of book)
+  pub entries : AllMatch ledger book
+
+abbrev pub WorldsMatch : Type 0
+WorldsMatch = (moves : List Move) → FitMoves moves → Matches (world moves).till.book (world moves).terminal.ledger

@@ -1,0 +1,38 @@
+//! Reports as the answers to one message.
+ghost use Rattle.std.specs.Prelude.{◌≡◌, ◌<◌, ◌≤◌, length};
+ghost use Rattle.zvt_term.specs.Reports.{IsWritable};
+ghost use Rattle.zvt_term.specs.Terminal.{reports_of};
+ghost use Rattle.zvt_term.specs.Steps.{Adds, AreWritable, Says};
+
+use crate::messages::{Reply, Report};
+use crate::writer::put_report;
+use zvt_stream::Answers;
+
+/// Adds the bytes of a report.
+fn add(answers: &mut Answers, report: &Report)
+    requires few { answers.old.count < 2 }
+    requires room { length answers.old.bytes ≤ 32 }
+    requires writable { IsWritable report.now }
+    ensures { Adds report.now answers.old answers.new }
+{
+    let mut buffer = [0; 32];
+    let size = put_report(report, &mut buffer);
+    answers.add(&buffer[..size]);
+}
+
+/// The reports one after another.
+pub(crate) fn answers_of(reply: &Reply) -> Answers
+    requires { AreWritable (reports_of reply.now) }
+    ensures { Says (reports_of reply.now) result }
+{
+    let mut answers = Answers::new();
+    match reply {
+        Reply::Nothing => {}
+        Reply::One(report) => add(&mut answers, report),
+        Reply::Two(first, second) => {
+            add(&mut answers, first);
+            add(&mut answers, second);
+        }
+    }
+    answers
+}

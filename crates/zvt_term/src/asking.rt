@@ -1,0 +1,33 @@
+//! What a message of the till asks of the terminal.
+ghost use Rattle.std.specs.Prelude.{◌≡◌};
+ghost use Rattle.zvt_term.specs.Asking.{asked_as, currency_in};
+
+use crate::messages::Asked;
+use zvt_apdu::{Apdu, Message, Rest};
+use zvt_bcd::Currency;
+
+/// The currency of a registration.
+fn currency_in(rest: &Option<Rest>) -> Option<Currency>
+    ensures { result ≡ currency_in rest.now }
+{
+    match rest {
+        None => None,
+        Some(rest) => Some(rest.currency),
+    }
+}
+
+/// What the message asks.
+pub fn asked(apdu: &Apdu) -> Asked
+    ensures { result ≡ asked_as apdu.now }
+{
+    match apdu.message() {
+        Message::Ack { .. } => Asked::Answer,
+        Message::Nack { .. } => Asked::Answer,
+        Message::Registration { rest, .. } => Asked::Registration(currency_in(rest)),
+        Message::Authorisation(fields) => Asked::Authorisation(zvt_field::amount(fields)),
+        Message::Reversal { fields, .. } => Asked::Reversal(zvt_field::receipt(fields)),
+        Message::EndOfDay { .. } => Asked::EndOfDay,
+        Message::AbortOrder(_) => Asked::AbortOrder,
+        _ => Asked::Unknown,
+    }
+}

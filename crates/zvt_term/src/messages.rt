@@ -1,0 +1,74 @@
+//! What is asked of the terminal, and what it says.
+use zvt_bcd::{Amount, Currency};
+
+/// What a message of the till asks of the terminal.
+#[derive(Clone, Copy, Debug, PartialEq, Eq)]
+pub enum Asked {
+    /// 06 00, with the currency that it names, if it names one.
+    Registration(Option<Currency>),
+    /// 06 01, with the amount (BMP 04), where that stands exactly once and is not zero.
+    Authorisation(Option<Amount>),
+    /// 06 30, with the receipt number (BMP 87) as it was read, where that stands exactly once.
+    Reversal(Option<[u8; 2]>),
+    /// 06 50.
+    EndOfDay,
+    /// 06 B0.
+    AbortOrder,
+    /// 80 00 or 84: what the terminal sent was taken, or refused.
+    Answer,
+    /// Any other message.
+    Unknown,
+}
+
+/// What the terminal prints.
+#[derive(Clone, Copy, Debug, PartialEq, Eq)]
+pub enum Line {
+    /// `APPROVED` and the amount, in the currency's smallest unit.
+    Approved(Amount),
+    /// `REVERSED` and the amount.
+    Reversed(Amount),
+    /// `DAY CLOSED`.
+    DayClosed,
+}
+
+/// A message of the terminal, by the few values that it is made of. Its control bytes are given in hexadecimal.
+#[derive(Clone, Copy, Debug, PartialEq, Eq)]
+pub enum Report {
+    /// 80 00: the till's message was taken.
+    Ack,
+    /// 84 and the code: it was refused.
+    Nack(u8),
+    /// 06 0F: the till is registered with the terminal of this number (BMP 29), in the currency (BMP 49) that it
+    /// named.
+    Registered {
+        tid: u32,
+        currency: Option<Currency>,
+    },
+    /// 04 0F: the amount (BMP 04) was approved, and the terminal keeps it under the number (BMP 0B and 87).
+    Approved {
+        amount: Amount,
+        number: u16,
+    },
+    /// 04 0F: what the result code (BMP 27) says.
+    Result(u8),
+    /// 04 0F: the approval numbered `original` (BMP 37) was taken back, and that is kept under the number.
+    TakenBack {
+        amount: Amount,
+        number: u16,
+        original: u16,
+    },
+    /// 06 D1: a line to print.
+    Line(Line),
+    /// 06 0F: the order is done.
+    Done,
+    /// 06 1E and the code: the order was given up.
+    Aborted(u8),
+}
+
+/// What the terminal answers to one message.
+#[derive(Clone, Copy, Debug, PartialEq, Eq)]
+pub enum Reply {
+    Nothing,
+    One(Report),
+    Two(Report, Report),
+}

@@ -1,0 +1,45 @@
+//! The terminal on a line, as a machine.
+ghost use Rattle.std.specs.Prelude.{◌≡◌, true, false};
+
+use crate::terminal::{Input, Terminal};
+use crate::turns::Verdict;
+use std::alloc::{AllocError, Global};
+use zvt_apdu::Apdu;
+use zvt_stream::{Answers, Machine};
+
+/// A terminal with its verdict on the next authorisations. It serves its line as long as that lasts, and never rests.
+#[derive(Drop)]
+pub struct Served {
+    pub terminal: Terminal,
+    pub verdict: Verdict,
+}
+
+impl Machine for Served {
+    ghost use Rattle.zvt_term.specs.Served.{served_hears, served_loses};
+
+    ghost hears = { served_hears };
+
+    ghost loses = { served_loses };
+
+    ghost malforms = { served_loses };
+
+    ghost is_resting = { λ served. false };
+
+    ghost wants_memory = { true };
+
+    fn hear(&mut self, _alloc: Global, apdu: &Apdu) -> Result<Answers, AllocError> {
+        self.terminal.step(Input::Message(apdu), self.verdict)
+    }
+
+    fn resting(&self) -> bool {
+        false
+    }
+
+    fn lost(&mut self) {
+        let _ = self.terminal.step(Input::Lost, self.verdict);
+    }
+
+    fn malformed(&mut self) {
+        let _ = self.terminal.step(Input::Malformed, self.verdict);
+    }
+}

@@ -1,0 +1,341 @@
+//! The terminal: what it makes of each message, and its ledger.
+ghost use Rattle.std.specs.Prelude.{◌≡◌, ◌≤◌, length, IfOk, IsOk, OnOk, OnErr, ◌++◌, option_to_list, Some, None, if◌then◌else◌};
+ghost use Rattle.zvt_term.specs.Ledger.{NumberedFrom};
+
+use crate::answers::answers_of;
+use crate::asking::asked;
+use crate::ledger::{Row, approval_by, is_taken_back};
+use crate::messages::{Asked, Line, Reply, Report};
+use crate::turns::{Phase, Turn, Verdict};
+use std::alloc::{AllocError, Global};
+use std::marker::Model;
+use zvt_apdu::Apdu;
+use zvt_bcd::{Amount, Currency};
+use zvt_stream::Answers;
+
+/// The rows that the ledger can have at most, since a row's number has four digits.
+pub const MOST_ROWS: usize = 9_999;
+
+/// The code of an order that the terminal does not take now.
+const NOT_POSSIBLE: u8 = 0x83;
+
+/// The code of an approval that was taken back before.
+const ALREADY_REVERSED: u8 = 0xB4;
+
+/// The code of a reversal that names no approval.
+const NO_APPROVAL: u8 = 0xB5;
+
+/// The code of all else.
+const SYSTEM_ERROR: u8 = 0xFF;
+
+/// What comes to the terminal.
+#[derive(Clone, Copy)]
+pub enum Input<'a> {
+    /// A message of the till.
+    Message(&'a Apdu),
+    /// The line was lost.
+    Lost,
+    /// What came on the line was no message, and the line is given up.
+    Malformed,
+}
+
+/// A terminal that takes orders of one till, and keeps a ledger of what it approved.
+#[derive(Drop)]
+pub struct Terminal {
+    tid: u32,
+    registered: bool,
+    phase: Phase,
+    ledger: Vec<Row>,
+}
+
+impl Model for Terminal {
+    ghost use Rattle.zvt_term.specs.Terminal.{TerminalState};
+
+    ghost Value = { TerminalState };
+
+    ghost use Rattle.zvt_term.specs.Inside.{value_of, IsSound};
+
+    ghost view = { value_of };
+
+    ghost invariant = { λ t. IsSound (value_of t) };
+}
+
+impl Terminal {
+    ghost use Rattle.zvt_term.specs.Terminal.{most_rows, new_terminal, lost_terminal, has_room, next_number, is_idle, is_ready, stays, runs, writes, aborts, refuses, registers, decides, authorises, takes_back_row, reverses, closes, goes_on, turn_of, after};
+    ghost use Rattle.zvt_term.specs.Inside.{IsSound};
+    ghost use Rattle.zvt_term.specs.Steps.{Hears, IsNext, Steps, IsBroken};
+
+    /// A terminal of this number, idle, with nobody registered and an empty ledger.
+    pub fn new(alloc: Global, tid: u32) -> Terminal
+        requires { tid ≤ 99999999 }
+        ensures { result ≡ new_terminal tid }
+    {
+        Terminal {
+            tid,
+            registered: false,
+            phase: Phase::Idle,
+            ledger: Vec::new(alloc),
+        }
+    }
+
+    /// What it approved and took back, in the order in which it did.
+    pub fn ledger(&self) -> &[Row]
+        ensures rows { result.now ≡ self.now.ledger }
+        ensures most { length result.now ≤ MOST_ROWS }
+        ensures numbered { NumberedFrom 1 result.now }
+    {
+        self.ledger.as_slice()
+    }
+
+    /// Whether no order runs.
+    fn is_idle(&self) -> bool
+        ensures { result ≡ is_idle self.now.phase }
+    {
+        matches!(self.phase, Phase::Idle)
+    }
+
+    /// Whether orders are taken that need a registration.
+    fn is_ready(&self) -> bool
+        ensures { result ≡ is_ready self.now }
+    {
+        self.registered && self.is_idle()
+    }
+
+    /// Nothing changes but for the answer.
+    fn stays(&self, reply: Reply) -> Turn
+        ensures { result ≡ stays self.now reply }
+    {
+        Turn {
+            registered: self.registered,
+            phase: self.phase,
+            row: None,
+            reply,
+        }
+    }
+
+    /// The message is refused.
+    fn refuses(&self, code: u8) -> Turn
+        ensures { result ≡ refuses self.now code }
+    {
+        self.stays(Reply::One(Report::Nack(code)))
+    }
+
+    /// The order is taken, with a first report.
+    fn runs(&self, phase: Phase, report: Report) -> Turn
+        ensures { result ≡ runs self.now phase report }
+    {
+        Turn {
+            registered: self.registered,
+            phase,
+            row: None,
+            reply: Reply::Two(Report::Ack, report),
+        }
+    }
+
+    /// The order is taken, with a row and a first report.
+    fn writes(&self, phase: Phase, row: Row, report: Report) -> Turn
+        ensures { result ≡ writes self.now phase row report }
+    {
+        Turn {
+            registered: self.registered,
+            phase,
+            row: Some(row),
+            reply: Reply::Two(Report::Ack, report),
+        }
+    }
+
+    /// The order is taken and given up.
+    fn aborts(&self, code: u8) -> Turn
+        ensures { result ≡ aborts self.now code }
+    {
+        self.runs(Phase::Ending, Report::Aborted(code))
+    }
+
+    /// The number of the next row, if one is free.
+    fn next_number(&self) -> Option<u16>
+        ensures { result ≡ (if has_room self.now then Some (next_number self.now) else None) }
+    {
+        let rows = self.ledger.len();
+        if rows < MOST_ROWS {
+            Some(rows as u16 + 1)
+        } else {
+            None
+        }
+    }
+
+    /// The till is registered.
+    fn registers(&self, currency: Option<Currency>) -> Turn
+        ensures { result ≡ registers self.now currency }
+    {
+        Turn {
+            registered: true,
+            phase: Phase::Ending,
+            row: None,
+            reply: Reply::Two(
+                Report::Ack,
+                Report::Registered {
+                    tid: self.tid,
+                    currency,
+                },
+            ),
+        }
+    }
+
+    /// A payment of this amount, or of none.
+    fn authorises(&self, amount: Option<Amount>, verdict: Verdict) -> Turn
+        ensures { result ≡ authorises self.now amount verdict }
+    {
+        let Some(amount) = amount else {
+            return self.refuses(SYSTEM_ERROR);
+        };
+        let Some(number) = self.next_number() else {
+            return self.refuses(SYSTEM_ERROR);
+        };
+        match verdict {
+            Verdict::Approve => {
+                let row = Row {
+                    number,
+                    amount,
+                    reverses: None,
+                };
+                let phase = Phase::Printing(Line::Approved(amount));
+                self.writes(phase, row, Report::Approved { amount, number })
+            }
+            Verdict::Decline(code) => self.runs(Phase::Aborting(code), Report::Result(code)),
+        }
+    }
+
+    /// An approval is to be taken back.
+    fn takes_back(&self, approval: &Row) -> Turn
+        ensures { result ≡ takes_back_row self.now approval.now }
+    {
+        let original = approval.number;
+        if is_taken_back(self.ledger(), original) {
+            return self.aborts(ALREADY_REVERSED);
+        }
+        let Some(number) = self.next_number() else {
+            return self.aborts(SYSTEM_ERROR);
+        };
+        let amount = approval.amount;
+        let row = Row {
+            number,
+            amount,
+            reverses: Some(original),
+        };
+        let report = Report::TakenBack {
+            amount,
+            number,
+            original,
+        };
+        self.writes(Phase::Printing(Line::Reversed(amount)), row, report)
+    }
+
+    /// The approval with this receipt number is to be taken back.
+    fn reverses(&self, receipt: Option<[u8; 2]>) -> Turn
+        ensures { result ≡ reverses self.now receipt }
+    {
+        let Some(receipt) = receipt else {
+            return self.aborts(NO_APPROVAL);
+        };
+        match approval_by(self.ledger(), receipt) {
+            None => self.aborts(NO_APPROVAL),
+            Some(approval) => self.takes_back(&approval),
+        }
+    }
+
+    /// The till answered what was said last.
+    fn goes_on(&self) -> Turn
+        ensures { result ≡ goes_on self.now self.now.phase }
+    {
+        let (phase, reply) = match self.phase {
+            Phase::Idle => (Phase::Idle, Reply::Nothing),
+            Phase::Printing(line) => (Phase::Completing, Reply::One(Report::Line(line))),
+            Phase::Completing => (Phase::Ending, Reply::One(Report::Done)),
+            Phase::Aborting(code) => (Phase::Ending, Reply::One(Report::Aborted(code))),
+            Phase::Ending => (Phase::Idle, Reply::Nothing),
+        };
+        Turn {
+            registered: self.registered,
+            phase,
+            row: None,
+            reply,
+        }
+    }
+
+    /// What the message makes of the terminal.
+    pub(crate) fn turn_of(&self, asked: &Asked, verdict: Verdict) -> Turn
+        ensures { result ≡ turn_of self.now asked.now verdict }
+    {
+        match asked {
+            Asked::Registration(currency) if self.is_idle() => self.registers(*currency),
+            Asked::Authorisation(amount) if self.is_ready() => self.authorises(*amount, verdict),
+            Asked::Reversal(receipt) if self.is_ready() => self.reverses(*receipt),
+            Asked::EndOfDay if self.is_ready() => {
+                self.runs(Phase::Printing(Line::DayClosed), Report::Result(0))
+            }
+            Asked::AbortOrder => self.stays(Reply::One(Report::Ack)),
+            Asked::Answer => self.goes_on(),
+            _ => self.refuses(NOT_POSSIBLE),
+        }
+    }
+
+    /// The line is down: the order is forgotten, and nobody is registered.
+    pub(crate) fn lose(&mut self)
+        ensures { self.new ≡ lost_terminal self.old }
+    {
+        self.registered = false;
+        self.phase = Phase::Idle;
+    }
+
+    /// Writes a row down, if there is one.
+    fn write_down(&mut self, row: &Option<Row>) -> Result<(), AllocError>
+        requires { IsNext self.old row.now }
+        ensures written { OnOk result (self.new ≡ record self.old { ledger = self.old.ledger ++ option_to_list row.now }) }
+        ensures err { OnErr result (self.new ≡ self.old) }
+    {
+        if let Some(row) = row {
+            self.ledger.push(*row)?;
+        }
+        Ok(())
+    }
+
+    /// Makes a turn.
+    pub(crate) fn make(&mut self, turn: &Turn) -> Result<(), AllocError>
+        requires { IsNext self.old turn.now.row }
+        ensures made { OnOk result (self.new ≡ after self.old turn.now) }
+        ensures sound { OnOk result (IsSound self.new) }
+        ensures err { OnErr result (self.new ≡ self.old) }
+    {
+        self.write_down(&turn.row)?;
+        self.registered = turn.registered;
+        self.phase = turn.phase;
+        Ok(())
+    }
+
+    /// Takes a message of the till, and answers it.
+    fn hear(&mut self, apdu: &Apdu, verdict: Verdict) -> Result<Answers, AllocError>
+        ensures heard { IfOk result (λ answers. Hears verdict self.old apdu.now answers self.new) }
+        ensures err { OnErr result (self.new ≡ self.old) }
+    {
+        let turn = self.turn_of(&asked(apdu), verdict);
+        self.make(&turn)?;
+        Ok(answers_of(&turn.reply))
+    }
+
+    /// Takes what comes to the terminal, and answers it. The verdict decides an authorisation, and counts for nothing
+    /// else. Only an approval and a reversal take memory, one row of the ledger; where it is refused nothing changes.
+    pub fn step(&mut self, input: Input<'_>, verdict: Verdict) -> Result<Answers, AllocError>
+        ensures stepped { IfOk result (λ answers. Steps self.old input.entry verdict answers self.new) }
+        ensures err { OnErr result (self.new ≡ self.old) }
+        // A broken line always goes well.
+        ensures broken { IsBroken input.entry → IsOk result }
+    {
+        match input {
+            Input::Message(apdu) => self.hear(apdu, verdict),
+            Input::Lost | Input::Malformed => {
+                self.lose();
+                Ok(Answers::new())
+            }
+        }
+    }
+}

@@ -1,0 +1,36 @@
+//! What a message makes of the terminal.
+use crate::ledger::Row;
+use crate::messages::{Line, Reply};
+
+/// What the terminal decides of an authorisation.
+#[derive(Clone, Copy, Debug, PartialEq, Eq)]
+pub enum Verdict {
+    Approve,
+    /// It declines with this result code.
+    Decline(u8),
+}
+
+/// Where the terminal stands in an order. It goes on with each answer of the till.
+#[derive(Clone, Copy, Debug, PartialEq, Eq)]
+pub enum Phase {
+    /// No order runs.
+    Idle,
+    /// It prints this next, and is done after that.
+    Printing(Line),
+    /// It says next that it is done.
+    Completing,
+    /// It says next that it gave up, with this code.
+    Aborting(u8),
+    /// All is said, and the next answer ends the order.
+    Ending,
+}
+
+/// What one message makes of the terminal, and what it answers.
+#[derive(Clone, Copy, Debug, PartialEq, Eq)]
+pub(crate) struct Turn {
+    pub registered: bool,
+    pub phase: Phase,
+    /// The row that it writes down.
+    pub row: Option<Row>,
+    pub reply: Reply,
+}

@@ -1,0 +1,193 @@
+//! Both ends of a line that may lose, repeat and reorder messages.
+ghost use Rattle.std.specs.Prelude.{◌≡◌, ◌++◌, [], map, IfOk, IsTrue, OnOk, slice_get};
+ghost use Rattle.zvt_term.specs.Reports.{message_of_report};
+ghost use Rattle.zvt_term.specs.Steps.{AreWritable};
+ghost use Rattle.zvt_term.specs.Terminal.{reports_of};
+ghost use Rattle.zvt_term.specs.World.{sent_out, new_ends, FitOrder, FitMove, Matches, move, orders, reaches_terminal, reaches_till, world};
+ghost use Rattle.zvt_till.specs.Till.{facts_of, new_till};
+ghost use Rattle.zvt_till.specs.Events.{run_settings};
+ghost use Rattle.zvt_till.specs.Refusals.{refusal};
+ghost use Rattle.zvt_term.specs.Orderly.{are_orderly, IsAccounted};
+ghost use Rattle.zvt_term.specs.Simulation.{ends_of};
+
+use crate::asking::asked;
+use crate::messages::Reply;
+use crate::terminal::Terminal;
+use crate::turns::Verdict;
+use crate::writer::report_message;
+use std::alloc::{AllocError, Global};
+use zvt_apdu::Apdu;
+use zvt_bcd::Currency;
+use zvt_till::hearing::heard;
+use zvt_till::{Order, OrderRefusal, Outgoing, Till};
+
+/// What happens to the two ends. A delivery names a message by its number among all that the other end ever sent,
+/// counted from 0: it may come late, again, or never.
+#[derive(Clone, Copy, Debug, PartialEq, Eq)]
+pub enum Move {
+    /// The till has a line.
+    Connect,
+    /// The till is given an order.
+    Order(Order),
+    /// A message of the till reaches the terminal, which decides so where it has to.
+    ToTerminal(usize, Verdict),
+    /// A message of the terminal reaches the till.
+    ToTill(usize),
+    /// The till loses its line.
+    TillLost,
+    /// The terminal loses its line.
+    TerminalLost,
+}
+
+/// Both ends, and all that each ever sent.
+#[derive(Drop)]
+pub struct World {
+    pub till: Till,
+    pub terminal: Terminal,
+    pub from_till: Vec<Apdu>,
+    pub from_terminal: Vec<Apdu>,
+}
+
+/// The number of the euro.
+const EURO: u16 = 978;
+
+/// The number of the terminal.
+const TID: u32 = 12_345_678;
+
+/// A new till with the password 00 00 00, the configuration BE and the euro.
+fn new_till(alloc: Global) -> Till
+    ensures { result.state ≡ new_till run_settings }
+{
+    let Some(euro) = Currency::new(EURO) else {
+        unreachable!()
+    };
+    Till::new(alloc, [0; 3], 0xBE, euro)
+}
+
+/// Keeps a message that the till sends, if there is one.
+fn keep_sent(
+    sent: &mut Vec<Apdu>,
+    alloc: Global,
+    outgoing: &Option<Outgoing>,
+) -> Result<(), AllocError>
+    ensures { OnOk result (sent.new.items ≡ sent.old.items ++ sent_out outgoing.now) }
+{
+    if let Some(outgoing) = outgoing {
+        sent.push(outgoing.message(alloc)?)?;
+    }
+    Ok(())
+}
+
+/// Keeps what the terminal says.
+fn keep_said(said: &mut Vec<Apdu>, alloc: Global, reply: &Reply) -> Result<(), AllocError>
+    requires { AreWritable (reports_of reply.now) }
+    ensures { OnOk result (said.new.items ≡ said.old.items ++ map message_of_report (reports_of reply.now)) }
+{
+    match reply {
+        Reply::Nothing => {}
+        Reply::One(report) => said.push(report_message(alloc, report)?)?,
+        Reply::Two(first, second) => {
+            said.push(report_message(alloc, first)?)?;
+            said.push(report_message(alloc, second)?)?;
+        }
+    }
+    Ok(())
+}
+
+/// That the amount is asked for shows that it is one; it does nothing else.
+fn note_amount(order: &Order)
+    ensures { FitOrder order.now }
+{
+    if let Order::Pay(amount) = order {
+        let _ = amount.get();
+    }
+}
+
+impl World {
+    fn new(alloc: Global) -> World
+        ensures { ends_of result ≡ new_ends }
+    {
+        World {
+            till: new_till(alloc),
+            terminal: Terminal::new(alloc, TID),
+            from_till: Vec::new(alloc),
+            from_terminal: Vec::new(alloc),
+        }
+    }
+
+    /// Gives the till an order. One that it refuses does nothing.
+    fn order(&mut self, alloc: Global, order: &Order) -> Result<(), AllocError>
+        ensures { OnOk result (ends_of self.new ≡ orders (ends_of self.old) order.now (refusal (facts_of self.old.till.state) order.now)) }
+    {
+        match self.till.order(*order) {
+            Ok(outgoing) => keep_sent(&mut self.from_till, alloc, &Some(outgoing)),
+            Err(OrderRefusal::Memory) => Err(AllocError),
+            Err(_) => Ok(()),
+        }
+    }
+
+    /// Delivers a message of the till, if there is one of that number.
+    fn to_terminal(
+        &mut self,
+        alloc: Global,
+        index: usize,
+        verdict: Verdict,
+    ) -> Result<(), AllocError>
+        ensures { OnOk result (ends_of self.new ≡ reaches_terminal (ends_of self.old) verdict (slice_get self.old.from_till.items index)) }
+    {
+        let Some(apdu) = self.from_till.get(index) else {
+            return Ok(());
+        };
+        let turn = self.terminal.turn_of(&asked(apdu), verdict);
+        self.terminal.make(&turn)?;
+        keep_said(&mut self.from_terminal, alloc, &turn.reply)
+    }
+
+    /// Delivers a message of the terminal, if there is one of that number.
+    fn to_till(&mut self, alloc: Global, index: usize) -> Result<(), AllocError>
+        ensures { OnOk result (ends_of self.new ≡ reaches_till (ends_of self.old) (slice_get self.old.from_terminal.items index)) }
+    {
+        let Some(apdu) = self.from_terminal.get(index) else {
+            return Ok(());
+        };
+        let reply = self.till.hear(heard(apdu));
+        keep_sent(&mut self.from_till, alloc, &reply.send)
+    }
+
+    /// Makes one move.
+    fn make(&mut self, alloc: Global, step: &Move) -> Result<(), AllocError>
+        ensures moved { OnOk result (ends_of self.new ≡ move (ends_of self.old) step.now) }
+        ensures fit { FitMove step.now }
+    {
+        match step {
+            Move::Connect => self.till.connected(),
+            Move::Order(order) => {
+                note_amount(order);
+                self.order(alloc, order)?;
+            }
+            Move::ToTerminal(index, verdict) => self.to_terminal(alloc, *index, *verdict)?,
+            Move::ToTill(index) => self.to_till(alloc, *index)?,
+            Move::TillLost => {
+                let _ = self.till.lost();
+            }
+            Move::TerminalLost => self.terminal.lose(),
+        }
+        Ok(())
+    }
+}
+
+/// Makes the moves with a new till and a new terminal. A delivery of a message that was never sent, or an order that
+/// the till refuses, does nothing; where memory is refused the run ends with the error.
+pub fn run_world(alloc: Global, moves: &[Move]) -> Result<World, AllocError>
+    ensures world { IfOk result (λ both. ends_of both ≡ world moves.now) }
+    // Whatever comes late, again or never, each entry of the book is an approval of the ledger of its own.
+    ensures matches { IfOk result (λ both. Matches both.till.state.book both.terminal.ledger) }
+    // Over lines that keep order, each approval of an amount is booked, unclear or still awaited.
+    ensures accounted { IfOk result (λ both. IsTrue (are_orderly moves.now) → IsAccounted both.till.state both.terminal.ledger) }
+{
+    let mut both = World::new(alloc);
+    for step in moves {
+        both.make(alloc, step)?;
+    }
+    Ok(both)
+}

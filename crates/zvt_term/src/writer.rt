@@ -1,0 +1,204 @@
+//! The messages of the terminal, written without memory.
+ghost use Rattle.std.specs.Prelude.{◌≡◌, ◌+◌, ◌++◌, [], ◌∷◌, ◌<◌, ◌≤◌, ◌^◌, length, codes, IfOk};
+ghost use Rattle.std.specs.Fmt.{decimal};
+ghost use Rattle.zvt_spelling.specs.Reading.{AreBytes};
+ghost use Rattle.zvt_tlv.specs.Sizes.{Puts};
+ghost use Rattle.zvt_apdu.specs.Message.{print_line};
+ghost use Rattle.zvt_apdu.specs.Briefs.{digits, PutsMessage};
+ghost use Rattle.zvt_term.specs.Reports.{IsWritable, currency_field, message_of_report, text_of};
+
+use crate::messages::{Line, Report};
+use itoa::Buffer;
+use std::alloc::{AllocError, Global};
+use zvt_apdu::{Apdu, scan};
+use zvt_bcd::{Amount, Currency, put};
+use zvt_spelling::Scan;
+
+/// An amount's six bytes of digits.
+fn amount_digits(amount: Amount) -> [u8; 6]
+    ensures digits { result ≡ digits 6 amount }
+    ensures small { amount < 100 ^ 6 }
+{
+    let mut six = [0; 6];
+    put(amount.get(), &mut six);
+    six
+}
+
+/// A currency's two bytes of digits.
+fn currency_digits(currency: Currency) -> [u8; 2]
+    ensures digits { result ≡ digits 2 currency }
+    ensures small { currency < 100 ^ 2 }
+{
+    let mut two = [0; 2];
+    put(u64::from(currency.get()), &mut two);
+    two
+}
+
+/// The two bytes of digits of a row's number.
+fn number_digits(number: u16) -> [u8; 2]
+    requires { number ≤ 9999 }
+    ensures { result ≡ digits 2 number }
+{
+    let mut two = [0; 2];
+    put(u64::from(number), &mut two);
+    two
+}
+
+/// The four bytes of digits of the terminal's number.
+fn tid_digits(tid: u32) -> [u8; 4]
+    requires { tid ≤ 99999999 }
+    ensures { result ≡ digits 4 tid }
+{
+    let mut four = [0; 4];
+    put(u64::from(tid), &mut four);
+    four
+}
+
+/// Puts bytes at the front, and says how many.
+fn put_bytes(bytes: &[u8], out: &mut [u8]) -> usize
+    requires { length bytes.now ≤ length out.old }
+    ensures { Puts bytes.now out.old out.new result }
+{
+    out[..bytes.len()].copy_from_slice(bytes);
+    bytes.len()
+}
+
+/// Puts bytes at the front, and others behind them, and says how many.
+fn put_behind(first: &[u8], bytes: &[u8], out: &mut [u8]) -> usize
+    requires { length first.now + length bytes.now ≤ length out.old }
+    ensures written { Puts (first.now ++ bytes.now) out.old out.new result }
+    ensures size { result ≡ length first.now + length bytes.now }
+    ensures are_bytes { AreBytes bytes.now }
+{
+    let at = put_bytes(first, out);
+    at + put_bytes(bytes, &mut out[at..])
+}
+
+/// Puts a message of these control bytes and data at the front, and says its size.
+fn put_data(high: u8, low: u8, bytes: &[u8], out: &mut [u8; 32]) -> usize
+    requires { length bytes.now ≤ 29 }
+    ensures written { Puts (high ∷ low ∷ length bytes.now ∷ bytes.now) out.old out.new result }
+    ensures fits { result ≤ 32 }
+    ensures are_bytes { AreBytes bytes.now }
+    ensures byte { low < 256 }
+{
+    put_behind(&[high, low, bytes.len() as u8], bytes, out)
+}
+
+/// Puts a registration's completion at the front, and says its size.
+fn put_registration(tid: u32, currency: Option<Currency>, out: &mut [u8; 32]) -> usize
+    requires { tid ≤ 99999999 }
+    ensures written { PutsMessage (message_of_report (Report.Registered tid currency)) out.old out.new result }
+    ensures fits { result ≤ 32 }
+{
+    let [a, b, c, d] = tid_digits(tid);
+    match currency {
+        None => put_data(0x06, 0x0F, &[0x29, a, b, c, d], out),
+        Some(currency) => {
+            let [high, low] = currency_digits(currency);
+            put_data(0x06, 0x0F, &[0x29, a, b, c, d, 0x49, high, low], out)
+        }
+    }
+}
+
+/// Puts the status of an approval at the front, and says its size.
+fn put_approval(amount: Amount, number: u16, out: &mut [u8; 32]) -> usize
+    requires { number ≤ 9999 }
+    ensures written { PutsMessage (message_of_report (Report.Approved amount number)) out.old out.new result }
+    ensures fits { result ≤ 32 }
+{
+    let [a, b, c, d, e, f] = amount_digits(amount);
+    let [high, low] = number_digits(number);
+    let fields = [
+        0x27, 0x00, 0x04, a, b, c, d, e, f, 0x0B, 0x00, high, low, 0x87, high, low,
+    ];
+    put_data(0x04, 0x0F, &fields, out)
+}
+
+/// Puts the status of a reversal at the front, and says its size.
+fn put_reversal(amount: Amount, number: u16, original: u16, out: &mut [u8; 32]) -> usize
+    requires number { number ≤ 9999 }
+    requires original { original ≤ 9999 }
+    ensures written { PutsMessage (message_of_report (Report.TakenBack amount number original)) out.old out.new result }
+    ensures fits { result ≤ 32 }
+{
+    let [a, b, c, d, e, f] = amount_digits(amount);
+    let [high, low] = number_digits(number);
+    let [old_high, old_low] = number_digits(original);
+    let fields = [
+        0x27, 0x00, 0x04, a, b, c, d, e, f, 0x0B, 0x00, high, low, 0x37, 0x00, old_high, old_low,
+        0x87, high, low,
+    ];
+    put_data(0x04, 0x0F, &fields, out)
+}
+
+/// Puts a line to print at the front, and says its size.
+fn put_text(words: &[u8], more: &[u8], out: &mut [u8]) -> usize
+    requires short { length words.now + length more.now ≤ 28 }
+    requires room { 32 ≤ length out.old }
+    ensures written { PutsMessage (print_line 0 (words.now ++ more.now)) out.old out.new result }
+    ensures fits { result ≤ 32 }
+{
+    let size = (1 + words.len() + more.len()) as u8;
+    let at = put_behind(&[0x06, 0xD1, size, 0x00], words, out);
+    at + put_bytes(more, &mut out[at..])
+}
+
+/// Puts a line of words and an amount at the front, and says its size.
+fn put_amount(words: &[u8], amount: Amount, out: &mut [u8; 32]) -> usize
+    requires { length words.now ≤ 16 }
+    ensures written { PutsMessage (print_line 0 (words.now ++ decimal amount)) out.old out.new result }
+    ensures fits { result ≤ 32 }
+{
+    let mut buffer = Buffer::new();
+    put_text(words, buffer.format(amount.get()).as_bytes(), out)
+}
+
+/// Puts the line at the front, and says its size.
+fn put_line(line: &Line, out: &mut [u8; 32]) -> usize
+    ensures written { PutsMessage (message_of_report (Report.Line line.now)) out.old out.new result }
+    ensures fits { result ≤ 32 }
+{
+    match line {
+        Line::Approved(amount) => put_amount(b"APPROVED ", *amount, out),
+        Line::Reversed(amount) => put_amount(b"REVERSED ", *amount, out),
+        Line::DayClosed => put_text(b"DAY CLOSED", &[], out),
+    }
+}
+
+/// Writes the message's spelling at the front of the buffer, and says its size. It always fits, and what stands behind
+/// it stays.
+pub fn put_report(report: &Report, buffer: &mut [u8; 32]) -> usize
+    requires { IsWritable report.now }
+    ensures written { PutsMessage (message_of_report report.now) buffer.old buffer.new result }
+    ensures fits { result ≤ 32 }
+{
+    match report {
+        Report::Ack => put_data(0x80, 0x00, &[], buffer),
+        Report::Nack(code) => put_data(0x84, *code, &[], buffer),
+        Report::Registered { tid, currency } => put_registration(*tid, *currency, buffer),
+        Report::Approved { amount, number } => put_approval(*amount, *number, buffer),
+        Report::Result(code) => put_data(0x04, 0x0F, &[0x27, *code], buffer),
+        Report::TakenBack {
+            amount,
+            number,
+            original,
+        } => put_reversal(*amount, *number, *original, buffer),
+        Report::Line(line) => put_line(line, buffer),
+        Report::Done => put_data(0x06, 0x0F, &[], buffer),
+        Report::Aborted(code) => put_data(0x06, 0x1E, &[*code], buffer),
+    }
+}
+
+/// The message of the report.
+pub fn report_message(alloc: Global, report: &Report) -> Result<Apdu, AllocError>
+    requires { IsWritable report.now }
+    ensures { IfOk result (λ apdu. apdu ≡ message_of_report report.now) }
+{
+    let mut buffer = [0; 32];
+    let size = put_report(report, &mut buffer);
+    let Scan::Whole((apdu, _)) = scan(alloc, &buffer[..size])? else {
+        unreachable!()
+    };
+    Ok(apdu)
+}
