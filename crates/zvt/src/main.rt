@@ -21,9 +21,10 @@ const DEVICE: u8 = 4;
 /// There was too little memory.
 const MEMORY: u8 = 5;
 
-const USAGE: &str = "usage: zvt [show|join] < TRACE
-  show  writes each message of the trace with its fields (the same as no word)
-  join  writes each message of the trace as one line of a trace
+const USAGE: &str = "usage: zvt [show|join|receipts] < TRACE
+  show      writes each message of the trace with its fields (the same as no word)
+  join      writes each message of the trace as one line of a trace
+  receipts  writes the text of each print line of the terminal
 A line of a trace: '>' (till) or '<' (terminal) and bytes in hexadecimal, '!' alone (the line was lost), '#' and a remark.
 Example: echo '> 06 01 0A 04 00 00 00 00 12 34 49 09 78' | zvt show
 Exit status: 0 all was read, 1 a stream was refused or cut off, 2 a wrong word, 3 no trace, 4 a read or write failed, 5 too little memory";
@@ -33,6 +34,7 @@ Exit status: 0 all was read, 1 a stream was refused or cut off, 2 a wrong word, 
 enum Command {
     Show,
     Join,
+    Receipts,
 }
 
 fn main(rt: HostRuntime) -> ExitCode {
@@ -58,7 +60,7 @@ fn run(rt: &HostRuntime) -> io::Result<u8> {
             None => {
                 let word = word.as_str();
                 eprintln!(rt;
-                    "zvt: there is no command '{word}': the commands are 'show' and 'join'\n{USAGE}"
+                    "zvt: there is no command '{word}': the commands are 'show', 'join' and 'receipts'\n{USAGE}"
                 )?;
                 Ok(WORDS)
             }
@@ -76,6 +78,7 @@ fn command_named(word: &str) -> Option<Command> {
     match word {
         "show" => Some(Command::Show),
         "join" => Some(Command::Join),
+        "receipts" => Some(Command::Receipts),
         _ => None,
     }
 }
@@ -86,6 +89,7 @@ fn execute(rt: &HostRuntime, command: Command) -> io::Result<u8> {
     let answer = match command {
         Command::Show => zvt_tool::show(rt.alloc(), &mut reader, &mut writer),
         Command::Join => zvt_tool::join(rt.alloc(), &mut reader, &mut writer),
+        Command::Receipts => zvt_tool::receipts(rt.alloc(), &mut reader, &mut writer),
     };
     match answer {
         Ok(tally) => Ok(status_of_tally(tally)),
@@ -132,6 +136,7 @@ mod tests {
     fn words_name_commands(rt: HostRuntime) {
         assert_eq!(rt; command_named("show"), Some(Command::Show));
         assert_eq!(rt; command_named("join"), Some(Command::Join));
+        assert_eq!(rt; command_named("receipts"), Some(Command::Receipts));
         assert_eq!(rt; command_named("nonsense"), None);
         assert_eq!(rt; command_named("Show"), None);
     }

@@ -1,13 +1,5 @@
-pub mod DataMoves
-pub mod FieldLemmas
-pub mod FieldLists
-pub mod FieldMoves
-pub mod Frames
+pub mod EndLemmas
 pub mod InputLemmas
 pub mod LineLemmas
-pub mod ListMoves
-pub mod OpeningMoves
 pub mod PieceLemmas
-pub mod SmallRows
 pub mod TraceLemmas
-pub mod Writing

@@ -1,33 +1,50 @@
--- The messages of a piece, one after another.
-use Rattle.std.proofs.Common.{◌≡◌, ℕ, ◌+◌, ◌<◌, ◌≤◌, subst, List, [], ◌∷◌, ◌++◌, length, take, drop, refl, sym, ◌∙◌, ap, arith, append_assoc, append-nil, length-append, length-take}
+-- The messages that a piece brings, one after another.
+use Rattle.std.proofs.Common.{◌≡◌, ℕ, ◌+◌, Bool, true, false, subst, List, [], ◌∷◌, ◌++◌, length, take, drop, refl, sym, ◌∙◌, ap, arith, append_assoc, append-nil, length-append}
 use Rattle.std.proofs.lemmas.List.{take-append-drop}
-use Rattle.zvt_spelling.proofs.CutLemmas.{spelled_push}
-use Rattle.zvt_spelling.specs.Beginnings.{NoneWhole, Place, Unfinished}
-use Rattle.zvt_spelling.specs.Cuts.{Spelled}
-use Rattle.zvt_spelling.specs.declared.answer.Scan.{Scan}
-use Rattle.zvt_spelling.specs.declared.answer.Scan.TheVariants.{More, Refused, Whole}
-use Rattle.zvt_spelling.specs.declared.why.Why.{Why}
+use Rattle.std.proofs.lemmas.Bool.{false≢true}
+use Rattle.zvt_spelling.proofs.CutLemmas.{spelled_append, spelled_more, spelled_push}
+use Rattle.zvt_spelling.specs.Beginnings.{NoneWhole}
+use Rattle.zvt_spelling.specs.Cuts.{Cut, Spelled}
 use Rattle.zvt_spelling.specs.Reading.{shortest}
-use Rattle.zvt_tool.specs.Frame.{IsControl, Spells}
-use Rattle.zvt_tool.specs.Judging.{Answers, Found, WhyOf}
-use Rattle.zvt_tool.specs.Message.{Message, authorisation, other}
-use Rattle.zvt_tool.specs.Trace.{Ending, EndsIn, MessageText, MessagesText, bad_of, ending_text}
-use Rattle.zvt_tool.specs.Written.{AddsMessage, AddsPiece}
+use Rattle.zvt_apdu.specs.Grammar.{Spells}
+use Rattle.zvt_apdu.specs.Message.{Message}
+use Rattle.zvt_stream.specs.StreamState.{StreamState, holding}
+use Rattle.zvt_stream.specs.StreamState as stream
+use Rattle.zvt_stream.specs.Feeds.{Feeds}
+use Rattle.zvt_stream.specs.declared.feeding.Fed.{Fed}
+use Rattle.zvt_stream.specs.declared.feeding.FeedError.{FeedError}
+use Rattle.zvt_stream.specs.declared.feeding.FeedError.TheVariants.{Stopped}
+use Rattle.std.specs.Prelude.{Result, Ok, Err}
+use Rattle.std.specs.Result.{IsErrOf}
+use Rattle.zvt_tool.specs.Lines.{stopped_text}
+use Rattle.zvt_tool.specs.Trace.{Ending, EndsIn, MessageText, MessagesText, Side, both, begun, ending_part, running, refused, remarked, side_after, stopped}
+use Rattle.zvt_tool.specs.Written.{AddsMessage, AddsPiece, Follows}
 use Rattle.zvt_tool.specs.declared.fault.Tally.{Tally}
 use Rattle.zvt_tool.specs.declared.style.Direction.{Direction}
 use Rattle.zvt_tool.specs.declared.style.Style.{Style}
 
--- so many whole messages stand before the rest, and the text grew by theirs
-pub record SoFar (style : Style) (from : Direction) (bytes rest old new : List ℕ) (count : ℕ) : Type 0 where
+-- so many whole messages came, and the text grew by theirs
+pub record SoFar (style : Style) (from : Direction) (bytes rest : List ℕ) (start state : StreamState) (old new : List ℕ) (count : ℕ) : Type 0 where
   pub messages : List Message
-  pub said : List ℕ
-  pub spelled : Spelled (Spells shortest) bytes messages rest
-  pub says : MessagesText style from messages said
-  pub grown : new ≡ old ++ said
+  pub text : List ℕ
+  pub spelled : Spelled (Spells shortest) (start.held ++ bytes) messages (state.held ++ rest)
+  pub says : MessagesText style from messages text
+  pub grown : new ≡ old ++ text
   pub counted : count ≡ length messages
+  pub same : state.stopped ≡ start.stopped
+  pub fresh : state.stopped ≡ true → (state ≡ start) × (new ≡ old) × (count ≡ 0)
 
-pub none_yet : (style : Style) (from : Direction) (bytes text : List ℕ) → SoFar style from bytes bytes text text 0
-none_yet style from bytes text = record { messages = []; said = []; spelled = refl; says = refl; grown = sym (append-nil text); counted = refl }
+pub none_yet : (style : Style) (from : Direction) (bytes : List ℕ) (start : StreamState) (text : List ℕ) → SoFar style from bytes bytes start start text text 0
+none_yet style from bytes start text = record {
+  messages = [];
+  text = [];
+  spelled = refl;
+  says = refl;
+  grown = sym (append-nil text);
+  counted = refl;
+  same = refl;
+  fresh = λ e. (refl, refl, refl);
+}
 
 MessagesText-push : (style : Style) (from : Direction) (ms : List Message) (m : Message) (said one : List ℕ)
     → MessagesText style from ms said → MessageText style from m one → MessagesText style from (ms ++ m ∷ []) (said ++ one)
@@ -35,68 +52,105 @@ MessagesText-push style from [] m said one none says = (one, [], rw (none, appen
 MessagesText-push style from (n ∷ ms) m said one some says =
     (some.0, some.1 ++ one, ap (λ t. t ++ one) some.2 ∙ append_assoc some.0 some.1 one, some.3, MessagesText-push style from ms m some.1 one some.4 says)
 
--- one more message
-pub one_more : (style : Style) (from : Direction) (bytes rest after old new newer : List ℕ) (count size : ℕ) (m : Message)
-    → after ≡ drop size rest → SoFar style from bytes rest old new count → Found shortest rest m size → AddsMessage style from m new newer
-    → SoFar style from bytes after old newer (count + 1)
-one_more style from bytes rest after old new newer count size m is so found adds = record {
+-- what is held and what comes, cut behind so many bytes of what comes
+split : (held rest : List ℕ) (n : ℕ) → held ++ rest ≡ (held ++ take n rest) ++ drop n rest
+split held rest n = ap (λ r. held ++ r) (sym (take-append-drop n rest)) ∙ sym (append_assoc held (take n rest) (drop n rest))
+
+-- one more message ends in the piece
+pub one_more : (style : Style) (from : Direction) (bytes rest after : List ℕ) (start state next : StreamState) (old new newer : List ℕ) (count taken : ℕ) (m : Message)
+    → SoFar style from bytes rest start state old new count → state.stopped ≡ false
+    → Spells shortest m (state.held ++ take taken rest) → next ≡ holding [] → after ≡ drop taken rest → AddsMessage style from m new newer
+    → SoFar style from bytes after start next old newer (count + 1)
+one_more style from bytes rest after start state next old new newer count taken m so going spells is_next is_after adds = record {
   messages = so.messages ++ m ∷ [];
-  said = so.said ++ adds.one;
-  spelled = spelled_push (Spells shortest) so.messages m bytes (take size rest) after rest so.spelled (rw is (sym (take-append-drop size rest))) found.spelled;
-  says = MessagesText-push style from so.messages m so.said adds.one so.says adds.says;
-  grown = adds.grown ∙ ap (λ t. t ++ adds.one) so.grown ∙ append_assoc old so.said adds.one;
+  text = so.text ++ adds.one;
+  spelled = rw (is_next, is_after) (spelled_push (Spells shortest) so.messages m (start.held ++ bytes) (state.held ++ take taken rest) (drop taken rest) (state.held ++ rest) so.spelled (split state.held rest taken) spells);
+  says = MessagesText-push style from so.messages m so.text adds.one so.says adds.says;
+  grown = adds.grown ∙ ap (λ t. t ++ adds.one) so.grown ∙ append_assoc old so.text adds.one;
   counted = omega (arith, so.counted, length-append so.messages (m ∷ []));
+  same = ap (λ (s : StreamState). s.stopped) is_next ∙ sym going ∙ so.same;
+  fresh = λ e. absurd (false≢true (sym (ap (λ (s : StreamState). s.stopped) is_next) ∙ e));
 }
 
--- the end of the piece
-pub ends : (style : Style) (from : Direction) (bytes rest old new newer : List ℕ) (count : ℕ) (ending : Ending) (tally : Tally)
-    → SoFar style from bytes rest old new count → NoneWhole (Spells shortest) rest → EndsIn rest ending
-    → newer ≡ new ++ ending_text style from rest ending → tally.messages ≡ count → tally.bad ≡ bad_of ending
-    → AddsPiece style from bytes tally old newer
-ends style from bytes rest old new newer count ending tally so none ended grown messages bad = record {
-  part = record { text = so.said ++ ending_text style from rest ending; messages = length so.messages; bad = bad_of ending };
+-- the stream stands behind such an ending
+abbrev pub EndsAs : StreamState → List ℕ → Ending → Type 0
+EndsAs next rest begun = next ≡ holding rest
+EndsAs next rest (refused place why) = next ≡ stream.refused
+
+-- the piece ends
+pub ends : (style : Style) (from : Direction) (side : Side) (bytes rest : List ℕ) (start state next : StreamState) (old new newer : List ℕ) (count : ℕ) (ending : Ending) (tally : Tally)
+    → SoFar style from bytes rest start state old new count → state.stopped ≡ false → NoneWhole (Spells shortest) (state.held ++ rest)
+    → EndsIn (state.held ++ rest) ending → EndsAs next (state.held ++ rest) ending → newer ≡ new ++ (ending_part style from ending).text
+    → tally.messages ≡ count → tally.bad ≡ (ending_part style from ending).bad → Follows start side
+    → AddsPiece style from side bytes next tally old newer
+ends style from stopped bytes rest start state next old new newer count ending tally so going none ended is_end grown messages bad follows =
+    absurd (false≢true (sym going ∙ so.same ∙ ap (λ (s : StreamState). s.stopped) follows))
+ends style from (running before) bytes rest start state next old new newer count ending tally so going none ended is_end grown messages bad follows = record {
+  part = both (record { text = so.text; messages = length so.messages; bad = 0 }) (ending_part style from ending);
+  after = side_after (before ++ bytes) ending;
   says = record {
+    earlier = earlier;
+    left = start.held;
     messages = so.messages;
-    rest = rest;
+    rest = state.held ++ rest;
     ending = ending;
-    said = so.said;
-    cut = record { spelled = so.spelled; none_whole = none };
+    text = so.text;
+    was = follows.2;
+    now = whole;
     ends = ended;
     says = so.says;
-    text = refl;
-    count = refl;
-    bad = refl;
+    is_part = refl;
+    is_after = refl;
   };
-  grown = grown ∙ ap (λ t. t ++ ending_text style from rest ending) so.grown ∙ append_assoc old so.said (ending_text style from rest ending);
-  counts = record { messages = messages ∙ so.counted; bad = bad };
+  follows = behind ending is_end;
+  grown = grown ∙ ap (λ t. t ++ (ending_part style from ending).text) so.grown ∙ append_assoc old so.text (ending_part style from ending).text;
+  counts = record { messages = omega (arith, messages, so.counted, no_messages ending); bad = omega (arith, bad) };
+}
+  where
+    earlier : List Message
+    earlier = follows.1
+
+    whole : Cut (Spells shortest) (before ++ bytes) (earlier ++ so.messages) (state.held ++ rest)
+    whole = record {
+      spelled = spelled_append (Spells shortest) earlier so.messages (before ++ bytes) (start.held ++ bytes) (state.held ++ rest)
+          (spelled_more (Spells shortest) earlier before start.held bytes (follows.2).spelled) so.spelled;
+      none_whole = none;
+    }
+
+    no_messages : (ending : Ending) → (ending_part style from ending).messages ≡ 0
+    no_messages begun = refl
+    no_messages (refused place why) = refl
+
+    behind : (ending : Ending) → EndsAs next (state.held ++ rest) ending → Follows next (side_after (before ++ bytes) ending)
+    behind begun is = (ap (λ (s : StreamState). s.stopped) is, earlier ++ so.messages, subst (λ (s : StreamState). Cut (Spells shortest) (before ++ bytes) (earlier ++ so.messages) s.held) (sym is) whole)
+    behind (refused place why) is = is
+
+-- a piece behind a refusal
+pub stays : (style : Style) (from : Direction) (side : Side) (bytes rest : List ℕ) (start state next : StreamState) (old new newer : List ℕ) (count : ℕ) (tally : Tally)
+    → SoFar style from bytes rest start state old new count → state.stopped ≡ true → next ≡ state → newer ≡ new ++ stopped_text style from
+    → tally.messages ≡ count → tally.bad ≡ 0 → Follows start side
+    → AddsPiece style from side bytes next tally old newer
+stays style from (running before) bytes rest start state next old new newer count tally so still kept grown messages bad follows =
+    absurd (false≢true (sym follows.0 ∙ sym so.same ∙ still))
+stays style from stopped bytes rest start state next old new newer count tally so still kept grown messages bad follows = record {
+  part = remarked (stopped_text style from);
+  after = stopped;
+  says = (refl, refl);
+  follows = kept ∙ (so.fresh still).0 ∙ follows;
+  grown = grown ∙ ap (λ t. t ++ stopped_text style from) (so.fresh still).1;
+  counts = record { messages = messages ∙ (so.fresh still).2; bad = bad };
 }
 
--- no spelling is empty
-spelling_some : (m : Message) (bytes : List ℕ) → Spells shortest m bytes → 0 < length bytes
-spelling_some m bytes s = some s.control (s.size ++ s.content) s.whole (control_some m s.control s.is_control)
+-- ---- what a feed answered
+
+-- a stream that answered had not stopped
+pub going : (stopped : Bool) (answer : Result Fed FeedError) (fed : Fed) → answer ≡ Ok fed → (stopped ≡ true → IsErrOf answer Stopped) → stopped ≡ false
+going false answer fed is refuses = refl
+going true answer fed is refuses = absurd (ok_is_no_err (sym is ∙ refuses refl))
   where
-    control_some : (m : Message) (c : List ℕ) → IsControl m c → 0 < length c
-    control_some (authorisation fields) c is = rw is (omega arith)
-    control_some (other high low payload) c is = rw is.0 (omega arith)
+    ok_is_no_err : {T E : Type 0} {t : T} {e : E} → Ok t ≡ Err e → ⊥
+    ok_is_no_err e = cc
 
-    some : (c d : List ℕ) → bytes ≡ c ++ d → 0 < length c → 0 < length bytes
-    some c d e h = omega (arith, ap length e, length-append c d)
-
-pub found_some : (rest : List ℕ) (m : Message) (size : ℕ) → Found shortest rest m size → (0 < size) × (size ≤ length rest)
-found_some rest m size found =
-    let some = spelling_some m (take size rest) found.spelled in (omega (arith, length-take size rest), found.present)
-
-pub none_in_nothing : (rest : List ℕ) → length rest ≡ 0 → (rest ≡ []) × NoneWhole (Spells shortest) rest
-none_in_nothing [] none = (refl, λ m front later e s. absurd (omega (arith, spelling_some m front s, ap length e, length-append front later)))
-none_in_nothing (byte ∷ bytes) none = absurd (omega arith)
-
--- what a scan answers
-pub was_whole : (bytes : List ℕ) (answer : Scan (Message × ℕ)) (m : Message) (size : ℕ) → answer ≡ Whole (m, size) → Answers shortest bytes answer → Found shortest bytes m size
-was_whole bytes answer m size is held = subst (λ (a : Scan (Message × ℕ)). Answers shortest bytes a) is held
-
-pub was_more : (bytes : List ℕ) (answer : Scan (Message × ℕ)) → answer ≡ More → Answers shortest bytes answer → Unfinished (Spells shortest) bytes
-was_more bytes answer is held = subst (λ (a : Scan (Message × ℕ)). Answers shortest bytes a) is held
-
-pub was_refused : (bytes : List ℕ) (answer : Scan (Message × ℕ)) (place : ℕ) (why : Why) → answer ≡ Refused place why → Answers shortest bytes answer
-    → NoneWhole (Spells shortest) bytes × Place (Spells shortest) bytes place × WhyOf shortest bytes place why
-was_refused bytes answer place why is held = subst (λ (a : Scan (Message × ℕ)). Answers shortest bytes a) is held
+-- its answer as it was matched
+pub fed_as : (old new : StreamState) (piece : List ℕ) (answer fed : Fed) → answer ≡ fed → Feeds old piece answer new → Feeds old piece fed new
+fed_as old new piece answer fed is feeds = subst (λ (f : Fed). Feeds old piece f new) is feeds

@@ -1,14 +1,4 @@
-pub mod FieldBodies
-pub mod FieldJudging
-pub mod Fields
-pub mod Frame
-pub mod Judging
 pub mod Lines
-pub mod Message
-pub mod Messages
-pub mod Names
-pub mod Shapes
-pub mod Shown
+pub mod Meanings
 pub mod Trace
-pub mod Values
 pub mod Written

@@ -1,23 +1,22 @@
 -- What a trace comes to, as text.
-use Rattle.std.specs.Prelude.{◌≡◌, ℕ, not, ◌+◌, ◌<◌, ◌==◌, ◌&&◌, List, [], ◌∷◌, ◌++◌, length, if◌then◌else◌, Result, Ok, Err, Option, Some, None}
-use Rattle.std.specs.List.{filter}
-use Rattle.hex.specs.Hex.{decode_of}
-use Rattle.hex.specs.declared.error.FromHexError.{FromHexError}
+use Rattle.std.specs.Prelude.{◌≡◌, ℕ, ◌+◌, List, [], ◌∷◌, ◌++◌, length, Ok, Err}
+use Rattle.hex.specs.Hex.{encode_upper}
 use Rattle.zvt_spelling.specs.Beginnings.{Alive, Place}
 use Rattle.zvt_spelling.specs.Cuts.{Cut}
 use Rattle.zvt_spelling.specs.Reading.{shortest}
 use Rattle.zvt_spelling.specs.declared.why.Why.{Why}
-use Rattle.zvt_tool.specs.Frame.{Spells}
-use Rattle.zvt_tool.specs.Judging.{WhyOf}
-use Rattle.zvt_tool.specs.Lines.{lost_text, refused_text, truncated_text}
-use Rattle.zvt_tool.specs.Message.{Message}
-use Rattle.zvt_tool.specs.Shown.{joined, shown}
+use Rattle.zvt_apdu.specs.Grammar.{Spells}
+use Rattle.zvt_apdu.specs.Judging.{WhyOf}
+use Rattle.zvt_apdu.specs.Message.{Message, ack, nack, registration, authorisation, reversal, end_of_day, abort_order, status, intermediate, print_line, text_block, completion, abort, other}
+use Rattle.zvt_text.specs.Bytes.{escaped_text}
+use Rattle.zvt_text.specs.Said.{said}
+use Rattle.zvt_tool.specs.Lines.{direction_text, lost_text, refused_text, stopped_text, truncated_text}
+use Rattle.zvt_tool.specs.Meanings.{Meaning, meaning_of, remark, piece, lost}
 use Rattle.zvt_tool.specs.declared.fault.What.{What}
-use Rattle.zvt_tool.specs.declared.fault.What.TheVariants.{Form, Hex}
 use Rattle.zvt_tool.specs.declared.style.Direction.{Direction}
 use Rattle.zvt_tool.specs.declared.style.Direction.TheVariants.{FromTill, FromTerminal}
 use Rattle.zvt_tool.specs.declared.style.Style.{Style}
-use Rattle.zvt_tool.specs.declared.style.Style.TheVariants.{Join, Show}
+use Rattle.zvt_tool.specs.declared.style.Style.TheVariants.{Join, Receipts, Show}
 
 -- what a piece, a line or a trace comes to: its text, its whole messages, and its streams that were refused or cut off
 pub record Part : Type 0 where
@@ -28,6 +27,9 @@ pub record Part : Type 0 where
 abbrev pub nothing : Part
 nothing = record { text = []; messages = 0; bad = 0 }
 
+abbrev pub remarked : List ℕ → Part
+remarked text = record { text = text; messages = 0; bad = 0 }
+
 abbrev pub both : Part → Part → Part
 both a b = record {
   text = a.text ++ b.text;
@@ -37,96 +39,161 @@ both a b = record {
 
 -- ---- one message
 
--- a message is shown, or its bytes stand in one line of a trace
+-- a message is shown; or its bytes stand in one line of a trace; or it is a line of a receipt
+abbrev pub shown : Direction → Message → List ℕ
+shown from message = direction_text from ++ 32 ∷ said message
+
+abbrev pub joined : Direction → List ℕ → List ℕ
+joined from bytes = direction_text from ++ 32 ∷ encode_upper bytes ++ 10 ∷ []
+
+-- of a print line of the terminal its text alone, of all else nothing
+abbrev pub receipt : Direction → Message → List ℕ
+receipt FromTill message = []
+receipt FromTerminal (ack payload) = []
+receipt FromTerminal (nack code payload) = []
+receipt FromTerminal (registration password config rest) = []
+receipt FromTerminal (authorisation fields) = []
+receipt FromTerminal (reversal password fields) = []
+receipt FromTerminal (end_of_day password fields) = []
+receipt FromTerminal (abort_order fields) = []
+receipt FromTerminal (status fields) = []
+receipt FromTerminal (intermediate step payload) = []
+receipt FromTerminal (print_line attribute text) = escaped_text text ++ 10 ∷ []
+receipt FromTerminal (text_block fields) = []
+receipt FromTerminal (completion fields) = []
+receipt FromTerminal (abort code payload) = []
+receipt FromTerminal (other high low payload) = []
+
 abbrev pub MessageText : Style → Direction → Message → List ℕ → Type 0
 MessageText Show from message text = text ≡ shown from message
 MessageText Join from message text =
     (bytes : List ℕ) × Spells shortest message bytes × (text ≡ joined from bytes)
+MessageText Receipts from message text = text ≡ receipt from message
 
 abbrev pub MessagesText : Style → Direction → List Message → List ℕ → Type 0
 MessagesText style from [] text = text ≡ []
 MessagesText style from (message ∷ messages) text =
     (one : List ℕ) × (after : List ℕ) × (text ≡ one ++ after) × MessageText style from message one × MessagesText style from messages after
 
--- ---- one piece, which stands alone
+-- ---- one side of the line
 
--- what is left behind the whole messages of a piece: nothing, the beginning of one, or bytes that begin none
+-- all that a side has sent since the line was made; or some of it was refused, and nothing more is read of it
+pub data Side : Type 0 where
+  running : (bytes : List ℕ) → Side
+  stopped : Side
+
+-- what is left behind the whole messages: nothing or the beginning of one, or bytes after which none can follow
 pub data Ending : Type 0 where
-  complete : Ending
-  cut_off : Ending
+  begun : Ending
   refused : (place : ℕ) → (why : Why) → Ending
 
 abbrev pub EndsIn : List ℕ → Ending → Type 0
-EndsIn rest complete = rest ≡ []
-EndsIn rest cut_off = (0 < length rest) × Alive (Spells shortest) rest
+EndsIn rest begun = Alive (Spells shortest) rest
 EndsIn rest (refused place why) = Place (Spells shortest) rest place × WhyOf shortest rest place why
 
-abbrev pub ending_text : Style → Direction → List ℕ → Ending → List ℕ
-ending_text style from rest complete = []
-ending_text style from rest cut_off = truncated_text style from (length rest)
-ending_text style from rest (refused place why) = refused_text style from place why
+abbrev pub ending_part : Style → Direction → Ending → Part
+ending_part style from begun = nothing
+ending_part style from (refused place why) = record { text = refused_text style from place why; messages = 0; bad = 1 }
 
-abbrev pub bad_of : Ending → ℕ
-bad_of complete = 0
-bad_of cut_off = 1
-bad_of (refused place why) = 1
+abbrev pub side_after : List ℕ → Ending → Side
+side_after bytes begun = running bytes
+side_after bytes (refused place why) = stopped
 
--- the whole messages that the bytes spell one after another, and how they end
-pub record PieceText (style : Style) (from : Direction) (bytes : List ℕ) (part : Part) : Type 0 where
+-- A piece brings the messages that the side's bytes have with it and did not have without it.
+pub record Brings (style : Style) (from : Direction) (before bytes : List ℕ) (part : Part) (after : Side) : Type 0 where
+  pub earlier : List Message
+  pub left : List ℕ
   pub messages : List Message
   pub rest : List ℕ
   pub ending : Ending
-  pub said : List ℕ
-  pub cut : Cut (Spells shortest) bytes messages rest
+  pub text : List ℕ
+  pub was : Cut (Spells shortest) before earlier left
+  pub now : Cut (Spells shortest) (before ++ bytes) (earlier ++ messages) rest
   pub ends : EndsIn rest ending
-  pub says : MessagesText style from messages said
-  pub text : part.text ≡ said ++ ending_text style from rest ending
-  pub count : part.messages ≡ length messages
-  pub bad : part.bad ≡ bad_of ending
+  pub says : MessagesText style from messages text
+  pub is_part : part ≡ both (record { text = text; messages = length messages; bad = 0 }) (ending_part style from ending)
+  pub is_after : after ≡ side_after (before ++ bytes) ending
 
--- ---- one line
+abbrev pub PieceText : Style → Direction → Side → List ℕ → Part → Side → Type 0
+PieceText style from (running before) bytes part after = Brings style from before bytes part after
+PieceText style from stopped bytes part after = (part ≡ remarked (stopped_text style from)) × (after ≡ stopped)
 
-pub data Meaning : Type 0 where
-  remark : Meaning
-  piece : (from : Direction) → (bytes : List ℕ) → Meaning
-  lost : Meaning
+-- the beginning of a message is cut off where the line ends
+abbrev pub cut_off : Style → Direction → List ℕ → Part
+cut_off style from [] = nothing
+cut_off style from (byte ∷ bytes) = record { text = truncated_text style from (length (byte ∷ bytes)); messages = 0; bad = 1 }
 
-abbrev pub without_spaces : List ℕ → List ℕ
-without_spaces = filter (λ byte. not (byte == 32))
+abbrev pub SideEnds : Style → Direction → Side → Part → Type 0
+SideEnds style from (running bytes) part = (messages : List Message) × (rest : List ℕ) × Cut (Spells shortest) bytes messages rest × (part ≡ cut_off style from rest)
+SideEnds style from stopped part = part ≡ nothing
 
-abbrev pub piece_of : Direction → Result (List ℕ) FromHexError → Result Meaning What
-piece_of from (Ok bytes) = Ok (piece from bytes)
-piece_of from (Err e) = Err Hex
+-- ---- the line
 
--- nothing or '#' is a remark, '>' and '<' are pieces in hexadecimal, '!' alone is a loss
-abbrev pub meaning_of : List ℕ → Result Meaning What
-meaning_of [] = Ok remark
-meaning_of (first ∷ rest) =
-    if first == 35 then Ok remark
-    else if first == 62 then piece_of FromTill (decode_of (without_spaces rest))
-    else if first == 60 then piece_of FromTerminal (decode_of (without_spaces rest))
-    else if first == 33 && length rest == 0 then Ok lost
-    else Err Form
+pub record Sides : Type 0 where
+  pub till : Side
+  pub terminal : Side
 
-abbrev pub LineText : Style → Meaning → Part → Type 0
-LineText style remark part = part ≡ nothing
-LineText style (piece from bytes) part = PieceText style from bytes part
-LineText style lost part = part ≡ record nothing { text = lost_text style }
+abbrev pub new_line : Sides
+new_line = record { till = running []; terminal = running [] }
+
+abbrev pub side_of : Direction → Sides → Side
+side_of FromTill sides = sides.till
+side_of FromTerminal sides = sides.terminal
+
+abbrev pub with_side : Direction → Side → Sides → Sides
+with_side FromTill side sides = record { till = side; terminal = sides.terminal }
+with_side FromTerminal side sides = record { till = sides.till; terminal = side }
+
+-- the line ends: the till's side is told before the terminal's
+pub record LineEnds (style : Style) (sides : Sides) (part : Part) : Type 0 where
+  pub till : Part
+  pub terminal : Part
+  pub till_ends : SideEnds style FromTill sides.till till
+  pub terminal_ends : SideEnds style FromTerminal sides.terminal terminal
+  pub is_part : part ≡ both till terminal
+
+-- ---- one line of the trace
+
+abbrev pub LineText : Style → Meaning → Sides → Part → Sides → Type 0
+LineText style remark sides part after = (part ≡ nothing) × (after ≡ sides)
+LineText style (piece from bytes) sides part after =
+    (side : Side) × PieceText style from (side_of from sides) bytes part side × (after ≡ with_side from side sides)
+LineText style lost sides part after =
+    (ended : Part) × LineEnds style sides ended × (part ≡ both ended (remarked (lost_text style))) × (after ≡ new_line)
 
 -- ---- the trace
 
-pub record Followed (style : Style) (meaning : Meaning) (Others : Part → Type 0) (all : Part) : Type 0 where
+pub record OneMore (style : Style) (sides : Sides) (line : List ℕ) (Others : Sides → Part → Type 0) (all : Part) : Type 0 where
+  pub meaning : Meaning
   pub part : Part
   pub rest : Part
-  pub says : LineText style meaning part
-  pub others : Others rest
+  pub middle : Sides
+  pub means : meaning_of line ≡ Ok meaning
+  pub says : LineText style meaning sides part middle
+  pub others : Others middle rest
   pub whole : all ≡ both part rest
 
-abbrev pub OneMore : Style → ℕ → Result Meaning What → (Part → Option (ℕ × What) → Type 0) → Part → Option (ℕ × What) → Type 0
-OneMore style at (Ok meaning) Others all fault = Followed style meaning (λ rest. Others rest fault) all
-OneMore style at (Err what) Others all fault = (all ≡ nothing) × (fault ≡ Some (at, what))
+-- lines that can be read, from one state of the line to another
+abbrev pub LinesText : Style → Sides → List (List ℕ) → Part → Sides → Type 0
+LinesText style sides [] all after = (all ≡ nothing) × (after ≡ sides)
+LinesText style sides (line ∷ lines) all after = OneMore style sides line (λ middle rest. LinesText style middle lines rest after) all
 
--- the lines from this number on, up to the first that can't be read
-abbrev pub TraceText : Style → ℕ → List (List ℕ) → Part → Option (ℕ × What) → Type 0
-TraceText style at [] all fault = (all ≡ nothing) × (fault ≡ None)
-TraceText style at (line ∷ lines) all fault = OneMore style at (meaning_of line) (TraceText style (at + 1) lines) all fault
+-- a trace of which all lines can be read: they are said, and then what is cut off at its end
+pub record WholeText (style : Style) (lines : List (List ℕ)) (all : Part) : Type 0 where
+  pub body : Part
+  pub after : Sides
+  pub last : Part
+  pub says : LinesText style new_line lines body after
+  pub ends : LineEnds style after last
+  pub is_all : all ≡ both body last
+
+-- a trace with a line that can't be read, counted from 1: the lines before it are said
+pub record BrokenText (style : Style) (lines : List (List ℕ)) (number : ℕ) (what : What) (all : Part) : Type 0 where
+  pub done : List (List ℕ)
+  pub line : List ℕ
+  pub later : List (List ℕ)
+  pub after : Sides
+  pub cut : lines ≡ done ++ line ∷ later
+  pub says : LinesText style new_line done all after
+  pub wrong : meaning_of line ≡ Err what
+  pub is_number : number ≡ length done + 1

@@ -1,16 +1,34 @@
 -- What the commands answer and write.
-use Rattle.std.specs.Prelude.{◌≡◌, ℕ, ◌<◌, ◌≤◌, ◌++◌, List, length, Option, Some, None, IfSome, Result, Ok, Err, Vec}
+use Rattle.std.specs.Prelude.{◌≡◌, ℕ, ◌<◌, ◌≤◌, ◌++◌, false, List, length, Option, IfSome, Result, Ok, Err, Vec}
 use Rattle.std.specs.Global.{Global}
 use Rattle.std.specs.Io.KnownBytes.{Appends, Consumes, IsAtEnd, Keeps}
 use Rattle.std.specs.Str.Lines.{lines}
-use Rattle.zvt_tool.specs.Message.{Message}
-use Rattle.zvt_tool.specs.Trace.{LineText, Meaning, MessageText, Part, PieceText, TraceText, meaning_of}
+use Rattle.zvt_spelling.specs.Cuts.{Cut}
+use Rattle.zvt_spelling.specs.Reading.{shortest}
+use Rattle.zvt_apdu.specs.Grammar.{Spells}
+use Rattle.zvt_apdu.specs.Message.{Message}
+use Rattle.zvt_stream.specs.StreamState.{StreamState, refused}
+use Rattle.zvt_tool.specs.Meanings.{Meaning, meaning_of}
+use Rattle.zvt_tool.specs.Trace.{BrokenText, LineEnds, LineText, MessageText, Part, PieceText, Side, SideEnds, Sides, WholeText, running, stopped}
 use Rattle.zvt_tool.specs.declared.fault.Tally.{Tally}
 use Rattle.zvt_tool.specs.declared.fault.ToolFault.{ToolFault}
 use Rattle.zvt_tool.specs.declared.fault.ToolFault.TheVariants.{Memory, Read, TooLong, Trace, Write}
-use Rattle.zvt_tool.specs.declared.fault.What.{What}
+use Rattle.zvt_tool.specs.declared.streams.Streams.{Streams}
 use Rattle.zvt_tool.specs.declared.style.Direction.{Direction}
 use Rattle.zvt_tool.specs.declared.style.Style.{Style}
+
+-- ---- what the streams of the code stand for
+
+-- the stream holds what is left of the side's bytes behind their whole messages
+abbrev pub Follows : StreamState → Side → Type 0
+Follows state (running bytes) = (state.stopped ≡ false) × (messages : List Message) × Cut (Spells shortest) bytes messages state.held
+Follows state stopped = state ≡ refused
+
+pub record Follow (streams : Streams) (sides : Sides) : Type 0 where
+  pub till : Follows streams.till sides.till
+  pub terminal : Follows streams.terminal sides.terminal
+
+-- ---- what the functions add to the text
 
 -- the tally counts what the part counts
 pub record Counts (tally : Tally) (part : Part) : Type 0 where
@@ -23,53 +41,81 @@ pub record AddsMessage (style : Style) (from : Direction) (message : Message) (o
   pub says : MessageText style from message one
   pub grown : new ≡ old ++ one
 
--- the text grew by what a piece comes to
-pub record AddsPiece (style : Style) (from : Direction) (bytes : List ℕ) (tally : Tally) (old new : List ℕ) : Type 0 where
+-- the text grew by what a piece comes to, and the stream goes on behind it
+pub record AddsPiece (style : Style) (from : Direction) (side : Side) (bytes : List ℕ) (state : StreamState) (tally : Tally) (old new : List ℕ) : Type 0 where
   pub part : Part
-  pub says : PieceText style from bytes part
+  pub after : Side
+  pub says : PieceText style from side bytes part after
+  pub follows : Follows state after
   pub grown : new ≡ old ++ part.text
   pub counts : Counts tally part
 
--- the text grew by what a meaning comes to
-pub record AddsMeaning (style : Style) (read : Result Meaning What) (tally : Tally) (old new : List ℕ) : Type 0 where
-  pub meaning : Meaning
+-- the text grew by what the end of a side comes to
+pub record AddsSideEnd (style : Style) (from : Direction) (side : Side) (bad : ℕ) (old new : List ℕ) : Type 0 where
   pub part : Part
-  pub means : read ≡ Ok meaning
-  pub says : LineText style meaning part
+  pub ends : SideEnds style from side part
+  pub grown : new ≡ old ++ part.text
+  pub messages : part.messages ≡ 0
+  pub is_bad : bad ≡ part.bad
+
+-- the text grew by what the end of the line comes to
+pub record AddsEnd (style : Style) (sides : Sides) (tally : Tally) (old new : List ℕ) : Type 0 where
+  pub part : Part
+  pub ends : LineEnds style sides part
   pub grown : new ≡ old ++ part.text
   pub counts : Counts tally part
 
--- the text grew by what a line comes to
-abbrev pub Adds : (style : Style) (line : List ℕ) (tally : Tally) (old new : List ℕ) → Type 0
-Adds style line tally old new = AddsMeaning style (meaning_of line) tally old new
+-- the text grew by what a line of the trace comes to, and the streams go on behind it
+pub record AddsLine (style : Style) (sides : Sides) (meaning : Meaning) (streams : Streams) (tally : Tally) (old new : List ℕ) : Type 0 where
+  pub part : Part
+  pub after : Sides
+  pub says : LineText style meaning sides part after
+  pub follow : Follow streams after
+  pub grown : new ≡ old ++ part.text
+  pub counts : Counts tally part
 
--- the device has besides what a line comes to
-pub record AppendsLine (style : Style) (line : List ℕ) (tally : Tally) (old new : Option (List ℕ)) : Type 0 where
+-- the device has besides what a line of the trace comes to
+pub record AppendsLine (style : Style) (sides : Sides) (line : List ℕ) (streams : Streams) (tally : Tally) (old new : Option (List ℕ)) : Type 0 where
   pub meaning : Meaning
   pub part : Part
+  pub after : Sides
   pub means : meaning_of line ≡ Ok meaning
-  pub says : LineText style meaning part
+  pub says : LineText style meaning sides part after
+  pub follow : Follow streams after
   pub appended : Appends old new part.text
   pub counts : Counts tally part
 
 -- What writing the line of that number answers.
-abbrev pub WritesLine : Style → (number : ℕ) → (line : List ℕ) → (old new : Option (List ℕ)) → Result Tally ToolFault → Type 0
-WritesLine style number line old new (Ok tally) = AppendsLine style line tally old new
-WritesLine style number line old new (Err (Trace at what)) = (at ≡ number) × (meaning_of line ≡ Err what) × Keeps old new
-WritesLine style number line old new (Err TooLong) = ⊥
-WritesLine style number line old new (Err Read) = ⊥
-WritesLine style number line old new (Err Write) = Unit {0}
-WritesLine style number line old new (Err Memory) = Unit {0}
+abbrev pub WritesLine : Style → Sides → (number : ℕ) → (line : List ℕ) → Streams → (old new : Option (List ℕ)) → Result Tally ToolFault → Type 0
+WritesLine style sides number line streams old new (Ok tally) = AppendsLine style sides line streams tally old new
+WritesLine style sides number line streams old new (Err (Trace at what)) = (at ≡ number) × (meaning_of line ≡ Err what) × Keeps old new
+WritesLine style sides number line streams old new (Err TooLong) = ⊥
+WritesLine style sides number line streams old new (Err Read) = ⊥
+WritesLine style sides number line streams old new (Err Write) = Unit {0}
+WritesLine style sides number line streams old new (Err Memory) = Unit {0}
 
--- the device has the text of the lines besides, up to the first that can't be read
-pub record WritesAll (style : Style) (lines : List (List ℕ)) (old new : Option (List ℕ)) (all : Part) (fault : Option (ℕ × What)) : Type 0 where
-  pub says : TraceText style 1 lines all fault
-  pub appended : Appends old new all.text
+-- the device has besides what the end of the line comes to
+pub record AppendsEnd (style : Style) (sides : Sides) (tally : Tally) (old new : Option (List ℕ)) : Type 0 where
+  pub part : Part
+  pub ends : LineEnds style sides part
+  pub appended : Appends old new part.text
+  pub counts : Counts tally part
+
+-- What writing the end of the line answers.
+abbrev pub WritesEnd : Style → Sides → (old new : Option (List ℕ)) → Result Tally ToolFault → Type 0
+WritesEnd style sides old new (Ok tally) = AppendsEnd style sides tally old new
+WritesEnd style sides old new (Err (Trace number what)) = ⊥
+WritesEnd style sides old new (Err TooLong) = ⊥
+WritesEnd style sides old new (Err Read) = ⊥
+WritesEnd style sides old new (Err Write) = Unit {0}
+WritesEnd style sides old new (Err Memory) = Unit {0}
+
+-- ---- what a command answers
 
 -- What a command answers for the lines of a trace.
 abbrev pub AnswersLines : Style → List (List ℕ) → (old new : Option (List ℕ)) → Result Tally ToolFault → Type 0
-AnswersLines style lines old new (Ok tally) = (all : Part) × WritesAll style lines old new all None × Counts tally all
-AnswersLines style lines old new (Err (Trace line what)) = (all : Part) × WritesAll style lines old new all (Some (line, what))
+AnswersLines style lines old new (Ok tally) = (all : Part) × WholeText style lines all × Appends old new all.text × Counts tally all
+AnswersLines style lines old new (Err (Trace number what)) = (all : Part) × BrokenText style lines number what all × Appends old new all.text
 AnswersLines style lines old new (Err TooLong) = ⊥
 AnswersLines style lines old new (Err Read) = ⊥
 AnswersLines style lines old new (Err Write) = Unit {0}

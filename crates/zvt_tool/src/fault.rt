@@ -13,6 +13,18 @@ pub struct Tally {
     pub bad: u64,
 }
 
+impl Tally {
+    /// Nothing was counted.
+    pub(crate) fn none() -> Tally
+        ensures { (result.messages ≡ 0) × (result.bad ≡ 0) }
+    {
+        Tally {
+            messages: 0,
+            bad: 0,
+        }
+    }
+}
+
 /// What is wrong with a line of a trace.
 #[derive(Clone, Copy, Debug, PartialEq, Eq)]
 pub enum What {

@@ -1,23 +1,23 @@
 //! Traces of the line between a till and its terminal, as text.
 //!
-//! [`show`] writes each message with its fields, [`join`] each message as one line of a trace.
+//! [`show`] writes each message with its fields, [`join`] each message as one line of a trace,
+//! [`receipts`] the text of the terminal's print lines.
 #![tactic(auto)]
 
 mod fault;
-mod fields;
-mod frame;
 mod input;
 mod line;
 mod message;
-mod names;
 mod piece;
-mod shapes;
+mod said;
+mod streams;
 mod style;
 mod traces;
-mod values;
 
 pub use fault::{Tally, ToolFault, What};
-pub use traces::{join, show};
+pub use traces::{join, receipts, show};
 
+#[cfg(test)]
+mod example_tests;
 #[cfg(test)]
 mod tests;

@@ -1,19 +1,26 @@
 //! One line of a trace.
 ghost use Rattle.std.specs.Prelude.{◌≡◌, ◌≤◌, length, IfOk, Ok, Err};
-ghost use Rattle.std.specs.String.{string_bytes};
 ghost use Rattle.hex.specs.Hex.{decode_of};
-ghost use Rattle.zvt_tool.specs.Trace.{meaning_of, piece_of, without_spaces};
-ghost use Rattle.zvt_tool.specs.Written.{Adds, AddsMeaning};
+ghost use Rattle.zvt_tool.specs.Meanings.{meaning_of, meant_by, piece_of, size_of, without_spaces};
 ghost use Rattle.zvt_tool.specs.declared.fault.What.{What};
 
-use crate::fault::{Tally, What};
-use crate::piece::piece;
-use crate::style;
-use crate::style::{Direction, Style};
+use crate::fault::What;
+use crate::style::Direction;
 use hex::FromHexError;
 use std::alloc::{AllocError, Global};
 
-/// Why a line has no text.
+/// What a line of a trace means.
+#[derive(Drop)]
+pub(crate) enum Line {
+    /// Nothing.
+    Remark,
+    /// So many bytes were sent.
+    Piece { from: Direction, bytes: Vec<u8> },
+    /// The line between till and terminal was lost.
+    Lost,
+}
+
+/// Why a line has no meaning.
 #[derive(Clone, Copy, Debug, PartialEq, Eq)]
 pub(crate) enum BadLine {
     Wrong(What),
@@ -30,52 +37,30 @@ impl From<AllocError> for BadLine {
     }
 }
 
-const NOTHING: Tally = Tally {
-    messages: 0,
-    bad: 0,
-};
-
-/// Writes what the line says.
-pub(crate) fn line(
-    alloc: Global,
-    text: &mut String,
-    style: Style,
-    line: &[u8],
-) -> Result<Tally, BadLine>
-    ensures ok { IfOk result (λ tally. Adds style line.now tally (string_bytes text.old) (string_bytes text.new)) }
+/// Reads a line, which has lost its line feed.
+pub(crate) fn read_line(alloc: Global, line: &[u8]) -> Result<Line, BadLine>
+    ensures ok { IfOk result (λ read. meaning_of line.now ≡ Ok (meant_by read)) }
     ensures wrong { (what : What) → result ≡ Err (BadLine.Wrong what) → meaning_of line.now ≡ Err what }
-    ensures few { IfOk result (λ tally. tally.messages ≤ length line.now) }
-    ensures one { IfOk result (λ tally. tally.bad ≤ 1) }
+    ensures few { IfOk result (λ read. size_of (meant_by read) ≤ length line.now) }
 {
     match line {
-        [] => Ok(NOTHING),
-        [b'#', ..] => Ok(NOTHING),
-        [b'>', rest @ ..] => spelled(alloc, text, style, Direction::FromTill, rest),
-        [b'<', rest @ ..] => spelled(alloc, text, style, Direction::FromTerminal, rest),
-        [b'!'] => {
-            style::lost(text, style)?;
-            Ok(NOTHING)
-        }
+        [] | [b'#', ..] => Ok(Line::Remark),
+        [b'>', text @ ..] => read_piece(alloc, Direction::FromTill, text),
+        [b'<', text @ ..] => read_piece(alloc, Direction::FromTerminal, text),
+        [b'!'] => Ok(Line::Lost),
         _ => Err(BadLine::Wrong(What::Form)),
     }
 }
 
-/// Writes what the piece says that is spelled in hexadecimal text.
-fn spelled(
-    alloc: Global,
-    text: &mut String,
-    style: Style,
-    from: Direction,
-    rest: &[u8],
-) -> Result<Tally, BadLine>
-    ensures ok { IfOk result (λ tally. AddsMeaning style (piece_of from (decode_of (without_spaces rest.now))) tally (string_bytes text.old) (string_bytes text.new)) }
-    ensures wrong { (what : What) → result ≡ Err (BadLine.Wrong what) → piece_of from (decode_of (without_spaces rest.now)) ≡ Err what }
-    ensures few { IfOk result (λ tally. tally.messages ≤ length rest.now) }
-    ensures one { IfOk result (λ tally. tally.bad ≤ 1) }
+/// Reads the bytes that are spelled in hexadecimal text.
+fn read_piece(alloc: Global, from: Direction, text: &[u8]) -> Result<Line, BadLine>
+    ensures ok { IfOk result (λ read. piece_of from (decode_of (without_spaces text.now)) ≡ Ok (meant_by read)) }
+    ensures wrong { (what : What) → result ≡ Err (BadLine.Wrong what) → piece_of from (decode_of (without_spaces text.now)) ≡ Err what }
+    ensures few { IfOk result (λ read. size_of (meant_by read) ≤ length text.now) }
 {
-    let digits = digits(alloc, rest)?;
+    let digits = digits(alloc, text)?;
     match hex::decode(alloc, digits.as_slice()) {
-        Ok(bytes) => Ok(piece(alloc, text, style, from, bytes.as_slice())?),
+        Ok(bytes) => Ok(Line::Piece { from, bytes }),
         Err(FromHexError::OutOfMemory) => Err(BadLine::Memory),
         Err(_) => Err(BadLine::Wrong(What::Hex)),
     }

@@ -1,46 +1,62 @@
-//! One piece of a line, which stands alone.
-ghost use Rattle.std.specs.Prelude.{◌≡◌, ◌++◌, ◌<◌, ◌≤◌, length, IfOk};
+//! What the bytes of one side bring.
+ghost use Rattle.std.specs.Prelude.{◌≡◌, ◌++◌, ◌<◌, ◌≤◌, length, IfOk, OnOk};
 ghost use Rattle.std.specs.String.{string_bytes};
-ghost use Rattle.zvt_tool.specs.Written.{AddsPiece};
+ghost use Rattle.zvt_tool.specs.Trace.{Side};
+ghost use Rattle.zvt_tool.specs.Written.{AddsMessage, AddsPiece, Follows};
 
 use crate::fault::Tally;
-use crate::frame::scan;
 use crate::style::{Direction, Style};
 use crate::{message, style};
 use std::alloc::{AllocError, Global};
-use zvt_spelling::Scan;
+use zvt_apdu::Apdu;
+use zvt_stream::{Fed, FeedError, Stream};
 
-/// Writes what the piece spells: its whole messages, and how it ends.
-pub(crate) fn piece(
+/// Writes what a piece brings: the messages that end in it, and whether its stream is refused.
+pub(crate) fn write(
     alloc: Global,
     text: &mut String,
     style: Style,
     from: Direction,
+    stream: &mut Stream,
     bytes: &[u8],
 ) -> Result<Tally, AllocError>
-    ensures adds { IfOk result (λ tally. AddsPiece style from bytes.now tally (string_bytes text.old) (string_bytes text.new)) }
+    ensures adds { (side : Side) → Follows stream.old side → IfOk result (λ tally. AddsPiece style from side bytes.now stream.new tally (string_bytes text.old) (string_bytes text.new)) }
     ensures few { IfOk result (λ tally. tally.messages ≤ length bytes.now) }
     ensures one { IfOk result (λ tally. tally.bad ≤ 1) }
 {
     let mut messages = 0;
     let mut rest = bytes;
-    'messages: while !rest.is_empty() {
-        match scan(alloc, rest)? {
-            Scan::Whole((apdu, size)) => {
-                let (front, after) = rest.split_at(size);
-                message::write(alloc, text, style, from, &apdu, front)?;
+    'messages: loop {
+        match stream.feed(alloc, rest) {
+            Ok(Fed::Message { apdu, taken }) => {
+                write_message(alloc, text, style, from, apdu)?;
                 messages += 1;
+                let (_, after) = rest.split_at(taken);
                 rest = after;
             }
-            Scan::More => {
-                style::truncated(text, style, from, rest.len())?;
-                return Ok(Tally { messages, bad: 1 });
-            }
-            Scan::Refused { place, why } => {
+            Ok(Fed::More) => return Ok(Tally { messages, bad: 0 }),
+            Ok(Fed::Refused { place, why }) => {
                 style::refused(text, style, from, place, why)?;
                 return Ok(Tally { messages, bad: 1 });
             }
+            Err(FeedError::Stopped) => {
+                style::stopped(text, style, from)?;
+                return Ok(Tally { messages, bad: 0 });
+            }
+            Err(FeedError::Memory) => return Err(AllocError),
         }
     }
-    Ok(Tally { messages, bad: 0 })
+}
+
+/// Writes a message and gives it up.
+fn write_message(
+    alloc: Global,
+    text: &mut String,
+    style: Style,
+    from: Direction,
+    apdu: Apdu,
+) -> Result<(), AllocError>
+    ensures { OnOk result (AddsMessage style from apdu (string_bytes text.old) (string_bytes text.new)) }
+{
+    message::write(alloc, text, style, from, &apdu)
 }

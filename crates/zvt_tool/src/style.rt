@@ -1,7 +1,7 @@
 //! Who sends, and how what was read is written.
 ghost use Rattle.std.specs.Prelude.{◌≡◌, ◌++◌, OnOk};
 ghost use Rattle.std.specs.String.{string_bytes};
-ghost use Rattle.zvt_tool.specs.Lines.{lost_text, refused_text, truncated_text};
+ghost use Rattle.zvt_tool.specs.Lines.{lost_text, refused_text, stopped_text, truncated_text};
 
 use std::alloc::AllocError;
 use std::fmt;
@@ -32,20 +32,26 @@ impl fmt::Display for Direction {
 /// How what was read is written.
 #[derive(Clone, Copy, Debug, PartialEq, Eq)]
 pub(crate) enum Style {
+    /// Each message with its fields, and what becomes of the line.
     Show,
+    /// Each message as a line of a trace, and what becomes of the line as remarks.
     Join,
+    /// The text of the terminal's print lines, and nothing else.
+    Receipts,
 }
 
 impl Style {
+    ghost use Rattle.std.specs.Prelude.{option_map};
     ghost use Rattle.zvt_tool.specs.Lines.{mark_of};
 
-    /// What stands before a line that is no part of a trace.
-    fn mark(self) -> &'static str
-        ensures { result.now ≡ mark_of self }
+    /// What stands before a line that is no part of a trace, where such lines are written at all.
+    fn mark(self) -> Option<&'static str>
+        ensures { option_map (λ mark. mark.now) result ≡ mark_of self }
     {
         match self {
-            Style::Show => "",
-            Style::Join => "# ",
+            Style::Show => Some(""),
+            Style::Join => Some("# "),
+            Style::Receipts => None,
         }
     }
 }
@@ -60,7 +66,9 @@ pub(crate) fn refused(
 ) -> Result<(), AllocError>
     ensures { OnOk result (string_bytes text.new ≡ string_bytes text.old ++ refused_text style from place why) }
 {
-    let mark = style.mark();
+    let Some(mark) = style.mark() else {
+        return Ok(());
+    };
     writeln!(text, "{mark}{from} refused at {place}: {why}")
 }
 
@@ -73,7 +81,9 @@ pub(crate) fn truncated(
 ) -> Result<(), AllocError>
     ensures { OnOk result (string_bytes text.new ≡ string_bytes text.old ++ truncated_text style from have) }
 {
-    let mark = style.mark();
+    let Some(mark) = style.mark() else {
+        return Ok(());
+    };
     writeln!(text, "{mark}{from} truncated after {have}")
 }
 
@@ -84,5 +94,16 @@ pub(crate) fn lost(text: &mut String, style: Style) -> Result<(), AllocError>
     match style {
         Style::Show => text.push_str("! line lost\n"),
         Style::Join => text.push_str("!\n"),
+        Style::Receipts => Ok(()),
     }
+}
+
+/// The line of a piece behind a refusal.
+pub(crate) fn stopped(text: &mut String, style: Style, from: Direction) -> Result<(), AllocError>
+    ensures { OnOk result (string_bytes text.new ≡ string_bytes text.old ++ stopped_text style from) }
+{
+    let Some(mark) = style.mark() else {
+        return Ok(());
+    };
+    writeln!(text, "{mark}{from} stopped")
 }

@@ -1,5 +1,5 @@
 //! Traces over memory, and over devices that fail.
-use crate::{Tally, ToolFault, What, join, show};
+use crate::{Tally, ToolFault, What, join, receipts, show};
 use std::alloc::Global;
 use std::test::Fail;
 use zvt_io::{Failed, GhostCount, Over, Sink, Source};
@@ -20,6 +20,14 @@ fn joined(alloc: Global, trace: &str) -> (Result<Tally, ToolFault>, Vec<u8>) {
     (answer, writer.inner)
 }
 
+/// What `receipts` writes of a trace.
+fn printed(alloc: Global, trace: &str) -> (Result<Tally, ToolFault>, Vec<u8>) {
+    let mut reader = Over::new(trace.as_bytes());
+    let mut writer = Over::new(Vec::new(alloc));
+    let answer = receipts(alloc, &mut reader, &mut writer);
+    (answer, writer.inner)
+}
+
 const PAY: &str = "> 06 01 0A 04 00 00 00 00 12 34 49 09 78";
 
 #[test]
@@ -32,16 +40,15 @@ fn messages_are_shown(rt: HostRuntime) -> Result<(), Fail> {
             1,
             0,
         ),
-        ("< 80 00 00 80", "< Other 8000\n< truncated after 1\n", 1, 1),
+        ("< 80 00 00 80", "< Ack\n< truncated after 1\n", 1, 1),
         ("> 06 01 08 04", "> refused at 3: DoesNotFit\n", 0, 1),
-        ("> 06 01 02 22", "> refused at 3: UnknownField\n", 0, 1),
+        ("> 06 01 02 D0", "> refused at 3: UnknownField\n", 0, 1),
         (
             "> 06 01 07 04 00 00 00 00 12 3A",
             "> refused at 9: NotDigit\n",
             0,
             1,
         ),
-        ("> 06 01 02 D0", "> refused at 3: UnknownField\n", 0, 1),
         (
             "> 06 D1 FF FE 00\r\n",
             "> refused at 4: NotShortest\n",
@@ -49,21 +56,27 @@ fn messages_are_shown(rt: HostRuntime) -> Result<(), Fail> {
             1,
         ),
         (
+            "< 06 0F 0E 06 0C 25 0A 25 08 25 06 25 04 25 02 25 00",
+            "< refused at 15: TooDeep\n",
+            0,
+            1,
+        ),
+        (
             "# a remark\n\n!\n> 80 00 02 aa Bb\n",
-            "! line lost\n> Other 8000 data AABB\n",
+            "! line lost\n> Ack data AABB\n",
             1,
             0,
         ),
         (
-            "> 06 01 02 27 6C 06 01 02 27 05",
-            "> Authorisation\n  27 result 6C abort by time-out or abort key\n> Authorisation\n  27 result code 05\n",
+            "< 06 1E 01 6C 06 1E 01 05",
+            "< Abort 6C abort by time-out or abort key\n< Abort code 05\n",
             2,
             0,
         ),
         (
-            "> 06 01 04 3D 12 34 56 06 01 10 2A 4F 4B 22 5C 80 20 20 20 20 20 20 20 20 20 20",
-            "> Authorisation\n  3D password hidden 3\n> Authorisation\n  2A contract \"OK\\x22\\x5C\\x80          \"\n",
-            2,
+            "< 06 D1 05 00 4F 4B 22 80",
+            "< PrintLine 00 \"OK\\x22\\x80\"\n",
+            1,
             0,
         ),
     ];
@@ -76,18 +89,98 @@ fn messages_are_shown(rt: HostRuntime) -> Result<(), Fail> {
 }
 
 #[test]
+fn sides_are_streams(rt: HostRuntime) -> Result<(), Fail> {
+    let cases = [
+        (
+            "> 06 01 0A 04 00\n< 80 00 00\n> 00 00 00 12 34 49 09 78",
+            "< Ack\n> Authorisation\n  04 amount 1234\n  49 currency 0978\n",
+            2,
+            0,
+        ),
+        (
+            "<\n< 04 0F 10 27 00 04 00 00 00 00",
+            "< truncated after 10\n",
+            0,
+            1,
+        ),
+        (
+            "> 06 01 02 D0\n> 80 00 00\n< 80 00 00\n> 80",
+            "> refused at 3: UnknownField\n> stopped\n< Ack\n> stopped\n",
+            1,
+            1,
+        ),
+        (
+            "< 06\n> 06 01\n!\n< 80 00 00\n> 80 00 00",
+            "> truncated after 2\n< truncated after 1\n! line lost\n< Ack\n> Ack\n",
+            2,
+            2,
+        ),
+        (
+            "> D0 00 FF 00\n> 00\n!\n> 80 00",
+            "> refused at 4: NotShortest\n! line lost\n> truncated after 2\n",
+            0,
+            2,
+        ),
+    ];
+    for (trace, text, messages, bad) in cases {
+        let (answer, written) = shown(rt.alloc(), trace);
+        assert_eq!(rt; written.as_slice(), text.as_bytes(), "{trace}");
+        assert_eq!(rt; answer?, Tally { messages, bad }, "{trace}");
+    }
+    Ok(())
+}
+
+#[test]
 fn messages_are_joined(rt: HostRuntime) -> Result<(), Fail> {
-    let trace =
-        "> 06 01 0a 04 00 00 00 00 12 34 49 09 78\n!\n< 80 00 00 80\n> 06 01 02 D0\n# a remark";
-    let (answer, written) = joined(rt.alloc(), trace);
-    let text =
-        "> 06010A04000000001234490978\n!\n< 800000\n# < truncated after 1\n# > refused at 3: UnknownField\n";
-    assert_eq!(rt; written.as_slice(), text.as_bytes());
-    let tally = Tally {
-        messages: 2,
-        bad: 2,
-    };
-    assert_eq!(rt; answer?, tally);
+    let cases = [
+        (
+            "> 06 01 0A 04 00\n< 80 00 00\n> 00 00 00 12 34 49 09 78",
+            "< 800000\n> 06010A04000000001234490978\n",
+            2,
+            0,
+        ),
+        (
+            "> 06 01 0a 04 00 00 00 00 12 34 49 09 78\n!\n< 80 00 00 80\n> 06 01 02 D0\n> 80\n# a remark",
+            "> 06010A04000000001234490978\n!\n< 800000\n# > refused at 3: UnknownField\n# > stopped\n# < truncated after 1\n",
+            2,
+            2,
+        ),
+    ];
+    for (trace, text, messages, bad) in cases {
+        let (answer, written) = joined(rt.alloc(), trace);
+        assert_eq!(rt; written.as_slice(), text.as_bytes(), "{trace}");
+        assert_eq!(rt; answer?, Tally { messages, bad }, "{trace}");
+    }
+    Ok(())
+}
+
+#[test]
+fn print_lines_of_the_terminal_are_receipts(rt: HostRuntime) -> Result<(), Fail> {
+    let cases = [
+        (
+            "< 06 D1 0E 00 41 50 50 52 4F 56 45 44 20 31 30 30 30",
+            "APPROVED 1000\n",
+            1,
+            0,
+        ),
+        (
+            "> 06 D1 02 00 41\n< 80 00 00 06 D1 01 00 06 D1 03\n< 40 22 80 06 01 01",
+            "\n\\x22\\x80\n",
+            4,
+            1,
+        ),
+        (
+            "> 06 01 02 D0\n> 06 D1\n< 06 D1 02 00 41\n!\n< 06 D1 02 00 42\n< 06",
+            "A\nB\n",
+            2,
+            2,
+        ),
+    ];
+    for (trace, text, messages, bad) in cases {
+        let (answer, written) = printed(rt.alloc(), trace);
+        assert_eq!(rt; written.as_slice(), text.as_bytes(), "{trace}");
+        assert_eq!(rt; answer?, Tally { messages, bad }, "{trace}");
+    }
     Ok(())
 }
 
@@ -98,12 +191,7 @@ fn faults_name_their_line(rt: HostRuntime) {
         ("#\nx", 2, What::Form, ""),
         ("! ", 1, What::Form, ""),
         ("! \n", 1, What::Form, ""),
-        (
-            "< 80 00 00\n> 8G\n< 80 00 00\n",
-            2,
-            What::Hex,
-            "< Other 8000\n",
-        ),
+        ("< 80 00 00\n> 8G\n< 80 00 00\n", 2, What::Hex, "< Ack\n"),
         (" > 80", 1, What::Form, ""),
     ];
     for (trace, at, wrong, text) in cases {

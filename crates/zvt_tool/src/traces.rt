@@ -1,15 +1,19 @@
 //! A whole trace as text.
 ghost use Rattle.std.specs.String.{string_bytes};
-ghost use Rattle.std.specs.Prelude.{[], ◌∷◌, ◌==◌, ◌≡◌, ◌<◌, ◌≤◌, ◌+◌, length, Err, Ok, IfOk, IfSome};
-ghost use Rattle.std.specs.Io.KnownBytes.{Keeps};
+ghost use Rattle.std.specs.Prelude.{[], ◌∷◌, ◌==◌, ◌≡◌, ◌<◌, ◌≤◌, ◌+◌, length, Err, Ok, IfErr, IfOk, IfSome, OnOk};
+ghost use Rattle.std.specs.Io.KnownBytes.{Appends, Keeps};
+ghost use Rattle.zvt_io.specs.Devices.{CountsFailure};
 ghost use Rattle.std.specs.List.{position};
 ghost use Rattle.std.specs.Str.Lines.{lines, strip_carriage_return};
-ghost use Rattle.zvt_tool.specs.Written.{AnswersLines, AnswersTrace, WritesLine, limit};
-ghost use Rattle.zvt_tool.specs.declared.style.Style.TheVariants.{Join, Show};
+ghost use Rattle.zvt_tool.specs.Trace.{Sides};
+ghost use Rattle.zvt_tool.specs.Written.{AnswersLines, AnswersTrace, Follow, WritesEnd, WritesLine, limit};
+ghost use Rattle.zvt_tool.specs.declared.style.Style.TheVariants.{Join, Receipts, Show};
 
 use crate::fault::{Tally, ToolFault};
 use crate::input::read_trace;
-use crate::line::{BadLine, line};
+use crate::line::{BadLine, read_line};
+use crate::said::{write_end, write_said};
+use crate::streams::Streams;
 use crate::style::Style;
 use std::alloc::Global;
 use zvt_io::{Failed, Sink, Source};
@@ -43,7 +47,23 @@ pub fn join<R: Source, W: Sink>(
     write_lines(alloc, Style::Join, trace.as_slice(), writer)
 }
 
-/// Writes the text of the lines of a trace, up to the first that can't be read.
+/// Writes the text of each print line of the terminal as one line, with escapes (`\xHH`) for what is no printing
+/// character, and nothing else. A stream that is refused or cut off counts as bad all the same.
+pub fn receipts<R: Source, W: Sink>(
+    alloc: Global,
+    reader: &mut R,
+    writer: &mut W,
+) -> Result<Tally, ToolFault>
+    ensures writes { IfSome (R.remaining reader.old) (λ trace. AnswersTrace Receipts trace (W.written writer.old) (W.written writer.new) result) }
+    ensures read { result ≡ Err ToolFault.Read → R.failures reader.old < R.failures reader.new }
+    ensures write { result ≡ Err ToolFault.Write → W.failures writer.old < W.failures writer.new }
+{
+    let trace = read_trace(alloc, reader)?;
+    write_lines(alloc, Style::Receipts, trace.as_slice(), writer)
+}
+
+/// Writes the text of the lines of a trace, up to the first that can't be read, and what is cut off
+/// at the end.
 fn write_lines<W: Sink>(
     alloc: Global,
     style: Style,
@@ -54,48 +74,85 @@ fn write_lines<W: Sink>(
     ensures writes { AnswersLines style (lines trace.now) (W.written writer.old) (W.written writer.new) result }
     ensures write { result ≡ Err ToolFault.Write → W.failures writer.old < W.failures writer.new }
 {
-    let mut tally = Tally {
-        messages: 0,
-        bad: 0,
-    };
+    let mut tally = Tally::none();
+    let mut streams = Streams::new(alloc);
     let mut text = String::new(alloc);
     let mut rest = trace;
     let mut number = 0;
     'lines: while !rest.is_empty() {
         let (content, after) = next_line(rest);
         number += 1;
-        text.clear();
-        let counted = write_line(alloc, &mut text, style, number, content, writer)?;
+        let counted = write_line(
+            alloc,
+            &mut text,
+            style,
+            &mut streams,
+            number,
+            content,
+            writer,
+        )?;
         tally.messages += counted.messages;
         tally.bad += counted.bad;
         rest = after;
     }
+    let cut_off = write_last(&mut text, style, &streams, writer)?;
+    tally.bad += cut_off.bad;
     Ok(tally)
 }
 
-/// Writes the text of one line, which is made in an empty buffer.
+/// Writes the text of one line.
 fn write_line<W: Sink>(
     alloc: Global,
     text: &mut String,
     style: Style,
+    streams: &mut Streams,
     number: u64,
     content: &[u8],
     writer: &mut W,
 ) -> Result<Tally, ToolFault>
-    requires { string_bytes text.old ≡ [] }
-    ensures writes { WritesLine style number content.now (W.written writer.old) (W.written writer.new) result }
+    ensures writes { (sides : Sides) → Follow streams.old sides → WritesLine style sides number content.now streams.new (W.written writer.old) (W.written writer.new) result }
     ensures few { IfOk result (λ tally. tally.messages ≤ length content.now) }
-    ensures one { IfOk result (λ tally. tally.bad ≤ 1) }
+    ensures two { IfOk result (λ tally. tally.bad ≤ 2) }
     ensures write { result ≡ Err ToolFault.Write → W.failures writer.old < W.failures writer.new }
     ensures count { IfOk result (λ _. W.failures writer.new ≡ W.failures writer.old) }
 {
-    let counted = match line(alloc, text, style, content) {
-        Ok(counted) => counted,
+    let line = match read_line(alloc, content) {
+        Ok(line) => line,
         Err(BadLine::Wrong(what)) => return Err(ToolFault::Trace { line: number, what }),
         Err(BadLine::Memory) => return Err(ToolFault::Memory),
     };
+    text.clear();
+    let tally = write_said(alloc, text, style, streams, &line)?;
+    put(text, writer)?;
+    Ok(tally)
+}
+
+/// Writes which messages are cut off where the trace ends.
+fn write_last<W: Sink>(
+    text: &mut String,
+    style: Style,
+    streams: &Streams,
+    writer: &mut W,
+) -> Result<Tally, ToolFault>
+    ensures writes { (sides : Sides) → Follow streams.now sides → WritesEnd style sides (W.written writer.old) (W.written writer.new) result }
+    ensures none { IfOk result (λ tally. tally.messages ≡ 0) }
+    ensures two { IfOk result (λ tally. tally.bad ≤ 2) }
+    ensures write { result ≡ Err ToolFault.Write → W.failures writer.old < W.failures writer.new }
+{
+    text.clear();
+    let tally = write_end(text, style, streams)?;
+    put(text, writer)?;
+    Ok(tally)
+}
+
+/// Writes the text to the device.
+fn put<W: Sink>(text: &String, writer: &mut W) -> Result<(), ToolFault>
+    ensures bytes { OnOk result (Appends (W.written writer.old) (W.written writer.new) (string_bytes text.now)) }
+    ensures fault { IfErr result (λ fault. fault ≡ ToolFault.Write) }
+    ensures failures { CountsFailure (W.failures writer.old) (W.failures writer.new) result }
+{
     match writer.write_all(text.as_bytes()) {
-        Ok(()) => Ok(counted),
+        Ok(()) => Ok(()),
         Err(Failed) => Err(ToolFault::Write),
     }
 }

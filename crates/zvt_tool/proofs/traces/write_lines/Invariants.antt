@@ -1,13 +1,13 @@
-use Rattle.std.proofs.Common.{◌≡◌, ◌+◌, ◌≤◌, length}
+use Rattle.std.proofs.Common.{◌≡◌, ◌+◌, ◌*◌, ◌≤◌, length}
 use Rattle.zvt_tool.proofs.TraceLemmas.{SoFar}
 use Rattle.zvt_tool.proofs.traces.write_lines.Given as goal
 
 abbrev pub invariant-lines : goal.invariant-lines
 invariant-lines g l = record {
-  so_far : SoFar l.style l.trace l.rest l.number (g.W.Sink.written l.initial.writer) (g.W.Sink.written l.writer) l.tally;
+  so_far : SoFar l.style l.trace l.rest l.number l.streams (g.W.Sink.written l.initial.writer) (g.W.Sink.written l.writer) l.tally;
   lines : l.number + length l.rest ≤ length l.trace;
   messages : l.tally.messages + length l.rest ≤ length l.trace;
-  bad : l.tally.bad ≤ l.number;
+  bad : l.tally.bad ≤ 2 * l.number;
   failures : g.W.Sink.failures l.writer ≡ g.W.Sink.failures l.initial.writer;
 }
 

@@ -1,9 +1,0 @@
-use Rattle.std.proofs.Common.{◌-◌}
-use Rattle.zvt_tool.proofs.ListMoves.{ReadTo}
-use Rattle.zvt_tool.proofs.fields.scan_fields.Given as goal
-
-abbrev pub invariant-loop-taken : goal.invariant-loop-taken
-invariant-loop-taken l = ReadTo l.room l.bytes l.list.items l.taken
-
-abbrev pub decreases-loop-taken : goal.decreases-loop-taken
-decreases-loop-taken l = l.room - l.taken

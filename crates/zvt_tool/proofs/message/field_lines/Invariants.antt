@@ -1,7 +1,0 @@
-use Rattle.std.proofs.Common.{◌≡◌, ◌++◌, take}
-use Rattle.std.specs.String.{string_bytes}
-use Rattle.zvt_tool.specs.Shown.{field_lines}
-use Rattle.zvt_tool.proofs.message.field_lines.Given as goal
-
-abbrev pub invariant-loop-field : goal.invariant-loop-field
-invariant-loop-field l = string_bytes l.text ≡ string_bytes l.initial.text ++ field_lines (take l.field-index l.field-items)
