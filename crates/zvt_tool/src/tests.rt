@@ -62,6 +62,12 @@ fn messages_are_shown(rt: HostRuntime) -> Result<(), Fail> {
             1,
         ),
         (
+            "< 06 0F 0E 06 0C 25 0A 25 08 25 06 25 04 25 02 07 00",
+            "< Completion\n  06 container\n    25 constructed\n      25 constructed\n        25 constructed\n          25 constructed\n            25 constructed\n              07 -\n",
+            1,
+            0,
+        ),
+        (
             "# a remark\n\n!\n> 80 00 02 aa Bb\n",
             "! line lost\n> Ack data AABB\n",
             1,
