@@ -8,6 +8,7 @@ ghost use Rattle.zvt_stream.specs.Course.{there_at_once, reached};
 use arrayvec::ArrayVec;
 use std::alloc::{AllocError, Global};
 use std::marker::Model;
+use thiserror::Error;
 use zvt_apdu::Apdu;
 use zvt_spelling::Why;
 
@@ -135,21 +136,28 @@ impl Until {
 }
 
 /// How a line broke. It is then given up: a new line has a new stream.
-#[derive(Clone, Copy, Debug, Drop, PartialEq, Eq)]
+#[derive(Clone, Copy, Debug, Drop, PartialEq, Eq, Error)]
 pub enum LineFault {
-    /// A read failed.
+    /// A read failed, or took longer than the device waits.
+    #[error("a read failed, or nothing came in time")]
     Read,
     /// A write failed. Some front of the bytes may have been written.
+    #[error("a write failed")]
     Write,
     /// The line ended, with `have` bytes of an unfinished message.
+    #[error("the other end closed it, {have} bytes into a message")]
     Ended { have: usize },
     /// All turns were made, and the line had not come to where it was to go.
+    #[error("the other end goes on without an end")]
     Turns,
     /// No message begins with the bytes up to and with the one at `place`, which is counted from 0 at the first byte of
     /// the message.
+    #[error("the other end sent bytes that begin no message, refused at {place}: {why}")]
     Malformed { place: usize, why: Why },
     /// Memory was refused.
+    #[error("there was too little memory")]
     Memory,
     /// The stream had refused bytes before.
+    #[error("it had brought bytes before that begin no message")]
     Stopped,
 }

@@ -14,6 +14,16 @@ pub struct Served {
     pub verdict: Verdict,
 }
 
+impl Served {
+    /// Decides what the next authorisations come to.
+    pub fn decide(&mut self, verdict: Verdict)
+        ensures terminal { self.new.terminal ≡ self.old.terminal }
+        ensures verdict { self.new.verdict ≡ verdict }
+    {
+        self.verdict = verdict;
+    }
+}
+
 impl Machine for Served {
     ghost use Rattle.zvt_term.specs.Served.{served_hears, served_loses};
 

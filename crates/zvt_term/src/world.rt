@@ -4,8 +4,7 @@ ghost use Rattle.zvt_term.specs.Reports.{message_of_report};
 ghost use Rattle.zvt_term.specs.Steps.{AreWritable};
 ghost use Rattle.zvt_term.specs.Terminal.{reports_of};
 ghost use Rattle.zvt_term.specs.World.{sent_out, new_ends, FitOrder, FitMove, Matches, move, orders, reaches_terminal, reaches_till, world};
-ghost use Rattle.zvt_till.specs.Till.{facts_of, new_till};
-ghost use Rattle.zvt_till.specs.Events.{run_settings};
+ghost use Rattle.zvt_till.specs.Till.{facts_of};
 ghost use Rattle.zvt_till.specs.Refusals.{refusal};
 ghost use Rattle.zvt_term.specs.Orderly.{are_orderly, IsAccounted};
 ghost use Rattle.zvt_term.specs.Simulation.{ends_of};
@@ -17,7 +16,6 @@ use crate::turns::Verdict;
 use crate::writer::report_message;
 use std::alloc::{AllocError, Global};
 use zvt_apdu::Apdu;
-use zvt_bcd::Currency;
 use zvt_till::hearing::heard;
 use zvt_till::{Order, OrderRefusal, Outgoing, Till};
 
@@ -48,21 +46,8 @@ pub struct World {
     pub from_terminal: Vec<Apdu>,
 }
 
-/// The number of the euro.
-const EURO: u16 = 978;
-
 /// The number of the terminal.
 const TID: u32 = 12_345_678;
-
-/// A new till with the password 00 00 00, the configuration BE and the euro.
-fn new_till(alloc: Global) -> Till
-    ensures { result.state ≡ new_till run_settings }
-{
-    let Some(euro) = Currency::new(EURO) else {
-        unreachable!()
-    };
-    Till::new(alloc, [0; 3], 0xBE, euro)
-}
 
 /// Keeps a message that the till sends, if there is one.
 fn keep_sent(
@@ -108,7 +93,7 @@ impl World {
         ensures { ends_of result ≡ new_ends }
     {
         World {
-            till: new_till(alloc),
+            till: Till::with_defaults(alloc),
             terminal: Terminal::new(alloc, TID),
             from_till: Vec::new(alloc),
             from_terminal: Vec::new(alloc),

@@ -1,2 +1,3 @@
+pub mod Padded
 pub mod Rows
 pub mod Secrets

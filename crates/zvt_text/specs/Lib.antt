@@ -1,4 +1,5 @@
 pub mod Bytes
+pub mod Numbers
 pub mod Results
 pub mod Lines
 pub mod Said

@@ -4,6 +4,7 @@
 mod bytes;
 mod details;
 mod heads;
+mod kept;
 pub mod laws;
 mod lines;
 mod objects;
@@ -12,6 +13,7 @@ mod said;
 mod values;
 
 pub use bytes::escaped;
+pub use kept::numbers;
 pub use results::result_words;
 pub use said::message;
 

@@ -1,10 +1,11 @@
 //! Messages worked by hand.
 
-use crate::{escaped, message, result_words};
+use crate::{escaped, message, numbers, result_words};
 use std::alloc::Global;
 use std::process::Abort;
 use std::test::Fail;
 use zvt_apdu::scan;
+use zvt_bcd::Trace;
 use zvt_spelling::Scan;
 
 /// The message that stands first, as text.
@@ -178,5 +179,20 @@ fn escapes(rt: HostRuntime) -> Result<(), Fail> {
     text.push_str("a")?;
     escaped(alloc, &mut text, b"b \"\\~\x7F\n".as_slice())?;
     assert_eq!(rt; text.as_str(), "ab \\x22\\x5C~\\x7F\\x0A");
+    Ok(())
+}
+
+#[test]
+fn numbers_of_a_payment(rt: HostRuntime) -> Result<(), Fail> {
+    for (trace, receipt, expected) in [
+        (17, Some([0x00, 0x05]), "trace 000017 receipt 0005"),
+        (0, Some([0xFF, 0xFF]), "trace 000000 receipt FFFF"),
+        (999_999, None, "trace 999999 receipt -"),
+    ] {
+        let mut text = String::new(rt.alloc());
+        let trace = Trace::new(trace).ok_or("a trace number")?;
+        numbers(rt.alloc(), &mut text, trace, receipt)?;
+        assert_eq!(rt; text.as_str(), expected);
+    }
     Ok(())
 }

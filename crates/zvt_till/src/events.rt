@@ -17,7 +17,7 @@ use crate::messages::{Heard, Original, StatusFacts};
 use crate::orders::{Order, OrderRefusal, Outgoing};
 use crate::till::Till;
 use std::alloc::{AllocError, Global};
-use zvt_bcd::{Amount, Currency, Trace};
+use zvt_bcd::{Amount, Trace};
 use zvt_stream::{Fed, FeedError, Stream};
 
 /// What a run of a till is made of.
@@ -210,16 +210,6 @@ impl Run {
     }
 }
 
-/// The till of a run: with the password 00 00 00, the configuration BE and the euro.
-fn run_till(alloc: Global) -> Till
-    ensures { result.state ≡ new_till run_settings }
-{
-    let Some(euro) = Currency::new(978) else {
-        unreachable!()
-    };
-    Till::new(alloc, [0; 3], 0xBE, euro)
-}
-
 /// Runs a new till over the events. A refused order leaves nothing in the log. Where memory is refused the run ends
 /// with the error.
 pub fn replay(alloc: Global, events: &[Event]) -> Result<Run, AllocError>
@@ -237,7 +227,7 @@ pub fn replay(alloc: Global, events: &[Event]) -> Result<Run, AllocError>
 {
     let mut run = Run {
         log: Vec::new(alloc),
-        till: run_till(alloc),
+        till: Till::with_defaults(alloc),
         sent: Vec::new(alloc),
     };
     let mut stream = Stream::new(alloc);

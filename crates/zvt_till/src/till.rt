@@ -15,6 +15,9 @@ use zvt_bcd::{Amount, Currency};
 /// The rows that the book, and the list of unclear payments, can have at most.
 pub const MOST_ROWS: usize = 10_000;
 
+/// The number of the euro.
+const EURO: u16 = 978;
+
 /// A till with its line, its running order and its book. It speaks to one terminal over one line at a
 /// time; a new line begins with Register.
 #[derive(Drop)]
@@ -48,6 +51,7 @@ impl Till {
     ghost use Rattle.zvt_till.specs.Till.{new_till, accept, meet, step, line_down, finish, outcome_at, facts_of};
     ghost use Rattle.zvt_till.specs.View.{IsRefusedAs, CanEnd};
     ghost use Rattle.zvt_till.specs.Marks.{total};
+    ghost use Rattle.zvt_till.specs.Events.{run_settings};
 
     /// A till whose line is down, with an empty book. The password and the configuration byte go into a
     /// registration as they are.
@@ -65,6 +69,16 @@ impl Till {
             unclear: Vec::new(alloc),
             last_outcome: None,
         }
+    }
+
+    /// A new till with the password 00 00 00, the configuration byte BE and the euro.
+    pub fn with_defaults(alloc: Global) -> Till
+        ensures { result.state ≡ new_till run_settings }
+    {
+        let Some(euro) = Currency::new(EURO) else {
+            unreachable!()
+        };
+        Till::new(alloc, [0; 3], 0xBE, euro)
     }
 
     /// The line is up. Nothing changes where it was up before.
