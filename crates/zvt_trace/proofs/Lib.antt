@@ -1,0 +1,9 @@
+pub mod AuditLemmas
+pub mod EndLemmas
+pub mod HeardLemmas
+pub mod InputLemmas
+pub mod LineLemmas
+pub mod LinkLemmas
+pub mod PieceLemmas
+pub mod TraceLemmas
+pub mod WalkLemmas

@@ -1,0 +1,15 @@
+use Rattle.std.proofs.Common.{◌≡◌, ◌+◌, ◌*◌, ◌≤◌, length}
+use Rattle.zvt_trace.proofs.TraceLemmas.{SoFar}
+use Rattle.zvt_trace.proofs.traces.write_lines.Given as goal
+
+abbrev pub invariant-lines : goal.invariant-lines
+invariant-lines g l = record {
+  so_far : SoFar l.style l.trace l.rest l.number l.streams (g.W.Sink.written l.initial.writer) (g.W.Sink.written l.writer) l.tally;
+  lines : l.number + length l.rest ≤ length l.trace;
+  messages : l.tally.messages + length l.rest ≤ length l.trace;
+  bad : l.tally.bad ≤ 2 * l.number;
+  failures : g.W.Sink.failures l.writer ≡ g.W.Sink.failures l.initial.writer;
+}
+
+abbrev pub decreases-lines : goal.decreases-lines
+decreases-lines g l = length l.rest

@@ -1,0 +1,45 @@
+-- What one line of a trace means.
+use Rattle.std.specs.Prelude.{ℕ, not, ◌==◌, ◌&&◌, List, [], ◌∷◌, length, if◌then◌else◌, Result, Ok, Err}
+use Rattle.std.specs.List.{filter}
+use Rattle.hex.specs.Hex.{decode_of}
+use Rattle.hex.specs.declared.error.FromHexError.{FromHexError}
+use Rattle.zvt_trace.specs.declared.fault.What.{What}
+use Rattle.zvt_trace.specs.declared.fault.What.TheVariants.{Form, Hex}
+use Rattle.zvt_trace.specs.declared.line.Line.{Line}
+use Rattle.zvt_trace.specs.declared.line.Line.TheVariants as code
+use Rattle.zvt_trace.specs.declared.style.Direction.{Direction}
+use Rattle.zvt_trace.specs.declared.style.Direction.TheVariants.{FromTill, FromTerminal}
+
+pub data Meaning : Type 0 where
+  remark : Meaning
+  piece : (from : Direction) → (bytes : List ℕ) → Meaning
+  lost : Meaning
+
+abbrev pub without_spaces : List ℕ → List ℕ
+without_spaces = filter (λ byte. not (byte == 32))
+
+abbrev pub piece_of : Direction → Result (List ℕ) FromHexError → Result Meaning What
+piece_of from (Ok bytes) = Ok (piece from bytes)
+piece_of from (Err e) = Err Hex
+
+-- nothing or '#' is a remark, '>' and '<' are pieces in hexadecimal, '!' alone is a loss
+abbrev pub meaning_of : List ℕ → Result Meaning What
+meaning_of [] = Ok remark
+meaning_of (first ∷ rest) =
+    if first == 35 then Ok remark
+    else if first == 62 then piece_of FromTill (decode_of (without_spaces rest))
+    else if first == 60 then piece_of FromTerminal (decode_of (without_spaces rest))
+    else if first == 33 && length rest == 0 then Ok lost
+    else Err Form
+
+-- the meaning that a line of the code stands for
+abbrev pub meant_by : Line → Meaning
+meant_by code.Remark = remark
+meant_by (code.Piece from bytes) = piece from bytes.items
+meant_by code.Lost = lost
+
+-- how many bytes it brings
+abbrev pub size_of : Meaning → ℕ
+size_of remark = 0
+size_of (piece from bytes) = length bytes
+size_of lost = 0

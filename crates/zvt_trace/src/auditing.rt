@@ -1,0 +1,89 @@
+//! The books of a whole trace.
+ghost use Rattle.std.specs.Prelude.{◌≡◌, ◌<◌, ◌≤◌, length, Err, IfOk, IfSome};
+ghost use Rattle.std.specs.Str.Lines.{lines};
+ghost use Rattle.zvt_trace.specs.Written.{limit};
+ghost use Rattle.zvt_trace.specs.Audit.{LinkState};
+ghost use Rattle.zvt_trace.specs.Audited.{AnswersAudit, StandsFor, TakesLine, TakesLines};
+
+use crate::booked;
+use crate::fault::{Tally, ToolFault};
+use crate::happened::add;
+use crate::input::read_trace;
+use crate::line::{BadLine, read_line};
+use crate::link::Link;
+use crate::traces::{next_line, put};
+use std::alloc::Global;
+use zvt_io::{Sink, Source};
+use zvt_till::Happening;
+use zvt_till::books::books;
+
+/// Writes the books of the trace: a line for each payment that was completed, then one for each of which it is not
+/// known whether it happened, and the sum of the former in the smallest unit of the currency. Payments that were taken
+/// back count too.
+///
+/// The till's orders and the terminal's messages are judged as a till's log that begins with its connection. Where bytes
+/// of either side are refused, neither is read until the line is lost. A stream that is refused or cut off counts as
+/// bad.
+///
+/// The text is written once, at the end. Nothing is written where a line can't be read, where the trace is too long or
+/// can't be read to its end, and where there is too little memory.
+pub fn audit<R: Source, W: Sink>(
+    alloc: Global,
+    reader: &mut R,
+    writer: &mut W,
+) -> Result<Tally, ToolFault>
+    ensures writes { IfSome (R.remaining reader.old) (λ trace. AnswersAudit trace (W.written writer.old) (W.written writer.new) result) }
+    ensures read { result ≡ Err ToolFault.Read → R.failures reader.old < R.failures reader.new }
+    ensures write { result ≡ Err ToolFault.Write → W.failures writer.old < W.failures writer.new }
+{
+    let trace = read_trace(alloc, reader)?;
+    let mut log = Vec::new(alloc);
+    add(&mut log, Happening::Connected)?;
+    let tally = add_lines(alloc, &mut log, trace.as_slice())?;
+    let found = books(alloc, log.as_slice())?;
+    let mut text = String::new(alloc);
+    booked::write(alloc, &mut text, &found)?;
+    put(&text, writer)?;
+    Ok(tally)
+}
+
+/// Adds what happened by the lines of a trace.
+fn add_lines(alloc: Global, log: &mut Vec<Happening>, trace: &[u8]) -> Result<Tally, ToolFault>
+    requires { length trace.now ≤ limit }
+    ensures { TakesLines (lines trace.now) log.old.items log.new.items result }
+{
+    let mut tally = Tally::none();
+    let mut link = Link::new(alloc);
+    let mut rest = trace;
+    let mut number = 0;
+    'lines: while !rest.is_empty() {
+        let (content, after) = next_line(rest);
+        number += 1;
+        let counted = add_line(alloc, log, &mut link, number, content)?;
+        tally.messages += counted.messages;
+        tally.bad += counted.bad;
+        rest = after;
+    }
+    tally.bad += link.cut_off();
+    Ok(tally)
+}
+
+/// Adds what happened by the line of that number.
+fn add_line(
+    alloc: Global,
+    log: &mut Vec<Happening>,
+    link: &mut Link,
+    number: u64,
+    content: &[u8],
+) -> Result<Tally, ToolFault>
+    ensures takes { (state : LinkState) → StandsFor link.old state → TakesLine state number content.now link.new log.old.items log.new.items result }
+    ensures few { IfOk result (λ tally. tally.messages ≤ length content.now) }
+    ensures two { IfOk result (λ tally. tally.bad ≤ 2) }
+{
+    let line = match read_line(alloc, content) {
+        Ok(line) => line,
+        Err(BadLine::Wrong(what)) => return Err(ToolFault::Trace { line: number, what }),
+        Err(BadLine::Memory) => return Err(ToolFault::Memory),
+    };
+    Ok(link.take(alloc, log, &line)?)
+}

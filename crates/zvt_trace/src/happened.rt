@@ -1,0 +1,174 @@
+//! What messages are to a log.
+ghost use Rattle.std.specs.Prelude.{◌≡◌, ◌++◌, ◌∷◌, [], ◌≤◌, ℕ, List, length, IfOk, OnOk};
+ghost use Rattle.zvt_apdu.specs.Messages.{message_of};
+ghost use Rattle.zvt_trace.specs.Trace.{running};
+ghost use Rattle.zvt_trace.specs.Written.{Follows};
+ghost use Rattle.std.specs.List.{cons_option};
+ghost use Rattle.zvt_trace.specs.Audit.{Begun, happened, ordered};
+ghost use Rattle.zvt_trace.specs.Audited.{AddsMessages, Hears};
+
+use crate::fault::Tally;
+use crate::style::Direction;
+use std::alloc::{AllocError, Global};
+use zvt_apdu::{Apdu, Message};
+use zvt_bcd::{Amount, Trace};
+use zvt_stream::{Fed, FeedError, Stream};
+use zvt_till::hearing::heard;
+use zvt_till::{Happening, Heard, Original, Sent, StatusFacts};
+
+/// What a piece brought: so many messages, and whether bytes were refused behind them.
+#[derive(Clone, Copy, Debug, PartialEq, Eq)]
+pub(crate) struct Brought {
+    pub(crate) messages: u64,
+    pub(crate) refused: bool,
+}
+
+/// The order that a till gives by this message, if it gives one.
+fn ordered(message: &Message) -> Option<Sent>
+    ensures { result ≡ ordered (message_of message.now) }
+{
+    match message {
+        Message::Registration { .. } => Some(Sent::Register),
+        Message::Authorisation(fields) => match zvt_field::amount(fields) {
+            Some(amount) => Some(Sent::Pay(amount)),
+            None => Some(Sent::Foreign),
+        },
+        Message::AbortOrder(_) => Some(Sent::Cancel),
+        Message::EndOfDay { .. } => Some(Sent::CloseDay),
+        Message::Reversal { .. } => Some(Sent::Foreign),
+        Message::Other { .. } => Some(Sent::Foreign),
+        _ => None,
+    }
+}
+
+/// What happened by this message, if it counts.
+fn happened(from: Direction, apdu: &Apdu) -> Option<Happening>
+    ensures { result ≡ happened from apdu.now }
+{
+    match from {
+        Direction::FromTill => match ordered(apdu.message()) {
+            Some(order) => Some(Happening::Sent(order)),
+            None => None,
+        },
+        Direction::FromTerminal => Some(Happening::Heard(heard(apdu))),
+    }
+}
+
+/// Adds what happened to a log. Its first lines do nothing: they name the types that a happening is made of, which the
+/// proof of `push` asks for.
+pub(crate) fn add(log: &mut Vec<Happening>, happening: Happening) -> Result<(), AllocError>
+    ensures { OnOk result (log.new.items ≡ log.old.items ++ happening ∷ []) }
+{
+    let _sent: Option<Sent> = None;
+    let _heard: Option<Heard> = None;
+    let _status: Option<StatusFacts> = None;
+    let _amount: Option<Amount> = None;
+    let _trace: Option<Trace> = None;
+    let _original: Option<Original> = None;
+    log.push(happening)?;
+    Ok(())
+}
+
+/// Adds what happened by a message, which it gives up.
+fn add_message(log: &mut Vec<Happening>, from: Direction, apdu: Apdu) -> Result<(), AllocError>
+    ensures { OnOk result (log.new.items ≡ log.old.items ++ cons_option (happened from apdu) []) }
+{
+    let happening = happened(from, &apdu);
+    drop(apdu);
+    match happening {
+        Some(happening) => add(log, happening),
+        None => Ok(()),
+    }
+}
+
+/// Adds what happened by the messages that a piece brings.
+fn add_messages(
+    alloc: Global,
+    log: &mut Vec<Happening>,
+    from: Direction,
+    stream: &mut Stream,
+    bytes: &[u8],
+) -> Result<Brought, AllocError>
+    ensures adds { (before : List ℕ) → Follows stream.old (running before) → IfOk result (λ brought. AddsMessages from before bytes.now stream.new brought log.old.items log.new.items) }
+    ensures few { IfOk result (λ brought. brought.messages ≤ length bytes.now) }
+{
+    let mut messages = 0;
+    let mut rest = bytes;
+    'messages: loop {
+        match stream.feed(alloc, rest) {
+            Ok(Fed::Message { apdu, taken }) => {
+                add_message(log, from, apdu)?;
+                messages += 1;
+                let (_, after) = rest.split_at(taken);
+                rest = after;
+            }
+            Ok(Fed::More) => {
+                return Ok(Brought {
+                    messages,
+                    refused: false,
+                });
+            }
+            Ok(Fed::Refused { .. }) => {
+                return Ok(Brought {
+                    messages,
+                    refused: true,
+                });
+            }
+            Err(FeedError::Stopped) => {
+                return Ok(Brought {
+                    messages,
+                    refused: true,
+                });
+            }
+            Err(FeedError::Memory) => return Err(AllocError),
+        }
+    }
+}
+
+/// What was heard: the tally, and whether bytes were refused, after which nothing more is read.
+#[derive(Clone, Copy, Debug, PartialEq, Eq)]
+pub(crate) struct Hearing {
+    pub(crate) tally: Tally,
+    pub(crate) refused: bool,
+}
+
+/// Adds what happened by a piece of one side. Where it is refused, the message that the other side has begun is cut
+/// off.
+pub(crate) fn hear(
+    alloc: Global,
+    log: &mut Vec<Happening>,
+    from: Direction,
+    stream: &mut Stream,
+    other: &Stream,
+    bytes: &[u8],
+) -> Result<Hearing, AllocError>
+    ensures hears { (before beside : List ℕ) → Follows stream.old (running before) → Follows other.now (running beside) → IfOk result (λ hearing. Hears from before beside bytes.now stream.new hearing log.old.items log.new.items) }
+    ensures few { IfOk result (λ hearing. hearing.tally.messages ≤ length bytes.now) }
+    ensures two { IfOk result (λ hearing. hearing.tally.bad ≤ 2) }
+{
+    let brought = add_messages(alloc, log, from, stream, bytes)?;
+    let messages = brought.messages;
+    if brought.refused {
+        add(log, Happening::Malformed)?;
+        let bad = 1 + count_begun(other);
+        return Ok(Hearing {
+            tally: Tally { messages, bad },
+            refused: true,
+        });
+    }
+    Ok(Hearing {
+        tally: Tally { messages, bad: 0 },
+        refused: false,
+    })
+}
+
+/// How many messages the side has begun and not ended: one at most.
+pub(crate) fn count_begun(stream: &Stream) -> u64
+    ensures counts { (bytes : List ℕ) → Follows stream.now (running bytes) → Begun bytes result }
+    ensures one { result ≤ 1 }
+{
+    match stream.finish() {
+        Ok(()) => 0,
+        Err(_) => 1,
+    }
+}

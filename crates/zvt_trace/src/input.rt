@@ -1,0 +1,52 @@
+//! A trace is read whole.
+ghost use Rattle.std.specs.Prelude.{◌≡◌, ◌<◌, ◌≤◌, ◌+◌, ℕ, List, length, Err, IfOk, vec_len};
+ghost use Rattle.std.specs.Io.KnownBytes.{Consumes};
+ghost use Rattle.zvt_trace.specs.Written.{limit, ReadsPiece, ReadsTrace};
+
+use crate::fault::ToolFault;
+use std::alloc::Global;
+use zvt_io::{Failed, Source};
+
+/// The most bytes of a trace.
+pub(crate) const LIMIT: usize = 16_777_216;
+
+/// All that the reader gives, which is read to its end or to the first byte past the limit.
+pub(crate) fn read_trace<R: Source>(alloc: Global, reader: &mut R) -> Result<Vec<u8>, ToolFault>
+    ensures trace { ReadsTrace (R.remaining reader.old) result }
+    ensures taken { (taken : List ℕ) × (length taken ≤ limit + 1) × Consumes (R.remaining reader.old) (R.remaining reader.new) taken }
+    ensures failed { result ≡ Err ToolFault.Read → R.failures reader.old < R.failures reader.new }
+    ensures bound { IfOk result (λ trace. vec_len trace ≤ limit) }
+{
+    let mut trace = Vec::new(alloc);
+    let mut buffer = [0u8; 16_384];
+    for _turn in 0..=LIMIT {
+        let room = (LIMIT + 1 - trace.len()).min(buffer.len());
+        let taken = read_piece(reader, &mut buffer[..room], &mut trace)?;
+        if taken == 0 {
+            return Ok(trace);
+        }
+        if trace.len() > LIMIT {
+            return Err(ToolFault::TooLong);
+        }
+    }
+    Err(ToolFault::TooLong)
+}
+
+/// Reads once and adds what came to the trace: how many bytes, 0 at the end.
+fn read_piece<R: Source>(
+    reader: &mut R,
+    buffer: &mut [u8],
+    trace: &mut Vec<u8>,
+) -> Result<usize, ToolFault>
+    requires { 0 < length buffer.old }
+    ensures piece { ReadsPiece (length buffer.old) (R.remaining reader.old) (R.remaining reader.new) trace.old.items trace.new.items result }
+    ensures failed { result ≡ Err ToolFault.Read → R.failures reader.old < R.failures reader.new }
+    ensures counted { IfOk result (λ _. R.failures reader.new ≡ R.failures reader.old) }
+{
+    let taken = match reader.read(buffer) {
+        Ok(taken) => taken,
+        Err(Failed) => return Err(ToolFault::Read),
+    };
+    trace.extend_from_slice(&buffer[..taken])?;
+    Ok(taken)
+}

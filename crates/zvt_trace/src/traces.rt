@@ -1,0 +1,189 @@
+//! A whole trace as text.
+ghost use Rattle.std.specs.String.{string_bytes};
+ghost use Rattle.std.specs.Prelude.{[], ◌∷◌, ◌==◌, ◌≡◌, ◌<◌, ◌≤◌, ◌+◌, length, Err, Ok, IfErr, IfOk, IfSome, OnOk};
+ghost use Rattle.std.specs.Io.KnownBytes.{Appends, Keeps};
+ghost use Rattle.zvt_io.specs.Devices.{CountsFailure};
+ghost use Rattle.std.specs.List.{position};
+ghost use Rattle.std.specs.Str.Lines.{lines, strip_carriage_return};
+ghost use Rattle.zvt_trace.specs.Trace.{Sides};
+ghost use Rattle.zvt_trace.specs.Written.{AnswersLines, AnswersTrace, Follow, WritesEnd, WritesLine, limit};
+ghost use Rattle.zvt_trace.specs.declared.style.Style.TheVariants.{Join, Receipts, Show};
+
+use crate::fault::{Tally, ToolFault};
+use crate::input::read_trace;
+use crate::line::{BadLine, read_line};
+use crate::said::{write_end, write_said};
+use crate::streams::Streams;
+use crate::style::Style;
+use std::alloc::Global;
+use zvt_io::{Failed, Sink, Source};
+
+/// Writes each whole message of the trace as text: its direction and name, and a line for each
+/// field. A stream that is refused or cut off is said, and counts as bad.
+pub fn show<R: Source, W: Sink>(
+    alloc: Global,
+    reader: &mut R,
+    writer: &mut W,
+) -> Result<Tally, ToolFault>
+    ensures writes { IfSome (R.remaining reader.old) (λ trace. AnswersTrace Show trace (W.written writer.old) (W.written writer.new) result) }
+    ensures read { result ≡ Err ToolFault.Read → R.failures reader.old < R.failures reader.new }
+    ensures write { result ≡ Err ToolFault.Write → W.failures writer.old < W.failures writer.new }
+{
+    let trace = read_trace(alloc, reader)?;
+    write_lines(alloc, Style::Show, trace.as_slice(), writer)
+}
+
+/// Writes each whole message of the trace as one line of a trace, and all else as remarks.
+pub fn join<R: Source, W: Sink>(
+    alloc: Global,
+    reader: &mut R,
+    writer: &mut W,
+) -> Result<Tally, ToolFault>
+    ensures writes { IfSome (R.remaining reader.old) (λ trace. AnswersTrace Join trace (W.written writer.old) (W.written writer.new) result) }
+    ensures read { result ≡ Err ToolFault.Read → R.failures reader.old < R.failures reader.new }
+    ensures write { result ≡ Err ToolFault.Write → W.failures writer.old < W.failures writer.new }
+{
+    let trace = read_trace(alloc, reader)?;
+    write_lines(alloc, Style::Join, trace.as_slice(), writer)
+}
+
+/// Writes the text of each print line of the terminal as one line, with escapes (`\xHH`) for what is no printing
+/// character, and nothing else. A stream that is refused or cut off counts as bad all the same.
+pub fn receipts<R: Source, W: Sink>(
+    alloc: Global,
+    reader: &mut R,
+    writer: &mut W,
+) -> Result<Tally, ToolFault>
+    ensures writes { IfSome (R.remaining reader.old) (λ trace. AnswersTrace Receipts trace (W.written writer.old) (W.written writer.new) result) }
+    ensures read { result ≡ Err ToolFault.Read → R.failures reader.old < R.failures reader.new }
+    ensures write { result ≡ Err ToolFault.Write → W.failures writer.old < W.failures writer.new }
+{
+    let trace = read_trace(alloc, reader)?;
+    write_lines(alloc, Style::Receipts, trace.as_slice(), writer)
+}
+
+/// Writes the text of the lines of a trace, up to the first that can't be read, and what is cut off
+/// at the end.
+fn write_lines<W: Sink>(
+    alloc: Global,
+    style: Style,
+    trace: &[u8],
+    writer: &mut W,
+) -> Result<Tally, ToolFault>
+    requires { length trace.now ≤ limit }
+    ensures writes { AnswersLines style (lines trace.now) (W.written writer.old) (W.written writer.new) result }
+    ensures write { result ≡ Err ToolFault.Write → W.failures writer.old < W.failures writer.new }
+{
+    let mut tally = Tally::none();
+    let mut streams = Streams::new(alloc);
+    let mut text = String::new(alloc);
+    let mut rest = trace;
+    let mut number = 0;
+    'lines: while !rest.is_empty() {
+        let (content, after) = next_line(rest);
+        number += 1;
+        let counted = write_line(
+            alloc,
+            &mut text,
+            style,
+            &mut streams,
+            number,
+            content,
+            writer,
+        )?;
+        tally.messages += counted.messages;
+        tally.bad += counted.bad;
+        rest = after;
+    }
+    let cut_off = write_last(&mut text, style, &streams, writer)?;
+    tally.bad += cut_off.bad;
+    Ok(tally)
+}
+
+/// Writes the text of one line.
+fn write_line<W: Sink>(
+    alloc: Global,
+    text: &mut String,
+    style: Style,
+    streams: &mut Streams,
+    number: u64,
+    content: &[u8],
+    writer: &mut W,
+) -> Result<Tally, ToolFault>
+    ensures writes { (sides : Sides) → Follow streams.old sides → WritesLine style sides number content.now streams.new (W.written writer.old) (W.written writer.new) result }
+    ensures few { IfOk result (λ tally. tally.messages ≤ length content.now) }
+    ensures two { IfOk result (λ tally. tally.bad ≤ 2) }
+    ensures write { result ≡ Err ToolFault.Write → W.failures writer.old < W.failures writer.new }
+    ensures count { IfOk result (λ _. W.failures writer.new ≡ W.failures writer.old) }
+{
+    let line = match read_line(alloc, content) {
+        Ok(line) => line,
+        Err(BadLine::Wrong(what)) => return Err(ToolFault::Trace { line: number, what }),
+        Err(BadLine::Memory) => return Err(ToolFault::Memory),
+    };
+    text.clear();
+    let tally = write_said(alloc, text, style, streams, &line)?;
+    put(text, writer)?;
+    Ok(tally)
+}
+
+/// Writes which messages are cut off where the trace ends.
+fn write_last<W: Sink>(
+    text: &mut String,
+    style: Style,
+    streams: &Streams,
+    writer: &mut W,
+) -> Result<Tally, ToolFault>
+    ensures writes { (sides : Sides) → Follow streams.now sides → WritesEnd style sides (W.written writer.old) (W.written writer.new) result }
+    ensures none { IfOk result (λ tally. tally.messages ≡ 0) }
+    ensures two { IfOk result (λ tally. tally.bad ≤ 2) }
+    ensures write { result ≡ Err ToolFault.Write → W.failures writer.old < W.failures writer.new }
+{
+    text.clear();
+    let tally = write_end(text, style, streams)?;
+    put(text, writer)?;
+    Ok(tally)
+}
+
+/// Writes the text to the device.
+pub(crate) fn put<W: Sink>(text: &String, writer: &mut W) -> Result<(), ToolFault>
+    ensures bytes { OnOk result (Appends (W.written writer.old) (W.written writer.new) (string_bytes text.now)) }
+    ensures fault { IfErr result (λ fault. fault ≡ ToolFault.Write) }
+    ensures failures { CountsFailure (W.failures writer.old) (W.failures writer.new) result }
+{
+    match writer.write_all(text.as_bytes()) {
+        Ok(()) => Ok(()),
+        Err(Failed) => Err(ToolFault::Write),
+    }
+}
+
+/// The first line, and what follows it.
+pub(crate) fn next_line(rest: &[u8]) -> (&[u8], &[u8])
+    requires { 0 < length rest.now }
+    ensures lines { lines rest.now ≡ result.0.now ∷ lines result.1.now }
+    ensures shorter { length result.0.now + length result.1.now ≤ length rest.now }
+    ensures some { length result.1.now < length rest.now }
+{
+    match newline(rest) {
+        Some(end) => (without_return(&rest[..end]), &rest[end + 1..]),
+        None => (rest, &[]),
+    }
+}
+
+/// Where the first line feed stands.
+fn newline(bytes: &[u8]) -> Option<usize>
+    ensures { result ≡ position (λ byte. byte == 10) bytes.now }
+{
+    bytes.iter().position(|byte| *byte == b'\n')
+}
+
+/// The line without one carriage return at its end.
+fn without_return(line: &[u8]) -> &[u8]
+    ensures value { result.now ≡ strip_carriage_return line.now }
+    ensures shorter { length result.now ≤ length line.now }
+{
+    match line {
+        [front @ .., b'\r'] => front,
+        _ => line,
+    }
+}
