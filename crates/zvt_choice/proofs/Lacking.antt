@@ -1,0 +1,69 @@
+-- Readings that say no choice.
+use Rattle.std.proofs.Common.{◌≡◌, ◌≢◌, ◌∙◌, ap, sym, arith, codes, List, ℕ, Some, None, slice_index}
+use Rattle.clap.specs.Walk.{Row, Text, first_of}
+use Rattle.zvt_choice.specs.Chosen.{GivesNumber, HasNoChoice, IsCommandOf, IsNumberOf}
+use Rattle.zvt_choice.specs.declared.chosen.Choice.{Choice}
+use Rattle.zvt_choice.specs.declared.chosen.Choice.TheVariants.{Audit, Join, Loop, Receipts, Show, Terminal, Till}
+
+-- texts that differ in a letter
+other_first : (name text : Text) → (slice_index name 0 ≢ slice_index text 0) → (name ≢ text)
+other_first name text differ e = differ (ap (λ (t : Text). slice_index t 0) e)
+
+other_second : (name text : Text) → (slice_index name 1 ≢ slice_index text 1) → (name ≢ text)
+other_second name text differ e = differ (ap (λ (t : Text). slice_index t 1) e)
+
+till_has : (rows : List Row) (choice : Choice) → IsCommandOf (codes "till") rows choice
+    → ((port : ℕ) → GivesNumber (codes "port") rows 65535 port → ⊥) → ⊥
+till_has rows Show said lacks = other_first (codes "till") (codes "show") (λ e. omega (arith, e)) said
+till_has rows Join said lacks = other_first (codes "till") (codes "join") (λ e. omega (arith, e)) said
+till_has rows Audit said lacks = other_first (codes "till") (codes "audit") (λ e. omega (arith, e)) said
+till_has rows Receipts said lacks = other_first (codes "till") (codes "receipts") (λ e. omega (arith, e)) said
+till_has rows (Loop steps) said lacks = other_first (codes "till") (codes "loop") (λ e. omega (arith, e)) said.0
+till_has rows (Till port host steps) said lacks = lacks port said.1
+till_has rows (Terminal port tid decline) said lacks = other_second (codes "till") (codes "terminal") (λ e. omega (arith, e)) said.0
+
+till_has_host : (rows : List Row) (choice : Choice) → IsCommandOf (codes "till") rows choice → first_of (codes "host") rows ≢ None
+till_has_host rows Show said lacks = other_first (codes "till") (codes "show") (λ e. omega (arith, e)) said
+till_has_host rows Join said lacks = other_first (codes "till") (codes "join") (λ e. omega (arith, e)) said
+till_has_host rows Audit said lacks = other_first (codes "till") (codes "audit") (λ e. omega (arith, e)) said
+till_has_host rows Receipts said lacks = other_first (codes "till") (codes "receipts") (λ e. omega (arith, e)) said
+till_has_host rows (Loop steps) said lacks = other_first (codes "till") (codes "loop") (λ e. omega (arith, e)) said.0
+till_has_host rows (Till port host steps) said lacks = let bad : Some host.now ≡ None = sym said.2 ∙ lacks in cc
+till_has_host rows (Terminal port tid decline) said lacks = other_second (codes "till") (codes "terminal") (λ e. omega (arith, e)) said.0
+
+terminal_has : (rows : List Row) (choice : Choice) → IsCommandOf (codes "terminal") rows choice
+    → ((port tid : ℕ) → GivesNumber (codes "port") rows 65535 port → GivesNumber (codes "tid") rows 99999999 tid → ⊥) → ⊥
+terminal_has rows Show said lacks = other_first (codes "terminal") (codes "show") (λ e. omega (arith, e)) said
+terminal_has rows Join said lacks = other_first (codes "terminal") (codes "join") (λ e. omega (arith, e)) said
+terminal_has rows Audit said lacks = other_first (codes "terminal") (codes "audit") (λ e. omega (arith, e)) said
+terminal_has rows Receipts said lacks = other_first (codes "terminal") (codes "receipts") (λ e. omega (arith, e)) said
+terminal_has rows (Loop steps) said lacks = other_first (codes "terminal") (codes "loop") (λ e. omega (arith, e)) said.0
+terminal_has rows (Till port host steps) said lacks = other_second (codes "terminal") (codes "till") (λ e. omega (arith, e)) said.0
+terminal_has rows (Terminal port tid decline) said lacks = lacks port tid said.1 said.2
+
+pub till_without_port : (rows : List Row) → IsNumberOf (codes "port") rows 65535 None → HasNoChoice (Some (codes "till", rows))
+till_without_port rows lacks = λ choice said. till_has rows choice said lacks
+
+pub till_without_host : (rows : List Row) → first_of (codes "host") rows ≡ None → HasNoChoice (Some (codes "till", rows))
+till_without_host rows lacks = λ choice said. till_has_host rows choice said lacks
+
+pub terminal_without_port : (rows : List Row) → IsNumberOf (codes "port") rows 65535 None → HasNoChoice (Some (codes "terminal", rows))
+terminal_without_port rows lacks = λ choice said. terminal_has rows choice said (λ port tid a b. lacks port a)
+
+pub terminal_without_tid : (rows : List Row) → IsNumberOf (codes "tid") rows 99999999 None → HasNoChoice (Some (codes "terminal", rows))
+terminal_without_tid rows lacks = λ choice said. terminal_has rows choice said (λ port tid a b. lacks tid b)
+
+-- the name is none of a command
+pub no_command : (name : Text) (rows : List Row) → (name ≢ codes "show") → (name ≢ codes "join") → (name ≢ codes "audit")
+    → (name ≢ codes "receipts") → (name ≢ codes "loop") → (name ≢ codes "till") → (name ≢ codes "terminal")
+    → HasNoChoice (Some (name, rows))
+no_command name rows show join audit receipts loop till terminal = no
+  where
+    no : HasNoChoice (Some (name, rows))
+    no Show said = show said
+    no Join said = join said
+    no Audit said = audit said
+    no Receipts said = receipts said
+    no (Loop steps) said = loop said.0
+    no (Till port host steps) said = till said.0
+    no (Terminal port tid decline) said = terminal said.0

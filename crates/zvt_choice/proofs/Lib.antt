@@ -1,0 +1,5 @@
+pub mod Commands
+pub mod Lacking
+pub mod Settings
+pub mod Program
+pub mod Reading

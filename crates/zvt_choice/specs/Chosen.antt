@@ -1,0 +1,80 @@
+-- What the words of a command line choose.
+use Rattle.std.specs.Prelude.{◌≡◌, ◌≢◌, ◌≤◌, ◌⊎◌, ⊤, ℕ, List, [], Option, Some, None, codes, map, option_map, unwrap_or}
+use Rattle.std.specs.Str.Parse.{IsNumeral, digits_value, without_leading_plus}
+use Rattle.clap.specs.Words.{IsAmong, Kinds, Row, Text, all_of, fault_of, first_of, kind_of, one_of, subcommand_of}
+use Rattle.clap.specs.declared.error.Error.{Error}
+use Rattle.clap.specs.declared.error.kind.ErrorKind.TheVariants.{MissingRequiredArgument, OutOfMemory}
+use Rattle.zvt_choice.specs.Commands.{zvt_app}
+use Rattle.zvt_choice.specs.declared.chosen.Choice.{Choice}
+use Rattle.zvt_choice.specs.declared.chosen.Choice.TheVariants.{Audit, Join, Loop, Receipts, Show, Terminal, Till}
+use Rattle.zvt_choice.specs.declared.chosen.ChoiceFault.{ChoiceFault}
+use Rattle.zvt_choice.specs.declared.chosen.ChoiceFault.TheVariants.{Memory, Words}
+
+-- the command of clap's reading of the words, with what was given to it
+unfoldable pub reading_of_words : List Text → Option (Text × List Row)
+reading_of_words words = subcommand_of zvt_app words
+
+-- what clap finds wrong with the words first, or what they ask of it in place of a command
+unfoldable pub faults_of_words : List Text → Kinds
+faults_of_words words = fault_of zvt_app words
+
+-- the option's text writes this number
+abbrev pub GivesNumber : Text → List Row → ℕ → ℕ → Type 0
+GivesNumber id rows most n = (text : Text) × (one_of id rows ≡ Some text)
+    × IsNumeral 10 (without_leading_plus text)
+    × (digits_value 10 (without_leading_plus text) ≡ n) × (n ≤ most)
+
+-- the option's number of at most this size, or that it has none
+abbrev pub IsNumberOf : Text → List Row → ℕ → Option ℕ → Type 0
+IsNumberOf id rows most (Some n) = GivesNumber id rows most n
+IsNumberOf id rows most None = (n : ℕ) → GivesNumber id rows most n → ⊥
+
+-- the words of the steps
+abbrev pub steps_of : List Row → List Text
+steps_of rows = unwrap_or (all_of (codes "step") rows) []
+
+-- the command of this name, given these, is the choice
+abbrev pub IsCommandOf : Text → List Row → Choice → Type 0
+IsCommandOf name rows Show = name ≡ codes "show"
+IsCommandOf name rows Join = name ≡ codes "join"
+IsCommandOf name rows Audit = name ≡ codes "audit"
+IsCommandOf name rows Receipts = name ≡ codes "receipts"
+IsCommandOf name rows (Loop steps) =
+    (name ≡ codes "loop") × (map (λ step. step.now) steps.items ≡ steps_of rows)
+IsCommandOf name rows (Till port host steps) =
+    (name ≡ codes "till") × GivesNumber (codes "port") rows 65535 port
+    × (first_of (codes "host") rows ≡ Some host.now)
+    × (map (λ step. step.now) steps.items ≡ steps_of rows)
+IsCommandOf name rows (Terminal port tid decline) =
+    (name ≡ codes "terminal") × GivesNumber (codes "port") rows 65535 port
+    × GivesNumber (codes "tid") rows 99999999 tid
+    × (first_of (codes "decline") rows ≡ option_map (λ text. text.now) decline)
+
+-- no command is `show`
+abbrev pub IsChoiceOf : Option (Text × List Row) → Choice → Type 0
+IsChoiceOf None choice = IsCommandOf (codes "show") [] choice
+IsChoiceOf (Some given) choice = IsCommandOf given.0 given.1 choice
+
+-- no choice is what the reading says
+abbrev pub HasNoChoice : Option (Text × List Row) → Type 0
+HasNoChoice reading = (choice : Choice) → IsChoiceOf reading choice → ⊥
+
+-- what the reading says, or that it says none
+abbrev pub MayBeChoiceOf : Option (Text × List Row) → Option Choice → Type 0
+MayBeChoiceOf reading (Some choice) = IsChoiceOf reading choice
+MayBeChoiceOf reading None = HasNoChoice reading
+
+-- an error of clap, where want of memory has a fault of its own
+abbrev pub IsTakenAs : Error → ChoiceFault → Type 0
+IsTakenAs error Memory = kind_of error ≡ OutOfMemory
+IsTakenAs error (Words given) = (given ≡ error) × (kind_of error ≢ OutOfMemory)
+
+-- the error's kind is what clap finds, or an option is missing of a reading that says no choice
+abbrev pub IsFaultOf : List Text → ChoiceFault → Type 0
+IsFaultOf words Memory = ⊤
+IsFaultOf words (Words error) = IsAmong (kind_of error) (faults_of_words words)
+    ⊎ ((kind_of error ≡ MissingRequiredArgument) × HasNoChoice (reading_of_words words))
+
+abbrev pub IsMissing : ChoiceFault → Type 0
+IsMissing Memory = ⊤
+IsMissing (Words error) = kind_of error ≡ MissingRequiredArgument

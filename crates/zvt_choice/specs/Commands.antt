@@ -1,0 +1,61 @@
+-- The commands of the program and their options, as `clap` sees them.
+use Rattle.std.specs.Prelude.{[], ◌∷◌, Some, codes, true, pos}
+use Rattle.clap.specs.Simple.{on_top}
+use Rattle.clap.specs.Words.{App, Rule, Text, new_app, new_rule, with_rule, with_subcommand}
+use Rattle.clap.specs.declared.builder.action.ArgAction.TheVariants.{Append}
+use Rattle.clap.specs.declared.builder.value_parser.ValueParser.TheVariants as parser
+
+-- any number of words
+abbrev pub step_rule : Rule
+step_rule = record (new_rule (codes "step")) { action = Some Append; value_names = 1 }
+
+-- an option that has one value
+abbrev pub option_rule : Text → Rule
+option_rule name = record (new_rule name) { long = Some name; value_names = 1 }
+
+abbrev pub port_rule : Rule
+port_rule = record (option_rule (codes "port")) {
+  parser = Some (parser.Signed (pos 0) (pos 65535));
+  required = true;
+}
+
+abbrev pub host_rule : Rule
+host_rule = record (option_rule (codes "host")) { defaults = codes "127.0.0.1" ∷ [] }
+
+abbrev pub tid_rule : Rule
+tid_rule = record (option_rule (codes "tid")) {
+  parser = Some (parser.Signed (pos 0) (pos 99999999));
+  defaults = codes "12345678" ∷ [];
+}
+
+abbrev pub decline_rule : Rule
+decline_rule = option_rule (codes "decline")
+
+abbrev pub loop_app : App
+loop_app = with_rule (new_app (codes "loop")) step_rule
+
+abbrev pub till_app : App
+till_app = with_rule (with_rule (with_rule (new_app (codes "till")) port_rule) host_rule) step_rule
+
+abbrev pub terminal_app : App
+terminal_app =
+    with_rule (with_rule (with_rule (new_app (codes "terminal")) port_rule) tid_rule) decline_rule
+
+-- the program, which has a version, without its commands
+abbrev pub program_app : App
+program_app = on_top (λ top. record top { has_version = true }) (new_app (codes "zvt"))
+
+-- with one more command
+abbrev pub with_command : App → App → App
+with_command app command = with_subcommand app command.top
+
+-- with the commands that read a trace, which have no options
+abbrev pub trace_app : App
+trace_app =
+    with_command (with_command
+    (with_command (with_command program_app (new_app (codes "show"))) (new_app (codes "join")))
+    (new_app (codes "audit"))) (new_app (codes "receipts"))
+
+-- the program with its commands and their options
+abbrev pub zvt_app : App
+zvt_app = with_command (with_command (with_command trace_app loop_app) till_app) terminal_app

@@ -1,0 +1,54 @@
+//! What a command line says.
+ghost use Rattle.std.specs.Prelude.{◌≡◌};
+ghost use Rattle.zvt_choice.specs.declared.chosen.ChoiceFault.TheVariants.{Memory};
+
+use std::alloc::{AllocError, AllocFailed};
+use thiserror::Error;
+
+/// A command of the program, with what was given to it.
+///
+/// Steps, the host and the code are the words as they were given: whoever uses them checks their
+/// form.
+#[derive(Debug, Drop)]
+pub enum Choice<'a> {
+    /// Also where no command is given.
+    Show,
+    Join,
+    Audit,
+    Receipts,
+    Loop {
+        steps: Vec<&'a str>,
+    },
+    /// The host is 127.0.0.1 unless one is given.
+    Till {
+        port: u16,
+        host: &'a str,
+        steps: Vec<&'a str>,
+    },
+    /// The terminal's number `tid` is at most 99,999,999, and 12345678 unless one is given.
+    Terminal {
+        port: u16,
+        tid: u32,
+        decline: Option<&'a str>,
+    },
+}
+
+/// Why a command line names no command.
+#[derive(Debug, Drop, Error)]
+pub enum ChoiceFault {
+    /// A word is wrong, or help or the version was asked for. `print` of the error shows its text
+    /// where it belongs; `use_stderr` is false for help and the version alone.
+    #[error(transparent)]
+    Words(clap::Error),
+    /// There was too little memory to read the words.
+    #[error("there is too little memory for the command line")]
+    Memory,
+}
+
+impl From<AllocError> for ChoiceFault {
+    ghost from_gives = { λ _ fault. fault ≡ Memory };
+
+    fn from(_refused: AllocError) -> ChoiceFault {
+        ChoiceFault::Memory
+    }
+}

@@ -1,0 +1,14 @@
+//! The command line of the program `zvt`, read by `clap`: [`words::choice`] answers the command that
+//! the words name, with its options and steps.
+#![tactic(auto)]
+
+mod chosen;
+mod command;
+mod help;
+mod options;
+pub mod words;
+
+pub use chosen::{Choice, ChoiceFault};
+
+#[cfg(test)]
+mod tests;

@@ -1,0 +1,63 @@
+//! The options and steps of the commands.
+ghost use Rattle.std.specs.Prelude.{◌≡◌, false};
+ghost use Rattle.clap.specs.Words.{rule_of};
+ghost use Rattle.zvt_choice.specs.Commands.{decline_rule, host_rule, port_rule, step_rule, tid_rule};
+
+use crate::help;
+use clap::{Arg, ArgAction, value_parser};
+use std::alloc::Global;
+
+pub fn step<'a>(alloc: Global, text: &'a str) -> Arg<'a>
+    ensures rule { rule_of result ≡ step_rule }
+    ensures local { result.global ≡ false }
+{
+    Arg::new(alloc, "step")
+        .action(ArgAction::Append)
+        .value_name("STEP")
+        .help(text)
+}
+
+pub fn port<'a>(alloc: Global, text: &'a str) -> Arg<'a>
+    ensures rule { rule_of result ≡ port_rule }
+    ensures local { result.global ≡ false }
+{
+    Arg::new(alloc, "port")
+        .long("port")
+        .value_parser(value_parser!(u16))
+        .required(true)
+        .value_name("PORT")
+        .help(text)
+}
+
+pub fn host<'a>(alloc: Global) -> Arg<'a>
+    ensures rule { rule_of result ≡ host_rule }
+    ensures local { result.global ≡ false }
+{
+    Arg::new(alloc, "host")
+        .long("host")
+        .default_value("127.0.0.1")
+        .value_name("HOST")
+        .help(help::HOST)
+}
+
+pub fn tid<'a>(alloc: Global) -> Arg<'a>
+    ensures rule { rule_of result ≡ tid_rule }
+    ensures local { result.global ≡ false }
+{
+    Arg::new(alloc, "tid")
+        .long("tid")
+        .value_parser(value_parser!(u32).range(0..=99_999_999))
+        .default_value("12345678")
+        .value_name("TID")
+        .help(help::TID)
+}
+
+pub fn decline<'a>(alloc: Global) -> Arg<'a>
+    ensures rule { rule_of result ≡ decline_rule }
+    ensures local { result.global ≡ false }
+{
+    Arg::new(alloc, "decline")
+        .long("decline")
+        .value_name("XX")
+        .help(help::DECLINE)
+}
