@@ -1,41 +1,35 @@
-//! Shows and joins the line between a till and its card terminal.
+//! Shows, joins and audits traces of the line between a till and its card terminal, and runs either end of it.
 #![tactic(auto)]
+
+ghost use Rattle.std.specs.Prelude.{◌≤◌, ℕ, Option, List};
+ghost use Rattle.clap.specs.Words.{Row, Text};
+ghost use Rattle.zvt_choice.specs.Chosen.{IsChoiceOf};
 
 use std::process::ExitCode;
 use std::{env, io};
 use zvt_io::Over;
-use zvt_tool::{Tally, ToolFault};
+use zvt_stream::LineFault;
+use zvt_term::Verdict;
+use zvt_tool::words::choice;
+use zvt_tool::{Choice, ChoiceFault, Tally, ToolFault, result_code};
+
+/// All was done, or help was asked for.
+const DONE: u8 = 0;
 
 /// A stream of the trace was refused or cut off.
 const BAD: u8 = 1;
 
-/// The command line is wrong.
+/// The command line or a step is wrong.
 const WORDS: u8 = 2;
 
 /// The trace can't be read as one.
 const TRACE: u8 = 3;
 
-/// A device failed.
+/// A device, the line or the connection failed.
 const DEVICE: u8 = 4;
 
 /// There was too little memory.
 const MEMORY: u8 = 5;
-
-const USAGE: &str = "usage: zvt [show|join|receipts] < TRACE
-  show      writes each message of the trace with its fields (the same as no word)
-  join      writes each message of the trace as one line of a trace
-  receipts  writes the text of each print line of the terminal
-A line of a trace: '>' (till) or '<' (terminal) and bytes in hexadecimal, '!' alone (the line was lost), '#' and a remark.
-Example: echo '> 06 01 0A 04 00 00 00 00 12 34 49 09 78' | zvt show
-Exit status: 0 all was read, 1 a stream was refused or cut off, 2 a wrong word, 3 no trace, 4 a read or write failed, 5 too little memory";
-
-/// What the program does.
-#[derive(Clone, Copy, Debug, PartialEq, Eq)]
-enum Command {
-    Show,
-    Join,
-    Receipts,
-}
 
 fn main(rt: HostRuntime) -> ExitCode {
     match run(&rt) {
@@ -44,53 +38,83 @@ fn main(rt: HostRuntime) -> ExitCode {
     }
 }
 
-/// The exit status. An `Err` is a failed write to standard error.
+/// The exit status. An `Err` is a failed write of help or of a fault.
 fn run(rt: &HostRuntime) -> io::Result<u8> {
-    let words: Vec<String> = match env::args(rt) {
-        Ok(words) => match words.collect(rt.alloc()) {
-            Ok(words) => words,
-            Err(_) => return Ok(MEMORY),
-        },
+    let Ok(arguments) = env::args(rt) else {
+        return Ok(MEMORY);
+    };
+    let words: Vec<String> = match arguments.collect(rt.alloc()) {
+        Ok(words) => words,
         Err(_) => return Ok(MEMORY),
     };
-    match words.as_slice() {
-        [] | [_] => execute(rt, Command::Show),
-        [_, word] => match command_named(word.as_str()) {
-            Some(command) => execute(rt, command),
-            None => {
-                let word = word.as_str();
-                eprintln!(rt;
-                    "zvt: there is no command '{word}': the commands are 'show', 'join' and 'receipts'\n{USAGE}"
-                )?;
-                Ok(WORDS)
-            }
-        },
-        [_, _, word, ..] => {
-            let word = word.as_str();
-            eprintln!(rt; "zvt: one word at most, and '{word}' is one too many\n{USAGE}")?;
-            Ok(WORDS)
+    let texts: Vec<&str> = match words.iter().map(String::as_str).collect(rt.alloc()) {
+        Ok(texts) => texts,
+        Err(_) => return Ok(MEMORY),
+    };
+    match choice(rt.alloc(), texts.as_slice()) {
+        Ok(chosen) => execute(rt, &chosen),
+        Err(ChoiceFault::Words(error)) => {
+            error.print(rt)?;
+            Ok(if error.use_stderr() { WORDS } else { DONE })
+        }
+        Err(ChoiceFault::Memory) => {
+            let fault = ChoiceFault::Memory;
+            eprintln!(rt; "zvt: {fault}")?;
+            Ok(MEMORY)
         }
     }
 }
 
-/// The command of that name.
-fn command_named(word: &str) -> Option<Command> {
-    match word {
-        "show" => Some(Command::Show),
-        "join" => Some(Command::Join),
-        "receipts" => Some(Command::Receipts),
-        _ => None,
+/// Does what was chosen, and answers the exit status.
+fn execute(rt: &HostRuntime, chosen: &Choice<'_>) -> io::Result<u8>
+    requires { (reading : Option (Text × List Row)) × IsChoiceOf reading chosen.now }
+{
+    let alloc = rt.alloc();
+    let mut reader = Over::new(rt.reader());
+    let mut writer = Over::new(io::writer(rt));
+    match chosen {
+        Choice::Show => finish_trace(rt, zvt_tool::show(alloc, &mut reader, &mut writer)),
+        Choice::Join => finish_trace(rt, zvt_tool::join(alloc, &mut reader, &mut writer)),
+        Choice::Audit => finish_trace(rt, zvt_tool::audit(alloc, &mut reader, &mut writer)),
+        Choice::Receipts => finish_trace(rt, zvt_tool::receipts(alloc, &mut reader, &mut writer)),
+        Choice::Loop { steps } => {
+            let steps = steps.as_slice();
+            finish_run(rt, steps, zvt_tool::run_loop(rt, alloc, steps, &mut writer))
+        }
+        Choice::Till { port, host, steps } => {
+            let steps = steps.as_slice();
+            let answer = zvt_tool::run_till(rt, alloc, host, *port, steps, &mut writer);
+            finish_run(rt, steps, answer)
+        }
+        Choice::Terminal { port, tid, decline } => serve(rt, *port, *tid, *decline),
     }
 }
 
-fn execute(rt: &HostRuntime, command: Command) -> io::Result<u8> {
-    let mut reader = Over::new(rt.reader());
-    let mut writer = Over::new(io::writer(rt));
-    let answer = match command {
-        Command::Show => zvt_tool::show(rt.alloc(), &mut reader, &mut writer),
-        Command::Join => zvt_tool::join(rt.alloc(), &mut reader, &mut writer),
-        Command::Receipts => zvt_tool::receipts(rt.alloc(), &mut reader, &mut writer),
+/// Serves one till as a terminal.
+fn serve(rt: &HostRuntime, port: u16, tid: u32, decline: Option<&str>) -> io::Result<u8>
+    requires { tid ≤ 99999999 }
+{
+    let verdict = match decline {
+        None => Verdict::Approve,
+        Some(word) => match result_code(word) {
+            Some(code) => Verdict::Decline(code),
+            None => {
+                eprintln!(rt;
+                    "zvt: '{word}' is no code to decline with: two hexadecimal digits, not 00, as 6C"
+                )?;
+                return Ok(WORDS);
+            }
+        },
     };
+    finish_run(
+        rt,
+        &[],
+        zvt_tool::run_terminal(rt, rt.alloc(), port, tid, verdict),
+    )
+}
+
+/// The exit status of a command on a trace. A fault is said.
+fn finish_trace(rt: &HostRuntime, answer: Result<Tally, ToolFault>) -> io::Result<u8> {
     match answer {
         Ok(tally) => Ok(status_of_tally(tally)),
         Err(fault) => {
@@ -100,17 +124,37 @@ fn execute(rt: &HostRuntime, command: Command) -> io::Result<u8> {
     }
 }
 
+/// The exit status of a run of these steps. A fault is said, with the word that is no step.
+fn finish_run(rt: &HostRuntime, steps: &[&str], answer: Result<(), ToolFault>) -> io::Result<u8> {
+    let Err(fault) = answer else {
+        return Ok(DONE);
+    };
+    match word_of(&fault, steps) {
+        Some(word) => eprintln!(rt; "zvt: '{word}': {fault}")?,
+        None => eprintln!(rt; "zvt: {fault}")?,
+    }
+    Ok(status_of_fault(&fault))
+}
+
+/// The word that the fault is about, if it is about one.
+fn word_of<'a>(fault: &ToolFault, steps: &[&'a str]) -> Option<&'a str> {
+    match fault {
+        ToolFault::BadStep { at } => steps.get(*at).copied(),
+        _ => None,
+    }
+}
+
 fn status_of_tally(tally: Tally) -> u8 {
-    if tally.bad == 0 { 0 } else { BAD }
+    if tally.bad == 0 { DONE } else { BAD }
 }
 
 fn status_of_fault(fault: &ToolFault) -> u8 {
     match fault {
-        ToolFault::Trace { .. } => TRACE,
-        ToolFault::TooLong => TRACE,
-        ToolFault::Read => DEVICE,
-        ToolFault::Write => DEVICE,
-        ToolFault::Memory => MEMORY,
+        ToolFault::BadStep { .. } => WORDS,
+        ToolFault::Trace { .. } | ToolFault::TooLong => TRACE,
+        ToolFault::Read | ToolFault::Write | ToolFault::Net => DEVICE,
+        ToolFault::Line(LineFault::Memory) | ToolFault::Memory => MEMORY,
+        ToolFault::Line(_) => DEVICE,
     }
 }
 
@@ -125,19 +169,22 @@ mod tests {
         assert_eq!(rt; status_of_tally(tally(0)), 0);
         assert_eq!(rt; status_of_tally(tally(3)), 1);
         let what = What::Hex;
+        assert_eq!(rt; status_of_fault(&ToolFault::BadStep { at: 1 }), 2);
         assert_eq!(rt; status_of_fault(&ToolFault::Trace { line: 1, what }), 3);
         assert_eq!(rt; status_of_fault(&ToolFault::TooLong), 3);
         assert_eq!(rt; status_of_fault(&ToolFault::Read), 4);
         assert_eq!(rt; status_of_fault(&ToolFault::Write), 4);
+        assert_eq!(rt; status_of_fault(&ToolFault::Net), 4);
+        assert_eq!(rt; status_of_fault(&ToolFault::Line(LineFault::Read)), 4);
+        assert_eq!(rt; status_of_fault(&ToolFault::Line(LineFault::Memory)), 5);
         assert_eq!(rt; status_of_fault(&ToolFault::Memory), 5);
     }
 
     #[test]
-    fn words_name_commands(rt: HostRuntime) {
-        assert_eq!(rt; command_named("show"), Some(Command::Show));
-        assert_eq!(rt; command_named("join"), Some(Command::Join));
-        assert_eq!(rt; command_named("receipts"), Some(Command::Receipts));
-        assert_eq!(rt; command_named("nonsense"), None);
-        assert_eq!(rt; command_named("Show"), None);
+    fn a_wrong_step_is_named(rt: HostRuntime) {
+        let steps = ["register", "pay:0"];
+        let fault = ToolFault::BadStep { at: 1 };
+        assert_eq!(rt; word_of(&fault, steps.as_slice()), Some("pay:0"));
+        assert_eq!(rt; word_of(&ToolFault::Net, steps.as_slice()), None);
     }
 }

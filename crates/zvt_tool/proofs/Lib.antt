@@ -1,5 +1,5 @@
-pub mod EndLemmas
-pub mod InputLemmas
-pub mod LineLemmas
-pub mod PieceLemmas
-pub mod TraceLemmas
+pub mod Numbers
+pub mod Runs
+pub mod NamedSteps
+pub mod Turns
+pub mod Said

@@ -1,4 +1,7 @@
-pub mod Lines
-pub mod Meanings
-pub mod Trace
-pub mod Written
+pub mod Words
+pub mod Steps
+pub mod Outcomes
+pub mod Plans
+pub mod Runs
+pub mod Near
+pub mod Said

@@ -1,23 +1,28 @@
-//! Traces of the line between a till and its terminal, as text.
+//! The program's calls: traces as text, and runs of a till, of a terminal, and of both ends of a line over TCP.
 //!
-//! [`show`] writes each message with its fields, [`join`] each message as one line of a trace,
-//! [`receipts`] the text of the terminal's print lines.
+//! A run makes steps one after another, each named by a word, and writes what becomes of each. [`run_steps`] is the run
+//! over any line; [`run_loop`], [`run_till`] and [`run_terminal`] open sockets for it.
 #![tactic(auto)]
 
-mod fault;
-mod input;
+mod far;
 mod line;
-mod message;
-mod piece;
-mod said;
-mod streams;
-mod style;
-mod traces;
+mod near;
+mod outcomes;
+mod plans;
+mod run;
+mod sockets;
+mod steps;
 
-pub use fault::{Tally, ToolFault, What};
-pub use traces::{join, receipts, show};
+pub use far::FarLine;
+pub use line::StepLine;
+pub use near::{End, NearLine};
+pub use outcomes::outcome_text;
+pub use plans::{Planned, plan};
+pub use run::run_steps;
+pub use sockets::{SILENCE_SECONDS, run_loop, run_terminal, run_till};
+pub use steps::{Ends, Step, result_code, step_of};
+pub use zvt_choice::{Choice, ChoiceFault, words};
+pub use zvt_trace::{Tally, ToolFault, What, audit, join, receipts, show};
 
-#[cfg(test)]
-mod example_tests;
 #[cfg(test)]
 mod tests;

@@ -1,78 +1,24 @@
-//! One line of a trace.
-ghost use Rattle.std.specs.Prelude.{◌≡◌, ◌≤◌, length, IfOk, Ok, Err};
-ghost use Rattle.hex.specs.Hex.{decode_of};
-ghost use Rattle.zvt_tool.specs.Meanings.{meaning_of, meant_by, piece_of, size_of, without_spaces};
-ghost use Rattle.zvt_tool.specs.declared.fault.What.{What};
+//! A line on which the steps of a till are made.
+ghost use Rattle.std.specs.Prelude.{IfErr, Result};
+ghost use Rattle.zvt_till.specs.Line.{IsOver};
+ghost use Rattle.zvt_till.specs.View.{TillValue};
+ghost use Rattle.zvt_till.specs.declared.line.RunFault.{RunFault};
+ghost use Rattle.zvt_till.specs.declared.outcomes.Outcome.{Outcome};
+ghost use Rattle.zvt_tool.specs.declared.steps.Step.{Step};
 
-use crate::fault::What;
-use crate::style::Direction;
-use hex::FromHexError;
-use std::alloc::{AllocError, Global};
+use crate::steps::Step;
+use std::alloc::Global;
+use zvt_till::{Outcome, RunFault, Till};
 
-/// What a line of a trace means.
-#[derive(Drop)]
-pub(crate) enum Line {
-    /// Nothing.
-    Remark,
-    /// So many bytes were sent.
-    Piece { from: Direction, bytes: Vec<u8> },
-    /// The line between till and terminal was lost.
-    Lost,
-}
+/// A line on which each step of a till is made from end to end.
+pub trait StepLine {
+    /// The step, made on the line by the till, came to this, and leads to this line and this till.
+    ghost makes: { Self → TillValue → Step → Result Outcome RunFault → Self → TillValue → Type 0 };
 
-/// Why a line has no meaning.
-#[derive(Clone, Copy, Debug, PartialEq, Eq)]
-pub(crate) enum BadLine {
-    Wrong(What),
-    Memory,
-}
-
-impl From<AllocError> for BadLine {
-    ghost use Rattle.zvt_tool.specs.declared.line.BadLine.TheVariants.{Memory};
-
-    ghost from_gives = { λ _ bad. bad ≡ Memory };
-
-    fn from(_refused: AllocError) -> BadLine {
-        BadLine::Memory
-    }
-}
-
-/// Reads a line, which has lost its line feed.
-pub(crate) fn read_line(alloc: Global, line: &[u8]) -> Result<Line, BadLine>
-    ensures ok { IfOk result (λ read. meaning_of line.now ≡ Ok (meant_by read)) }
-    ensures wrong { (what : What) → result ≡ Err (BadLine.Wrong what) → meaning_of line.now ≡ Err what }
-    ensures few { IfOk result (λ read. size_of (meant_by read) ≤ length line.now) }
-{
-    match line {
-        [] | [b'#', ..] => Ok(Line::Remark),
-        [b'>', text @ ..] => read_piece(alloc, Direction::FromTill, text),
-        [b'<', text @ ..] => read_piece(alloc, Direction::FromTerminal, text),
-        [b'!'] => Ok(Line::Lost),
-        _ => Err(BadLine::Wrong(What::Form)),
-    }
-}
-
-/// Reads the bytes that are spelled in hexadecimal text.
-fn read_piece(alloc: Global, from: Direction, text: &[u8]) -> Result<Line, BadLine>
-    ensures ok { IfOk result (λ read. piece_of from (decode_of (without_spaces text.now)) ≡ Ok (meant_by read)) }
-    ensures wrong { (what : What) → result ≡ Err (BadLine.Wrong what) → piece_of from (decode_of (without_spaces text.now)) ≡ Err what }
-    ensures few { IfOk result (λ read. size_of (meant_by read) ≤ length text.now) }
-{
-    let digits = digits(alloc, text)?;
-    match hex::decode(alloc, digits.as_slice()) {
-        Ok(bytes) => Ok(Line::Piece { from, bytes }),
-        Err(FromHexError::OutOfMemory) => Err(BadLine::Memory),
-        Err(_) => Err(BadLine::Wrong(What::Hex)),
-    }
-}
-
-/// The bytes without their spaces.
-fn digits(alloc: Global, bytes: &[u8]) -> Result<Vec<u8>, AllocError>
-    ensures { IfOk result (λ digits. digits.items ≡ without_spaces bytes.now) }
-{
-    bytes
-        .iter()
-        .copied()
-        .filter(|byte| *byte != b' ')
-        .collect(alloc)
+    /// Gives the till the order of the step, and goes on with the line until no order runs. It answers what became of the
+    /// order. After `RunFault::Line` the till was told of it, its last outcome is what became of the order, and the line
+    /// is given up.
+    fn make(&mut self, alloc: Global, till: &mut Till, step: &Step) -> Result<Outcome, RunFault>
+        ensures made { makes self.old till.old step.now result self.new till.new }
+        ensures over { IfErr result (λ fault. IsOver fault till.new.state) };
 }

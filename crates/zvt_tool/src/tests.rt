@@ -1,321 +1,252 @@
-//! Traces over memory, and over devices that fail.
-use crate::{Tally, ToolFault, What, join, receipts, show};
+//! Runs over TCP, over memory, and over devices that fail.
+use crate::*;
 use std::alloc::Global;
+use std::io::{self, Read, Write};
+use std::net::TcpListener;
 use std::test::Fail;
-use zvt_io::{Failed, GhostCount, Over, Sink, Source};
+use zvt_bcd::Amount;
+use zvt_io::Over;
+use zvt_spelling::Why;
+use zvt_stream::{LineFault, Stream};
+use zvt_term::{Served, Terminal, Verdict};
+use zvt_till::{Cause, Outcome, RunFault, Till};
 
-/// What `show` writes of a trace.
-fn shown(alloc: Global, trace: &str) -> (Result<Tally, ToolFault>, Vec<u8>) {
-    let mut reader = Over::new(trace.as_bytes());
-    let mut writer = Over::new(Vec::new(alloc));
-    let answer = show(alloc, &mut reader, &mut writer);
-    (answer, writer.inner)
-}
+const USUAL: &str = r#"register -> registered
+pay:1000 -> paid trace 000001 receipt 0001
+decline:500:6C -> aborted 6C abort by time-out or abort key
+reverse:1 -> reversed
+close -> day closed
+total 0
+"#;
 
-/// What `join` writes of a trace.
-fn joined(alloc: Global, trace: &str) -> (Result<Tally, ToolFault>, Vec<u8>) {
-    let mut reader = Over::new(trace.as_bytes());
-    let mut writer = Over::new(Vec::new(alloc));
-    let answer = join(alloc, &mut reader, &mut writer);
-    (answer, writer.inner)
-}
+const TWICE_REVERSED: &str = r#"register -> registered
+pay:100 -> paid trace 000001 receipt 0001
+reverse:1 -> reversed
+reverse:1 -> not sent: AlreadyReversed
+total 0
+"#;
 
-/// What `receipts` writes of a trace.
-fn printed(alloc: Global, trace: &str) -> (Result<Tally, ToolFault>, Vec<u8>) {
-    let mut reader = Over::new(trace.as_bytes());
-    let mut writer = Over::new(Vec::new(alloc));
-    let answer = receipts(alloc, &mut reader, &mut writer);
-    (answer, writer.inner)
-}
-
-const PAY: &str = "> 06 01 0A 04 00 00 00 00 12 34 49 09 78";
+const DECLINED_ONCE: &str = r#"register -> registered
+decline:7:b5 -> aborted B5 reversal not possible
+pay:0021 -> paid trace 000001 receipt 0001
+pay:4 -> paid trace 000002 receipt 0002
+total 25
+"#;
 
 #[test]
-fn messages_are_shown(rt: HostRuntime) -> Result<(), Fail> {
-    let cases = [
-        ("", "", 0, 0),
+fn both_ends_run(rt: HostRuntime) -> Result<(), Fail> {
+    let none: [&str; 0] = [];
+    let unregistered = ["pay:100"];
+    let twice = ["register", "pay:100", "reverse:1", "reverse:1"];
+    let declined = ["register", "decline:7:b5", "pay:0021", "pay:4"];
+    for (words, text) in [
+        (none.as_slice(), USUAL),
         (
-            PAY,
-            "> Authorisation\n  04 amount 1234\n  49 currency 0978\n",
-            1,
-            0,
+            unregistered.as_slice(),
+            "pay:100 -> not sent: NotRegistered\ntotal 0\n",
         ),
-        ("< 80 00 00 80", "< Ack\n< truncated after 1\n", 1, 1),
-        ("> 06 01 08 04", "> refused at 3: DoesNotFit\n", 0, 1),
-        ("> 06 01 02 D0", "> refused at 3: UnknownField\n", 0, 1),
-        (
-            "> 06 01 07 04 00 00 00 00 12 3A",
-            "> refused at 9: NotDigit\n",
-            0,
-            1,
-        ),
-        (
-            "> 06 D1 FF FE 00\r\n",
-            "> refused at 4: NotShortest\n",
-            0,
-            1,
-        ),
-        (
-            "< 06 0F 0E 06 0C 25 0A 25 08 25 06 25 04 25 02 25 00",
-            "< refused at 15: TooDeep\n",
-            0,
-            1,
-        ),
-        (
-            "< 06 0F 0E 06 0C 25 0A 25 08 25 06 25 04 25 02 07 00",
-            "< Completion\n  06 container\n    25 constructed\n      25 constructed\n        25 constructed\n          25 constructed\n            25 constructed\n              07 -\n",
-            1,
-            0,
-        ),
-        (
-            "# a remark\n\n!\n> 80 00 02 aa Bb\n",
-            "! line lost\n> Ack data AABB\n",
-            1,
-            0,
-        ),
-        (
-            "< 06 1E 01 6C 06 1E 01 05",
-            "< Abort 6C abort by time-out or abort key\n< Abort code 05\n",
-            2,
-            0,
-        ),
-        (
-            "< 06 D1 05 00 4F 4B 22 80",
-            "< PrintLine 00 \"OK\\x22\\x80\"\n",
-            1,
-            0,
-        ),
-    ];
-    for (trace, text, messages, bad) in cases {
-        let (answer, written) = shown(rt.alloc(), trace);
-        assert_eq!(rt; written.as_slice(), text.as_bytes(), "{trace}");
-        assert_eq!(rt; answer?, Tally { messages, bad }, "{trace}");
+        (twice.as_slice(), TWICE_REVERSED),
+        (declined.as_slice(), DECLINED_ONCE),
+    ] {
+        let mut writer = Over::new(Vec::new(rt.alloc()));
+        run_loop(&rt, rt.alloc(), words, &mut writer)?;
+        assert_eq!(rt; writer.inner.as_slice(), text.as_bytes());
     }
     Ok(())
 }
 
 #[test]
-fn sides_are_streams(rt: HostRuntime) -> Result<(), Fail> {
-    let cases = [
-        (
-            "> 06 01 0A 04 00\n< 80 00 00\n> 00 00 00 12 34 49 09 78",
-            "< Ack\n> Authorisation\n  04 amount 1234\n  49 currency 0978\n",
-            2,
-            0,
-        ),
-        (
-            "<\n< 04 0F 10 27 00 04 00 00 00 00",
-            "< truncated after 10\n",
-            0,
-            1,
-        ),
-        (
-            "> 06 01 02 D0\n> 80 00 00\n< 80 00 00\n> 80",
-            "> refused at 3: UnknownField\n> stopped\n< Ack\n> stopped\n",
-            1,
-            1,
-        ),
-        (
-            "< 06\n> 06 01\n!\n< 80 00 00\n> 80 00 00",
-            "> truncated after 2\n< truncated after 1\n! line lost\n< Ack\n> Ack\n",
-            2,
-            2,
-        ),
-        (
-            "> D0 00 FF 00\n> 00\n!\n> 80 00",
-            "> refused at 4: NotShortest\n! line lost\n> truncated after 2\n",
-            0,
-            2,
-        ),
-    ];
-    for (trace, text, messages, bad) in cases {
-        let (answer, written) = shown(rt.alloc(), trace);
-        assert_eq!(rt; written.as_slice(), text.as_bytes(), "{trace}");
-        assert_eq!(rt; answer?, Tally { messages, bad }, "{trace}");
+fn words_that_name_no_step(rt: HostRuntime) {
+    for word in [
+        "",
+        "Register",
+        "register ",
+        "pay",
+        "pay:",
+        "pay:0",
+        "pay:0000",
+        "pay:1234567890123",
+        "pay:+1",
+        "pay: 1",
+        "pay:1a",
+        "reverse:0",
+        "reverse:-1",
+        "decline:1:00",
+        "decline:1:6",
+        "decline:1:6G",
+        "decline:1:6C0",
+        "decline:0:6C",
+        "decline:1 6C",
+        "decline::6C",
+        "decline:6C",
+        "closed",
+    ] {
+        assert_eq!(rt; step_of(Ends::Both, word), None, "{word}");
+    }
+    assert_eq!(rt; step_of(Ends::Till, "decline:1:6C"), None);
+}
+
+#[test]
+fn words_that_name_steps(rt: HostRuntime) -> Result<(), Fail> {
+    let one = Amount::new(1).ok_or("an amount")?;
+    let most = Amount::new(999_999_999_999).ok_or("an amount")?;
+    for (word, step) in [
+        ("register", Step::Register),
+        ("pay:1", Step::Pay(one)),
+        ("pay:000000000001", Step::Pay(one)),
+        ("pay:999999999999", Step::Pay(most)),
+        ("reverse:1", Step::Reverse(0)),
+        ("reverse:10001", Step::Reverse(10_000)),
+        ("close", Step::CloseDay),
+    ] {
+        let named = Some(step);
+        assert_eq!(rt; step_of(Ends::Till, word), named, "{word}");
+        assert_eq!(rt; step_of(Ends::Both, word), named, "{word}");
+    }
+    let declined = Some(Step::Decline {
+        amount: one,
+        code: 0xB5,
+    });
+    for word in ["decline:1:B5", "decline:01:b5", "decline:0001:b5"] {
+        assert_eq!(rt; step_of(Ends::Both, word), declined, "{word}");
+    }
+    for (word, code) in [
+        ("6C", Some(0x6C)),
+        ("fF", Some(0xFF)),
+        ("00", None),
+        ("6", None),
+        ("06C", None),
+        ("6G", None),
+    ] {
+        assert_eq!(rt; result_code(word), code, "{word}");
     }
     Ok(())
 }
 
-#[test]
-fn messages_are_joined(rt: HostRuntime) -> Result<(), Fail> {
-    let cases = [
-        (
-            "> 06 01 0A 04 00\n< 80 00 00\n> 00 00 00 12 34 49 09 78",
-            "< 800000\n> 06010A04000000001234490978\n",
-            2,
-            0,
-        ),
-        (
-            "> 06 01 0a 04 00 00 00 00 12 34 49 09 78\n!\n< 80 00 00 80\n> 06 01 02 D0\n> 80\n# a remark",
-            "> 06010A04000000001234490978\n!\n< 800000\n# > refused at 3: UnknownField\n# > stopped\n# < truncated after 1\n",
-            2,
-            2,
-        ),
-    ];
-    for (trace, text, messages, bad) in cases {
-        let (answer, written) = joined(rt.alloc(), trace);
-        assert_eq!(rt; written.as_slice(), text.as_bytes(), "{trace}");
-        assert_eq!(rt; answer?, Tally { messages, bad }, "{trace}");
-    }
-    Ok(())
-}
-
-#[test]
-fn print_lines_of_the_terminal_are_receipts(rt: HostRuntime) -> Result<(), Fail> {
-    let cases = [
-        (
-            "< 06 D1 0E 00 41 50 50 52 4F 56 45 44 20 31 30 30 30",
-            "APPROVED 1000\n",
-            1,
-            0,
-        ),
-        (
-            "> 06 D1 02 00 41\n< 80 00 00 06 D1 01 00 06 D1 03\n< 40 22 80 06 01 01",
-            "\n\\x22\\x80\n",
-            4,
-            1,
-        ),
-        (
-            "> 06 01 02 D0\n> 06 D1\n< 06 D1 02 00 41\n!\n< 06 D1 02 00 42\n< 06",
-            "A\nB\n",
-            2,
-            2,
-        ),
-    ];
-    for (trace, text, messages, bad) in cases {
-        let (answer, written) = printed(rt.alloc(), trace);
-        assert_eq!(rt; written.as_slice(), text.as_bytes(), "{trace}");
-        assert_eq!(rt; answer?, Tally { messages, bad }, "{trace}");
-    }
-    Ok(())
-}
-
-#[test]
-fn faults_name_their_line(rt: HostRuntime) {
-    let cases = [
-        ("> 0", 1, What::Hex, ""),
-        ("#\nx", 2, What::Form, ""),
-        ("! ", 1, What::Form, ""),
-        ("! \n", 1, What::Form, ""),
-        ("< 80 00 00\n> 8G\n< 80 00 00\n", 2, What::Hex, "< Ack\n"),
-        (" > 80", 1, What::Form, ""),
-    ];
-    for (trace, at, wrong, text) in cases {
-        let (answer, written) = shown(rt.alloc(), trace);
-        assert_eq!(rt; written.as_slice(), text.as_bytes(), "{trace}");
-        let Err(ToolFault::Trace { line, what }) = answer else {
-            assert!(rt; false, "{trace}");
-            return;
-        };
-        assert_eq!(rt; line, at, "{trace}");
-        assert_eq!(rt; what, wrong, "{trace}");
-    }
-}
-
-#[test]
-fn faults_say_where_and_what_to_do(rt: HostRuntime) -> Result<(), Fail> {
-    let fault = ToolFault::Trace {
-        line: 2,
-        what: What::Hex,
+/// What a till writes of `register` and `pay:1000` where these bytes come, and how it ends.
+fn registers_and_pays(
+    alloc: Global,
+    coming: &[u8],
+) -> Result<(Result<(), ToolFault>, Vec<u8>), ToolFault> {
+    let plan = plan(alloc, Ends::Till, ["register", "pay:1000"].as_slice())?;
+    let mut line = FarLine {
+        reader: Over::new(coming),
+        writer: Over::new(Vec::new(alloc)),
+        stream: Stream::new(alloc),
     };
-    let text = fault.to_string(rt.alloc())?;
-    let wanted =
-        "line 2 of the trace: after '>' or '<' stand two hexadecimal digits for each byte, and spaces";
-    assert_eq!(rt; text.as_str(), wanted);
+    let mut till = Till::with_defaults(alloc);
+    till.connected();
+    let mut writer = Over::new(Vec::new(alloc));
+    let ended = run_steps(alloc, &mut line, &mut till, plan.as_slice(), &mut writer);
+    Ok((ended, writer.inner))
+}
+
+#[test]
+fn terminals_that_break_the_line(rt: HostRuntime) -> Result<(), Fail> {
+    let closes = [0x80, 0x00, 0x00, 0x06, 0x0F, 0x00];
+    let half = [0x80, 0x00, 0x00, 0x06, 0x0F, 0x00, 0x80];
+    let impossible = [0x80, 0x00, 0x00, 0x06, 0x0F, 0x03, 0x06];
+    let unpaid = "register -> registered\npay:1000 -> unclear Line\ntotal 0\n";
+    for (coming, fault, text) in [
+        (closes.as_slice(), LineFault::Ended { have: 0 }, unpaid),
+        (half.as_slice(), LineFault::Ended { have: 1 }, unpaid),
+        (
+            impossible.as_slice(),
+            LineFault::Malformed {
+                place: 3,
+                why: Why::DoesNotFit,
+            },
+            "register -> unclear Malformed\ntotal 0\n",
+        ),
+        (
+            [].as_slice(),
+            LineFault::Ended { have: 0 },
+            "register -> unclear Line\ntotal 0\n",
+        ),
+    ] {
+        let (ended, written) = registers_and_pays(rt.alloc(), coming)?;
+        assert!(rt; matches!(&ended, Err(ToolFault::Line(found)) if *found == fault));
+        assert_eq!(rt; written.as_slice(), text.as_bytes());
+    }
     Ok(())
 }
 
-/// Gives so many bytes of a remark, and then fails or ends.
+/// A writer that takes nothing.
 #[derive(Drop)]
-struct Remark {
-    bytes_left: usize,
-    breaks: bool,
-    failures: GhostCount,
-    reads: GhostCount,
-}
+struct Full;
 
-impl Source for Remark {
-    ghost use Rattle.std.specs.Prelude.{None};
-
-    ghost remaining = { λ _. None };
-
-    ghost failures = { λ remark. remark.failures.count };
-
-    ghost reads = { λ remark. remark.reads.count };
-
-    fn read(&mut self, buffer: &mut [u8]) -> Result<usize, Failed> {
-        self.reads = self.reads.next();
-        if self.bytes_left == 0 && self.breaks {
-            self.failures = self.failures.next();
-            return Err(Failed);
-        }
-        let taken = buffer.len().min(self.bytes_left);
-        buffer[..taken].fill(b'#');
-        self.bytes_left -= taken;
-        Ok(taken)
+impl Write for Full {
+    fn write(&mut self, _bytes: &[u8]) -> io::Result<usize> {
+        Ok(0)
     }
-}
 
-/// What a remark of so many bytes comes to, and how much is written.
-fn remarked(alloc: Global, bytes_left: usize, breaks: bool) -> (Option<ToolFault>, usize) {
-    let mut reader = Remark {
-        bytes_left,
-        breaks,
-        failures: GhostCount::zero(),
-        reads: GhostCount::zero(),
-    };
-    let mut writer = Over::new(Vec::new(alloc));
-    let answer = show(alloc, &mut reader, &mut writer);
-    (answer.err(), writer.inner.len())
-}
-
-#[test]
-fn traces_have_a_limit(rt: HostRuntime) {
-    let longest = remarked(rt.alloc(), 16_777_216, false);
-    assert!(rt; matches!(longest, (None, 0)));
-    let longer = remarked(rt.alloc(), 16_777_217, false);
-    assert!(rt; matches!(longer, (Some(ToolFault::TooLong), 0)));
-}
-
-#[test]
-fn a_read_that_fails_is_told(rt: HostRuntime) {
-    let broken = remarked(rt.alloc(), 5, true);
-    assert!(rt; matches!(broken, (Some(ToolFault::Read), 0)));
-}
-
-/// Takes so many writes, and then fails.
-#[derive(Drop)]
-struct Full {
-    writes_left: usize,
-    failures: GhostCount,
-}
-
-impl Sink for Full {
-    ghost use Rattle.std.specs.Prelude.{None};
-
-    ghost written = { λ _. None };
-
-    ghost failures = { λ full. full.failures.count };
-
-    fn write_all(&mut self, _bytes: &[u8]) -> Result<(), Failed> {
-        if self.writes_left == 0 {
-            self.failures = self.failures.next();
-            return Err(Failed);
-        }
-        self.writes_left -= 1;
+    fn flush(&mut self) -> io::Result<()> {
         Ok(())
     }
 }
 
 #[test]
-fn a_write_that_fails_is_told(rt: HostRuntime) {
-    for writes_left in 0..2 {
-        let mut reader = Over::new("< 80 00 00\n< 80 00 00\n".as_bytes());
-        let mut writer = Full {
-            writes_left,
-            failures: GhostCount::zero(),
-        };
-        let answer = show(rt.alloc(), &mut reader, &mut writer);
-        assert!(rt; matches!(answer, Err(ToolFault::Write)), "{writes_left}");
+fn a_text_that_cannot_be_written(rt: HostRuntime) -> Result<(), Fail> {
+    let ended = run_loop(&rt, rt.alloc(), ["close"].as_slice(), &mut Over::new(Full));
+    assert!(rt; matches!(ended, Err(ToolFault::Write)));
+    Ok(())
+}
+
+/// A reader that brings the same bytes again and again.
+#[derive(Drop)]
+struct Again<'a>(&'a [u8]);
+
+impl Read for Again<'_> {
+    fn read(&mut self, buffer: &mut [u8]) -> io::Result<usize> {
+        let mut bytes = self.0;
+        bytes.read(buffer)
     }
+}
+
+#[test]
+fn ends_that_never_rest(rt: HostRuntime) {
+    let alloc = rt.alloc();
+    let mut line = NearLine {
+        till: End {
+            reader: Over::new(Again([0x04, 0xFF, 0x01, 0x00].as_slice())),
+            writer: Over::new(Vec::new(alloc)),
+            stream: Stream::new(alloc),
+        },
+        terminal: End {
+            reader: Over::new(Again([0x06, 0xB0, 0x00].as_slice())),
+            writer: Over::new(Vec::new(alloc)),
+            stream: Stream::new(alloc),
+        },
+        served: Served {
+            terminal: Terminal::new(alloc, 1),
+            verdict: Verdict::Approve,
+        },
+    };
+    let mut till = Till::with_defaults(alloc);
+    till.connected();
+    let made = line.make(alloc, &mut till, &Step::Register);
+    assert_eq!(rt; made, Err(RunFault::Line(LineFault::Turns)));
+    assert_eq!(rt; till.last_outcome(), Some(Outcome::Unclear(Cause::Line)));
+    assert_eq!(rt; line.till.writer.inner.len(), 9 + 3 * 1000);
+    assert_eq!(rt; line.terminal.writer.inner.len(), 3 * 1000);
+}
+
+#[test]
+fn no_connection(rt: HostRuntime) -> Result<(), Fail> {
+    let alloc = rt.alloc();
+    let mut writer = Over::new(Vec::new(alloc));
+    let listener = TcpListener::bind(&rt, "127.0.0.1:0")?;
+    let port = listener.local_addr()?.port();
+    let ended = run_terminal(&rt, alloc, port, 1, Verdict::Approve);
+    assert!(rt; matches!(ended, Err(ToolFault::Net)));
+    drop(listener);
+    let ended = run_till(&rt, alloc, "127.0.0.1", port, &[], &mut writer);
+    assert!(rt; matches!(ended, Err(ToolFault::Net)));
+    let words = ["register", "decline:1:6C"];
+    let ended = run_till(&rt, alloc, "127.0.0.1", port, words.as_slice(), &mut writer);
+    assert!(rt; matches!(ended, Err(ToolFault::BadStep { at: 1 })));
+    let ended = run_loop(&rt, alloc, ["pay:0"].as_slice(), &mut writer);
+    assert!(rt; matches!(ended, Err(ToolFault::BadStep { at: 0 })));
+    assert!(rt; writer.inner.is_empty());
+    Ok(())
 }

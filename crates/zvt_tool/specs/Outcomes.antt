@@ -1,0 +1,47 @@
+-- How outcomes are said.
+use Rattle.std.specs.Prelude.{ℕ, List, [], ◌∷◌, ◌++◌, codes, Option, Some, None, Result, Ok, Err}
+use Rattle.std.specs.Fmt.{decimal}
+use Rattle.zvt_text.specs.Numbers.{numbers_text}
+use Rattle.zvt_text.specs.Results.{result_words}
+use Rattle.zvt_till.specs.Names.{cause_name, refusal_name}
+use Rattle.zvt_till.specs.declared.line.RunFault.{RunFault}
+use Rattle.zvt_till.specs.declared.line.RunFault.TheVariants.{Order, Line}
+use Rattle.zvt_till.specs.declared.outcomes.Outcome.{Outcome}
+use Rattle.zvt_till.specs.declared.outcomes.Outcome.TheVariants.{Registered, Paid, Declined, Refused, Aborted, Unclear, Reversed, DayClosed}
+
+-- a payment that was booked, by its numbers
+abbrev pub paid_text : ℕ → Option (List ℕ) → List ℕ
+paid_text trace receipt = codes "paid " ++ numbers_text trace receipt
+
+-- what the terminal said, with its code in words
+abbrev pub coded_text : List ℕ → ℕ → List ℕ
+coded_text said code = said ++ result_words code
+
+abbrev pub outcome_text : Outcome → List ℕ
+outcome_text Registered = codes "registered"
+outcome_text (Paid trace receipt) = paid_text trace receipt
+outcome_text (Declined code) = coded_text (codes "declined ") code
+outcome_text (Refused code) = coded_text (codes "refused ") code
+outcome_text (Aborted code) = coded_text (codes "aborted ") code
+outcome_text (Unclear cause) = codes "unclear " ++ cause_name cause
+outcome_text Reversed = codes "reversed"
+outcome_text DayClosed = codes "day closed"
+
+-- what became of the order of a line that broke
+abbrev pub broken_text : Option Outcome → List ℕ
+broken_text None = []
+broken_text (Some outcome) = outcome_text outcome
+
+-- what became of a step, where the till says so of the order that ended last
+abbrev pub ending_text : Result Outcome RunFault → Option Outcome → List ℕ
+ending_text (Ok outcome) last = outcome_text outcome
+ending_text (Err (Order why)) last = codes "not sent: " ++ refusal_name why
+ending_text (Err (Line fault)) last = broken_text last
+
+-- the line of a step
+abbrev pub step_text : List ℕ → List ℕ → List ℕ
+step_text word ending = word ++ codes " -> " ++ ending ++ 10 ∷ []
+
+-- the last line
+abbrev pub total_text : ℕ → List ℕ
+total_text total = codes "total " ++ decimal total ++ 10 ∷ []
