@@ -20,7 +20,7 @@ pub use entries::Entry;
 pub use events::{Event, Run, replay};
 pub use happenings::{Happening, Sent};
 pub use judging::{Booked, Books};
-pub use line::{RunFault, run_order};
+pub use line::{RunFault, run_order, send_order};
 pub use messages::{Heard, Original, StatusFacts};
 pub use orders::{Order, OrderRefusal, Outgoing, Reply};
 pub use outcomes::{Cause, Outcome};

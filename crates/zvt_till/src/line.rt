@@ -60,8 +60,9 @@ pub enum RunFault {
     Line(LineFault),
 }
 
-/// Takes an order, and writes its message. Where that fails the till has lost its line.
-fn send_order<W: Sink>(writer: &mut W, till: &mut Till, order: Order) -> Result<(), RunFault>
+/// Gives the till an order, and writes its message. A refused order sends nothing; where the writing fails the till has
+/// lost its line, and the fault is `Write`.
+pub fn send_order<W: Sink>(writer: &mut W, till: &mut Till, order: Order) -> Result<(), RunFault>
     ensures ok { OnOk result (Sends order till.old till.new (W.written writer.old) (W.written writer.new)) }
     ensures err { IfErr result (λ fault. NotSent fault order till.old till.new (W.written writer.old) (W.written writer.new)) }
     ensures failures { MatchResult result (λ _. W.failures writer.new ≡ W.failures writer.old) (λ fault. W.failures writer.new ≡ W.failures writer.old + writes_failed fault) }

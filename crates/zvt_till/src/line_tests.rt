@@ -81,6 +81,21 @@ fn an_order_from_end_to_end(rt: HostRuntime) -> Result<(), Fail> {
     Ok(())
 }
 
+#[test]
+fn an_order_that_is_sent(rt: HostRuntime) -> Result<(), Fail> {
+    let mut writer = Over::new(Vec::new(rt.alloc()));
+    let mut till = connected_till(rt.alloc())?;
+    let refused = RunFault::Order(OrderRefusal::NotRegistered);
+    assert_eq!(rt;
+        send_order(&mut writer, &mut till, Order::CloseDay),
+        Err(refused)
+    );
+    assert_eq!(rt; send_order(&mut writer, &mut till, Order::Register), Ok(()));
+    assert_eq!(rt; till.running(), Some(Order::Register));
+    assert_eq!(rt; writer.inner.as_slice(), REGISTRATION.as_slice());
+    Ok(())
+}
+
 /// A writer that takes nothing.
 #[derive(Drop)]
 struct Full;

@@ -13,7 +13,7 @@ use Rattle.zvt_till.specs.declared.statuses.Running.{Running}
 use Rattle.zvt_till.proofs.Accepted.{IsKnown, known-broken, known-heard, known-sent, rests-known, told-over}
 use Rattle.zvt_tool.specs.declared.steps.Step.{Step}
 use Rattle.zvt_tool.specs.Steps.{order_of}
-use Rattle.zvt_tool.specs.Near.{Alternates, Begins, BreaksOff, Both, Comes, EndState, Fails, TillTurn, Underway, decided}
+use Rattle.zvt_tool.specs.Near.{Alternates, Begins, BreaksOff, Both, Comes, Fails, TillTurn, Underway}
 
 -- ---- it stays known what became of the order
 
@@ -21,17 +21,17 @@ waited : (n : ℕ) (old new : LineState TillValue) → Waited till_hears till_re
 waited zero old new w k = subst (λ (s : LineState TillValue). IsKnown s.machine.state) w k
 waited (suc n) old new w k = known-heard w.0.machine new.machine _ _ w.2.pumped.course.heard.heard (waited n old w.0 w.1 k)
 
-known_turn : (before after : EndState) (old new : TillValue) → TillTurn before old after new → IsKnown old.state → IsKnown new.state
-known_turn before after old new (inl at_once) k = absurd (cc)
-known_turn before after old new (inr turns) k =
+known_turn : (old new : Both) → TillTurn old new → IsKnown old.till.state → IsKnown new.till.state
+known_turn old new (inl at_once) k = absurd (cc)
+known_turn old new (inr turns) k =
     let a = turns.1.3 in
-    known-heard a.middle.machine new _ _ a.last.pumped.course.heard.heard (waited a.before _ a.middle a.waited k)
+    known-heard a.middle.machine new.till _ _ a.last.pumped.course.heard.heard (waited a.before _ a.middle a.waited k)
 
 pub known_after : (old new : Both) → Alternates old new → IsKnown old.till.state → IsKnown new.till.state
-known_after old new a k = known_turn old.till_end new.till_end old.till new.till a.till k
+known_after old new a k = known_turn old new a.till k
 
 pub known_begun : (step : Step) (old new : Both) → Begins step old new → IsKnown new.till.state
-known_begun step old new b = known-sent (order_of step) old.till new.till _ _ b.sends
+known_begun step old new b = known-sent (order_of step) old.till new.till _ _ b.ordered.sends
 
 pub over_lost : (fault : LineFault) (old new : TillValue) → till_loses old new → IsKnown old.state → IsOver (Line fault) new.state
 over_lost fault old new loses k = told-over faults.Read old new loses k
@@ -49,10 +49,10 @@ pub record Going (step : Step) (count : ℕ) (old now : Both) : Type 0 where
   pub underway : Underway step count old now
   pub known : IsKnown now.till.state
 
-pub begun : (step : Step) (old sent : Both) → Begins step (decided step old) sent → Going step 0 old sent
+pub begun : (step : Step) (old sent : Both) → Begins step old sent → Going step 0 old sent
 begun step old sent b = record {
   underway = record { sent = sent; begins = b; alternations = refl };
-  known = known_begun step (decided step old) sent b;
+  known = known_begun step old sent b;
 }
 
 busy : (run : Option Running) (order : Option Order) → order ≡ option_map (λ (r : Running). r.order) run → is_some order ≡ true → is_idle run ≡ false

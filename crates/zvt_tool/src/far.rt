@@ -1,23 +1,16 @@
 //! The till's end of a line to a terminal elsewhere.
+use crate::end::End;
 use crate::line::StepLine;
 use crate::steps::Step;
 use std::alloc::Global;
 use zvt_io::{Sink, Source};
-use zvt_stream::Stream;
 use zvt_till::{Outcome, RunFault, Till, run_order};
 
 /// The turns of one read each after which an order is given up.
 const TURNS: u64 = 100_000;
 
-/// The till's end of a line to a terminal elsewhere. What the terminal decides of a step is its own.
-#[derive(Drop)]
-pub struct FarLine<R, W> {
-    pub reader: R,
-    pub writer: W,
-    pub stream: Stream,
-}
-
-impl<R: Source, W: Sink> StepLine for FarLine<R, W> {
+/// What the terminal elsewhere decides of a step is its own.
+impl<R: Source, W: Sink> StepLine for End<R, W> {
     ghost use Rattle.std.specs.Prelude.{MatchResult};
     ghost use Rattle.zvt_till.specs.Line.{Fails, Runs};
     ghost use Rattle.zvt_tool.specs.Steps.{order_of};

@@ -4,6 +4,7 @@
 //! over any line; [`run_loop`], [`run_till`] and [`run_terminal`] open sockets for it.
 #![tactic(auto)]
 
+mod end;
 mod far;
 mod line;
 mod near;
@@ -13,9 +14,9 @@ mod run;
 mod sockets;
 mod steps;
 
-pub use far::FarLine;
+pub use end::{End, LineEnd};
 pub use line::StepLine;
-pub use near::{End, NearLine};
+pub use near::NearLine;
 pub use outcomes::outcome_text;
 pub use plans::{Planned, plan};
 pub use run::run_steps;

@@ -2,8 +2,8 @@
 ghost use Rattle.std.specs.Prelude.{◌≡◌, ◌<◌, ◌≤◌, Err, IfErr, map};
 ghost use Rattle.zvt_tool.specs.Said.{AnswersRun, EndsService};
 
-use crate::far::FarLine;
-use crate::near::{End, NearLine};
+use crate::end::End;
+use crate::near::NearLine;
 use crate::plans::plan;
 use crate::run::run_steps;
 use crate::steps::Ends;
@@ -47,10 +47,7 @@ where
     ensures run { AnswersRun Ends.Both (map (λ step. step.now) steps.now) (W.written writer.old) (W.written writer.new) result }
     ensures write { result ≡ Err ToolFault.Write → W.failures writer.old < W.failures writer.new }
 {
-    let plan = match plan(alloc, Ends::Both, steps) {
-        Ok(plan) => plan,
-        Err(fault) => return Err(fault),
-    };
+    let plan = plan(alloc, Ends::Both, steps)?;
     let Ok((till_end, terminal_end)) = both_ends(rt) else {
         return Err(ToolFault::Net);
     };
@@ -93,14 +90,11 @@ where
     ensures run { AnswersRun Ends.Till (map (λ step. step.now) steps.now) (W.written writer.old) (W.written writer.new) result }
     ensures write { result ≡ Err ToolFault.Write → W.failures writer.old < W.failures writer.new }
 {
-    let plan = match plan(alloc, Ends::Till, steps) {
-        Ok(plan) => plan,
-        Err(fault) => return Err(fault),
-    };
+    let plan = plan(alloc, Ends::Till, steps)?;
     let Ok(end) = connect(rt, host, port) else {
         return Err(ToolFault::Net);
     };
-    let mut line = FarLine {
+    let mut line = End {
         reader: Over::new(&end),
         writer: Over::new(&end),
         stream: Stream::new(alloc),

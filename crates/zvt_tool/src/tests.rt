@@ -129,7 +129,7 @@ fn registers_and_pays(
     coming: &[u8],
 ) -> Result<(Result<(), ToolFault>, Vec<u8>), ToolFault> {
     let plan = plan(alloc, Ends::Till, ["register", "pay:1000"].as_slice())?;
-    let mut line = FarLine {
+    let mut line = End {
         reader: Over::new(coming),
         writer: Over::new(Vec::new(alloc)),
         stream: Stream::new(alloc),

@@ -12,4 +12,4 @@ returns-clause-run g c = ran _ Both (map (λ step. step.now) c.args.steps.now) _
       terminal = record { reader = c.new-4.result; writer = c.new-5.result; stream = c.new-6.result };
       served = record { terminal = c.new-7.result; verdict = Approve };
     }) c.connected.new.self) (standing c.run_steps.new.line c.run_steps.new.till)
-    (g.W.Sink.written c.args.writer.now) (g.W.Sink.written c.run_steps.new.writer) c.run_steps.result c.as_slice.ensures.value c.in-Ok.ensures c.run_steps.ensures.run
+    (g.W.Sink.written c.args.writer.now) (g.W.Sink.written c.run_steps.new.writer) c.run_steps.result c.as_slice.ensures.value c.in_ok-plan.ensures c.run_steps.ensures.run

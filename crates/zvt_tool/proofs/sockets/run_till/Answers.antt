@@ -7,4 +7,4 @@ use Rattle.zvt_tool.proofs.sockets.run_till.Goals as goal
 pub returns-clause-run : goal.returns-clause-run
 returns-clause-run g c = ran _ Till (map (λ step. step.now) c.args.steps.now) _ c.as_slice.result.now
     (standing (record { reader = c.new.result; writer = c.new-2.result; stream = c.new-3.result }) c.connected.new.self) (standing c.run_steps.new.line c.run_steps.new.till)
-    (g.W.Sink.written c.args.writer.now) (g.W.Sink.written c.run_steps.new.writer) c.run_steps.result c.as_slice.ensures.value c.in-Ok.ensures c.run_steps.ensures.run
+    (g.W.Sink.written c.args.writer.now) (g.W.Sink.written c.run_steps.new.writer) c.run_steps.result c.as_slice.ensures.value c.in_ok-plan.ensures c.run_steps.ensures.run
