@@ -29,7 +29,7 @@ size_size : (r : Reading) (n : ℕ) (s : List ℕ) → IsFrameLength r n s → 1
 size_size r n [] p = absurd p
 size_size r n (a ∷ s) p = omega arith
 
-message_size : (r : Reading) (m : Message) (b : List ℕ) → Spells r m b → 3 ≤ length b
+pub message_size : (r : Reading) (m : Message) (b : List ℕ) → Spells r m b → 3 ≤ length b
 message_size r m b p =
     let f = frame_of r m b p in
     omega (arith, ap length f.whole, length-append f.size f.content, size_size r (length f.content) f.size f.is_size)

@@ -1,5 +1,5 @@
 -- Which bytes may follow in a message, and why a byte may not.
-use Rattle.std.specs.Prelude.{◌≡◌, ℕ, ◌+◌, ◌*◌, ◌-◌, ◌<◌, ◌≤◌, ◌==◌, ◌&&◌, not, nat_le, Bool, true, false, cond, Option, Some, None, List, [], ◌∷◌, ◌++◌, length, take, drop, slice_get}
+use Rattle.std.specs.Prelude.{◌≡◌, ℕ, ◌+◌, ◌*◌, ◌-◌, ◌<◌, ◌≤◌, ◌==◌, ◌&&◌, not, nat_le, Bool, true, false, cond, Option, Some, None, Result, Ok, Err, List, [], ◌∷◌, ◌++◌, length, take, drop, slice_get}
 use Rattle.std.proofs.Common.{◌⊎◌}
 use Rattle.zvt_bcd.specs.Digits.{AreDigits, is_digit_pair}
 use Rattle.zvt_spelling.specs.declared.why.Why.{Why}
@@ -40,6 +40,11 @@ head_size l = l.free + l.digits
 -- Whether data of n bytes can have that layout.
 abbrev pub can_fill : Layout → (n : ℕ) → Bool
 can_fill l n = nat_le (head_size l) n && not (l.fields && (n == head_size l + 1))
+
+-- The layout of data of n bytes, or that no data of these control bytes has that size.
+abbrev pub JudgesSize : (high low n : ℕ) → Result Layout Why → Type 0
+JudgesSize high low n (Ok l) = (l ≡ layout_of high low n) × (can_fill (layout_of high low n) n ≡ true)
+JudgesSize high low n (Err why) = (why ≡ DoesNotFit) × (can_fill (layout_of high low n) n ≡ false)
 
 -- What part a byte plays in a message.
 pub data Role : Type 0 where

@@ -3,7 +3,7 @@
 ghost use Rattle.std.specs.Prelude.{◌≡◌, ◌≤◌};
 ghost use Rattle.zvt_spelling.specs.Reading.{shortest};
 ghost use Rattle.zvt_apdu.specs.Grammar.{form_of};
-ghost use Rattle.zvt_apdu.specs.Judging.{AnswersOpening, bytes_after, can_fill, head_size, layout_of};
+ghost use Rattle.zvt_apdu.specs.Judging.{AnswersOpening, JudgesSize, bytes_after, can_fill, head_size, layout_of};
 
 use zvt_spelling::{Scan, Why};
 
@@ -17,10 +17,10 @@ pub(crate) enum Form {
 
 /// What stands in data: so many bytes, so many bytes of digits, then fields, or bytes.
 #[derive(Clone, Copy)]
-pub(crate) struct Layout {
-    pub(crate) free: usize,
-    pub(crate) digits: usize,
-    pub(crate) fields: bool,
+pub struct Layout {
+    pub free: usize,
+    pub digits: usize,
+    pub fields: bool,
 }
 
 /// The control bytes and the length of a message, and where its data starts.
@@ -100,6 +100,18 @@ fn can_fill(layout: Layout, size: usize) -> bool
 {
     let head = layout.free + layout.digits;
     head <= size && !(layout.fields && size == head + 1)
+}
+
+/// Judges the length of the data behind these control bytes: what stands in data of that size.
+pub fn judge_size(high: u8, low: u8, size: usize) -> Result<Layout, Why>
+    ensures { JudgesSize high low size result }
+{
+    let layout = layout_of(high, low, size);
+    if can_fill(layout, size) {
+        Ok(layout)
+    } else {
+        Err(Why::DoesNotFit)
+    }
 }
 
 /// Reads the control bytes and the length.

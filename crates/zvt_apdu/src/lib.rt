@@ -12,6 +12,7 @@ mod writer;
 
 pub use apdu::Apdu;
 pub use brief::{Brief, brief_message, put_brief};
+pub use frame::{Layout, judge_size};
 pub use messages::{BadValue, Message, Rest};
 pub use reader::scan;
 pub use writer::{NoRoom, encode, encode_into, size};

@@ -1,5 +1,5 @@
 -- What the reader answers, in the terms of the grammar.
-use Rattle.std.specs.Prelude.{◌≡◌, ◌≢◌, ℕ, ◌+◌, ◌*◌, ◌-◌, ◌<◌, ◌≤◌, Some, None, Result, Ok, Err, List, [], ◌∷◌, length, take, suc}
+use Rattle.std.specs.Prelude.{◌≡◌, ◌≢◌, ℕ, ◌+◌, ◌*◌, ◌-◌, ◌<◌, ◌≤◌, Bool, true, false, Some, None, Result, Ok, Err, List, [], ◌∷◌, length, take, suc}
 use Rattle.zvt_spelling.specs.declared.why.Why.{Why}
 use Rattle.zvt_spelling.specs.declared.answer.Scan.{Scan}
 use Rattle.zvt_spelling.specs.declared.answer.Scan.TheVariants.{Whole, More, Refused}
@@ -9,7 +9,7 @@ use Rattle.zvt_field.specs.declared.shapes.Shape.{Shape}
 use Rattle.zvt_field.specs.declared.shapes.Shape.TheVariants.{Tree}
 use Rattle.zvt_field.specs.declared.reader.Head.{Head}
 use Rattle.zvt_field.specs.Shapes.{shape_of}
-use Rattle.zvt_field.specs.Judging.{AliveIn, PlaceIn, WhyIn, name, digit, count_digits, fault}
+use Rattle.zvt_field.specs.Judging.{AliveIn, PlaceIn, WhyIn, name, digit, in_content, count_digits, fault}
 
 -- Whole with the fields that fill the room; More where the bytes are too few and alive; else the place and the reason.
 abbrev pub Answers : Reading → (room : ℕ) → (bytes : List ℕ) → Scan (List Field) → Type 0
@@ -70,3 +70,7 @@ JudgesName left byte (Err why) = fault shortest name left byte ≡ Some why
 abbrev pub JudgesDigit : (more before left byte : ℕ) → Result ℕ Why → Type 0
 JudgesDigit more before left byte (Ok number) = (fault shortest (digit more before) left byte ≡ None) × (number ≡ 10 * before + (byte - 0xF0))
 JudgesDigit more before left byte (Err why) = fault shortest (digit more before) left byte ≡ Some why
+
+abbrev pub JudgesContent : (digits : Bool) → (byte : ℕ) → Result Unit Why → Type 0
+JudgesContent digits byte (Ok _) = (left : ℕ) → fault shortest (in_content digits) left byte ≡ None
+JudgesContent digits byte (Err why) = (left : ℕ) → fault shortest (in_content digits) left byte ≡ Some why

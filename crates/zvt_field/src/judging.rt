@@ -2,7 +2,7 @@
 
 ghost use Rattle.std.specs.Prelude.{◌≡◌, ◌≤◌, ◌<◌, ◌^◌};
 ghost use Rattle.zvt_spelling.specs.Tests.{fits};
-ghost use Rattle.zvt_field.specs.Answers.{JudgesName, JudgesDigit};
+ghost use Rattle.zvt_field.specs.Answers.{JudgesName, JudgesDigit, JudgesContent};
 
 use crate::Shape;
 use crate::table::shape;
@@ -57,5 +57,16 @@ pub fn judge_digit(more: usize, before: usize, left: usize, byte: u8) -> Result<
         Ok(number)
     } else {
         Err(Why::DoesNotFit)
+    }
+}
+
+/// Judges a byte of a content, of digits or of any bytes.
+pub fn judge_content(digits: bool, byte: u8) -> Result<(), Why>
+    ensures { JudgesContent digits byte result }
+{
+    if digits && (byte / 16 > 9 || byte % 16 > 9) {
+        Err(Why::NotDigit)
+    } else {
+        Ok(())
     }
 }

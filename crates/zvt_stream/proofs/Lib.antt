@@ -4,3 +4,15 @@ pub mod HearingLemmas
 pub mod Going
 pub mod TurnLemmas
 pub mod CuttingLemmas
+pub mod LevelLemmas
+pub mod ContentMoves
+pub mod TlvMoves
+pub mod TreeMoves
+pub mod FieldMoves
+pub mod FrameMoves
+pub mod Stood
+pub mod JudgeLemmas
+pub mod WholeLemmas
+pub mod JudgedFeeds
+pub mod PassLemmas
+pub mod RunLemmas

@@ -7,3 +7,6 @@ pub mod Hearing
 pub mod Replies
 pub mod Course
 pub mod Turns
+pub mod Standing
+pub mod Moves
+pub mod Judge

@@ -1,18 +1,19 @@
 //! Messages out of pieces of a line.
 
-ghost use Rattle.std.specs.Prelude.{◌≡◌, ℕ, ◌<◌, [], IfOk, IfErr, OnErr, IsTrue, length, false, true, MatchResult};
+ghost use Rattle.std.specs.Prelude.{◌≡◌, ℕ, ◌+◌, ◌<◌, ◌≤◌, [], ◌++◌, IfOk, IfNone, IfSome, OnErr, List, length, false, true, MatchResult};
 ghost use Rattle.std.specs.Result.{IsErrOf};
-ghost use Rattle.zvt_stream.specs.Apdus.{Unfinished};
+ghost use Rattle.zvt_stream.specs.Apdus.{Spells, Unfinished};
 ghost use Rattle.zvt_stream.specs.StreamState.{holding, refused};
-ghost use Rattle.zvt_stream.specs.Feeds.{Feeds};
+ghost use Rattle.zvt_stream.specs.Feeds.{Feeds, taken_by};
+ghost use Rattle.zvt_stream.specs.Judge.{HasLevels, IsMessage};
 
-use std::alloc::{AllocError, Global};
+use crate::judging::{Judge, Run};
+use crate::keeping::Held;
+use crate::steps::Steps;
+use std::alloc::Global;
 use std::marker::Model;
 use zvt_apdu::{Apdu, scan};
 use zvt_spelling::{Scan, Why};
-
-/// The size of the longest message.
-const LONGEST: usize = 65_540;
 
 /// What a piece gave.
 #[derive(Drop)]
@@ -41,21 +42,23 @@ pub struct Truncated {
     pub have: usize,
 }
 
-/// One direction of a line: the bytes of its unfinished message.
+/// One direction of a line: the bytes of its unfinished message, and what they leave open.
 #[derive(Drop)]
 pub struct Stream {
-    held: Vec<u8>,
+    held: Held,
+    judge: Judge,
     stopped: bool,
 }
 
 impl Model for Stream {
     ghost use Rattle.zvt_stream.specs.StreamState.{StreamState, IsSound};
+    ghost use Rattle.zvt_stream.specs.Judge.{StandsFor};
 
     ghost Value = { StreamState };
 
-    ghost view = { λ s. record { held = s.held.items; stopped = s.stopped } };
+    ghost view = { λ s. record { held = s.held; stopped = s.stopped } };
 
-    ghost invariant = { λ s. IsSound s.held.items s.stopped };
+    ghost invariant = { λ s. IsSound s.held s.stopped × StandsFor s.judge s.held };
 }
 
 impl Stream {
@@ -64,7 +67,8 @@ impl Stream {
         ensures { result ≡ holding [] }
     {
         Stream {
-            held: Vec::new(alloc),
+            held: Held::new(alloc),
+            judge: Judge::new(),
             stopped: false,
         }
     }
@@ -72,81 +76,59 @@ impl Stream {
     /// Takes bytes of the piece up to the end of a message, or all of it where none ends. A refusal is answered in the
     /// feed that brings the fatal byte, and each later feed answers `Stopped`.
     ///
-    /// Where nothing is held the message is read from the piece itself, and only an unfinished one is copied. Where
-    /// some of a message is held, the piece is copied behind it, as far as the longest message can go, and the message
-    /// is read again from its first byte.
+    /// Each byte is judged once. A message that lies in the piece is read where it lies, and only an unfinished one is
+    /// copied.
     pub fn feed(&mut self, alloc: Global, piece: &[u8]) -> Result<Fed, FeedError>
         ensures fed { IfOk result (λ fed. Feeds self.old piece.now fed self.new) }
         ensures stopped { self.old.stopped ≡ true → IsErrOf result FeedError.Stopped }
         ensures only { IsErrOf result FeedError.Stopped → self.old.stopped ≡ true }
         ensures err { OnErr result (self.new ≡ self.old) }
     {
+        let mut steps = Steps::new();
+        self.feed_counted(&mut steps, alloc, piece)
+    }
+
+    /// The same, with the count of the bytes that are judged.
+    pub fn feed_counted(
+        &mut self,
+        steps: &mut Steps,
+        alloc: Global,
+        piece: &[u8],
+    ) -> Result<Fed, FeedError>
+        ensures fed { IfOk result (λ fed. Feeds self.old piece.now fed self.new) }
+        ensures stopped { self.old.stopped ≡ true → IsErrOf result FeedError.Stopped }
+        ensures only { IsErrOf result FeedError.Stopped → self.old.stopped ≡ true }
+        ensures err { OnErr result (self.new ≡ self.old) }
+        ensures count { MatchResult result (λ fed. steps.new.judged.count ≡ steps.old.judged.count + taken_by self.old piece.now fed)
+            (λ _. steps.new.judged.count ≤ steps.old.judged.count + length piece.now) }
+    {
         if self.stopped {
             return Err(FeedError::Stopped);
         }
-        if self.held.is_empty() {
-            self.begin(alloc, piece)
-        } else {
-            self.resume(alloc, piece)
-        }
-    }
-
-    // Reads the piece itself: nothing is held.
-    fn begin(&mut self, alloc: Global, piece: &[u8]) -> Result<Fed, FeedError>
-        requires runs { self.old ≡ holding [] }
-        ensures fed { IfOk result (λ fed. Feeds self.old piece.now fed self.new) }
-        ensures err { IfErr result (λ error. (error ≡ FeedError.Memory) × (self.new ≡ self.old)) }
-    {
-        match scan(alloc, piece) {
-            Ok(Scan::Whole((apdu, taken))) => Ok(Fed::Message { apdu, taken }),
-            Ok(Scan::More) => match self.held.extend_from_slice(piece) {
-                Ok(()) => Ok(Fed::More),
+        let mut judge = self.judge.again();
+        match judge.run(steps, piece) {
+            Run::Open => match self.held.add_all(piece) {
+                Ok(()) => {
+                    self.judge = judge;
+                    Ok(Fed::More)
+                }
                 Err(_) => Err(FeedError::Memory),
             },
-            Ok(Scan::Refused { place, why }) => Ok(self.refuse(place, why)),
-            Err(_) => Err(FeedError::Memory),
-        }
-    }
-
-    // Reads what is held and the piece behind it, as far as a message can go.
-    fn resume(&mut self, alloc: Global, piece: &[u8]) -> Result<Fed, FeedError>
-        requires runs { self.old.stopped ≡ false }
-        ensures fed { IfOk result (λ fed. Feeds self.old piece.now fed self.new) }
-        ensures err { IfErr result (λ error. (error ≡ FeedError.Memory) × (self.new ≡ self.old)) }
-    {
-        let before = self.held.len();
-        let part = &piece[..piece.len().min(LONGEST - before)];
-        let Ok(()) = self.held.extend_from_slice(part) else {
-            return Err(FeedError::Memory);
-        };
-        match scan(alloc, &self.held) {
-            Ok(Scan::Whole((apdu, size))) => {
-                self.held.clear();
-                Ok(Fed::Message {
-                    apdu,
-                    taken: size - before,
-                })
-            }
-            Ok(Scan::More) => Ok(Fed::More),
-            Ok(Scan::Refused { place, why }) => {
-                self.held.clear();
-                Ok(self.refuse(place, why))
-            }
-            Err(_) => {
-                self.held.truncate(before);
-                Err(FeedError::Memory)
+            Run::Ended { taken } => match message(alloc, &mut self.held, &piece[..taken]) {
+                Some(apdu) => {
+                    self.judge = judge;
+                    Ok(Fed::Message { apdu, taken })
+                }
+                None => Err(FeedError::Memory),
+            },
+            Run::Refused { at, why } => {
+                let place = self.held.len() + at;
+                self.held.cut(0);
+                self.judge = judge;
+                self.stopped = true;
+                Ok(Fed::Refused { place, why })
             }
         }
-    }
-
-    // Takes nothing more.
-    fn refuse(&mut self, place: usize, why: Why) -> Fed
-        requires { self.old.held ≡ [] }
-        ensures answer { result ≡ Fed.Refused place why }
-        ensures state { self.new ≡ refused }
-    {
-        self.stopped = true;
-        Fed::Refused { place, why }
     }
 
     /// Whether the stream may end here: Err where bytes of an unfinished message are held. After a refusal it is Ok.
@@ -168,5 +150,56 @@ impl Stream {
         ensures none { self.now.stopped ≡ true → self.now.held ≡ [] }
     {
         self.held.len()
+    }
+
+    /// How many levels are open: none where nothing is held, else the frame, the fields, and containers and objects in
+    /// one another.
+    pub fn levels(&self) -> usize
+        ensures none { self.now.held ≡ [] → result ≡ 0 }
+        ensures some { 0 < length self.now.held → HasLevels self.now.held result }
+    {
+        if self.held.len() == 0 {
+            0
+        } else {
+            self.judge.levels()
+        }
+    }
+}
+
+/// The message that what is held and these bytes behind it are, or none where memory is refused. Nothing is held then.
+fn message(alloc: Global, held: &mut Held, last: &[u8]) -> Option<Apdu>
+    requires { IsMessage (held.old ++ last.now) }
+    ensures some { IfSome result (λ apdu. Spells apdu (held.old ++ last.now) × (held.new ≡ [])) }
+    ensures none { IfNone result (held.new ≡ held.old) }
+{
+    let before = held.len();
+    if before == 0 {
+        return whole(alloc, last);
+    }
+    if held.add_all(last).is_err() {
+        return None;
+    }
+    match whole(alloc, held.spelled()) {
+        Some(apdu) => {
+            held.cut(0);
+            Some(apdu)
+        }
+        None => {
+            held.cut(before);
+            None
+        }
+    }
+}
+
+/// The message that the bytes are, or none where memory is refused.
+fn whole(alloc: Global, bytes: &[u8]) -> Option<Apdu>
+    requires { IsMessage bytes.now }
+    ensures { IfSome result (λ apdu. Spells apdu bytes.now) }
+{
+    match scan(alloc, bytes) {
+        Ok(Scan::Whole((apdu, _))) => Some(apdu),
+        Ok(Scan::More) => unreachable!(),
+        Ok(Scan::Refused { .. }) => unreachable!(),
+        Err(_) => None,
     }
 }

@@ -3,14 +3,25 @@
 
 mod engine;
 mod feeding;
+mod judging;
+mod keeping;
 pub mod laws;
 mod line;
+mod moves;
+mod steps;
 
 pub use engine::{pump, send};
 pub use feeding::{Fed, FeedError, Stream, Truncated};
+pub use judging::{Judge, Judged, Run};
+pub use keeping::Held;
 pub use line::{Answers, LineFault, Machine, Until};
+pub use steps::Steps;
 
 #[cfg(test)]
 mod feeding_tests;
+#[cfg(test)]
+mod judging_tests;
+#[cfg(test)]
+mod rescan;
 #[cfg(test)]
 mod tests;

@@ -1,0 +1,6 @@
+use Rattle.std.proofs.Common.{arith}
+use Rattle.zvt_stream.proofs.PassLemmas.{content_passed}
+use Rattle.zvt_stream.proofs.judging.pass_content.Goals as goal
+
+pub returns : goal.returns
+returns c = (omega (arith, c.min-count.ensures), content_passed c.args.more c.args.left c.min-count.result c.requires.some (omega (arith, c.min-count.ensures)))

@@ -1,0 +1,99 @@
+-- The judge as its callers see it, and what it answers.
+use Rattle.std.specs.Prelude.{◌≡◌, ℕ, ◌+◌, ◌<◌, ◌≤◌, suc, zero, Option, Some, None, Result, Ok, Err, List, [], ◌∷◌, ◌++◌, length, take}
+use Rattle.zvt_spelling.specs.declared.why.Why.{Why}
+use Rattle.zvt_spelling.specs.Reading.{shortest, AreBytes}
+use Rattle.zvt_apdu.specs.Message.{Message}
+use Rattle.zvt_tlv.specs.Judging.{Opener}
+use Rattle.zvt_apdu.specs.Judging.{Role, first_control, second_control, first_size, low_size, high_size, free, digit, in_fields, Position, fault}
+use Rattle.zvt_stream.specs.Apdus.{Spells, Unfinished, IsRefused}
+use Rattle.zvt_stream.specs.Standing.{Where, IsFull, depth_of, role_of}
+use Rattle.zvt_stream.specs.declared.moves.At.{At}
+use Rattle.zvt_stream.specs.declared.moves.At.TheVariants as at
+use Rattle.zvt_stream.specs.declared.judging.Judged.{Judged}
+use Rattle.zvt_stream.specs.declared.judging.Judged.TheVariants.{Open, Ended}
+use Rattle.zvt_stream.specs.declared.judging.Run.{Run}
+use Rattle.zvt_stream.specs.declared.judging.Run.TheVariants as run
+use Rattle.zvt_stream.specs.declared.judging.Goes.{Goes}
+
+-- The part of the next byte, the bytes to come of the innermost level, and those to come behind the open item of each
+-- level around it, the innermost first.
+pub record JudgeState : Type 0 where
+  pub at : At
+  pub left : ℕ
+  pub outer : List ℕ
+
+abbrev pub start : JudgeState
+start = record { at = at.FirstControl; left = 1; outer = [] }
+
+-- The bytes begin a message and hold none, and this is what they leave open.
+pub record StandsFor (judge : JudgeState) (bytes : List ℕ) : Type 0 where
+  pub unfinished : Unfinished bytes
+  pub stands : Where shortest judge.at judge.left judge.outer bytes
+
+-- It stands for some bytes.
+abbrev pub IsJudge : JudgeState → Type 0
+IsJudge judge = (bytes : List ℕ) × StandsFor judge bytes
+
+abbrev pub IsMessage : List ℕ → Type 0
+IsMessage bytes = (message : Message) × Spells message bytes
+
+-- Behind these bytes the byte gives this answer.
+abbrev pub Stepped : (bytes : List ℕ) → (byte : ℕ) → Result Judged Why → (new : JudgeState) → Type 0
+Stepped bytes byte (Ok Open) new = StandsFor new (bytes ++ byte ∷ [])
+Stepped bytes byte (Ok Ended) new = IsMessage (bytes ++ byte ∷ []) × (new ≡ start)
+Stepped bytes byte (Err why) new = IsRefused (bytes ++ byte ∷ []) (length bytes) why × (new ≡ start)
+
+-- Behind these bytes more bytes give this answer.
+abbrev pub Ran : (bytes more : List ℕ) → Run → (new : JudgeState) → Type 0
+Ran bytes more run.Open new = StandsFor new (bytes ++ more)
+Ran bytes more (run.Ended taken) new = (0 < taken) × (taken ≤ length more) × IsMessage (bytes ++ take taken more) × (new ≡ start)
+Ran bytes more (run.Refused at why) new = (at < length more) × IsRefused (bytes ++ take (suc at) more) (length bytes + at) why × (new ≡ start)
+
+-- How many bytes that takes.
+abbrev pub taken_by : (more : List ℕ) → Run → ℕ
+taken_by more run.Open = length more
+taken_by more (run.Ended taken) = taken
+taken_by more (run.Refused at why) = suc at
+
+-- How many levels are open: the frame, the fields, and those that the openers lead into.
+abbrev pub levels_of : Role → List Opener → ℕ
+levels_of first_control openers = 1
+levels_of second_control openers = 1
+levels_of (first_size high low) openers = 1
+levels_of (low_size high low) openers = 1
+levels_of (high_size high low size_low) openers = 1
+levels_of free openers = 1
+levels_of digit openers = 1
+levels_of (in_fields role left) openers = 2 + length openers
+
+abbrev pub HasLevels : (bytes : List ℕ) → ℕ → Type 0
+HasLevels bytes levels = (openers : List Opener) × (role : Role) × Position shortest openers bytes role × (levels ≡ levels_of role openers)
+
+-- The levels with bytes to come, once those are left that are full.
+abbrev pub unfilled : (left : ℕ) → (outer : List ℕ) → Option (ℕ × List ℕ)
+unfilled zero [] = None
+unfilled zero (k ∷ ks) = unfilled k ks
+unfilled (suc left) outer = Some (suc left, outer)
+
+abbrev pub Closes : (left : ℕ) → (old new : List ℕ) → Option ℕ → Type 0
+Closes left old new None = unfilled left old ≡ None
+Closes left old new (Some n) = unfilled left old ≡ Some (n, new)
+
+-- Behind a complete item: the next one, or the end of the message.
+abbrev pub Settles : (new : List ℕ) → (bytes : List ℕ) → Option Goes → Type 0
+Settles new bytes None = IsFull shortest bytes
+Settles new bytes (Some goes) = Where shortest goes.at goes.left new bytes
+
+abbrev pub Judges : At → (left : ℕ) → (old new bytes : List ℕ) → (byte : ℕ) → Result (Option Goes) Why → Type 0
+Judges at left old new bytes byte (Ok settled) = (fault shortest (role_of at left (depth_of old)) byte ≡ None) × Settles new (bytes ++ byte ∷ []) settled
+Judges at left old new bytes byte (Err why) = fault shortest (role_of at left (depth_of old)) byte ≡ Some why
+
+-- Any so many bytes lead from one part of a message to another, in the same level.
+abbrev pub PassesOver : At → (left : ℕ) → (to : At) → (less count : ℕ) → Type 0
+PassesOver at left to less count =
+    (outer bytes more : List ℕ) → AreBytes more → length more ≡ count →
+    StandsFor (record { at = at; left = left; outer = outer }) bytes → StandsFor (record { at = to; left = less; outer = outer }) (bytes ++ more)
+
+-- The judge has taken this front of more bytes, and no message ends in it.
+abbrev pub Skips : (old new : JudgeState) → (more : List ℕ) → Type 0
+Skips old new more = (bytes : List ℕ) → StandsFor old bytes → StandsFor new (bytes ++ more)

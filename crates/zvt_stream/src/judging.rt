@@ -1,0 +1,287 @@
+//! The judge of a line's bytes, each looked at once.
+
+ghost use Rattle.std.specs.Prelude.{◌≡◌, ℕ, ◌+◌, ◌<◌, ◌≤◌, List, [], ◌∷◌, ◌++◌, false, length, take, reverse, IfSome};
+ghost use Rattle.zvt_spelling.specs.Reading.{shortest};
+ghost use Rattle.zvt_stream.specs.Standing.{Where, Between};
+ghost use Rattle.zvt_stream.specs.Judge.{start, StandsFor, HasLevels, Stepped, Ran, taken_by, Closes, Settles, Judges, PassesOver, Skips};
+ghost use Rattle.zvt_stream.specs.Moves.{IsReady};
+
+use crate::moves::{At, Move, judge_byte};
+use crate::steps::Steps;
+use arrayvec::ArrayVec;
+use std::marker::Model;
+use zvt_spelling::Why;
+use zvt_tlv::TagAt;
+
+/// What a judged byte leaves.
+#[derive(Clone, Copy, Debug, PartialEq, Eq)]
+pub enum Judged {
+    /// The bytes begin a message and hold none.
+    Open,
+    /// The bytes are a message.
+    Ended,
+}
+
+/// What judged bytes leave.
+#[derive(Clone, Copy, Debug, PartialEq, Eq)]
+pub enum Run {
+    /// All were judged, and they begin a message and hold none.
+    Open,
+    /// The first `taken` of them end a message.
+    Ended { taken: usize },
+    /// No message begins with the bytes up to and with the one at `at`.
+    Refused { at: usize, why: Why },
+}
+
+/// Where a message goes on: the part of the next byte, and how many bytes of its level are to come.
+#[derive(Clone, Copy)]
+pub(crate) struct Goes {
+    at: At,
+    left: usize,
+}
+
+/// What bytes without tests leave of a content, and how many they are.
+#[derive(Clone, Copy)]
+pub(crate) struct Passed {
+    at: At,
+    left: usize,
+    count: usize,
+}
+
+/// What the bytes of an unfinished message leave open: the part that the next byte plays, and for each open level, the
+/// frame, the fields, a container and the objects in one another, how many of its bytes are to come.
+#[derive(Drop)]
+pub struct Judge {
+    at: At,
+    /// The bytes of the innermost level that are to come.
+    left: usize,
+    /// For each level around it the bytes that are to come behind the level in it, the frame's first.
+    outer: ArrayVec<usize, 7>,
+}
+
+impl Model for Judge {
+    ghost use Rattle.std.specs.Prelude.{reverse};
+    ghost use Rattle.zvt_stream.specs.Judge.{JudgeState, IsJudge};
+
+    ghost Value = { JudgeState };
+
+    ghost view = { λ j. record { at = j.at; left = j.left; outer = reverse j.outer.items } };
+
+    ghost invariant = { λ j. IsJudge (record { at = j.at; left = j.left; outer = reverse j.outer.items }) };
+}
+
+impl Judge {
+    /// A judge at the start of a message.
+    pub fn new() -> Judge
+        ensures new { result ≡ start }
+        ensures stands { StandsFor result [] }
+    {
+        Judge {
+            at: At::FirstControl,
+            left: 1,
+            outer: ArrayVec::new(),
+        }
+    }
+
+    /// The same judge again.
+    pub fn again(&self) -> Judge
+        ensures { result ≡ self.now }
+    {
+        let mut outer = ArrayVec::new();
+        let _ = outer.try_extend_from_slice(self.outer.as_slice());
+        Judge {
+            at: self.at,
+            left: self.left,
+            outer,
+        }
+    }
+
+    /// How many levels are open, the frame counted.
+    pub fn levels(&self) -> usize
+        ensures { (bytes : List ℕ) → StandsFor self.now bytes → HasLevels bytes result }
+    {
+        1 + self.outer.len()
+    }
+
+    /// Judges the next byte. After the end of a message, and after a refusal, the judge is a new one.
+    pub fn step(&mut self, steps: &mut Steps, byte: u8) -> Result<Judged, Why>
+        ensures judged { (bytes : List ℕ) → StandsFor self.old bytes → Stepped bytes byte result self.new }
+        ensures count { steps.new.judged.count ≡ steps.old.judged.count + 1 }
+    {
+        steps.judged = steps.judged.next();
+        match judge_in(self.at, self.left, &mut self.outer, byte) {
+            Ok(Some(goes)) => {
+                self.at = goes.at;
+                self.left = goes.left;
+                Ok(Judged::Open)
+            }
+            Ok(None) => {
+                *self = Judge::new();
+                Ok(Judged::Ended)
+            }
+            Err(why) => {
+                *self = Judge::new();
+                Err(why)
+            }
+        }
+    }
+
+    // Takes the bytes at the front that have no tests and end nothing: how many they are.
+    fn skip(&mut self, steps: &mut Steps, bytes: &[u8]) -> usize
+        ensures few { result ≤ length bytes.now }
+        ensures judged { Skips self.old self.new (take result bytes.now) }
+        ensures count { steps.new.judged.count ≡ steps.old.judged.count + result }
+    {
+        match pass(self.at, self.left, bytes.len()) {
+            Some(passed) => {
+                self.at = passed.at;
+                self.left = passed.left;
+                steps.raise(passed.count);
+                passed.count
+            }
+            None => 0,
+        }
+    }
+
+    /// Judges bytes up to the end of a message. Bytes of a content that have no tests are taken at once.
+    pub fn run(&mut self, steps: &mut Steps, bytes: &[u8]) -> Run
+        ensures judged { (held : List ℕ) → StandsFor self.old held → Ran held bytes.now result self.new }
+        ensures count { steps.new.judged.count ≡ steps.old.judged.count + taken_by bytes.now result }
+    {
+        let mut taken = 0;
+        while taken < bytes.len() {
+            taken += self.skip(steps, &bytes[taken..]);
+            if taken == bytes.len() {
+                return Run::Open;
+            }
+            match self.step(steps, bytes[taken]) {
+                Ok(Judged::Open) => taken += 1,
+                Ok(Judged::Ended) => return Run::Ended { taken: taken + 1 },
+                Err(why) => return Run::Refused { at: taken, why },
+            }
+        }
+        Run::Open
+    }
+}
+
+/// Judges a byte, and opens and leaves levels: where the message goes on, or none where it has ended.
+fn judge_in(
+    at: At,
+    left: usize,
+    outer: &mut ArrayVec<usize, 7>,
+    byte: u8,
+) -> Result<Option<Goes>, Why>
+    requires { (bytes : List ℕ) × Where shortest at left (reverse outer.old.items) bytes }
+    ensures { (bytes : List ℕ) → Where shortest at left (reverse outer.old.items) bytes → Judges at left (reverse outer.old.items) (reverse outer.new.items) bytes byte result }
+{
+    match judge_byte(at, left, outer.len().saturating_sub(1), byte) {
+        Ok(Move::Within { at, left }) => Ok(Some(Goes { at, left })),
+        Ok(Move::Ends { left }) => Ok(settle(left, outer)),
+        Ok(Move::Opens { behind, left }) => {
+            outer.push(behind);
+            Ok(settle(left, outer))
+        }
+        Err(why) => Err(why),
+    }
+}
+
+/// The most bytes that are next without tests and end nothing, at most so many: none where there is no such byte.
+fn pass(at: At, left: usize, most: usize) -> Option<Passed>
+    requires { IsReady at left }
+    ensures { IfSome result (λ passed. (passed.count ≤ most) × PassesOver at left passed.at passed.left passed.count) }
+{
+    match at {
+        At::Payload => pass_payload(left, most),
+        At::Content { digits, more } => {
+            if digits {
+                return None;
+            }
+            pass_content(more, left, most)
+        }
+        At::Object { more } => pass_object(more, left, most),
+        _ => None,
+    }
+}
+
+fn pass_payload(left: usize, most: usize) -> Option<Passed>
+    requires { 0 < left }
+    ensures { IfSome result (λ passed. (passed.count ≤ most) × PassesOver At.Payload left passed.at passed.left passed.count) }
+{
+    let count = (left - 1).min(most);
+    if count == 0 {
+        return None;
+    }
+    Some(Passed {
+        at: At::Payload,
+        left: left - count,
+        count,
+    })
+}
+
+fn pass_content(more: usize, left: usize, most: usize) -> Option<Passed>
+    requires some { 0 < more }
+    requires room { more ≤ left }
+    ensures { IfSome result (λ passed. (passed.count ≤ most) × PassesOver (At.Content false more) left passed.at passed.left passed.count) }
+{
+    let count = (more - 1).min(most);
+    if count == 0 {
+        return None;
+    }
+    Some(Passed {
+        at: At::Content {
+            digits: false,
+            more: more - count,
+        },
+        left: left - count,
+        count,
+    })
+}
+
+fn pass_object(more: usize, left: usize, most: usize) -> Option<Passed>
+    requires some { 0 < more }
+    requires room { more ≤ left }
+    ensures { IfSome result (λ passed. (passed.count ≤ most) × PassesOver (At.Object more) left passed.at passed.left passed.count) }
+{
+    let count = (more - 1).min(most);
+    if count == 0 {
+        return None;
+    }
+    Some(Passed {
+        at: At::Object { more: more - count },
+        left: left - count,
+        count,
+    })
+}
+
+/// Goes on in the innermost level that has bytes to come.
+fn settle(left: usize, outer: &mut ArrayVec<usize, 7>) -> Option<Goes>
+    ensures { (bytes : List ℕ) → Between shortest left (reverse outer.old.items) bytes → Settles (reverse outer.new.items) bytes result }
+{
+    match close(left, outer) {
+        Some(left) => {
+            if outer.len() == 1 {
+                Some(Goes { at: At::Name, left })
+            } else {
+                Some(Goes {
+                    at: At::Tag(TagAt::First),
+                    left,
+                })
+            }
+        }
+        None => None,
+    }
+}
+
+/// Leaves the levels that are full: how many bytes are to come of the innermost other one, or none where all are full.
+fn close(left: usize, outer: &mut ArrayVec<usize, 7>) -> Option<usize>
+    ensures { Closes left (reverse outer.old.items) (reverse outer.new.items) result }
+{
+    let mut open = left;
+    while open == 0 {
+        match outer.pop() {
+            Some(behind) => open = behind,
+            None => return None,
+        }
+    }
+    Some(open)
+}

@@ -1,0 +1,335 @@
+//! What one byte leads to.
+
+ghost use Rattle.std.specs.Prelude.{◌≡◌, ℕ, ◌+◌, ◌<◌, ◌≤◌, ◌^◌, List, Ok, Err};
+ghost use Rattle.zvt_stream.specs.Moves.{BeginsData, IsReady, Judges};
+ghost use Rattle.zvt_stream.specs.Standing.{HasDigits};
+
+use zvt_apdu::judge_size;
+use zvt_field::Shape;
+use zvt_field::judging::{judge_content, judge_digit, judge_name};
+use zvt_spelling::Why;
+use zvt_tlv::{LengthAt, LengthNext, Lengths, TagAt, TagNext, judge_length, judge_tag};
+
+/// What part the next byte plays, and what its tests need to know of the bytes before it.
+#[derive(Clone, Copy)]
+pub(crate) enum At {
+    FirstControl,
+    SecondControl { high: u8 },
+    FirstSize { high: u8, low: u8 },
+    LowSize { high: u8, low: u8 },
+    HighSize { high: u8, low: u8, size_low: u8 },
+    /// A byte of data in which no fields stand.
+    Payload,
+    /// A byte before the fields: so many bytes of any value and then so many of digits are to come.
+    Head { free: usize, digits: usize },
+    /// The name of a field.
+    Name,
+    /// A digit of a field's length, with so many digits after it and that number before it.
+    Digit { more: usize, before: usize },
+    /// A byte of a field's content, of which so many are to come.
+    Content { digits: bool, more: usize },
+    /// A byte of a container's length.
+    Container(LengthAt),
+    /// A byte of an object's tag.
+    Tag(TagAt),
+    /// A byte of an object's length.
+    Length { nests: bool, at: LengthAt },
+    /// A byte of an object's content, of which so many are to come.
+    Object { more: usize },
+}
+
+/// What a byte leads to. `left` counts the bytes of the innermost level that are to come.
+#[derive(Clone, Copy)]
+pub(crate) enum Move {
+    /// Another byte of the same item.
+    Within { at: At, left: usize },
+    /// The end of an item.
+    Ends { left: usize },
+    /// A level inside of the item, and so many bytes of the item's own level behind it.
+    Opens { behind: usize, left: usize },
+}
+
+/// Judges a byte. `left` counts the bytes of the innermost level from this byte on, and `depth` the levels of objects.
+pub(crate) fn judge_byte(at: At, left: usize, depth: usize, byte: u8) -> Result<Move, Why>
+    requires { IsReady at left }
+    ensures { Judges at left depth byte result }
+{
+    match at {
+        At::FirstControl => Ok(Move::Within {
+            at: At::SecondControl { high: byte },
+            left,
+        }),
+        At::SecondControl { high } => Ok(Move::Within {
+            at: At::FirstSize { high, low: byte },
+            left,
+        }),
+        At::FirstSize { high, low } => judge_first_size(high, low, left, byte),
+        At::LowSize { high, low } => Ok(Move::Within {
+            at: At::HighSize {
+                high,
+                low,
+                size_low: byte,
+            },
+            left,
+        }),
+        At::HighSize {
+            high,
+            low,
+            size_low,
+        } => judge_high_size(high, low, size_low, byte),
+        At::Payload => judge_payload(left),
+        At::Head { free, digits } => judge_head(free, digits, left, byte),
+        At::Name => judge_field(left, byte),
+        At::Digit { more, before } => judge_count(more, before, left, byte),
+        At::Content { digits, more } => judge_field_content(digits, more, left, byte),
+        At::Container(at) => judge_container(at, left, byte),
+        At::Tag(at) => judge_object_tag(at, left, depth, byte),
+        At::Length { nests, at } => judge_object_length(nests, at, left, byte),
+        At::Object { more } => judge_object_content(more, left),
+    }
+}
+
+fn judge_first_size(high: u8, low: u8, left: usize, byte: u8) -> Result<Move, Why>
+    ensures { (depth : ℕ) → Judges (At.FirstSize high low) left depth byte result }
+{
+    if byte == 0xFF {
+        return Ok(Move::Within {
+            at: At::LowSize { high, low },
+            left,
+        });
+    }
+    begin_data(high, low, usize::from(byte))
+}
+
+fn judge_high_size(high: u8, low: u8, size_low: u8, byte: u8) -> Result<Move, Why>
+    ensures { (left depth : ℕ) → Judges (At.HighSize high low size_low) left depth byte result }
+{
+    let size = 256 * usize::from(byte) + usize::from(size_low);
+    if size < 255 {
+        return Err(Why::NotShortest);
+    }
+    begin_data(high, low, size)
+}
+
+/// Data of that size begins.
+fn begin_data(high: u8, low: u8, size: usize) -> Result<Move, Why>
+    ensures { BeginsData high low size result }
+{
+    let layout = judge_size(high, low, size)?;
+    if size == 0 {
+        return Ok(Move::Ends { left: 0 });
+    }
+    if !layout.fields {
+        return Ok(Move::Within {
+            at: At::Payload,
+            left: size,
+        });
+    }
+    if layout.free + layout.digits == 0 {
+        return Ok(Move::Opens {
+            behind: 0,
+            left: size,
+        });
+    }
+    Ok(Move::Within {
+        at: At::Head {
+            free: layout.free,
+            digits: layout.digits,
+        },
+        left: size,
+    })
+}
+
+fn judge_payload(left: usize) -> Result<Move, Why>
+    requires { 0 < left }
+    ensures { (depth byte : ℕ) → byte < 256 → Judges At.Payload left depth byte result }
+{
+    if left == 1 {
+        return Ok(Move::Ends { left: 0 });
+    }
+    Ok(Move::Within {
+        at: At::Payload,
+        left: left - 1,
+    })
+}
+
+fn judge_head(free: usize, digits: usize, left: usize, byte: u8) -> Result<Move, Why>
+    requires { IsReady (At.Head free digits) left }
+    ensures { (depth : ℕ) → Judges (At.Head free digits) left depth byte result }
+{
+    judge_content(free == 0, byte)?;
+    if free + digits == 1 {
+        return Ok(Move::Opens {
+            behind: 0,
+            left: left - 1,
+        });
+    }
+    if free > 0 {
+        Ok(Move::Within {
+            at: At::Head {
+                free: free - 1,
+                digits,
+            },
+            left: left - 1,
+        })
+    } else {
+        Ok(Move::Within {
+            at: At::Head {
+                free: 0,
+                digits: digits - 1,
+            },
+            left: left - 1,
+        })
+    }
+}
+
+fn judge_field(left: usize, byte: u8) -> Result<Move, Why>
+    requires { 2 ≤ left }
+    ensures { (depth : ℕ) → Judges At.Name left depth byte result }
+{
+    let shape = judge_name(left - 1, byte)?;
+    let left = left - 1;
+    match shape {
+        Shape::Fixed(more) => Ok(Move::Within {
+            at: At::Content {
+                digits: false,
+                more,
+            },
+            left,
+        }),
+        Shape::Digits(more) => Ok(Move::Within {
+            at: At::Content { digits: true, more },
+            left,
+        }),
+        Shape::Ll => Ok(Move::Within {
+            at: At::Digit { more: 1, before: 0 },
+            left,
+        }),
+        Shape::Lll => Ok(Move::Within {
+            at: At::Digit { more: 2, before: 0 },
+            left,
+        }),
+        Shape::Tree => Ok(Move::Within {
+            at: At::Container(LengthAt::First),
+            left,
+        }),
+    }
+}
+
+fn judge_count(more: usize, before: usize, left: usize, byte: u8) -> Result<Move, Why>
+    requires { HasDigits more before left }
+    ensures { (depth : ℕ) → Judges (At.Digit more before) left depth byte result }
+{
+    let number = judge_digit(more, before, left - 1, byte)?;
+    if more > 0 {
+        return Ok(Move::Within {
+            at: At::Digit {
+                more: more - 1,
+                before: number,
+            },
+            left: left - 1,
+        });
+    }
+    if number == 0 {
+        return Ok(Move::Ends { left: left - 1 });
+    }
+    Ok(Move::Within {
+        at: At::Content {
+            digits: false,
+            more: number,
+        },
+        left: left - 1,
+    })
+}
+
+fn judge_field_content(digits: bool, more: usize, left: usize, byte: u8) -> Result<Move, Why>
+    requires { IsReady (At.Content digits more) left }
+    ensures { (depth : ℕ) → Judges (At.Content digits more) left depth byte result }
+{
+    judge_content(digits, byte)?;
+    if more == 1 {
+        return Ok(Move::Ends { left: left - 1 });
+    }
+    Ok(Move::Within {
+        at: At::Content {
+            digits,
+            more: more - 1,
+        },
+        left: left - 1,
+    })
+}
+
+fn judge_container(at: LengthAt, left: usize, byte: u8) -> Result<Move, Why>
+    requires { 1 ≤ left }
+    ensures { (depth : ℕ) → Judges (At.Container at) left depth byte result }
+{
+    match judge_length(at, left - 1, true, byte, Lengths::Shortest)? {
+        LengthNext::More(at) => Ok(Move::Within {
+            at: At::Container(at),
+            left: left - 1,
+        }),
+        LengthNext::Done(size) => Ok(Move::Opens {
+            behind: left - 1 - size,
+            left: size,
+        }),
+    }
+}
+
+fn judge_object_tag(at: TagAt, left: usize, depth: usize, byte: u8) -> Result<Move, Why>
+    requires { 2 ≤ left }
+    ensures { Judges (At.Tag at) left depth byte result }
+{
+    match judge_tag(at, left - 1, depth, byte, Lengths::Shortest)? {
+        TagNext::More(at) => Ok(Move::Within {
+            at: At::Tag(at),
+            left: left - 1,
+        }),
+        TagNext::Done { constructed } => Ok(Move::Within {
+            at: At::Length {
+                nests: constructed,
+                at: LengthAt::First,
+            },
+            left: left - 1,
+        }),
+    }
+}
+
+fn judge_object_length(nests: bool, at: LengthAt, left: usize, byte: u8) -> Result<Move, Why>
+    requires { 1 ≤ left }
+    ensures { (depth : ℕ) → Judges (At.Length nests at) left depth byte result }
+{
+    match judge_length(at, left - 1, nests, byte, Lengths::Shortest)? {
+        LengthNext::More(at) => Ok(Move::Within {
+            at: At::Length { nests, at },
+            left: left - 1,
+        }),
+        LengthNext::Done(size) => {
+            if nests {
+                return Ok(Move::Opens {
+                    behind: left - 1 - size,
+                    left: size,
+                });
+            }
+            if size == 0 {
+                return Ok(Move::Ends { left: left - 1 });
+            }
+            Ok(Move::Within {
+                at: At::Object { more: size },
+                left: left - 1,
+            })
+        }
+    }
+}
+
+fn judge_object_content(more: usize, left: usize) -> Result<Move, Why>
+    requires { IsReady (At.Object more) left }
+    ensures { (depth byte : ℕ) → byte < 256 → Judges (At.Object more) left depth byte result }
+{
+    if more == 1 {
+        return Ok(Move::Ends { left: left - 1 });
+    }
+    Ok(Move::Within {
+        at: At::Object { more: more - 1 },
+        left: left - 1,
+    })
+}
