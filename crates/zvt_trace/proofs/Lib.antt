@@ -1,4 +1,5 @@
 pub mod AuditLemmas
+pub mod BlockLemmas
 pub mod EndLemmas
 pub mod HeardLemmas
 pub mod InputLemmas

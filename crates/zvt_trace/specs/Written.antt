@@ -1,5 +1,5 @@
 -- What the commands answer and write.
-use Rattle.std.specs.Prelude.{◌≡◌, ℕ, ◌<◌, ◌≤◌, ◌++◌, false, List, length, Option, IfSome, Result, Ok, Err, Vec}
+use Rattle.std.specs.Prelude.{◌≡◌, ℕ, ◌<◌, ◌≤◌, ◌++◌, false, List, length, Option, None, Some, IfSome, Result, Ok, Err, Vec}
 use Rattle.std.specs.Global.{Global}
 use Rattle.std.specs.Io.KnownBytes.{Appends, Consumes, IsAtEnd, Keeps}
 use Rattle.std.specs.Str.Lines.{lines}
@@ -111,6 +111,13 @@ WritesEnd style sides old new (Err Memory) = Unit {0}
 WritesEnd style sides old new (Err (Line broken)) = ⊥
 WritesEnd style sides old new (Err (BadStep at)) = ⊥
 WritesEnd style sides old new (Err Net) = ⊥
+
+-- ---- blocks
+
+-- what the device has once it has the block too
+abbrev pub behind : Option (List ℕ) → List ℕ → Option (List ℕ)
+behind None block = None
+behind (Some bytes) block = Some (bytes ++ block)
 
 -- ---- what a command answers
 

@@ -309,7 +309,7 @@ impl Sink for Full {
 
 #[test]
 fn a_write_that_fails_is_told(rt: HostRuntime) {
-    for writes_left in 0..2 {
+    for writes_left in 0..1 {
         let mut reader = Over::new("< 80 00 00\n< 80 00 00\n".as_bytes());
         let mut writer = Full {
             writes_left,

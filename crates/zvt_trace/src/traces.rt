@@ -1,12 +1,12 @@
 //! A whole trace as text.
 ghost use Rattle.std.specs.String.{string_bytes};
-ghost use Rattle.std.specs.Prelude.{[], ◌∷◌, ◌==◌, ◌≡◌, ◌<◌, ◌≤◌, ◌+◌, length, Err, Ok, IfErr, IfOk, IfSome, OnOk};
+ghost use Rattle.std.specs.Prelude.{[], ◌∷◌, ◌==◌, ◌≡◌, ◌<◌, ◌≤◌, ◌+◌, ℕ, length, List, Option, Err, Ok, Some, IfErr, IfOk, IfSome, OnErr, OnOk};
 ghost use Rattle.std.specs.Io.KnownBytes.{Appends, Keeps};
 ghost use Rattle.zvt_io.specs.Devices.{CountsFailure};
 ghost use Rattle.std.specs.List.{position};
 ghost use Rattle.std.specs.Str.Lines.{lines, strip_carriage_return};
 ghost use Rattle.zvt_trace.specs.Trace.{Sides};
-ghost use Rattle.zvt_trace.specs.Written.{AnswersLines, AnswersTrace, Follow, WritesEnd, WritesLine, limit};
+ghost use Rattle.zvt_trace.specs.Written.{AnswersLines, AnswersTrace, Follow, WritesEnd, WritesLine, behind, limit};
 ghost use Rattle.zvt_trace.specs.declared.style.Style.TheVariants.{Join, Receipts, Show};
 
 use crate::fault::{Tally, ToolFault};
@@ -62,8 +62,11 @@ pub fn receipts<R: Source, W: Sink>(
     write_lines(alloc, Style::Receipts, trace.as_slice(), writer)
 }
 
+/// The size from which a block of text is written.
+const BLOCK: usize = 65_536;
+
 /// Writes the text of the lines of a trace, up to the first that can't be read, and what is cut off
-/// at the end.
+/// at the end. The text goes out in blocks of whole lines.
 fn write_lines<W: Sink>(
     alloc: Global,
     style: Style,
@@ -74,47 +77,69 @@ fn write_lines<W: Sink>(
     ensures writes { AnswersLines style (lines trace.now) (W.written writer.old) (W.written writer.new) result }
     ensures write { result ≡ Err ToolFault.Write → W.failures writer.old < W.failures writer.new }
 {
+    let mut block = String::new(alloc);
+    let answer = write_blocks(alloc, style, trace, &mut block, writer);
+    flush(&mut block, writer)?;
+    answer
+}
+
+/// Writes the text of the lines in blocks. The last block is left to the caller, as is the one before a fault: it is
+/// empty where the fault is a failed write.
+fn write_blocks<W: Sink>(
+    alloc: Global,
+    style: Style,
+    trace: &[u8],
+    block: &mut String,
+    writer: &mut W,
+) -> Result<Tally, ToolFault>
+    requires bound { length trace.now ≤ limit }
+    requires empty { string_bytes block.old ≡ [] }
+    ensures writes { AnswersLines style (lines trace.now) (W.written writer.old) (behind (W.written writer.new) (string_bytes block.new)) result }
+    ensures write { result ≡ Err ToolFault.Write → W.failures writer.old < W.failures writer.new }
+    ensures least { W.failures writer.old ≤ W.failures writer.new }
+{
     let mut tally = Tally::none();
     let mut streams = Streams::new(alloc);
     let mut text = String::new(alloc);
     let mut rest = trace;
     let mut number = 0;
     'lines: while !rest.is_empty() {
+        make_room(block, writer)?;
         let (content, after) = next_line(rest);
         number += 1;
-        let counted = write_line(
+        let counted = add_line(
             alloc,
             &mut text,
             style,
             &mut streams,
             number,
             content,
-            writer,
+            block,
         )?;
         tally.messages += counted.messages;
         tally.bad += counted.bad;
         rest = after;
     }
-    let cut_off = write_last(&mut text, style, &streams, writer)?;
+    let cut_off = add_last(&mut text, style, &streams, block)?;
     tally.bad += cut_off.bad;
     Ok(tally)
 }
 
-/// Writes the text of one line.
-fn write_line<W: Sink>(
+/// Adds the text of one line to the block, which stays as it is where there is none.
+fn add_line(
     alloc: Global,
     text: &mut String,
     style: Style,
     streams: &mut Streams,
     number: u64,
     content: &[u8],
-    writer: &mut W,
+    block: &mut String,
 ) -> Result<Tally, ToolFault>
-    ensures writes { (sides : Sides) → Follow streams.old sides → WritesLine style sides number content.now streams.new (W.written writer.old) (W.written writer.new) result }
+    ensures writes { (sides : Sides) → Follow streams.old sides → WritesLine style sides number content.now streams.new (Some (string_bytes block.old)) (Some (string_bytes block.new)) result }
     ensures few { IfOk result (λ tally. tally.messages ≤ length content.now) }
     ensures two { IfOk result (λ tally. tally.bad ≤ 2) }
-    ensures write { result ≡ Err ToolFault.Write → W.failures writer.old < W.failures writer.new }
-    ensures count { IfOk result (λ _. W.failures writer.new ≡ W.failures writer.old) }
+    ensures kept { OnErr result (string_bytes block.new ≡ string_bytes block.old) }
+    ensures written { result ≡ Err ToolFault.Write → ⊥ }
 {
     let line = match read_line(alloc, content) {
         Ok(line) => line,
@@ -123,26 +148,50 @@ fn write_line<W: Sink>(
     };
     text.clear();
     let tally = write_said(alloc, text, style, streams, &line)?;
-    put(text, writer)?;
+    block.push_str(text.as_str())?;
     Ok(tally)
 }
 
-/// Writes which messages are cut off where the trace ends.
-fn write_last<W: Sink>(
+/// Adds to the block which messages are cut off where the trace ends.
+fn add_last(
     text: &mut String,
     style: Style,
     streams: &Streams,
-    writer: &mut W,
+    block: &mut String,
 ) -> Result<Tally, ToolFault>
-    ensures writes { (sides : Sides) → Follow streams.now sides → WritesEnd style sides (W.written writer.old) (W.written writer.new) result }
+    ensures writes { (sides : Sides) → Follow streams.now sides → WritesEnd style sides (Some (string_bytes block.old)) (Some (string_bytes block.new)) result }
     ensures none { IfOk result (λ tally. tally.messages ≡ 0) }
     ensures two { IfOk result (λ tally. tally.bad ≤ 2) }
-    ensures write { result ≡ Err ToolFault.Write → W.failures writer.old < W.failures writer.new }
+    ensures written { result ≡ Err ToolFault.Write → ⊥ }
 {
     text.clear();
     let tally = write_end(text, style, streams)?;
-    put(text, writer)?;
+    block.push_str(text.as_str())?;
     Ok(tally)
+}
+
+/// Writes the block where it is full.
+fn make_room<W: Sink>(block: &mut String, writer: &mut W) -> Result<(), ToolFault>
+    ensures same { OnOk result ((first : Option (List ℕ)) (all : List ℕ) → Appends first (behind (W.written writer.old) (string_bytes block.old)) all → Appends first (behind (W.written writer.new) (string_bytes block.new)) all) }
+    ensures fault { IfErr result (λ fault. fault ≡ ToolFault.Write) }
+    ensures failures { CountsFailure (W.failures writer.old) (W.failures writer.new) result }
+{
+    if block.len() < BLOCK {
+        return Ok(());
+    }
+    flush(block, writer)
+}
+
+/// Writes the block to the device and empties it, also where the write fails.
+fn flush<W: Sink>(block: &mut String, writer: &mut W) -> Result<(), ToolFault>
+    ensures bytes { OnOk result (Appends (W.written writer.old) (W.written writer.new) (string_bytes block.old)) }
+    ensures fault { IfErr result (λ fault. fault ≡ ToolFault.Write) }
+    ensures failures { CountsFailure (W.failures writer.old) (W.failures writer.new) result }
+    ensures empty { string_bytes block.new ≡ [] }
+{
+    let answer = put(block, writer);
+    block.clear();
+    answer
 }
 
 /// Writes the text to the device.
