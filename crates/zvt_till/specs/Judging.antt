@@ -1,5 +1,5 @@
 -- What is known of a log that is judged from the left.
-use Rattle.std.specs.Prelude.{◌≡◌, ℕ, Bool, true, false, List, [], ◌∷◌, ◌++◌, Option, Some, None, map, fold}
+use Rattle.std.specs.Prelude.{◌≡◌, ℕ, Bool, true, false, List, [], ◌∷◌, ◌++◌, Option, Some, None, map, fold, nat_eq, slice_index_or}
 use Rattle.std.specs.List.{list_any}
 use Rattle.zvt_till.specs.declared.happenings.Happening.{Happening}
 use Rattle.zvt_till.specs.declared.happenings.Sent.{Sent}
@@ -27,6 +27,10 @@ rows_value rows = map row_value rows
 
 abbrev pub books_value : BooksFound → Books
 books_value found = record { booked = rows_value found.booked.items; unclear = found.unclear.items }
+
+-- each number is marked that some row has, and no other
+abbrev pub Marks : List BookedRow → List Bool → Type 0
+Marks rows marks = (number : ℕ) → slice_index_or marks number false ≡ list_any (λ (row : BookedRow). nat_eq row.trace number) rows
 
 -- rows as a book of which nothing was taken back
 abbrev pub as_book : List Booked → List Entry

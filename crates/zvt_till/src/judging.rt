@@ -1,10 +1,10 @@
 //! A log's payments, judged one after another.
-ghost use Rattle.std.specs.Prelude.{◌≡◌, ◌++◌, ◌∷◌, [], ◌||◌, List, OnOk, IfOk, nat_eq};
+ghost use Rattle.std.specs.Prelude.{◌≡◌, ℕ, ◌++◌, ◌∷◌, [], ◌||◌, List, OnOk, IfOk, false, nat_eq, slice_index_or};
 ghost use Rattle.std.specs.List.{list_any};
 ghost use Rattle.zvt_till.specs.Segments.{begun, is_positive, status_of};
 ghost use Rattle.zvt_till.specs.Books.{books};
 ghost use Rattle.zvt_till.specs.Outcomes.{note_if, outcome_by};
-ghost use Rattle.zvt_till.specs.Judging.{rows_value, books_value, as_book, written, paying, opened, IsJudged};
+ghost use Rattle.zvt_till.specs.Judging.{rows_value, books_value, as_book, written, paying, opened, IsJudged, Marks};
 
 use crate::happenings::{Happening, Sent, ends};
 use crate::orders::Order;
@@ -30,6 +30,8 @@ pub struct Books {
     pub booked: Vec<Booked>,
     /// The payments of which it is not known whether they happened, in the order in which they were sent.
     pub unclear: Vec<(Amount, Cause)>,
+    /// By trace number, whether some row has it. No row has a number behind the last.
+    pub(crate) marks: Vec<bool>,
 }
 
 /// A payment without an end so far: whether a positive answer came, and what its statuses say.
@@ -66,10 +68,26 @@ fn opened(order: &Sent) -> Option<OpenPayment>
 }
 
 /// Whether some row has this trace number.
-fn is_booked(trace: Trace, rows: &[Booked]) -> bool
+fn is_booked(trace: Trace, rows: &[Booked], marks: &[bool]) -> bool
+    requires { Marks rows.now marks.now }
     ensures { result ≡ list_any (λ row. nat_eq row.trace trace) rows.now }
 {
-    rows.iter().any(|row| row.trace == trace)
+    match marks.get(trace.get() as usize) {
+        Some(marked) => *marked,
+        None => false,
+    }
+}
+
+/// Marks the number.
+fn mark(marks: &mut Vec<bool>, trace: Trace) -> Result<(), AllocError>
+    ensures { OnOk result ((number : ℕ) → slice_index_or marks.new.items number false ≡ (nat_eq trace number || slice_index_or marks.old.items number false)) }
+{
+    let number = trace.get() as usize;
+    if marks.len() <= number {
+        marks.resize(number + 1, false)?;
+    }
+    marks[number] = true;
+    Ok(())
 }
 
 impl OpenPayment {
@@ -94,12 +112,13 @@ impl OpenPayment {
     }
 
     /// How the payment ends by this, after these rows.
-    fn outcome(&self, rows: &[Booked], happening: &Happening) -> Outcome
+    fn outcome(&self, rows: &[Booked], marks: &[bool], happening: &Happening) -> Outcome
+        requires { Marks rows.now marks.now }
         ensures { result ≡ outcome_by (as_book (rows_value rows.now)) (Order.Pay self.now.amount) self.now.statuses happening.now }
     {
         let outcome = outcome_by(&[], &Order::Pay(self.amount), &self.statuses, happening);
         if let Outcome::Paid { trace, .. } = &outcome {
-            if is_booked(*trace, rows) {
+            if is_booked(*trace, rows, marks) {
                 return Outcome::Unclear(Cause::TraceUsed);
             }
         }
@@ -110,24 +129,31 @@ impl OpenPayment {
 impl Books {
     /// No rows.
     pub(crate) fn new(alloc: Global) -> Books
-        ensures { books_value result ≡ books [] }
+        ensures none { books_value result ≡ books [] }
+        ensures marked { Marks result.booked.items result.marks.items }
     {
         Books {
             booked: Vec::new(alloc),
             unclear: Vec::new(alloc),
+            marks: Vec::new(alloc),
         }
     }
 
     /// Writes down what a payment of this amount came to.
     fn write(&mut self, amount: Amount, outcome: &Outcome) -> Result<(), AllocError>
-        ensures { OnOk result (books_value self.new ≡ written (books_value self.old) amount outcome.now) }
+        requires { Marks self.old.booked.items self.old.marks.items }
+        ensures written { OnOk result (books_value self.new ≡ written (books_value self.old) amount outcome.now) }
+        ensures marked { OnOk result (Marks self.new.booked.items self.new.marks.items) }
     {
         match outcome {
-            Outcome::Paid { trace, receipt } => self.booked.push(Booked {
-                amount,
-                trace: *trace,
-                receipt: *receipt,
-            })?,
+            Outcome::Paid { trace, receipt } => {
+                mark(&mut self.marks, *trace)?;
+                self.booked.push(Booked {
+                    amount,
+                    trace: *trace,
+                    receipt: *receipt,
+                })?;
+            }
             Outcome::Unclear(cause) => self.unclear.push((amount, *cause))?,
             _ => {}
         }
@@ -136,7 +162,9 @@ impl Books {
 
     /// Nothing more comes to the payment that runs: without an end it is unfinished.
     pub(crate) fn close(&mut self, running: &Option<OpenPayment>) -> Result<(), AllocError>
-        ensures { OnOk result ((log : List Happening) → IsJudged log (books_value self.old) running.now → books_value self.new ≡ books log) }
+        requires { Marks self.old.booked.items self.old.marks.items }
+        ensures closed { OnOk result ((log : List Happening) → IsJudged log (books_value self.old) running.now → books_value self.new ≡ books log) }
+        ensures marked { OnOk result (Marks self.new.booked.items self.new.marks.items) }
     {
         if let Some(payment) = running {
             self.write(payment.amount, &Outcome::Unclear(Cause::Unfinished))?;
@@ -150,7 +178,9 @@ impl Books {
         running: &Option<OpenPayment>,
         happening: &Happening,
     ) -> Result<Option<OpenPayment>, AllocError>
-        ensures { IfOk result (λ next. (log : List Happening) → IsJudged log (books_value self.old) running.now → IsJudged (log ++ happening.now ∷ []) (books_value self.new) next) }
+        requires { Marks self.old.booked.items self.old.marks.items }
+        ensures marked { OnOk result (Marks self.new.booked.items self.new.marks.items) }
+        ensures judged { IfOk result (λ next. (log : List Happening) → IsJudged log (books_value self.old) running.now → IsJudged (log ++ happening.now ∷ []) (books_value self.new) next) }
     {
         if let Some(order) = begun(happening) {
             self.close(running)?;
@@ -160,7 +190,7 @@ impl Books {
             return Ok(None);
         };
         if ends(payment.positive, happening) {
-            let outcome = payment.outcome(self.booked.as_slice(), happening);
+            let outcome = payment.outcome(self.booked.as_slice(), self.marks.as_slice(), happening);
             self.write(payment.amount, &outcome)?;
             return Ok(None);
         }

@@ -9,4 +9,7 @@ loop-happening-preserved c =
     let happening = c.happening-item.result in
     let item = ap (λ (h : Happening). take c.loop-happening.happening-index log ++ h ∷ []) (sym c.happening-item.is) in
     let longer = ap (λ k. take k log) (add-one c.loop-happening.happening-index) ∙ take-suc log c.loop-happening.happening-index happening c.loop-happening-test.true ∙ item in
-    rw longer (c.in_ok-running.ensures (take c.loop-happening.happening-index log) c.loop-happening.invariant)
+    record {
+      judged = rw longer (c.in_ok-running.ensures.judged (take c.loop-happening.happening-index log) c.loop-happening.invariant.judged);
+      marked = c.in_ok-running.ensures.marked;
+    }

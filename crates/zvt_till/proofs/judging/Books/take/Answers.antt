@@ -3,23 +3,23 @@ use Rattle.zvt_till.specs.Judging.{books_value}
 use Rattle.zvt_till.proofs.BooksLemmas.{judged-order, judged-rest, judged-end, judged-more}
 use Rattle.zvt_till.proofs.judging.Books.take.Goals as goal
 
-pub returns-in-Some : goal.returns-in-Some
-returns-in-Some c log before =
-    rw c.opened.ensures (judged-order log c.args.happening.now c.in-Some.order _ (sym c.begun.ensures ∙ c.in-Some.is) (c.in_ok-close.ensures log before))
+pub returns-in-Some-clause-judged : goal.returns-in-Some-clause-judged
+returns-in-Some-clause-judged c log before =
+    rw c.opened.ensures (judged-order log c.args.happening.now c.in-Some.order _ (sym c.begun.ensures ∙ c.in-Some.is) (c.in_ok-close.ensures.closed log before))
 
-pub returns-in_default-running : goal.returns-in_default-running
-returns-in_default-running c log before =
+pub returns-in_default-running-clause-judged : goal.returns-in_default-running-clause-judged
+returns-in_default-running-clause-judged c log before =
     let rests = rw c.in_default-running.is at before in
     judged-rest log c.args.happening.now _ (sym c.begun.ensures ∙ c.in_default.is) rests
 
-pub returns-then-ends : goal.returns-then-ends
-returns-then-ends c log before =
+pub returns-then-ends-clause-judged : goal.returns-then-ends-clause-judged
+returns-then-ends-clause-judged c log before =
     let runs = rw c.in-Some-running.is at before in
-    let written = rw (c.outcome-outcome.ensures, c.as_slice.ensures.value) at c.in_ok-write.ensures in
+    let written = rw (c.outcome-outcome.ensures, c.as_slice.ensures.value) at c.in_ok-write.ensures.written in
     rw written (judged-end log c.args.happening.now (books_value c.args.self.now) c.in-Some-running.payment (sym c.begun.ensures ∙ c.in_default.is) (sym c.ends.ensures ∙ c.if-ends.true) runs)
 
-pub returns : goal.returns
-returns c log before =
+pub returns-clause-judged : goal.returns-clause-judged
+returns-clause-judged c log before =
     let runs = rw c.in-Some-running.is at before in
     let next = c.listened.ensures in
     judged-more log c.args.happening.now _ c.in-Some-running.payment _ (sym c.begun.ensures ∙ c.in_default.is) (sym c.ends.ensures ∙ c.if-ends.false) next.amount next.positive next.statuses runs
