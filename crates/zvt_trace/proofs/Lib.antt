@@ -6,5 +6,6 @@ pub mod InputLemmas
 pub mod LineLemmas
 pub mod LinkLemmas
 pub mod PieceLemmas
+pub mod SpelledLemmas
 pub mod TraceLemmas
 pub mod WalkLemmas

@@ -3,6 +3,7 @@ pub mod Audited
 pub mod Booked
 pub mod Lines
 pub mod Meanings
+pub mod Spelled
 pub mod Trace
 pub mod Walks
 pub mod Written

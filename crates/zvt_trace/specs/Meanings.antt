@@ -35,7 +35,7 @@ meaning_of (first ∷ rest) =
 -- the meaning that a line of the code stands for
 abbrev pub meant_by : Line → Meaning
 meant_by code.Remark = remark
-meant_by (code.Piece from bytes) = piece from bytes.items
+meant_by (code.Piece from bytes) = piece from bytes.now
 meant_by code.Lost = lost
 
 -- how many bytes it brings

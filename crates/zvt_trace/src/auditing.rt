@@ -54,12 +54,13 @@ fn add_lines(alloc: Global, log: &mut Vec<Happening>, trace: &[u8]) -> Result<Ta
 {
     let mut tally = Tally::none();
     let mut link = Link::new(alloc);
+    let mut buffer = Vec::new(alloc);
     let mut rest = trace;
     let mut number = 0;
     'lines: while !rest.is_empty() {
         let (content, after) = next_line(rest);
         number += 1;
-        let counted = add_line(alloc, log, &mut link, number, content)?;
+        let counted = add_line(alloc, log, &mut link, &mut buffer, number, content)?;
         tally.messages += counted.messages;
         tally.bad += counted.bad;
         rest = after;
@@ -73,6 +74,7 @@ fn add_line(
     alloc: Global,
     log: &mut Vec<Happening>,
     link: &mut Link,
+    buffer: &mut Vec<u8>,
     number: u64,
     content: &[u8],
 ) -> Result<Tally, ToolFault>
@@ -80,7 +82,7 @@ fn add_line(
     ensures few { IfOk result (λ tally. tally.messages ≤ length content.now) }
     ensures two { IfOk result (λ tally. tally.bad ≤ 2) }
 {
-    let line = match read_line(alloc, content) {
+    let line = match read_line(buffer, content) {
         Ok(line) => line,
         Err(BadLine::Wrong(what)) => return Err(ToolFault::Trace { line: number, what }),
         Err(BadLine::Memory) => return Err(ToolFault::Memory),

@@ -14,6 +14,7 @@ mod link;
 mod message;
 mod piece;
 mod said;
+mod spelled;
 mod streams;
 mod style;
 mod traces;

@@ -5,17 +5,17 @@ ghost use Rattle.zvt_trace.specs.Meanings.{meaning_of, meant_by, piece_of, size_
 ghost use Rattle.zvt_trace.specs.declared.fault.What.{What};
 
 use crate::fault::What;
+use crate::spelled;
 use crate::style::Direction;
-use hex::FromHexError;
-use std::alloc::{AllocError, Global};
+use std::alloc::AllocError;
 
 /// What a line of a trace means.
 #[derive(Drop)]
-pub(crate) enum Line {
+pub(crate) enum Line<'a> {
     /// Nothing.
     Remark,
     /// So many bytes were sent.
-    Piece { from: Direction, bytes: Vec<u8> },
+    Piece { from: Direction, bytes: &'a [u8] },
     /// The line between till and terminal was lost.
     Lost,
 }
@@ -37,42 +37,40 @@ impl From<AllocError> for BadLine {
     }
 }
 
-/// Reads a line, which has lost its line feed.
-pub(crate) fn read_line(alloc: Global, line: &[u8]) -> Result<Line, BadLine>
+/// Reads a line, which has lost its line feed. The bytes of a piece stand in the buffer.
+pub(crate) fn read_line<'a>(buffer: &'a mut Vec<u8>, line: &[u8]) -> Result<Line<'a>, BadLine>
     ensures ok { IfOk result (λ read. meaning_of line.now ≡ Ok (meant_by read)) }
     ensures wrong { (what : What) → result ≡ Err (BadLine.Wrong what) → meaning_of line.now ≡ Err what }
     ensures few { IfOk result (λ read. size_of (meant_by read) ≤ length line.now) }
 {
     match line {
         [] | [b'#', ..] => Ok(Line::Remark),
-        [b'>', text @ ..] => read_piece(alloc, Direction::FromTill, text),
-        [b'<', text @ ..] => read_piece(alloc, Direction::FromTerminal, text),
+        [b'>', text @ ..] => read_piece(buffer, Direction::FromTill, text),
+        [b'<', text @ ..] => read_piece(buffer, Direction::FromTerminal, text),
         [b'!'] => Ok(Line::Lost),
         _ => Err(BadLine::Wrong(What::Form)),
     }
 }
 
-/// Reads the bytes that are spelled in hexadecimal text.
-fn read_piece(alloc: Global, from: Direction, text: &[u8]) -> Result<Line, BadLine>
+/// Reads the bytes that are spelled in hexadecimal text into the buffer, which grows where it is too small for them.
+fn read_piece<'a>(
+    buffer: &'a mut Vec<u8>,
+    from: Direction,
+    text: &[u8],
+) -> Result<Line<'a>, BadLine>
     ensures ok { IfOk result (λ read. piece_of from (decode_of (without_spaces text.now)) ≡ Ok (meant_by read)) }
     ensures wrong { (what : What) → result ≡ Err (BadLine.Wrong what) → piece_of from (decode_of (without_spaces text.now)) ≡ Err what }
     ensures few { IfOk result (λ read. size_of (meant_by read) ≤ length text.now) }
 {
-    let digits = digits(alloc, text)?;
-    match hex::decode(alloc, digits.as_slice()) {
-        Ok(bytes) => Ok(Line::Piece { from, bytes }),
-        Err(FromHexError::OutOfMemory) => Err(BadLine::Memory),
-        Err(_) => Err(BadLine::Wrong(What::Hex)),
+    let most = text.len() / 2;
+    if buffer.len() < most {
+        buffer.resize(most, 0)?;
     }
-}
-
-/// The bytes without their spaces.
-fn digits(alloc: Global, bytes: &[u8]) -> Result<Vec<u8>, AllocError>
-    ensures { IfOk result (λ digits. digits.items ≡ without_spaces bytes.now) }
-{
-    bytes
-        .iter()
-        .copied()
-        .filter(|byte| *byte != b' ')
-        .collect(alloc)
+    match spelled::read(text, buffer.as_mut_slice()) {
+        Some(count) => Ok(Line::Piece {
+            from,
+            bytes: &buffer[..count],
+        }),
+        None => Err(BadLine::Wrong(What::Hex)),
+    }
 }

@@ -35,7 +35,7 @@ impl Link {
         &mut self,
         alloc: Global,
         log: &mut Vec<Happening>,
-        line: &Line,
+        line: &Line<'_>,
     ) -> Result<Tally, AllocError>
         ensures adds { (link : LinkState) → StandsFor self.old link → IfOk result (λ tally. AddsLine link (meant_by line.now) self.new tally log.old.items log.new.items) }
         ensures few { IfOk result (λ tally. tally.messages ≤ size_of (meant_by line.now)) }
@@ -43,7 +43,7 @@ impl Link {
     {
         match line {
             Line::Remark => Ok(Tally::none()),
-            Line::Piece { from, bytes } => self.take_piece(alloc, log, *from, bytes.as_slice()),
+            Line::Piece { from, bytes } => self.take_piece(alloc, log, *from, bytes),
             Line::Lost => {
                 let bad = self.cut_off();
                 add(log, Happening::Lost)?;

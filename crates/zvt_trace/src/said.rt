@@ -19,7 +19,7 @@ pub(crate) fn write_said(
     text: &mut String,
     style: Style,
     streams: &mut Streams,
-    line: &Line,
+    line: &Line<'_>,
 ) -> Result<Tally, AllocError>
     ensures adds { (sides : Sides) → Follow streams.old sides → IfOk result (λ tally. AddsLine style sides (meant_by line.now) streams.new tally (string_bytes text.old) (string_bytes text.new)) }
     ensures few { IfOk result (λ tally. tally.messages ≤ size_of (meant_by line.now)) }
@@ -27,9 +27,7 @@ pub(crate) fn write_said(
 {
     match line {
         Line::Remark => Ok(Tally::none()),
-        Line::Piece { from, bytes } => {
-            write_piece(alloc, text, style, streams, *from, bytes.as_slice())
-        }
+        Line::Piece { from, bytes } => write_piece(alloc, text, style, streams, *from, bytes),
         Line::Lost => {
             let tally = write_end(text, style, streams)?;
             style::lost(text, style)?;

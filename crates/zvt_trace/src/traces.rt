@@ -100,6 +100,7 @@ fn write_blocks<W: Sink>(
 {
     let mut tally = Tally::none();
     let mut streams = Streams::new(alloc);
+    let mut buffer = Vec::new(alloc);
     let mut text = String::new(alloc);
     let mut rest = trace;
     let mut number = 0;
@@ -109,6 +110,7 @@ fn write_blocks<W: Sink>(
         number += 1;
         let counted = add_line(
             alloc,
+            &mut buffer,
             &mut text,
             style,
             &mut streams,
@@ -128,6 +130,7 @@ fn write_blocks<W: Sink>(
 /// Adds the text of one line to the block, which stays as it is where there is none.
 fn add_line(
     alloc: Global,
+    buffer: &mut Vec<u8>,
     text: &mut String,
     style: Style,
     streams: &mut Streams,
@@ -141,7 +144,7 @@ fn add_line(
     ensures kept { OnErr result (string_bytes block.new ≡ string_bytes block.old) }
     ensures written { result ≡ Err ToolFault.Write → ⊥ }
 {
-    let line = match read_line(alloc, content) {
+    let line = match read_line(buffer, content) {
         Ok(line) => line,
         Err(BadLine::Wrong(what)) => return Err(ToolFault::Trace { line: number, what }),
         Err(BadLine::Memory) => return Err(ToolFault::Memory),

@@ -1,0 +1,208 @@
+-- Hexadecimal text, pair by pair.
+use Rattle.std.proofs.Common.{◌≡◌, ◌≢◌, ◌∙◌, sym, ap, refl, arith, ℕ, zero, suc, ◌+◌, ◌-◌, ◌*◌, ◌%◌, ◌<◌, Bool, true, false, ◌⊎◌, inl, inr, List, [], ◌∷◌, ◌++◌, length, take, drop, slice_index, slice_set, ◌&&◌, ◌==◌, ◌≤◌, Option, None, Some, Result, Ok, Err, unwrap_or, append_assoc, append-nil, length-drop}
+use Rattle.std.specs.Prelude.{IsErr, MatchOption}
+use Rattle.std.proofs.lemmas.Bool.{and_parts, cases_eq, cases_lt, eqb-true}
+use Rattle.std.proofs.lemmas.Bool.Decides.{nat_tests}
+use Rattle.std.proofs.lemmas.List.{take_all, take_more_set}
+use Rattle.hex.specs.Hex.{decode_of, decode_pairs, digit_or_error, hex_digit_value, ◌>>=◌}
+use Rattle.hex.specs.declared.error.FromHexError.{FromHexError}
+use Rattle.hex.proofs.HexLemmas.{decode_of-even, decode_of-odd}
+use Rattle.zvt_trace.specs.Meanings.{without_spaces}
+use Rattle.zvt_trace.specs.Spelled.{IsDigit}
+
+-- the bytes of a result
+abbrev pub bytes_in : Result (List ℕ) FromHexError → Option (List ℕ)
+bytes_in (Ok bytes) = Some bytes
+bytes_in (Err e) = None
+
+-- a byte of two digits, before the bytes that follow
+abbrev pub pair_before : Option ℕ → Option ℕ → Option (List ℕ) → Option (List ℕ)
+pair_before None low bytes = None
+pair_before (Some h) None bytes = None
+pair_before (Some h) (Some l) None = None
+pair_before (Some h) (Some l) (Some bytes) = Some ((h * 16 + l) ∷ bytes)
+
+-- the bytes that pairs of digits spell
+unfoldable pub spells : List ℕ → Option (List ℕ)
+spells [] = Some []
+spells (digit ∷ []) = None
+spells (high ∷ low ∷ rest) = pair_before (hex_digit_value high) (hex_digit_value low) (spells rest)
+
+-- bytes that stand before others
+abbrev pub behind_bytes : List ℕ → Option (List ℕ) → Option (List ℕ)
+behind_bytes done None = None
+behind_bytes done (Some bytes) = Some (done ++ bytes)
+
+-- ---- `spells` is the definition of the crate `hex`
+
+pair_result : (c d i : ℕ) (h l : Option ℕ) (r : Result (List ℕ) FromHexError)
+    → bytes_in ((digit_or_error c i h >>= (λ a. digit_or_error d (i + 1) l >>= (λ b. Ok (a * 16 + b)))) >>= (λ byte. r >>= (λ bytes. Ok (byte ∷ bytes))))
+    ≡ pair_before h l (bytes_in r)
+pair_result c d i None l r = refl
+pair_result c d i (Some h) None r = refl
+pair_result c d i (Some h) (Some l) (Ok bytes) = refl
+pair_result c d i (Some h) (Some l) (Err e) = refl
+
+spells-pairs : (i : ℕ) (s : List ℕ) → bytes_in (decode_pairs i s) ≡ spells s
+unfolding decode_pairs spells
+spells-pairs i [] = refl
+spells-pairs i (digit ∷ []) = refl
+spells-pairs i (high ∷ low ∷ rest) =
+    pair_result high low i (hex_digit_value high) (hex_digit_value low) (decode_pairs (i + 2) rest)
+    ∙ ap (pair_before (hex_digit_value high) (hex_digit_value low)) (spells-pairs (i + 2) rest)
+
+no_pair : (h l : Option ℕ) → pair_before h l None ≡ None
+no_pair None l = refl
+no_pair (Some h) None = refl
+no_pair (Some h) (Some l) = refl
+
+spells-odd : (s : List ℕ) → length s % 2 ≡ 1 → spells s ≡ None
+unfolding spells
+spells-odd [] odd = absurd (omega arith)
+spells-odd (digit ∷ []) odd = refl
+spells-odd (high ∷ low ∷ rest) odd =
+    ap (pair_before (hex_digit_value high) (hex_digit_value low)) (spells-odd rest (omega arith)) ∙ no_pair (hex_digit_value high) (hex_digit_value low)
+
+pub spells-decode : (s : List ℕ) → bytes_in (decode_of s) ≡ spells s
+spells-decode s =
+    elim (cases_eq (length s % 2) 1) [
+      | inl odd ↦ ap bytes_in (decode_of-odd s odd) ∙ sym (spells-odd s odd)
+      | inr even ↦ ap bytes_in (decode_of-even s (omega arith)) ∙ spells-pairs 0 s
+    ]
+
+some_in : (r : Result (List ℕ) FromHexError) (bytes : List ℕ) → bytes_in r ≡ Some bytes → r ≡ Ok bytes
+some_in (Ok b) bytes e = cc e
+some_in (Err x) bytes e = cc e
+
+none_in : (r : Result (List ℕ) FromHexError) → bytes_in r ≡ None → IsErr r
+none_in (Ok b) e = cc e
+none_in (Err x) e = refl
+
+-- ---- digits
+
+digit_is : (o : Option ℕ) (v : ℕ) → MatchOption o (15 < v) (λ is. v ≡ is) → v ≤ 15 → o ≡ Some v
+digit_is None v h small = absurd (omega arith)
+digit_is (Some w) v h small = ap Some (sym h)
+
+no_digit : (d v : ℕ) → IsDigit d v → 15 < v → hex_digit_value d ≡ None
+no_digit d v h big = by (hex_digit_value d) refl h
+  where
+    by : (o : Option ℕ) → hex_digit_value d ≡ o → MatchOption o (15 < v) (λ is. v ≡ is) → o ≡ None
+    by None e h = refl
+    by (Some w) e h =
+        let small : w < 16 = grind arith in
+        absurd (omega (arith, h))
+
+-- whether the table has the value of each digit below n
+abbrev pub tells_below : List ℕ → ℕ → Bool
+tells_below table zero = true
+tells_below table (suc n) = slice_index table n == unwrap_or (hex_digit_value n) 255 && tells_below table n
+
+tells_at : (table : List ℕ) (n k : ℕ) → tells_below table n ≡ true → k < n → slice_index table k ≡ unwrap_or (hex_digit_value k) 255
+tells_at table zero k all lt = absurd (omega arith)
+tells_at table (suc n) k all lt =
+    let parts = and_parts (slice_index table n == unwrap_or (hex_digit_value n) 255) (tells_below table n) all in
+    elim (cases_lt k n) [
+      | inl below ↦ tells_at table n k parts.1 below
+      | inr top ↦
+          let e : k ≡ n = omega arith in
+          rw e (eqb-true _ _ parts.0)
+    ]
+
+told : (o : Option ℕ) (v : ℕ) → v ≡ unwrap_or o 255 → MatchOption o (15 < v) (λ is. v ≡ is)
+told None v e = omega arith
+told (Some w) v e = e
+
+pub digit_in : (table : List ℕ) (digit : ℕ) → digit < 256 → tells_below table 256 ≡ true → IsDigit digit (slice_index table digit)
+digit_in table digit lt all = told _ _ (tells_at table 256 digit all lt)
+
+-- ---- the steps of the loop
+
+-- what follows the first byte
+pub tail_is : (text : List ℕ) → take (length text - 1) (drop 1 text) ≡ drop 1 text
+tail_is text = take_all _ _ (rw (length-drop 1 text) (omega arith))
+
+first_kept : (text : List ℕ) → 1 ≤ length text → slice_index text 0 ≢ 32 → without_spaces text ≡ slice_index text 0 ∷ without_spaces (drop 1 text)
+first_kept [] some other = absurd (omega arith)
+first_kept (x ∷ xs) some other =
+    let differs : (x == 32) ≡ false = grind (arith, nat_tests) in
+    rw differs refl
+
+pair_spells : (a b : ℕ) (rest : List ℕ) → spells (a ∷ b ∷ rest) ≡ pair_before (hex_digit_value a) (hex_digit_value b) (spells rest)
+unfolding spells
+pair_spells a b rest = refl
+
+behind_pair : (done : List ℕ) (h l : ℕ) (o : Option (List ℕ)) → behind_bytes (done ++ (h * 16 + l) ∷ []) o ≡ behind_bytes done (pair_before (Some h) (Some l) o)
+behind_pair done h l None = refl
+behind_pair done h l (Some bytes) = ap (λ b. Some b) (append_assoc done ((h * 16 + l) ∷ []) bytes)
+
+two_kept : (rest low next : List ℕ) → 1 ≤ length rest → slice_index rest 0 ≢ 32 → without_spaces low ≡ without_spaces (drop 1 rest)
+    → 1 ≤ length low → slice_index low 0 ≢ 32 → without_spaces next ≡ without_spaces (drop 1 low)
+    → without_spaces rest ≡ slice_index rest 0 ∷ slice_index low 0 ∷ without_spaces next
+two_kept rest low next some other same some_low other_low same_next =
+    first_kept rest some other ∙ ap (λ w. slice_index rest 0 ∷ w) (sym same ∙ first_kept low some_low other_low ∙ ap (λ w. slice_index low 0 ∷ w) (sym same_next))
+
+-- a pair was read
+pub read_pair : (text rest low next room : List ℕ) (count h l : ℕ) → count < length room
+    → 1 ≤ length rest → slice_index rest 0 ≢ 32 → without_spaces low ≡ without_spaces (drop 1 rest)
+    → 1 ≤ length low → slice_index low 0 ≢ 32 → without_spaces next ≡ without_spaces (drop 1 low)
+    → IsDigit (slice_index rest 0) h → IsDigit (slice_index low 0) l → h ≤ 15 → l ≤ 15
+    → behind_bytes (take count room) (spells (without_spaces rest)) ≡ spells (without_spaces text)
+    → behind_bytes (take (count + 1) (slice_set room count (h * 16 + l))) (spells (without_spaces next)) ≡ spells (without_spaces text)
+read_pair text rest low next room count h l fits some other same some_low other_low same_next dh dl sh sl so =
+    let two = two_kept rest low next some other same some_low other_low same_next in
+    let high = digit_is _ h dh sh in
+    let last = digit_is _ l dl sl in
+    let pair : spells (without_spaces rest) ≡ pair_before (Some h) (Some l) (spells (without_spaces next)) =
+    ap spells two ∙ pair_spells _ _ _ ∙ rw (high, last) refl in
+    rw (take_more_set room count (h * 16 + l) fits) (behind_pair (take count room) h l _ ∙ ap (behind_bytes (take count room)) (sym pair) ∙ so)
+
+refused : (done text rest : List ℕ) → spells (without_spaces rest) ≡ None
+    → behind_bytes done (spells (without_spaces rest)) ≡ spells (without_spaces text) → IsErr (decode_of (without_spaces text))
+refused done text rest none so = none_in _ (spells-decode (without_spaces text) ∙ sym so ∙ rw none refl)
+
+no_low : (h : Option ℕ) (rest : Option (List ℕ)) → pair_before h None rest ≡ None
+no_low None rest = refl
+no_low (Some h) rest = refl
+
+-- a pair is none of digits
+pub refuses_pair : (done text rest low : List ℕ) (h l : ℕ) → 1 ≤ length rest → slice_index rest 0 ≢ 32 → without_spaces low ≡ without_spaces (drop 1 rest)
+    → 1 ≤ length low → slice_index low 0 ≢ 32 → IsDigit (slice_index rest 0) h → IsDigit (slice_index low 0) l → (15 < h) ⊎ (h ≤ 15 × 15 < l)
+    → behind_bytes done (spells (without_spaces rest)) ≡ spells (without_spaces text) → IsErr (decode_of (without_spaces text))
+refuses_pair done text rest low h l some other same some_low other_low dh dl big so =
+    let two = two_kept rest low (drop 1 low) some other same some_low other_low refl in
+    let pair = ap spells two ∙ pair_spells _ _ _ in
+    refused done text rest (
+    elim big [
+      | inl high ↦ pair ∙ rw (no_digit (slice_index rest 0) h dh high) refl
+      | inr last ↦ pair ∙ rw (no_digit (slice_index low 0) l dl last.1) (no_low _ _)
+    ]
+    ) so
+
+one_spells : (a : ℕ) (rest : List ℕ) → length rest < 1 → spells (a ∷ rest) ≡ None
+unfolding spells
+one_spells a [] none = refl
+one_spells a (x ∷ xs) none = absurd (omega arith)
+
+no_bytes : (text : List ℕ) → length text < 1 → length (without_spaces text) < 1
+no_bytes [] none = omega arith
+no_bytes (x ∷ xs) none = absurd (omega arith)
+
+-- a digit stands alone
+pub refuses_one : (done text rest low : List ℕ) → 1 ≤ length rest → slice_index rest 0 ≢ 32 → without_spaces low ≡ without_spaces (drop 1 rest) → length low < 1
+    → behind_bytes done (spells (without_spaces rest)) ≡ spells (without_spaces text) → IsErr (decode_of (without_spaces text))
+refuses_one done text rest low some other same none so =
+    let one = ap spells (first_kept rest some other) ∙ one_spells _ _ (rw same at (no_bytes low none)) in
+    refused done text rest one so
+
+-- the text was read
+pub reads_all : (done text rest : List ℕ) → length rest < 1
+    → behind_bytes done (spells (without_spaces rest)) ≡ spells (without_spaces text) → decode_of (without_spaces text) ≡ Ok done
+unfolding spells
+reads_all done text [] none so = some_in _ _ (spells-decode (without_spaces text) ∙ sym so ∙ ap (λ b. Some b) (append-nil done))
+reads_all done text (x ∷ rest) none so = absurd (omega arith)
+
+-- nothing was read yet
+pub reads_none : (o : Option (List ℕ)) → behind_bytes [] o ≡ o
+reads_none None = refl
+reads_none (Some bytes) = refl

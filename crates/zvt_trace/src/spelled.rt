@@ -1,0 +1,68 @@
+//! Bytes that are spelled in hexadecimal text with spaces.
+ghost use Rattle.std.specs.Prelude.{◌≡◌, ◌≢◌, ◌*◌, ◌+◌, ◌≤◌, length, slice_index, take, Ok, IfSome, IsErr, MatchOption};
+ghost use Rattle.hex.specs.Hex.{decode_of};
+ghost use Rattle.zvt_trace.specs.Meanings.{without_spaces};
+ghost use Rattle.zvt_trace.specs.Spelled.{IsDigit};
+
+/// Reads the bytes into the front of the room, and answers how many there are. Where the text is none, the room ends
+/// with anything.
+pub(crate) fn read(text: &[u8], room: &mut [u8]) -> Option<usize>
+    requires { length text.now ≤ 2 * length room.old + 1 }
+    ensures read { MatchOption result (IsErr (decode_of (without_spaces text.now))) (λ count. decode_of (without_spaces text.now) ≡ Ok (take count room.new)) }
+    ensures few { IfSome result (λ count. 2 * count ≤ length text.now) }
+{
+    let mut rest = skip_spaces(text);
+    let mut count = 0;
+    'pairs: while let [high, after @ ..] = rest {
+        let [low, after @ ..] = skip_spaces(after) else {
+            return None;
+        };
+        let high = value(*high);
+        let low = value(*low);
+        if high > 15 || low > 15 {
+            return None;
+        }
+        room[count] = high * 16 + low;
+        count += 1;
+        rest = skip_spaces(after);
+    }
+    Some(count)
+}
+
+/// The text from its first byte that is no space.
+fn skip_spaces(text: &[u8]) -> &[u8]
+    ensures same { without_spaces result.now ≡ without_spaces text.now }
+    ensures none { slice_index result.now 0 ≢ 32 }
+    ensures shorter { length result.now ≤ length text.now }
+{
+    let mut rest = text;
+    'spaces: while let [b' ', after @ ..] = rest {
+        rest = after;
+    }
+    rest
+}
+
+/// The value of a digit, and for what is none a number above 15.
+fn value(digit: u8) -> u8
+    ensures { IsDigit digit result }
+{
+    VALUES[digit as usize]
+}
+
+/// The value of each digit, and 255 for what is none.
+static VALUES: [u8; 256] = [
+    255, 255, 255, 255, 255, 255, 255, 255, 255, 255, 255, 255, 255, 255, 255, 255, 255, 255, 255,
+    255, 255, 255, 255, 255, 255, 255, 255, 255, 255, 255, 255, 255, 255, 255, 255, 255, 255, 255,
+    255, 255, 255, 255, 255, 255, 255, 255, 255, 255, 0, 1, 2, 3, 4, 5, 6, 7, 8, 9, 255, 255, 255,
+    255, 255, 255, 255, 10, 11, 12, 13, 14, 15, 255, 255, 255, 255, 255, 255, 255, 255, 255, 255,
+    255, 255, 255, 255, 255, 255, 255, 255, 255, 255, 255, 255, 255, 255, 255, 255, 10, 11, 12, 13,
+    14, 15, 255, 255, 255, 255, 255, 255, 255, 255, 255, 255, 255, 255, 255, 255, 255, 255, 255,
+    255, 255, 255, 255, 255, 255, 255, 255, 255, 255, 255, 255, 255, 255, 255, 255, 255, 255, 255,
+    255, 255, 255, 255, 255, 255, 255, 255, 255, 255, 255, 255, 255, 255, 255, 255, 255, 255, 255,
+    255, 255, 255, 255, 255, 255, 255, 255, 255, 255, 255, 255, 255, 255, 255, 255, 255, 255, 255,
+    255, 255, 255, 255, 255, 255, 255, 255, 255, 255, 255, 255, 255, 255, 255, 255, 255, 255, 255,
+    255, 255, 255, 255, 255, 255, 255, 255, 255, 255, 255, 255, 255, 255, 255, 255, 255, 255, 255,
+    255, 255, 255, 255, 255, 255, 255, 255, 255, 255, 255, 255, 255, 255, 255, 255, 255, 255, 255,
+    255, 255, 255, 255, 255, 255, 255, 255, 255, 255, 255, 255, 255, 255, 255, 255, 255, 255, 255,
+    255, 255, 255,
+];
