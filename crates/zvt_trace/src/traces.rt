@@ -226,7 +226,7 @@ pub(crate) fn next_line(rest: &[u8]) -> (&[u8], &[u8])
 fn newline(bytes: &[u8]) -> Option<usize>
     ensures { result ≡ position (λ byte. byte == 10) bytes.now }
 {
-    bytes.iter().position(|byte| *byte == b'\n')
+    memchr::memchr(b'\n', bytes)
 }
 
 /// The line without one carriage return at its end.
