@@ -1,63 +1,82 @@
 //! The text of bytes.
-ghost use Rattle.std.specs.Prelude.{◌≡◌, ◌<◌, ◌++◌, true, OnOk};
+ghost use Rattle.std.specs.Prelude.{◌≡◌, ◌<◌, ◌++◌, true, slice_index, OnOk};
+ghost use Rattle.hex.specs.Hex.{encode_upper, upper_digits};
 ghost use Rattle.std.specs.String.{string_bytes};
 ghost use Rattle.zvt_text.specs.Bytes.{escaped, escaped_text, hex_of, hex_or_dash, is_plain, quoted};
 
-use std::alloc::{AllocError, Global};
+use std::alloc::AllocError;
+
+/// Writes bytes in hexadecimal behind the text, as the crate `hex` does. Fails where no memory is left, and the text
+/// then ends anywhere.
+pub fn hexadecimal(text: &mut String, bytes: &[u8]) -> Result<(), AllocError>
+    ensures { OnOk result (string_bytes text.new ≡ string_bytes text.old ++ encode_upper bytes.now) }
+{
+    for each in bytes {
+        byte(text, *each)?;
+    }
+    Ok(())
+}
 
 /// One byte in hexadecimal.
-pub(crate) fn byte(alloc: Global, text: &mut String, byte: u8) -> Result<(), AllocError>
+pub(crate) fn byte(text: &mut String, byte: u8) -> Result<(), AllocError>
     ensures { OnOk result (string_bytes text.new ≡ string_bytes text.old ++ hex_of byte) }
 {
-    let bytes = [byte];
-    let hex = hex::encode_upper(alloc, bytes.as_slice())?;
-    text.push_str(hex.as_str())
+    text.push(char::from(digit(byte / 16)))?;
+    text.push(char::from(digit(byte % 16)))
+}
+
+/// The digit of that value.
+fn digit(value: u8) -> u8
+    requires { value < 16 }
+    ensures value { result ≡ slice_index upper_digits value }
+    ensures ascii { result < 128 }
+{
+    if value < 10 {
+        b'0' + value
+    } else {
+        b'A' - 10 + value
+    }
 }
 
 /// The bytes in hexadecimal, or a dash.
-pub(crate) fn bytes_or_dash(
-    alloc: Global,
-    text: &mut String,
-    bytes: &[u8],
-) -> Result<(), AllocError>
+pub(crate) fn bytes_or_dash(text: &mut String, bytes: &[u8]) -> Result<(), AllocError>
     ensures { OnOk result (string_bytes text.new ≡ string_bytes text.old ++ hex_or_dash bytes.now) }
 {
     if bytes.is_empty() {
         return text.push('-');
     }
-    let hex = hex::encode_upper(alloc, bytes)?;
-    text.push_str(hex.as_str())
+    hexadecimal(text, bytes)
 }
 
 /// The bytes between quotation marks, with escapes.
-pub(crate) fn quote(alloc: Global, text: &mut String, bytes: &[u8]) -> Result<(), AllocError>
+pub(crate) fn quote(text: &mut String, bytes: &[u8]) -> Result<(), AllocError>
     ensures { OnOk result (string_bytes text.new ≡ string_bytes text.old ++ quoted bytes.now) }
 {
     text.push('"')?;
-    escaped(alloc, text, bytes)?;
+    escaped(text, bytes)?;
     text.push('"')
 }
 
 /// Writes bytes behind the text. From 20 to 7E they stand as they are, but for the quotation mark and the
 /// backslash; every other byte is `\x` and two digits in hexadecimal. Fails where no memory is left, and the
 /// text then ends anywhere.
-pub fn escaped(alloc: Global, text: &mut String, bytes: &[u8]) -> Result<(), AllocError>
+pub fn escaped(text: &mut String, bytes: &[u8]) -> Result<(), AllocError>
     ensures { OnOk result (string_bytes text.new ≡ string_bytes text.old ++ escaped_text bytes.now) }
 {
     for byte in bytes {
-        escape(alloc, text, *byte)?;
+        escape(text, *byte)?;
     }
     Ok(())
 }
 
-fn escape(alloc: Global, text: &mut String, character: u8) -> Result<(), AllocError>
+fn escape(text: &mut String, character: u8) -> Result<(), AllocError>
     ensures { OnOk result (string_bytes text.new ≡ string_bytes text.old ++ escaped character) }
 {
     if is_plain(character) {
         return text.push(char::from(character));
     }
     text.push_str("\\x")?;
-    byte(alloc, text, character)
+    byte(text, character)
 }
 
 /// Whether the byte stands as it is.

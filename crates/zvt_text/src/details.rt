@@ -6,70 +6,53 @@ ghost use Rattle.zvt_apdu.specs.Messages.{rest_of};
 ghost use Rattle.zvt_text.specs.Bytes.{hex_of};
 ghost use Rattle.zvt_text.specs.Said.{currency_text, data_text, detail_text, four_digits};
 
-use crate::bytes::{byte, quote};
+use crate::bytes::{byte, hexadecimal, quote};
 use crate::results::result_words;
-use std::alloc::{AllocError, Global};
-use std::fmt::Write;
+use std::alloc::AllocError;
 use zvt_apdu::Rest;
 use zvt_bcd::Currency;
 
 /// The payload, if there is any.
-pub(crate) fn data(alloc: Global, text: &mut String, payload: &[u8]) -> Result<(), AllocError>
+pub(crate) fn data(text: &mut String, payload: &[u8]) -> Result<(), AllocError>
     ensures { OnOk result (string_bytes text.new ≡ string_bytes text.old ++ data_text payload.now) }
 {
     if payload.is_empty() {
         return Ok(());
     }
-    let hex = hex::encode_upper(alloc, payload)?;
-    write!(text, " data {hex}")
+    text.push_str(" data ")?;
+    hexadecimal(text, payload)
 }
 
 /// A byte in hexadecimal, and the payload.
-pub(crate) fn coded(
-    alloc: Global,
-    text: &mut String,
-    code: u8,
-    payload: &[u8],
-) -> Result<(), AllocError>
+pub(crate) fn coded(text: &mut String, code: u8, payload: &[u8]) -> Result<(), AllocError>
     ensures { OnOk result (string_bytes text.new ≡ string_bytes text.old ++ detail_text (nack code payload.now)) }
 {
     text.push(' ')?;
-    byte(alloc, text, code)?;
-    data(alloc, text, payload)
+    byte(text, code)?;
+    data(text, payload)
 }
 
 /// A result code in words, and the payload.
-pub(crate) fn given_up(
-    alloc: Global,
-    text: &mut String,
-    code: u8,
-    payload: &[u8],
-) -> Result<(), AllocError>
+pub(crate) fn given_up(text: &mut String, code: u8, payload: &[u8]) -> Result<(), AllocError>
     ensures { OnOk result (string_bytes text.new ≡ string_bytes text.old ++ detail_text (abort code payload.now)) }
 {
     text.push(' ')?;
-    result_words(alloc, text, code)?;
-    data(alloc, text, payload)
+    result_words(text, code)?;
+    data(text, payload)
 }
 
 /// An attribute, and the quoted line.
-pub(crate) fn printed(
-    alloc: Global,
-    text: &mut String,
-    attribute: u8,
-    line: &[u8],
-) -> Result<(), AllocError>
+pub(crate) fn printed(text: &mut String, attribute: u8, line: &[u8]) -> Result<(), AllocError>
     ensures { OnOk result (string_bytes text.new ≡ string_bytes text.old ++ detail_text (print_line attribute line.now)) }
 {
     text.push(' ')?;
-    byte(alloc, text, attribute)?;
+    byte(text, attribute)?;
     text.push(' ')?;
-    quote(alloc, text, line)
+    quote(text, line)
 }
 
 /// The control field, and the payload.
 pub(crate) fn unnamed(
-    alloc: Global,
     text: &mut String,
     high: u8,
     low: u8,
@@ -78,14 +61,13 @@ pub(crate) fn unnamed(
     ensures { OnOk result (string_bytes text.new ≡ string_bytes text.old ++ detail_text (other high low payload.now)) }
 {
     let control = [high, low];
-    let hex = hex::encode_upper(alloc, control.as_slice())?;
-    write!(text, " {hex}")?;
-    data(alloc, text, payload)
+    text.push(' ')?;
+    hexadecimal(text, control.as_slice())?;
+    data(text, payload)
 }
 
 /// The configuration, and the currency where it stands.
 pub(crate) fn registered(
-    alloc: Global,
     text: &mut String,
     config: u8,
     rest: &Option<Rest>,
@@ -93,7 +75,7 @@ pub(crate) fn registered(
     ensures { OnOk result (string_bytes text.new ≡ string_bytes text.old ++ codes " config " ++ hex_of config ++ currency_text (rest_of rest.now)) }
 {
     text.push_str(" config ")?;
-    byte(alloc, text, config)?;
+    byte(text, config)?;
     match rest {
         Some(rest) => currency(text, rest.currency),
         None => Ok(()),

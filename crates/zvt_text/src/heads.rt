@@ -5,16 +5,16 @@ ghost use Rattle.zvt_apdu.specs.Messages.{message_of, rest_of};
 ghost use Rattle.zvt_text.specs.Said.{detail_text, fields_of, head_text, kind_text, registered_fields};
 
 use crate::details::{coded, data, given_up, printed, registered, unnamed};
-use std::alloc::{AllocError, Global};
+use std::alloc::AllocError;
 use zvt_apdu::{Message, Rest};
 use zvt_field::Fields;
 
 /// The name of a message's kind, and what it says behind it.
-pub(crate) fn head(alloc: Global, text: &mut String, message: &Message) -> Result<(), AllocError>
+pub(crate) fn head(text: &mut String, message: &Message) -> Result<(), AllocError>
     ensures { OnOk result (string_bytes text.new ≡ string_bytes text.old ++ head_text (message_of message.now)) }
 {
     text.push_str(kind(message))?;
-    detail(alloc, text, message)
+    detail(text, message)
 }
 
 /// The name of a message's kind.
@@ -40,22 +40,20 @@ fn kind(message: &Message) -> &'static str
 }
 
 /// What the head says behind the name.
-fn detail(alloc: Global, text: &mut String, message: &Message) -> Result<(), AllocError>
+fn detail(text: &mut String, message: &Message) -> Result<(), AllocError>
     ensures { OnOk result (string_bytes text.new ≡ string_bytes text.old ++ detail_text (message_of message.now)) }
 {
     match message {
-        Message::Ack { payload } => data(alloc, text, payload),
-        Message::Nack { code, payload } => coded(alloc, text, *code, payload),
-        Message::Registration { config, rest, .. } => registered(alloc, text, *config, rest),
-        Message::Intermediate { status, payload } => coded(alloc, text, *status, payload),
+        Message::Ack { payload } => data(text, payload),
+        Message::Nack { code, payload } => coded(text, *code, payload),
+        Message::Registration { config, rest, .. } => registered(text, *config, rest),
+        Message::Intermediate { status, payload } => coded(text, *status, payload),
         Message::PrintLine {
             attribute,
             text: line,
-        } => printed(alloc, text, *attribute, line),
-        Message::Abort { code, payload } => given_up(alloc, text, *code, payload),
-        Message::Other { control, payload } => unnamed(
-            alloc, text, control[0], control[1], payload,
-        ),
+        } => printed(text, *attribute, line),
+        Message::Abort { code, payload } => given_up(text, *code, payload),
+        Message::Other { control, payload } => unnamed(text, control[0], control[1], payload),
         _ => Ok(()),
     }
 }

@@ -4,25 +4,20 @@ ghost use Rattle.std.specs.String.{string_bytes};
 ghost use Rattle.zvt_text.specs.Numbers.{numbers_text, trace_text};
 
 use crate::bytes::bytes_or_dash;
-use std::alloc::{AllocError, Global};
+use std::alloc::AllocError;
 use std::fmt::Write;
 use zvt_bcd::Trace;
 
 /// Writes a trace number in six digits and a receipt number in hexadecimal behind the text, as
 /// `trace 000017 receipt 0005`; a payment without a receipt number has a dash. Fails where no memory is left, and the
 /// text then ends anywhere.
-pub fn numbers(
-    alloc: Global,
-    text: &mut String,
-    trace: Trace,
-    receipt: Option<[u8; 2]>,
-) -> Result<(), AllocError>
+pub fn numbers(text: &mut String, trace: Trace, receipt: Option<[u8; 2]>) -> Result<(), AllocError>
     ensures { OnOk result (string_bytes text.new ≡ string_bytes text.old ++ numbers_text trace receipt) }
 {
     trace_number(text, trace)?;
     text.push_str(" receipt ")?;
     match receipt {
-        Some(number) => bytes_or_dash(alloc, text, number.as_slice()),
+        Some(number) => bytes_or_dash(text, number.as_slice()),
         None => text.push('-'),
     }
 }

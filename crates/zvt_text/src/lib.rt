@@ -12,7 +12,7 @@ mod results;
 mod said;
 mod values;
 
-pub use bytes::escaped;
+pub use bytes::{escaped, hexadecimal};
 pub use kept::numbers;
 pub use results::result_words;
 pub use said::message;

@@ -7,46 +7,42 @@ ghost use Rattle.zvt_text.specs.Lines.{field_line, field_lines, named_text};
 use crate::bytes::byte;
 use crate::objects::forest_lines;
 use crate::values::value;
-use std::alloc::{AllocError, Global};
+use std::alloc::AllocError;
 use zvt_field::{Field, FieldBody, Fields, name};
 
 /// A line for each field; those of a container's objects follow its own.
-pub(crate) fn field_lines(
-    alloc: Global,
-    text: &mut String,
-    fields: &Fields,
-) -> Result<(), AllocError>
+pub(crate) fn field_lines(text: &mut String, fields: &Fields) -> Result<(), AllocError>
     ensures { OnOk result (string_bytes text.new ≡ string_bytes text.old ++ field_lines fields.now) }
 {
     for field in fields.list() {
-        field_line(alloc, text, field)?;
+        field_line(text, field)?;
     }
     Ok(())
 }
 
-fn field_line(alloc: Global, text: &mut String, field: &Field) -> Result<(), AllocError>
+fn field_line(text: &mut String, field: &Field) -> Result<(), AllocError>
     ensures { OnOk result (string_bytes text.new ≡ string_bytes text.old ++ field_line field.now) }
 {
-    named(alloc, text, field.bmp())?;
+    named(text, field.bmp())?;
     match field.body() {
         FieldBody::Bytes(content) => {
             text.push(' ')?;
-            value(alloc, text, field.bmp(), content)?;
+            value(text, field.bmp(), content)?;
             text.push('\n')
         }
         FieldBody::Tree(objects) => {
             text.push('\n')?;
-            forest_lines(alloc, text, objects)
+            forest_lines(text, objects)
         }
     }
 }
 
 /// A BMP and its name.
-fn named(alloc: Global, text: &mut String, bmp: u8) -> Result<(), AllocError>
+fn named(text: &mut String, bmp: u8) -> Result<(), AllocError>
     ensures { OnOk result (string_bytes text.new ≡ string_bytes text.old ++ named_text bmp) }
 {
     text.push_str("  ")?;
-    byte(alloc, text, bmp)?;
+    byte(text, bmp)?;
     text.push(' ')?;
     text.push_str(word(bmp))
 }

@@ -4,22 +4,22 @@ ghost use Rattle.std.specs.String.{string_bytes};
 ghost use Rattle.zvt_text.specs.Results.{meaning_of, result_words};
 
 use crate::bytes::byte;
-use std::alloc::{AllocError, Global};
+use std::alloc::AllocError;
 use std::fmt::Write;
 
 /// Writes a result code and what it means behind the text, as `6F wrong currency`; a code without a meaning of
 /// its own is `code` and two digits in hexadecimal. Fails where no memory is left, and the text then ends anywhere.
-pub fn result_words(alloc: Global, text: &mut String, code: u8) -> Result<(), AllocError>
+pub fn result_words(text: &mut String, code: u8) -> Result<(), AllocError>
     ensures { OnOk result (string_bytes text.new ≡ string_bytes text.old ++ result_words code) }
 {
     match meaning(code) {
         Some(meaning) => {
-            byte(alloc, text, code)?;
+            byte(text, code)?;
             write!(text, " {meaning}")
         }
         None => {
             text.push_str("code ")?;
-            byte(alloc, text, code)
+            byte(text, code)
         }
     }
 }

@@ -6,23 +6,19 @@ ghost use Rattle.zvt_text.specs.Said.{said};
 
 use crate::heads::{fields, head};
 use crate::lines::field_lines;
-use std::alloc::{AllocError, Global};
+use std::alloc::AllocError;
 
 /// Writes a message behind the text: the name of its kind and what it says, then a line for each field, each line
 /// with its end. The password of a message is never written, and of the fields 22, 23, 24, 2D, 3A and 3D (card
 /// number, tracks, verification value, password) the size alone. Fails where no memory is left, and the text then
 /// ends anywhere.
-pub fn message(
-    alloc: Global,
-    text: &mut String,
-    message: &zvt_apdu::Message,
-) -> Result<(), AllocError>
+pub fn message(text: &mut String, message: &zvt_apdu::Message) -> Result<(), AllocError>
     ensures { OnOk result (string_bytes text.new ≡ string_bytes text.old ++ said (message_of message.now)) }
 {
-    head(alloc, text, message)?;
+    head(text, message)?;
     text.push('\n')?;
     match fields(message) {
-        Some(fields) => field_lines(alloc, text, fields),
+        Some(fields) => field_lines(text, fields),
         None => Ok(()),
     }
 }

@@ -15,7 +15,7 @@ fn said(rt: &impl Abort, alloc: Global, bytes: &[u8]) -> Result<String, Fail> {
     };
     assert_eq!(rt; taken, bytes.len());
     let mut text = String::new(alloc);
-    message(alloc, &mut text, apdu.message())?;
+    message(&mut text, apdu.message())?;
     Ok(text)
 }
 
@@ -166,7 +166,7 @@ fn words_of_results(rt: HostRuntime) -> Result<(), Fail> {
         (0x0A, "code 0A"),
     ] {
         let mut text = String::new(alloc);
-        result_words(alloc, &mut text, code)?;
+        result_words(&mut text, code)?;
         assert_eq!(rt; text.as_str(), words);
     }
     Ok(())
@@ -177,7 +177,7 @@ fn escapes(rt: HostRuntime) -> Result<(), Fail> {
     let alloc = rt.alloc();
     let mut text = String::new(alloc);
     text.push_str("a")?;
-    escaped(alloc, &mut text, b"b \"\\~\x7F\n".as_slice())?;
+    escaped(&mut text, b"b \"\\~\x7F\n".as_slice())?;
     assert_eq!(rt; text.as_str(), "ab \\x22\\x5C~\\x7F\\x0A");
     Ok(())
 }
@@ -191,7 +191,7 @@ fn numbers_of_a_payment(rt: HostRuntime) -> Result<(), Fail> {
     ] {
         let mut text = String::new(rt.alloc());
         let trace = Trace::new(trace).ok_or("a trace number")?;
-        numbers(rt.alloc(), &mut text, trace, receipt)?;
+        numbers(&mut text, trace, receipt)?;
         assert_eq!(rt; text.as_str(), expected);
     }
     Ok(())

@@ -8,17 +8,12 @@ ghost use Rattle.zvt_text.specs.Lines.{result_text, value_text};
 
 use crate::bytes::{bytes_or_dash, quote};
 use crate::results::result_words;
-use std::alloc::{AllocError, Global};
+use std::alloc::AllocError;
 use std::fmt::Write;
 use zvt_bcd::number;
 
 /// An amount in its smallest unit, a result in words, quoted text, the size of what is hidden, or bytes in hexadecimal.
-pub(crate) fn value(
-    alloc: Global,
-    text: &mut String,
-    bmp: u8,
-    content: &[u8],
-) -> Result<(), AllocError>
+pub(crate) fn value(text: &mut String, bmp: u8, content: &[u8]) -> Result<(), AllocError>
     requires { HasSpelling (plain bmp content.now) }
     ensures { OnOk result (string_bytes text.new ≡ string_bytes text.old ++ value_text bmp content.now) }
 {
@@ -27,13 +22,13 @@ pub(crate) fn value(
             let units = units(content);
             write!(text, "{units}")
         }
-        0x27 => outcome(alloc, text, content),
-        0x2A | 0x8B => quote(alloc, text, content),
+        0x27 => outcome(text, content),
+        0x2A | 0x8B => quote(text, content),
         0x22 | 0x23 | 0x24 | 0x2D | 0x3A | 0x3D => {
             let hidden = content.len();
             write!(text, "hidden {hidden}")
         }
-        _ => bytes_or_dash(alloc, text, content),
+        _ => bytes_or_dash(text, content),
     }
 }
 
@@ -45,11 +40,11 @@ fn units(content: &[u8]) -> u64
     number(content)
 }
 
-fn outcome(alloc: Global, text: &mut String, content: &[u8]) -> Result<(), AllocError>
+fn outcome(text: &mut String, content: &[u8]) -> Result<(), AllocError>
     ensures { OnOk result (string_bytes text.new ≡ string_bytes text.old ++ result_text content.now) }
 {
     match content {
-        [code] => result_words(alloc, text, *code),
-        _ => bytes_or_dash(alloc, text, content),
+        [code] => result_words(text, *code),
+        _ => bytes_or_dash(text, content),
     }
 }

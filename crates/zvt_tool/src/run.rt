@@ -55,7 +55,7 @@ fn make_step<L: StepLine, W: Sink>(
     let mut text = String::new(alloc);
     text.push_str(planned.word.as_str())?;
     text.push_str(" -> ")?;
-    say_ending(alloc, &mut text, &made, till.last_outcome())?;
+    say_ending(&mut text, &made, till.last_outcome())?;
     text.push('\n')?;
     put(&text, writer)?;
     Ok(fault_of(&made))
@@ -63,7 +63,6 @@ fn make_step<L: StepLine, W: Sink>(
 
 /// Writes what became of a step, where the till says this of the order that ended last.
 fn say_ending(
-    alloc: Global,
     text: &mut String,
     made: &Result<Outcome, RunFault>,
     last: Option<Outcome>,
@@ -71,10 +70,10 @@ fn say_ending(
     ensures { OnOk result (string_bytes text.new ≡ string_bytes text.old ++ ending_text made.now last) }
 {
     match made {
-        Ok(outcome) => outcome_text(alloc, text, outcome),
+        Ok(outcome) => outcome_text(text, outcome),
         Err(RunFault::Order(why)) => write!(text, "not sent: {why}"),
         Err(RunFault::Line(_)) => match &last {
-            Some(outcome) => outcome_text(alloc, text, outcome),
+            Some(outcome) => outcome_text(text, outcome),
             None => Ok(()),
         },
     }

@@ -42,7 +42,7 @@ pub fn audit<R: Source, W: Sink>(
     let tally = add_lines(alloc, &mut log, trace.as_slice())?;
     let found = books(alloc, log.as_slice())?;
     let mut text = String::new(alloc);
-    booked::write(alloc, &mut text, &found)?;
+    booked::write(&mut text, &found)?;
     put(&text, writer)?;
     Ok(tally)
 }

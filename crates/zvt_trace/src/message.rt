@@ -22,18 +22,18 @@ pub(crate) fn write(
     ensures { OnOk result (AddsMessage style from apdu.now (string_bytes text.old) (string_bytes text.new)) }
 {
     match style {
-        Style::Show => show(alloc, text, from, apdu),
+        Style::Show => show(text, from, apdu),
         Style::Join => join(alloc, text, from, apdu),
-        Style::Receipts => receipt(alloc, text, from, apdu.message()),
+        Style::Receipts => receipt(text, from, apdu.message()),
     }
 }
 
 /// Its direction and what it says.
-fn show(alloc: Global, text: &mut String, from: Direction, apdu: &Apdu) -> Result<(), AllocError>
+fn show(text: &mut String, from: Direction, apdu: &Apdu) -> Result<(), AllocError>
     ensures { OnOk result (string_bytes text.new ≡ string_bytes text.old ++ shown from apdu.now) }
 {
     write!(text, "{from} ")?;
-    zvt_text::message(alloc, text, apdu.message())
+    zvt_text::message(text, apdu.message())
 }
 
 /// Its direction and bytes.
@@ -41,17 +41,13 @@ fn join(alloc: Global, text: &mut String, from: Direction, apdu: &Apdu) -> Resul
     ensures { OnOk result (AddsMessage Join from apdu.now (string_bytes text.old) (string_bytes text.new)) }
 {
     let bytes = encode(alloc, apdu)?;
-    let hex = hex::encode_upper(alloc, bytes.as_slice())?;
-    writeln!(text, "{from} {hex}")
+    write!(text, "{from} ")?;
+    zvt_text::hexadecimal(text, bytes.as_slice())?;
+    text.push('\n')
 }
 
 /// The text of a print line of the terminal.
-fn receipt(
-    alloc: Global,
-    text: &mut String,
-    from: Direction,
-    message: &Message,
-) -> Result<(), AllocError>
+fn receipt(text: &mut String, from: Direction, message: &Message) -> Result<(), AllocError>
     ensures { OnOk result (string_bytes text.new ≡ string_bytes text.old ++ receipt from (message_of message.now)) }
 {
     if from == Direction::FromTill {
@@ -59,7 +55,7 @@ fn receipt(
     }
     match message {
         Message::PrintLine { text: line, .. } => {
-            zvt_text::escaped(alloc, text, line)?;
+            zvt_text::escaped(text, line)?;
             text.push('\n')
         }
         _ => Ok(()),
