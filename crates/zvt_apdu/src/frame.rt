@@ -34,6 +34,7 @@ pub(crate) struct Opening {
 
 /// The form of the data behind these control bytes, where the message has a name of its own.
 #[tactic(auto, unfolding(crate::specs::Grammar::form_of))]
+#[inline(always)]
 pub(crate) fn form_of(high: u8, low: u8) -> Option<Form>
     ensures { result ≡ form_of high low }
 {
@@ -60,6 +61,7 @@ pub(crate) fn form_of(high: u8, low: u8) -> Option<Form>
 }
 
 /// The layout of data of that size behind these control bytes.
+#[inline(always)]
 pub(crate) fn layout_of(high: u8, low: u8, size: usize) -> Layout
     ensures { result ≡ layout_of high low size }
 {
@@ -115,6 +117,7 @@ pub fn judge_size(high: u8, low: u8, size: usize) -> Result<Layout, Why>
 }
 
 /// Reads the control bytes and the length.
+#[inline(always)]
 pub(crate) fn scan_opening(bytes: &[u8]) -> Scan<Opening>
     ensures { AnswersOpening shortest bytes.now result }
 {

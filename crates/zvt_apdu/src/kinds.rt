@@ -14,6 +14,7 @@ use zvt_bcd::{Currency, number};
 use zvt_field::Fields;
 
 /// The message whose data are these first bytes and bytes of any value.
+#[inline(always)]
 pub(crate) fn bytes_message(high: u8, low: u8, first: &[u8], payload: Vec<u8>) -> Message
     requires laid { layout_of high low (length first.now + length payload.items) ≡ bytes_after (length first.now) }
     requires are_bytes { AreBytes (first.now ++ payload.items) }
@@ -33,6 +34,7 @@ pub(crate) fn bytes_message(high: u8, low: u8, first: &[u8], payload: Vec<u8>) -
     }
 }
 
+#[inline(always)]
 fn named_bytes(high: u8, low: u8, first: &[u8], payload: Vec<u8>) -> Message
     requires named { form_of high low ≡ Some (BytesFrom (length first.now)) }
     requires are_bytes { AreBytes (first.now ++ payload.items) }
@@ -64,6 +66,7 @@ fn named_bytes(high: u8, low: u8, first: &[u8], payload: Vec<u8>) -> Message
 }
 
 /// The message whose data are these first bytes and fields.
+#[inline(always)]
 pub(crate) fn fields_message(high: u8, low: u8, first: &[u8], fields: Fields) -> Message
     requires fields { (n : ℕ) × ((layout_of high low n).fields ≡ true) × (head_size (layout_of high low n) ≡ length first.now) × AreDigits (drop (layout_of high low n).free first.now) }
     requires are_bytes { AreBytes first.now }
@@ -82,6 +85,7 @@ pub(crate) fn fields_message(high: u8, low: u8, first: &[u8], fields: Fields) ->
     }
 }
 
+#[inline(always)]
 fn named_fields(high: u8, low: u8, first: &[u8], fields: Fields) -> Message
     requires named { form_of high low ≡ Some (FieldsFrom (length first.now)) }
     requires are_bytes { AreBytes first.now }

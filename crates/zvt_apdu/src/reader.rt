@@ -13,6 +13,7 @@ use zvt_spelling::{Scan, Why};
 /// Reads the message that stands first: the message and its size. Bytes behind it are not looked at. It answers `More`
 /// where the bytes begin a message and hold none, as the empty slice does, and refuses with the first byte after which
 /// no message can follow.
+#[inline(always)]
 pub fn scan(alloc: Global, bytes: &[u8]) -> Result<Scan<(Apdu, usize)>, AllocError>
     ensures { IfOk result (Answers shortest bytes.now) }
 {
@@ -53,6 +54,7 @@ fn wrong_digit(bytes: &[u8], free: usize, digits: usize) -> Option<usize>
 }
 
 /// Reads data that ends in bytes of any value.
+#[inline(always)]
 fn scan_bytes(
     alloc: Global,
     bytes: &[u8],
@@ -73,6 +75,7 @@ fn scan_bytes(
 }
 
 /// Reads data that ends in fields.
+#[inline(always)]
 fn scan_listed(
     alloc: Global,
     bytes: &[u8],

@@ -60,6 +60,7 @@ fn first_bad(bytes: &[u8], digits: bool) -> Option<usize>
 }
 
 /// Reads a content that is bytes.
+#[inline(always)]
 fn scan_content(
     alloc: Global,
     bytes: &[u8],
@@ -86,6 +87,7 @@ fn scan_content(
 }
 
 /// Reads a length of so many digits, and a content that is bytes.
+#[inline(always)]
 fn scan_counted(
     alloc: Global,
     bytes: &[u8],
@@ -129,6 +131,7 @@ fn scan_container(
 }
 
 /// Reads one field, in a room of so many bytes: the field and its size.
+#[inline(always)]
 fn scan_field(alloc: Global, bytes: &[u8], room: usize) -> Result<Scan<(Field, usize)>, AllocError>
     requires some { 0 < room }
     requires filled { room ≢ 1 }
@@ -169,6 +172,7 @@ fn scan_field(alloc: Global, bytes: &[u8], room: usize) -> Result<Scan<(Field, u
 /// Reads the fields whose bytes are exactly the first `room` bytes; bytes behind the room are not looked at.
 /// `More` where fewer are there and can be completed, `Refused` with the first byte after which no fields
 /// can fill the room, counted from 0. The only error is want of memory.
+#[inline(always)]
 pub fn scan(alloc: Global, bytes: &[u8], room: usize) -> Result<Scan<Fields>, AllocError>
     requires small { room < 2 ^ 16 }
     requires filled { room ≢ 1 }

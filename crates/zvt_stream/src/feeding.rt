@@ -78,6 +78,7 @@ impl Stream {
     ///
     /// Each byte is judged once. A message that lies in the piece is read where it lies, and only an unfinished one is
     /// copied.
+    #[inline(always)]
     pub fn feed(&mut self, alloc: Global, piece: &[u8]) -> Result<Fed, FeedError>
         ensures fed { IfOk result (λ fed. Feeds self.old piece.now fed self.new) }
         ensures stopped { self.old.stopped ≡ true → IsErrOf result FeedError.Stopped }

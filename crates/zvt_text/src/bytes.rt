@@ -18,6 +18,7 @@ pub fn hexadecimal(text: &mut String, bytes: &[u8]) -> Result<(), AllocError>
 }
 
 /// One byte in hexadecimal.
+#[inline(always)]
 pub(crate) fn byte(text: &mut String, byte: u8) -> Result<(), AllocError>
     ensures { OnOk result (string_bytes text.new ≡ string_bytes text.old ++ hex_of byte) }
 {
@@ -26,6 +27,7 @@ pub(crate) fn byte(text: &mut String, byte: u8) -> Result<(), AllocError>
 }
 
 /// The digit of that value.
+#[inline(always)]
 fn digit(value: u8) -> u8
     requires { value < 16 }
     ensures value { result ≡ slice_index upper_digits value }

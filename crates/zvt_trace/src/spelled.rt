@@ -30,6 +30,7 @@ pub(crate) fn read(text: &[u8], room: &mut [u8]) -> Option<usize>
 }
 
 /// The text from its first byte that is no space.
+#[inline(always)]
 fn skip_spaces(text: &[u8]) -> &[u8]
     ensures same { without_spaces result.now ≡ without_spaces text.now }
     ensures none { slice_index result.now 0 ≢ 32 }
@@ -43,6 +44,7 @@ fn skip_spaces(text: &[u8]) -> &[u8]
 }
 
 /// The value of a digit, and for what is none a number above 15.
+#[inline(always)]
 fn value(digit: u8) -> u8
     ensures { IsDigit digit result }
 {
