@@ -1,20 +1,52 @@
 //! The text of bytes.
-ghost use Rattle.std.specs.Prelude.{◌≡◌, ◌<◌, ◌++◌, true, slice_index, OnOk};
+ghost use Rattle.std.specs.Prelude.{◌≡◌, ◌<◌, ◌≤◌, ◌*◌, ◌++◌, true, length, slice_index, OnOk};
 ghost use Rattle.hex.specs.Hex.{encode_upper, upper_digits};
 ghost use Rattle.std.specs.String.{string_bytes};
 ghost use Rattle.zvt_text.specs.Bytes.{escaped, escaped_text, hex_of, hex_or_dash, is_plain, quoted};
 
 use std::alloc::AllocError;
+use std::str;
 
 /// Writes bytes in hexadecimal behind the text, as the crate `hex` does. Fails where no memory is left, and the text
 /// then ends anywhere.
 pub fn hexadecimal(text: &mut String, bytes: &[u8]) -> Result<(), AllocError>
     ensures { OnOk result (string_bytes text.new ≡ string_bytes text.old ++ encode_upper bytes.now) }
 {
-    for each in bytes {
-        byte(text, *each)?;
+    let mut rest = bytes;
+    'chunks: while !rest.is_empty() {
+        let (chunk, after) = rest.split_at(rest.len().min(CHUNK));
+        chunk_text(text, chunk)?;
+        rest = after;
     }
     Ok(())
+}
+
+/// How many bytes are made digits at a time.
+const CHUNK: usize = 32;
+
+/// A chunk in hexadecimal.
+fn chunk_text(text: &mut String, chunk: &[u8]) -> Result<(), AllocError>
+    requires { length chunk.now ≤ CHUNK }
+    ensures { OnOk result (string_bytes text.new ≡ string_bytes text.old ++ encode_upper chunk.now) }
+{
+    let mut room = [0; 2 * CHUNK];
+    let size = 2 * chunk.len();
+    write_digits(chunk, &mut room[..size]);
+    let Ok(digits) = str::from_utf8(&room[..size]) else {
+        unreachable!()
+    };
+    text.push_str(digits)
+}
+
+/// Writes two digits for each byte.
+fn write_digits(bytes: &[u8], room: &mut [u8])
+    requires { length room.old ≡ 2 * length bytes.now }
+    ensures { room.new ≡ encode_upper bytes.now }
+{
+    'bytes: for at in 0..bytes.len() {
+        room[2 * at] = digit(bytes[at] / 16);
+        room[2 * at + 1] = digit(bytes[at] % 16);
+    }
 }
 
 /// One byte in hexadecimal.

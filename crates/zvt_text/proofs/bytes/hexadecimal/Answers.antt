@@ -1,10 +1,17 @@
-use Rattle.std.proofs.Common.{arith, append-nil, ap, sym, ◌∙◌, ◌++◌}
+use Rattle.std.proofs.Common.{◌≡◌, ◌∙◌, ◌++◌, sym, ap, length, rules, append-nil}
 use Rattle.std.specs.String.{string_bytes}
+use Rattle.std.proofs.lemmas.List.{nil_from_length, take-append-drop}
+use Rattle.hex.specs.Hex.{encode_upper}
 use Rattle.zvt_text.proofs.HexText.{encodes_more, encodes_none}
 use Rattle.zvt_text.proofs.bytes.hexadecimal.Goals as goal
 
-pub loop-each-init : goal.loop-each-init
-loop-each-init c = sym (ap (λ more. string_bytes c.args.text.now ++ more) encodes_none ∙ append-nil _)
+pub chunks-preserved : goal.chunks-preserved
+chunks-preserved c =
+    encodes_more _ (string_bytes c.chunks.text) _ c.chunks.rest.now c.split_at.result.0.now c.split_at.result.1.now
+    (rw (c.split_at.ensures.front, c.split_at.ensures.back) (sym (take-append-drop _ c.chunks.rest.now))) c.in_ok-chunk_text.ensures c.chunks.invariant
 
-pub loop-each-preserved : goal.loop-each-preserved
-loop-each-preserved c = encodes_more c.args.bytes.now _ _ _ c.loop-each.each-index (omega arith) c.loop-each.invariant c.in_ok-byte.ensures
+pub returns : goal.returns
+returns c =
+    let none : length c.chunks.rest.now ≡ 0 = search rules in
+    let done = ap (λ rest. string_bytes c.chunks.text ++ rest) (ap encode_upper (nil_from_length c.chunks.rest.now none) ∙ encodes_none) ∙ append-nil (string_bytes c.chunks.text) in
+    sym done ∙ c.chunks.invariant

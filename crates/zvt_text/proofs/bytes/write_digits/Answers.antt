@@ -1,0 +1,11 @@
+use Rattle.std.proofs.Common.{arith}
+use Rattle.hex.specs.Hex.{upper_digits}
+use Rattle.hex.proofs.Pairs.{encode_done, encode_step}
+use Rattle.zvt_text.proofs.bytes.write_digits.Goals as goal
+
+pub bytes-preserved : goal.bytes-preserved
+bytes-preserved c =
+    encode_step upper_digits c.args.bytes.now c.bytes.room c.bytes.at _ _ (omega arith) (omega arith) c.digit.ensures.value c.digit-in-bytes.ensures.value c.bytes.invariant
+
+pub returns : goal.returns
+returns c = encode_done upper_digits _ _ c.bytes.at (omega arith) (omega arith) c.bytes.invariant
