@@ -8,7 +8,6 @@ ghost use Rattle.zvt_trace.specs.declared.style.Style.TheVariants.{Join};
 
 use crate::style::{Direction, Style};
 use std::alloc::{AllocError, Global};
-use std::fmt::Write;
 use zvt_apdu::{Apdu, Message, encode};
 
 /// A message with its fields, as a line of a trace, or as a line of a receipt.
@@ -32,7 +31,8 @@ pub(crate) fn write(
 fn show(text: &mut String, from: Direction, apdu: &Apdu) -> Result<(), AllocError>
     ensures { OnOk result (string_bytes text.new ≡ string_bytes text.old ++ shown from apdu.now) }
 {
-    write!(text, "{from} ")?;
+    text.push_str(from.sign())?;
+    text.push(' ')?;
     zvt_text::message(text, apdu.message())
 }
 
@@ -41,7 +41,8 @@ fn join(alloc: Global, text: &mut String, from: Direction, apdu: &Apdu) -> Resul
     ensures { OnOk result (AddsMessage Join from apdu.now (string_bytes text.old) (string_bytes text.new)) }
 {
     let bytes = encode(alloc, apdu)?;
-    write!(text, "{from} ")?;
+    text.push_str(from.sign())?;
+    text.push(' ')?;
     zvt_text::hexadecimal(text, bytes.as_slice())?;
     text.push('\n')
 }

@@ -15,6 +15,20 @@ pub(crate) enum Direction {
     FromTerminal,
 }
 
+impl Direction {
+    ghost use Rattle.zvt_trace.specs.Lines.{direction_text};
+
+    /// How a trace marks it.
+    pub(crate) fn sign(self) -> &'static str
+        ensures { result.now ≡ direction_text self }
+    {
+        match self {
+            Direction::FromTill => ">",
+            Direction::FromTerminal => "<",
+        }
+    }
+}
+
 impl fmt::Display for Direction {
     ghost use Rattle.std.specs.Prelude.{Some};
     ghost use Rattle.zvt_trace.specs.Lines.{direction_text};
@@ -22,10 +36,7 @@ impl fmt::Display for Direction {
     ghost output = { λ from. Some (direction_text from) };
 
     fn fmt<W: fmt::Write>(&self, f: &mut fmt::Formatter<W>) -> fmt::Result {
-        f.write_str(match self {
-            Direction::FromTill => ">",
-            Direction::FromTerminal => "<",
-        })
+        f.write_str(self.sign())
     }
 }
 
