@@ -308,9 +308,13 @@ impl Sink for Full {
 }
 
 #[test]
-fn a_write_that_fails_is_told(rt: HostRuntime) {
-    for writes_left in 0..1 {
-        let mut reader = Over::new("< 80 00 00\n< 80 00 00\n".as_bytes());
+fn a_write_that_fails_is_told(rt: HostRuntime) -> Result<(), Fail> {
+    let mut trace = String::new(rt.alloc());
+    for _ in 0..12_000 {
+        trace.push_str("< 80 00 00\n")?;
+    }
+    for writes_left in 0..2 {
+        let mut reader = Over::new(trace.as_str().as_bytes());
         let mut writer = Full {
             writes_left,
             failures: GhostCount::zero(),
@@ -318,4 +322,5 @@ fn a_write_that_fails_is_told(rt: HostRuntime) {
         let answer = show(rt.alloc(), &mut reader, &mut writer);
         assert!(rt; matches!(answer, Err(ToolFault::Write)), "{writes_left}");
     }
+    Ok(())
 }

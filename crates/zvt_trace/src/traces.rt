@@ -1,6 +1,6 @@
 //! A whole trace as text.
 ghost use Rattle.std.specs.String.{string_bytes};
-ghost use Rattle.std.specs.Prelude.{[], ◌∷◌, ◌==◌, ◌≡◌, ◌<◌, ◌≤◌, ◌+◌, ℕ, length, List, Option, Err, Ok, Some, IfErr, IfOk, IfSome, OnErr, OnOk};
+ghost use Rattle.std.specs.Prelude.{[], ◌∷◌, ◌==◌, ◌≡◌, ◌<◌, ◌≤◌, ◌+◌, ◌⊎◌, ℕ, length, List, Option, Err, Ok, Some, IfErr, IfOk, IfSome, OnErr, OnOk};
 ghost use Rattle.std.specs.Io.KnownBytes.{Appends, Keeps};
 ghost use Rattle.zvt_io.specs.Devices.{CountsFailure};
 ghost use Rattle.std.specs.List.{position};
@@ -16,6 +16,7 @@ use crate::said::{write_end, write_said};
 use crate::streams::Streams;
 use crate::style::Style;
 use std::alloc::Global;
+use std::mem;
 use zvt_io::{Failed, Sink, Source};
 
 /// Writes each whole message of the trace as text: its direction and name, and a line for each
@@ -105,7 +106,6 @@ fn write_blocks<W: Sink>(
     let mut rest = trace;
     let mut number = 0;
     'lines: while !rest.is_empty() {
-        make_room(block, writer)?;
         let (content, after) = next_line(rest);
         number += 1;
         let counted = add_line(
@@ -117,18 +117,19 @@ fn write_blocks<W: Sink>(
             number,
             content,
             block,
+            writer,
         )?;
         tally.messages += counted.messages;
         tally.bad += counted.bad;
         rest = after;
     }
-    let cut_off = add_last(&mut text, style, &streams, block)?;
+    let cut_off = add_last(&mut text, style, &streams, block, writer)?;
     tally.bad += cut_off.bad;
     Ok(tally)
 }
 
-/// Adds the text of one line to the block, which stays as it is where there is none.
-fn add_line(
+/// Adds the text of one line to the block, which stays as it is where the line can't be read.
+fn add_line<W: Sink>(
     alloc: Global,
     buffer: &mut Vec<u8>,
     text: &mut String,
@@ -137,12 +138,14 @@ fn add_line(
     number: u64,
     content: &[u8],
     block: &mut String,
+    writer: &mut W,
 ) -> Result<Tally, ToolFault>
-    ensures writes { (sides : Sides) → Follow streams.old sides → WritesLine style sides number content.now streams.new (Some (string_bytes block.old)) (Some (string_bytes block.new)) result }
+    ensures writes { (sides : Sides) → Follow streams.old sides → WritesLine style sides number content.now streams.new (behind (W.written writer.old) (string_bytes block.old)) (behind (W.written writer.new) (string_bytes block.new)) result }
     ensures few { IfOk result (λ tally. tally.messages ≤ length content.now) }
     ensures two { IfOk result (λ tally. tally.bad ≤ 2) }
-    ensures kept { OnErr result (string_bytes block.new ≡ string_bytes block.old) }
-    ensures written { result ≡ Err ToolFault.Write → ⊥ }
+    ensures write { result ≡ Err ToolFault.Write → W.failures writer.old < W.failures writer.new }
+    ensures least { W.failures writer.old ≤ W.failures writer.new }
+    ensures count { IfOk result (λ _. W.failures writer.new ≡ W.failures writer.old) }
 {
     let line = match read_line(buffer, content) {
         Ok(line) => line,
@@ -151,38 +154,46 @@ fn add_line(
     };
     text.clear();
     let tally = write_said(alloc, text, style, streams, &line)?;
-    block.push_str(text.as_str())?;
+    move_in(text, block, writer)?;
     Ok(tally)
 }
 
 /// Adds to the block which messages are cut off where the trace ends.
-fn add_last(
+fn add_last<W: Sink>(
     text: &mut String,
     style: Style,
     streams: &Streams,
     block: &mut String,
+    writer: &mut W,
 ) -> Result<Tally, ToolFault>
-    ensures writes { (sides : Sides) → Follow streams.now sides → WritesEnd style sides (Some (string_bytes block.old)) (Some (string_bytes block.new)) result }
+    ensures writes { (sides : Sides) → Follow streams.now sides → WritesEnd style sides (behind (W.written writer.old) (string_bytes block.old)) (behind (W.written writer.new) (string_bytes block.new)) result }
     ensures none { IfOk result (λ tally. tally.messages ≡ 0) }
     ensures two { IfOk result (λ tally. tally.bad ≤ 2) }
-    ensures written { result ≡ Err ToolFault.Write → ⊥ }
+    ensures write { result ≡ Err ToolFault.Write → W.failures writer.old < W.failures writer.new }
+    ensures least { W.failures writer.old ≤ W.failures writer.new }
 {
     text.clear();
     let tally = write_end(text, style, streams)?;
-    block.push_str(text.as_str())?;
+    move_in(text, block, writer)?;
     Ok(tally)
 }
 
-/// Writes the block where it is full.
-fn make_room<W: Sink>(block: &mut String, writer: &mut W) -> Result<(), ToolFault>
-    ensures same { OnOk result ((first : Option (List ℕ)) (all : List ℕ) → Appends first (behind (W.written writer.old) (string_bytes block.old)) all → Appends first (behind (W.written writer.new) (string_bytes block.new)) all) }
-    ensures fault { IfErr result (λ fault. fault ≡ ToolFault.Write) }
-    ensures failures { CountsFailure (W.failures writer.old) (W.failures writer.new) result }
+/// Puts the text behind the block. Where either is full, the block is written first, and the text becomes the block
+/// without a copy.
+fn move_in<W: Sink>(text: &mut String, block: &mut String, writer: &mut W) -> Result<(), ToolFault>
+    ensures moved { OnOk result (Appends (behind (W.written writer.old) (string_bytes block.old)) (behind (W.written writer.new) (string_bytes block.new)) (string_bytes text.old)) }
+    ensures fault { IfErr result (λ fault. (fault ≡ ToolFault.Write) ⊎ (fault ≡ ToolFault.Memory)) }
+    ensures write { result ≡ Err ToolFault.Write → W.failures writer.old < W.failures writer.new }
+    ensures least { W.failures writer.old ≤ W.failures writer.new }
+    ensures count { OnOk result (W.failures writer.new ≡ W.failures writer.old) }
 {
-    if block.len() < BLOCK {
+    if block.len() < BLOCK && text.len() < BLOCK {
+        block.push_str(text.as_str())?;
         return Ok(());
     }
-    flush(block, writer)
+    flush(block, writer)?;
+    mem::swap(block, text);
+    Ok(())
 }
 
 /// Writes the block to the device and empties it, also where the write fails.

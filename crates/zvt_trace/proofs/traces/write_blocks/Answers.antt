@@ -1,8 +1,8 @@
-use Rattle.std.proofs.Common.{◌≡◌, ◌∙◌, ◌+◌, length, arith, refl, rules, sym, subst, Option, Some, List, ℕ}
+use Rattle.std.proofs.Common.{◌≡◌, ◌∙◌, length, arith, refl, rules, sym, subst, Option, List, ℕ}
 use Rattle.std.specs.String.{string_bytes}
 use Rattle.std.proofs.lemmas.Result.{err_from_is_err_and}
-use Rattle.zvt_trace.proofs.TraceLemmas.{SoFar, closed, failed, none_yet, one_more}
-use Rattle.zvt_trace.proofs.BlockLemmas.{behind_nothing, end_fault, end_in_block, fault_in_block, line_in_block, so_far_same}
+use Rattle.zvt_trace.proofs.TraceLemmas.{SoFar, closed, end_failed, failed, none_yet, one_more}
+use Rattle.zvt_trace.proofs.BlockLemmas.{behind_nothing}
 use Rattle.zvt_trace.specs.Written.{behind}
 use Rattle.zvt_trace.proofs.traces.write_blocks.Goals as goal
 
@@ -19,36 +19,32 @@ lines-init g c =
 
 pub returns-in_err-counted-clause-writes : goal.returns-in_err-counted-clause-writes
 returns-in_err-counted-clause-writes g c =
-    let p = err_from_is_err_and c.from_residual-in_err-counted.result c.from_residual-in_err-counted.ensures.1 in
+    let p = err_from_is_err_and c.from_residual.result c.from_residual.ensures.1 in
     let so = c.lines.invariant.so_far in
-    let room = so_far_same c.args.style c.args.trace.now c.lines.rest.now c.lines.number c.lines.streams _ _ (behind (g.W.Sink.written c.make_room.new.writer) (string_bytes c.make_room.new.block)) c.lines.tally so c.in_ok-make_room.ensures.same in
     rw (p.1, p.2) (failed c.args.style c.args.trace.now c.lines.rest.now c.next_line.result.0.now c.next_line.result.1.now c.lines.number c.lines.streams c.add_line.new.streams c.in_err-counted.field-0.0
-    (g.W.Sink.written c.args.writer.now) _ (behind (g.W.Sink.written c.make_room.new.writer) (string_bytes c.add_line.new.block)) c.lines.tally room c.next_line.ensures.lines
-    (fault_in_block c.args.style room.sides (c.lines.number + 1) c.next_line.result.0.now c.add_line.new.streams (g.W.Sink.written c.make_room.new.writer) (string_bytes c.make_room.new.block) (string_bytes c.add_line.new.block) c.in_err-counted.field-0.0 (c.in_err-counted.ensures.writes room.sides room.follow)))
+    (g.W.Sink.written c.args.writer.now) (behind (g.W.Sink.written c.lines.writer) (string_bytes c.lines.block)) (behind (g.W.Sink.written c.add_line.new.writer) (string_bytes c.add_line.new.block)) c.lines.tally so c.next_line.ensures.lines
+    (c.in_err-counted.ensures.writes so.sides so.follow))
 
 pub lines-preserved : goal.lines-preserved
 lines-preserved g c =
     let so = c.lines.invariant.so_far in
-    let room = so_far_same c.args.style c.args.trace.now c.lines.rest.now c.lines.number c.lines.streams _ _ (behind (g.W.Sink.written c.make_room.new.writer) (string_bytes c.make_room.new.block)) c.lines.tally so c.in_ok-make_room.ensures.same in
     record {
       so_far = one_more c.args.style c.args.trace.now c.lines.rest.now c.next_line.result.0.now c.next_line.result.1.now c.lines.number c.lines.streams _ _ _ _
-          c.lines.tally c.in_ok-counted.counted _ room c.next_line.ensures.lines
-          (line_in_block c.args.style room.sides c.next_line.result.0.now c.add_line.new.streams c.in_ok-counted.counted (g.W.Sink.written c.make_room.new.writer) (string_bytes c.make_room.new.block) (string_bytes c.add_line.new.block) (c.in_ok-counted.ensures.writes room.sides room.follow)) refl refl;
+          c.lines.tally c.in_ok-counted.counted _ so c.next_line.ensures.lines (c.in_ok-counted.ensures.writes so.sides so.follow) refl refl;
       lines = omega arith;
       messages = omega (arith, c.in_ok-counted.ensures.few);
       bad = omega (arith, c.in_ok-counted.ensures.two);
-      failures = c.in_ok-make_room.ensures.failures ∙ c.lines.invariant.failures;
+      failures = c.in_ok-counted.ensures.count ∙ c.lines.invariant.failures;
     }
 
 pub returns-in_err-cut_off-clause-writes : goal.returns-in_err-cut_off-clause-writes
 returns-in_err-cut_off-clause-writes g c =
     let p = err_from_is_err_and c.from_residual-in_err-cut_off.result c.from_residual-in_err-cut_off.ensures.1 in
     let so = c.lines.invariant.so_far in
-    rw (p.1, p.2) (end_fault _ _ so.sides c.in_err-cut_off.field-0.0 (Some (string_bytes c.lines.block)) (Some (string_bytes c.add_last.new.block)) (g.W.Sink.written c.args.writer.now) (behind (g.W.Sink.written c.lines.writer) (string_bytes c.add_last.new.block)) (c.in_err-cut_off.ensures.writes so.sides so.follow))
+    rw (p.1, p.2) (end_failed _ _ so.sides c.in_err-cut_off.field-0.0 (g.W.Sink.written c.args.writer.now) (behind (g.W.Sink.written c.lines.writer) (string_bytes c.lines.block)) (behind (g.W.Sink.written c.add_last.new.writer) (string_bytes c.add_last.new.block)) (c.in_err-cut_off.ensures.writes so.sides so.follow))
 
 pub returns-clause-writes : goal.returns-clause-writes
 returns-clause-writes g c =
     let so = c.lines.invariant.so_far in
     let none : length c.lines.rest.now ≡ 0 = search rules in
-    closed _ _ c.lines.rest.now _ c.lines.streams _ _ _ c.lines.tally c.in_ok-cut_off.cut_off _ none so
-    (end_in_block c.args.style so.sides c.in_ok-cut_off.cut_off (g.W.Sink.written c.lines.writer) (string_bytes c.lines.block) (string_bytes c.add_last.new.block) (c.in_ok-cut_off.ensures.writes so.sides so.follow)) (omega (arith, c.in_ok-cut_off.ensures.none)) refl
+    closed _ _ c.lines.rest.now _ c.lines.streams _ _ _ c.lines.tally c.in_ok-cut_off.cut_off _ none so (c.in_ok-cut_off.ensures.writes so.sides so.follow) (omega (arith, c.in_ok-cut_off.ensures.none)) refl
