@@ -16,11 +16,12 @@ pub record LineState (S : Type 0) : Type 0 where
   pub written : Option (List ℕ)
   pub sent : Bool
 
--- One turn: all that it read was heard and answered.
+-- One turn: it read some bytes, and all that it read was heard and answered.
 pub record Turned {S : Type 0} (step : S → Message → Answered → S → Type 0) (old new : LineState S) : Type 0 where
   pub sent : Bool
   pub pumped : Pumped step old.stream new.stream old.machine new.machine old.coming new.coming old.written new.written sent
   pub one_read : length pumped.read ≤ 1024
+  pub some_read : 0 < length pumped.read
   pub sending : new.sent ≡ (old.sent || sent)
 
 -- So many turns, after none of which the line had come to where it was to go.

@@ -1,6 +1,6 @@
 //! The line engine: reads, hears and answers.
 
-ghost use Rattle.std.specs.Prelude.{◌≡◌, ◌≢◌, ℕ, ◌+◌, ◌≤◌, Bool, false, true, List, [], ◌++◌, IfOk, IfErr, IsOk, OnOk, OnErr, MatchResult, length};
+ghost use Rattle.std.specs.Prelude.{◌≡◌, ◌≢◌, ℕ, ◌+◌, ◌<◌, ◌≤◌, Bool, false, true, List, [], ◌++◌, IfOk, IfErr, IsOk, OnOk, OnErr, MatchResult, length};
 ghost use Rattle.std.specs.Result.{IsErrOf};
 ghost use Rattle.std.specs.Io.KnownBytes.{Consumes, Appends};
 ghost use Rattle.zvt_apdu.specs.Message.{Message};
@@ -97,7 +97,7 @@ fn turn<R: Source, W: Sink, M: Machine>(
 ) -> Result<bool, LineFault>
     ensures ok { IfOk result (λ sent. (pumped : Pumped M.hears stream.old stream.new machine.old machine.new
         (R.remaining reader.old) (R.remaining reader.new) (W.written writer.old) (W.written writer.new) sent)
-        × (length pumped.read ≤ 1024)) }
+        × (length pumped.read ≤ 1024) × (0 < length pumped.read)) }
     ensures err { IfErr result (λ fault. Broken M.hears fault stream.old stream.new machine.old machine.new
         (R.remaining reader.old) (R.remaining reader.new) (W.written writer.old) (W.written writer.new)) }
     ensures kinds { IfErr result (λ fault. fault ≢ LineFault.Turns) }

@@ -29,7 +29,7 @@ turns-preserved g c =
     record {
       pumped = pumped_more before.pumped told.ok.0;
       reads = omega (arith, told.reads, before.reads);
-      waited = waited_more g.M.Machine.hears g.M.Machine.is_resting c.args.until c.turns.made (line_state c.args.stream.now c.args.machine.now (g.R.Source.remaining c.args.reader.now) (g.W.Sink.written c.args.writer.now)) (line_ends c.turns.stream c.turns.machine (g.R.Source.remaining c.turns.reader) (g.W.Sink.written c.turns.writer) c.turns.sent) (line_ends c.turn.new.stream c.turn.new.machine (g.R.Source.remaining c.turn.new.reader) (g.W.Sink.written c.turn.new.writer) sent) before.waited (record { sent = c.in_ok-sent.field-0; pumped = told.ok.0; one_read = told.ok.1; sending = refl }) not_there;
+      waited = waited_more g.M.Machine.hears g.M.Machine.is_resting c.args.until c.turns.made (line_state c.args.stream.now c.args.machine.now (g.R.Source.remaining c.args.reader.now) (g.W.Sink.written c.args.writer.now)) (line_ends c.turns.stream c.turns.machine (g.R.Source.remaining c.turns.reader) (g.W.Sink.written c.turns.writer) c.turns.sent) (line_ends c.turn.new.stream c.turn.new.machine (g.R.Source.remaining c.turn.new.reader) (g.W.Sink.written c.turn.new.writer) sent) before.waited (record { sent = c.in_ok-sent.field-0; pumped = told.ok.0; one_read = told.ok.1; some_read = told.ok.2; sending = refl }) not_there;
       reader_failures = told.reader_failures ∙ before.reader_failures;
       writer_failures = told.writer_failures ∙ before.writer_failures;
     }
@@ -49,7 +49,7 @@ returns-then-is_reached-clause-first g c =
         fewer = omega arith;
         each_reads = refl;
         waited = before.waited;
-        last = record { sent = c.in_ok-sent.field-0; pumped = told.ok.0; one_read = told.ok.1; sending = refl };
+        last = record { sent = c.in_ok-sent.field-0; pumped = told.ok.0; one_read = told.ok.1; some_read = told.ok.2; sending = refl };
         there = at_end;
       },
     )
