@@ -75,8 +75,8 @@ Answers makes plan before after old new (Err Net) = ⊥
 abbrev pub AnswersStep : {L : Type 0} → (L → TillValue → Step → Result Outcome RunFault → L → TillValue → Type 0) → Planned → Standing L → Standing L → Option (List ℕ) → Option (List ℕ) → Result (Option LineFault) ToolFault → Type 0
 AnswersStep makes planned before after old new (Ok broken) =
     (result : Result Outcome RunFault) × (text : List ℕ) × Makes makes planned result before after text × (fault_of result ≡ broken) × Appends old new text
-AnswersStep makes planned before after old new (Err Write) = Unit {0}
-AnswersStep makes planned before after old new (Err Memory) = Unit {0}
+AnswersStep makes planned before after old new (Err Write) = (result : Result Outcome RunFault) × makes before.line before.till planned.step result after.line after.till
+AnswersStep makes planned before after old new (Err Memory) = (result : Result Outcome RunFault) × makes before.line before.till planned.step result after.line after.till
 AnswersStep makes planned before after old new (Err (LineBroke fault)) = ⊥
 AnswersStep makes planned before after old new (Err (Trace line what)) = ⊥
 AnswersStep makes planned before after old new (Err TooLong) = ⊥
