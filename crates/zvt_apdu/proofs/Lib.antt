@@ -17,3 +17,4 @@ pub mod Positions
 pub mod BriefLemmas
 pub mod Exists
 pub mod OneAnswer
+pub mod ViewLemmas

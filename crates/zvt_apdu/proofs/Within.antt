@@ -15,23 +15,7 @@ use Rattle.zvt_apdu.specs.Grammar.{IsFrameLength, Spells}
 use Rattle.zvt_apdu.specs.Judging.{Layout, layout_of, head_size, in_fields, InFields, fault}
 use Rattle.zvt_apdu.proofs.Frames.{Tail, Parts, Frame, frame_of}
 use Rattle.zvt_apdu.proofs.Named.{message_of}
-
--- no length begins another, and each says one number
-pub frame_length_front : (r : Reading) (m n : ℕ) (a b x y : List ℕ) → IsFrameLength r m a → IsFrameLength r n b → a ++ x ≡ b ++ y → (a ≡ b) × (m ≡ n) × (x ≡ y)
-frame_length_front r m n [] b x y p q e = absurd p
-frame_length_front r m n (a ∷ []) [] x y p q e = absurd q
-frame_length_front r m n (a ∷ []) (b ∷ []) x y p q e = (cc, cc (p.1, q.1), cc)
-frame_length_front r m n (a ∷ []) (b ∷ c ∷ []) x y p q e = absurd q
-frame_length_front r m n (a ∷ []) (b ∷ c ∷ d ∷ []) x y p q e = let same : a ≡ b = cc in absurd (omega (arith, p.0, p.1, q.0))
-frame_length_front r m n (a ∷ []) (b ∷ c ∷ d ∷ f ∷ l) x y p q e = absurd q
-frame_length_front r m n (a ∷ z ∷ []) b x y p q e = absurd p
-frame_length_front r m n (a ∷ z ∷ w ∷ []) [] x y p q e = absurd q
-frame_length_front r m n (a ∷ z ∷ w ∷ []) (b ∷ []) x y p q e = let same : a ≡ b = cc in absurd (omega (arith, q.0, q.1, p.0))
-frame_length_front r m n (a ∷ z ∷ w ∷ []) (b ∷ c ∷ []) x y p q e = absurd q
-frame_length_front r m n (a ∷ z ∷ w ∷ []) (b ∷ c ∷ d ∷ []) x y p q e =
-    let low : z ≡ c = cc in let high : w ≡ d = cc in (cc, omega (arith, p.4, q.4), cc)
-frame_length_front r m n (a ∷ z ∷ w ∷ []) (b ∷ c ∷ d ∷ f ∷ l) x y p q e = absurd q
-frame_length_front r m n (a ∷ z ∷ w ∷ v ∷ u) b x y p q e = absurd p
+pub use Rattle.zvt_apdu.specs.Once.{frame_length_front}
 
 -- a whole frame of a beginning whose length stands
 pub record Same (r : Reading) (high low : ℕ) (size : List ℕ) (n : ℕ) (inside rest : List ℕ) (b : List ℕ) (f : Frame r b) : Type 0 where

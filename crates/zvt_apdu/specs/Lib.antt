@@ -5,3 +5,5 @@ pub mod Grammar
 pub mod Judging
 pub mod Laws
 pub mod Briefs
+pub mod Once
+pub mod Views

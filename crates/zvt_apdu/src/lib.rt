@@ -8,6 +8,7 @@ mod kinds;
 pub mod laws;
 mod messages;
 mod reader;
+mod views;
 mod writer;
 
 pub use apdu::Apdu;
@@ -15,6 +16,7 @@ pub use brief::{Brief, brief_message, put_brief};
 pub use frame::{Layout, judge_size};
 pub use messages::{BadValue, Message, Rest};
 pub use reader::scan;
+pub use views::{ApduView, view};
 pub use writer::{NoRoom, encode, encode_into, size};
 
 #[cfg(test)]

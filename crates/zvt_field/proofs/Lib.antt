@@ -1,4 +1,5 @@
 pub mod Rows
+pub mod ViewLemmas
 pub mod FieldLists
 pub mod Fit
 pub mod Counts

@@ -62,7 +62,7 @@ some_copied None e = absurd (cc (e))
 some_copied (Some r) e = (r.now, refl)
 
 -- the only field of a BMP has that BMP
-sole_named : (bmp : ℕ) (l : List Field) (f : Field) → All (λ x. is_named bmp x ≡ true) l → sole l ≡ Some f → name_of f ≡ bmp
+pub sole_named : (bmp : ℕ) (l : List Field) (f : Field) → All (λ x. is_named bmp x ≡ true) l → sole l ≡ Some f → name_of f ≡ bmp
 sole_named bmp [] f all e = absurd (cc (e))
 sole_named bmp (x ∷ []) f all e = let same : f ≡ x = cc (e) in ap name_of same ∙ eqb-true (name_of x) bmp (all 0 x (omega arith))
 sole_named bmp (x ∷ y ∷ l) f all e = absurd (cc (e))

@@ -8,3 +8,6 @@ pub mod Named
 pub mod Names
 pub mod Answers
 pub mod Laws
+pub mod Once
+pub mod Views
+pub mod Lent

@@ -13,6 +13,7 @@ mod sizes;
 mod table;
 #[cfg(test)]
 mod tests;
+mod views;
 mod writer;
 
 pub use bodies::{BadField, Field, FieldBody};
@@ -23,4 +24,5 @@ pub use reader::scan;
 pub use shapes::Shape;
 pub use sizes::size;
 pub use table::shape;
+pub use views::{FieldView, FieldsView};
 pub use writer::write_into;

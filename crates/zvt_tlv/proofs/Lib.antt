@@ -16,3 +16,4 @@ pub mod SizedReading
 pub mod SizedMoves
 pub mod LawProofs
 pub mod Rows
+pub mod ViewLemmas

@@ -9,3 +9,6 @@ pub mod Sizes
 pub mod Checks
 pub mod Sized
 pub mod Lengths
+pub mod Once
+pub mod Views
+pub mod Lent

@@ -15,6 +15,7 @@ mod tags;
 #[cfg(test)]
 mod tests;
 mod trees;
+mod views;
 mod writer;
 
 pub use judging::{LengthAt, LengthNext, TagAt, TagNext, judge_length, judge_tag};
@@ -22,5 +23,6 @@ pub use lengths::Lengths;
 pub use sizes::{length_size, size};
 pub use tags::Tag;
 pub use trees::{BadForest, Body, Forest, Tlv};
+pub use views::{ForestView, TlvView, length_first};
 pub use writer::{put_sized, write_into};
 pub use zvt_spelling::{Scan, Why};

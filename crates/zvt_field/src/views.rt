@@ -1,0 +1,184 @@
+//! Views that lend the bytes of fields that a reader has found whole: nothing is copied, and no memory is taken.
+
+ghost use Rattle.std.specs.Prelude.{◌≡◌, ℕ, ◌%◌, ◌<◌, ◌^◌, List, ◌++◌, length, IfSome};
+ghost use Rattle.std.specs.Option.{option_copied};
+ghost use Rattle.zvt_spelling.specs.Reading.{padded};
+ghost use Rattle.zvt_field.specs.Grammar.{Field, FieldList};
+ghost use Rattle.zvt_field.specs.Named.{count_of, only_of, content_of, amount_of};
+ghost use Rattle.zvt_field.specs.Views.{FieldsBytes, fields_once, FieldBytes, field_once, IsLead, LeadFirst, ContentFirst, tree_of, PlainBytes};
+
+use crate::Shape;
+use crate::table::shape;
+use std::marker::Model;
+use zvt_bcd::{Amount, number};
+use zvt_tlv::{ForestView, length_first};
+
+/// A field: its BMP, and its content without the length.
+#[derive(Clone, Copy, Drop)]
+pub struct FieldView<'a> {
+    pub bmp: u8,
+    pub content: &'a [u8],
+    pub ghost field: { FieldBytes bmp content.now } by { field_once bmp content.now },
+}
+
+impl<'a> FieldView<'a> {
+    ghost use Rattle.zvt_field.specs.Lent.{shown};
+
+    /// The objects inside, where the BMP is one of a container.
+    pub fn tree(&self) -> Option<ForestView<'a>>
+        ensures { result ≡ tree_of (shown self.now) }
+    {
+        match shape(self.bmp) {
+            Some(Shape::Tree) => Some(ForestView::of(self.content)),
+            _ => None,
+        }
+    }
+}
+
+/// The fields of bytes that spell them, in order. Contracts see those that are left.
+#[derive(Drop)]
+pub struct FieldsView<'a> {
+    bytes: &'a [u8],
+    ghost spelled: { FieldsBytes bytes.now } by { fields_once bytes.now },
+}
+
+impl<'a> Model for FieldsView<'a> {
+    ghost use Rattle.std.specs.Prelude.{List};
+    ghost use Rattle.std.specs.Coded.{coded_list};
+    ghost use Rattle.zvt_field.specs.Grammar.{Field, field_code};
+
+    ghost Value = { List Field };
+
+    ghost coded = { coded_list field_code };
+
+    ghost view = { λ v. v.spelled.0 };
+}
+
+impl<'a> FieldsView<'a> {
+    ghost use Rattle.zvt_field.specs.Lent.{all_shown};
+
+    /// The view of bytes that spell fields, each length of objects in any form that holds it.
+    pub fn of(bytes: &'a [u8]) -> FieldsView<'a>
+        requires { FieldsBytes bytes.now }
+        ensures { (fields : List Field) → FieldList padded fields bytes.now → result ≡ fields }
+    {
+        FieldsView { bytes }
+    }
+
+    /// The same fields again.
+    pub fn again(&self) -> FieldsView<'a>
+        ensures { result ≡ self.now }
+    {
+        FieldsView { bytes: self.bytes }
+    }
+
+    /// The field of that BMP, where it stands exactly once.
+    pub fn only(&self, bmp: u8) -> Option<FieldView<'a>>
+        ensures { all_shown result ≡ only_of bmp self.now }
+    {
+        let mut found = None;
+        for field in self.again() {
+            if field.bmp == bmp {
+                if found.is_some() {
+                    return None;
+                }
+                found = Some(field);
+            }
+        }
+        found
+    }
+
+    /// The bytes of the field of that BMP, where it stands exactly once and is no container.
+    fn content(&self, bmp: u8) -> Option<&'a [u8]>
+        ensures content { option_copied result ≡ content_of bmp self.now }
+        ensures spelled { IfSome result (λ bytes. PlainBytes bmp bytes.now) }
+    {
+        let field = self.only(bmp)?;
+        match field.tree() {
+            Some(_) => None,
+            None => Some(field.content),
+        }
+    }
+
+    /// The amount in BMP 04, where it stands exactly once and isn't zero.
+    pub fn amount(&self) -> Option<Amount>
+        ensures { result ≡ amount_of self.now }
+    {
+        Amount::new(number(self.content(0x04)?))
+    }
+
+    /// How often that BMP stands.
+    pub fn count(&self, bmp: u8) -> usize
+        ensures { result ≡ count_of bmp self.now }
+    {
+        note_size(self.bytes);
+        let mut count = 0;
+        for field in self.again() {
+            if field.bmp == bmp {
+                count += 1;
+            }
+        }
+        count
+    }
+}
+
+impl<'a> Iterator for FieldsView<'a> {
+    ghost use Rattle.zvt_field.specs.Lent.{GivesField, fields_left};
+
+    type Item = FieldView<'a>;
+
+    ghost next_gives = { GivesField };
+
+    ghost remaining = { fields_left };
+
+    fn next(&mut self) -> Option<FieldView<'a>> {
+        let bytes = self.bytes;
+        if bytes.is_empty() {
+            return None;
+        }
+        let bmp = bytes[0];
+        let (content, after) = first_content(shape(bmp), &bytes[1..]);
+        self.bytes = after;
+        Some(FieldView { bmp, content })
+    }
+}
+
+/// The number of bytes fits a word.
+fn note_size(bytes: &[u8])
+    ensures { length bytes.now < 2 ^ 64 }
+{
+    let _ = bytes.len();
+}
+
+/// The size of what stands before the content behind a BMP of that shape, and the size of the content.
+fn lead(shape: Option<Shape>, bytes: &[u8]) -> (usize, usize)
+    requires { ∥ LeadFirst shape bytes.now ∥₁ }
+    ensures { (n : ℕ) (size after : List ℕ) → bytes.now ≡ size ++ after → IsLead shape n size → (result.0 ≡ length size) × (result.1 ≡ n) }
+{
+    match shape {
+        Some(Shape::Fixed(size)) | Some(Shape::Digits(size)) => (0, size),
+        Some(Shape::Ll) => (2, digit(bytes[0]) * 10 + digit(bytes[1])),
+        Some(Shape::Lll) => (
+            3,
+            (digit(bytes[0]) * 10 + digit(bytes[1])) * 10 + digit(bytes[2]),
+        ),
+        Some(Shape::Tree) => length_first(bytes),
+        None => (0, 0),
+    }
+}
+
+/// What a byte of a length of digits says.
+fn digit(byte: u8) -> usize
+    ensures { result ≡ byte % 16 }
+{
+    (byte % 16) as usize
+}
+
+/// The content that stands first behind a BMP of that shape, and what is behind it.
+fn first_content(shape: Option<Shape>, bytes: &[u8]) -> (&[u8], &[u8])
+    requires { ∥ ContentFirst shape bytes.now ∥₁ }
+    ensures { (size content after : List ℕ) → bytes.now ≡ size ++ (content ++ after) → IsLead shape (length content) size → (result.0.now ≡ content) × (result.1.now ≡ after) }
+{
+    let (start, size) = lead(shape, bytes);
+    bytes[start..].split_at(size)
+}

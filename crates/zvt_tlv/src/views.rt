@@ -1,0 +1,125 @@
+//! Views that lend the bytes of objects that a reader has found whole: nothing is copied, and no memory is taken. A view
+//! takes each length in any form that holds it, so one view serves the bytes of either reading.
+
+ghost use Rattle.std.specs.Prelude.{◌≡◌, ℕ, List, ◌++◌, length};
+ghost use Rattle.zvt_spelling.specs.Reading.{padded};
+ghost use Rattle.zvt_tlv.specs.Grammar.{IsTag, IsLength, Objects, Spells};
+ghost use Rattle.zvt_tlv.specs.Views.{ForestBytes, forest_once, ContentOf, content_once, TagFirst, LengthFirst, ObjectFirst, Starts};
+
+use std::marker::Model;
+
+/// An object: its tag, and its content without the length.
+#[derive(Clone, Copy, Drop)]
+pub struct TlvView<'a> {
+    pub tag: &'a [u8],
+    pub content: &'a [u8],
+    pub ghost inside: { ContentOf tag.now content.now } by { content_once tag.now content.now },
+}
+
+impl<'a> TlvView<'a> {
+    ghost use Rattle.zvt_tlv.specs.Lent.{IsChildren};
+
+    /// The objects inside, where the tag is constructed.
+    pub fn children(&self) -> Option<ForestView<'a>>
+        ensures { IsChildren self.now result }
+    {
+        match self.tag {
+            [first, ..] if *first / 32 % 2 == 1 => Some(ForestView {
+                bytes: self.content,
+            }),
+            _ => None,
+        }
+    }
+}
+
+/// The objects of bytes that spell them, in order. Contracts see those that are left.
+#[derive(Drop)]
+pub struct ForestView<'a> {
+    bytes: &'a [u8],
+    ghost spelled: { ForestBytes bytes.now } by { forest_once bytes.now },
+}
+
+impl<'a> Model for ForestView<'a> {
+    ghost use Rattle.zvt_tlv.specs.Grammar.{Objects};
+    ghost use Rattle.zvt_tlv.specs.Coding.{objects_code};
+
+    ghost Value = { Objects };
+
+    ghost coded = { objects_code };
+
+    ghost view = { λ v. v.spelled.0 };
+}
+
+impl<'a> ForestView<'a> {
+    /// The view of bytes that spell objects, each length in any form that holds it.
+    pub fn of(bytes: &'a [u8]) -> ForestView<'a>
+        requires { ForestBytes bytes.now }
+        ensures { (f : Objects) → Spells padded 1 f bytes.now → result ≡ f }
+    {
+        ForestView { bytes }
+    }
+
+    /// The bytes that spell what is left.
+    pub fn bytes(&self) -> &'a [u8]
+        ensures { ∥ Spells padded 1 self.now result.now ∥₁ }
+    {
+        self.bytes
+    }
+}
+
+impl<'a> Iterator for ForestView<'a> {
+    ghost use Rattle.zvt_tlv.specs.Lent.{GivesObject, objects_left};
+
+    type Item = TlvView<'a>;
+
+    ghost next_gives = { GivesObject };
+
+    ghost remaining = { objects_left };
+
+    fn next(&mut self) -> Option<TlvView<'a>> {
+        let bytes = self.bytes;
+        if bytes.is_empty() {
+            return None;
+        }
+        let (tag, content, after) = first_object(bytes);
+        self.bytes = after;
+        Some(TlvView { tag, content })
+    }
+}
+
+/// The size of the tag that stands first.
+fn tag_size(bytes: &[u8]) -> usize
+    requires { ∥ TagFirst bytes.now ∥₁ }
+    ensures value { (tag after : List ℕ) → bytes.now ≡ tag ++ after → IsTag tag → result ≡ length tag }
+{
+    if bytes[0] % 32 != 31 {
+        1
+    } else if bytes[1] < 128 {
+        2
+    } else {
+        3
+    }
+}
+
+/// The size of the length that stands first, and what it says.
+pub fn length_first(bytes: &[u8]) -> (usize, usize)
+    requires { ∥ LengthFirst bytes.now ∥₁ }
+    ensures { (n : ℕ) (size after : List ℕ) → bytes.now ≡ size ++ after → IsLength padded n size → (result.0 ≡ length size) × (result.1 ≡ n) }
+{
+    match bytes[0] {
+        0x81 => (2, bytes[1] as usize),
+        0x82 => (3, bytes[1] as usize * 256 + bytes[2] as usize),
+        short => (1, short as usize),
+    }
+}
+
+/// The tag and the content of the object that stands first, and what is behind it.
+fn first_object(bytes: &[u8]) -> (&[u8], &[u8], &[u8])
+    requires { ∥ ObjectFirst bytes.now ∥₁ }
+    ensures { (tag size content after : List ℕ) → Starts tag size content after bytes.now → (result.0.now ≡ tag) × (result.1.now ≡ content) × (result.2.now ≡ after) }
+{
+    let (tag, rest) = bytes.split_at(tag_size(bytes));
+    let (size, count) = length_first(rest);
+    let (content, after) = rest[size..].split_at(count);
+    (tag, content, after)
+}
