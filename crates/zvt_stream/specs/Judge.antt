@@ -97,3 +97,9 @@ PassesOver at left to less count =
 -- The judge has taken this front of more bytes, and no message ends in it.
 abbrev pub Skips : (old new : JudgeState) → (more : List ℕ) → Type 0
 Skips old new more = (bytes : List ℕ) → StandsFor old bytes → StandsFor new (bytes ++ more)
+
+-- A judge stands where the bytes that it stands for do by the grammar: at the part that their next byte plays, within as
+-- many levels as it counts.
+abbrev pub JudgesStand : Type 0
+JudgesStand = (judge : JudgeState) (bytes : List ℕ) → StandsFor judge bytes →
+    (openers : List Opener) × Position shortest openers bytes (role_of judge.at judge.left (depth_of judge.outer)) × (levels_of (role_of judge.at judge.left (depth_of judge.outer)) openers ≡ suc (length judge.outer))

@@ -158,6 +158,7 @@ impl Stream {
     pub fn levels(&self) -> usize
         ensures none { self.now.held ≡ [] → result ≡ 0 }
         ensures some { 0 < length self.now.held → HasLevels self.now.held result }
+        ensures most { result ≤ 8 }
     {
         if self.held.len() == 0 {
             0

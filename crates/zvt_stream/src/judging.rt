@@ -96,9 +96,10 @@ impl Judge {
         }
     }
 
-    /// How many levels are open, the frame counted.
+    /// How many levels are open, the frame counted: at most eight, since objects nest six deep.
     pub fn levels(&self) -> usize
-        ensures { (bytes : List ℕ) → StandsFor self.now bytes → HasLevels bytes result }
+        ensures levels { (bytes : List ℕ) → StandsFor self.now bytes → HasLevels bytes result }
+        ensures most { result ≤ 8 }
     {
         1 + self.outer.len()
     }

@@ -4,7 +4,7 @@ use Rattle.zvt_stream.specs.Judge.{JudgeState, StandsFor}
 use Rattle.zvt_stream.proofs.JudgeLemmas.{levels_are}
 use Rattle.zvt_stream.proofs.judging.Judge.levels.Goals as goal
 
-pub returns : goal.returns
-returns c b h =
+pub returns-clause-levels : goal.returns-clause-levels
+returns-clause-levels c b h =
     let count : 1 + c.len.result ≡ suc (length (reverse c.self.inside.outer.items)) = omega (arith, length-reverse c.self.inside.outer.items, c.len.ensures.value) in
     levels_are c.self.inside.at c.self.inside.left (1 + c.len.result) (reverse c.self.inside.outer.items) b count (subst (λ (v : JudgeState). StandsFor v b) (sym c.self.view_is) h)
