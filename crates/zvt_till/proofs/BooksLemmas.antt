@@ -1,79 +1,23 @@
 -- What is known of a judged log, with one more happening.
-use Rattle.std.proofs.Common.{◌≡◌, ℕ, Bool, true, false, cond, ◌||◌, nat_eq, List, [], ◌∷◌, ◌++◌, Option, Some, None, refl, sym, ap, subst, ◌∙◌, ◌⊎◌, inl, inr}
-use Rattle.std.specs.List.{list_any}
+use Rattle.std.proofs.Common.{◌≡◌, ℕ, true, false, ◌||◌, List, [], ◌∷◌, ◌++◌, Option, Some, None, refl, sym, ap, subst, ◌∙◌, ◌⊎◌, inl, inr}
 use Rattle.std.proofs.lemmas.Simd.{map-map}
 use Rattle.zvt_till.specs.declared.happenings.Happening.{Happening}
-use Rattle.zvt_till.specs.declared.happenings.Happening.TheVariants.{Connected, Sent as SentOut, Heard as HeardIn, Malformed, Lost}
 use Rattle.zvt_till.specs.declared.happenings.Sent.{Sent}
 use Rattle.zvt_till.specs.declared.happenings.Sent.TheVariants.{Register, Pay, Reverse, CloseDay, Cancel, Foreign}
-use Rattle.zvt_till.specs.declared.messages.Heard.TheVariants.{Positive, Negative, Status, Passing, Completion, Abort, Strange}
 use Rattle.zvt_till.specs.declared.orders.Order.TheVariants.{Pay as PayOrder}
-use Rattle.zvt_till.specs.declared.statuses.Statuses.{Statuses}
-use Rattle.zvt_till.specs.declared.statuses.Statuses.TheVariants.{Nothing, Good as AllGood, Declining as AllDeclining, Fault}
 use Rattle.zvt_till.specs.declared.entries.Entry.{Entry}
-use Rattle.zvt_till.specs.declared.outcomes.Cause.TheVariants.{TraceUsed}
 use Rattle.zvt_till.specs.declared.outcomes.Outcome.{Outcome}
 use Rattle.zvt_till.specs.declared.outcomes.Outcome.TheVariants.{Registered, Paid, Declined, Refused, Aborted, Unclear, Reversed, DayClosed}
-use Rattle.zvt_till.specs.declared.judging.Booked.{Booked as BookedRow}
 use Rattle.zvt_till.specs.declared.judging.OpenPayment.{OpenPayment}
 use Rattle.zvt_till.specs.Segments.{Opening, Segment, Ended, begun, segments, ends, is_positive, status_of, statuses, end_of}
 use Rattle.zvt_till.specs.Books.{Books, Booked, charge_of, traces, verdict_by, write_down, judge_as, books_of, books}
 use Rattle.zvt_till.specs.Marks.{entry_of}
-use Rattle.zvt_till.specs.Outcomes.{note_if, trace_used, payment_outcome, broken_outcome, outcome_by}
-use Rattle.zvt_till.specs.Judging.{rows_value, as_book, written, paying, is_open_as, open_after, ends_open, Runs, Rests, IsJudged, opened}
+use Rattle.zvt_till.specs.Outcomes.{note_if, outcome_by}
+use Rattle.zvt_till.specs.Judging.{as_book, written, paying, is_open_as, open_after, ends_open, Runs, Rests, IsJudged, opened}
 use Rattle.zvt_till.proofs.Segments.{heard_last, grown, segments-snoc, end_grown, end_of-snoc, list_any-snoc, fold-snoc, heard_last-snoc, split_last}
 use Rattle.zvt_till.proofs.Summaries.{summary, summary-snoc}
 use Rattle.zvt_till.proofs.Payment.{verdict_of, payment-verdict}
 use Rattle.zvt_till.proofs.Worth.{seg, begun_by, books-snoc, end-missing, end-reached}
-
--- the outcome of a payment depends on the book by its trace number alone
-abbrev pub with_used : List Entry → Outcome → Outcome
-with_used book Registered = Registered
-with_used book (Paid t r) = cond (trace_used t book) (Unclear TraceUsed) (Paid t r)
-with_used book (Declined c) = Declined c
-with_used book (Refused c) = Refused c
-with_used book (Aborted c) = Aborted c
-with_used book (Unclear x) = Unclear x
-with_used book Reversed = Reversed
-with_used book DayClosed = DayClosed
-
-payment-used : (book : List Entry) (st : Statuses) → payment_outcome book st ≡ with_used book (payment_outcome [] st)
-payment-used book Nothing = refl
-payment-used book (AllGood None r) = refl
-payment-used book (AllGood (Some t) r) = refl
-payment-used book (AllDeclining c) = refl
-payment-used book (Fault x) = refl
-
-broken-used : (book : List Entry) (st : Statuses) (o : Outcome) → o ≡ with_used book o → broken_outcome st o ≡ with_used book (broken_outcome st o)
-broken-used book Nothing o e = e
-broken-used book (AllGood t r) o e = refl
-broken-used book (AllDeclining c) o e = e
-broken-used book (Fault x) o e = refl
-
-pub outcome-used : (book : List Entry) (a : ℕ) (st : Statuses) (h : Happening) → outcome_by book (PayOrder a) st h ≡ with_used book (outcome_by [] (PayOrder a) st h)
-outcome-used book a st Connected = refl
-outcome-used book a st (SentOut o) = refl
-outcome-used book a st (HeardIn Positive) = refl
-outcome-used book a st (HeardIn (Negative c)) = broken-used book st (Refused c) refl
-outcome-used book a st (HeardIn (Status s)) = refl
-outcome-used book a st (HeardIn Passing) = refl
-outcome-used book a st (HeardIn Completion) = payment-used book st
-outcome-used book a st (HeardIn (Abort c)) = broken-used book st (Aborted c) refl
-outcome-used book a st (HeardIn Strange) = refl
-outcome-used book a st Malformed = refl
-outcome-used book a st Lost = refl
-
-pub used-rows : (t : ℕ) (rows : List BookedRow) → trace_used t (as_book (rows_value rows)) ≡ list_any (λ row. nat_eq row.trace t) rows
-used-rows t [] = refl
-used-rows t (row ∷ rows) = ap (λ b. nat_eq row.trace t || b) (used-rows t rows)
-
--- a payment that would be booked in an empty book
-pub outcome-paid : (rows : List BookedRow) (a : ℕ) (st : Statuses) (h : Happening) (out : Outcome) (t : ℕ) (r : Option (List ℕ)) (used : Bool)
-    → out ≡ outcome_by [] (PayOrder a) st h → out ≡ Paid t r → used ≡ list_any (λ row. nat_eq row.trace t) rows
-    → outcome_by (as_book (rows_value rows)) (PayOrder a) st h ≡ cond used (Unclear TraceUsed) (Paid t r)
-outcome-paid rows a st h out t r used e paid test =
-    let book : List Entry = as_book (rows_value rows) in
-    outcome-used book a st h ∙ ap (with_used book) (sym e ∙ paid) ∙ ap (λ b. cond b (Unclear TraceUsed) (Paid t r)) (used-rows t rows ∙ sym test)
 
 -- what is written is the verdict
 written-verdict : (b : Books) (a : ℕ) (out : Outcome) → written b a out ≡ write_down b a (verdict_of a out)

@@ -1,4 +1,5 @@
 mod Digits
+pub mod UsedTraces
 pub mod Segments
 pub mod Summaries
 pub mod Payment

@@ -1,11 +1,17 @@
 -- The fields of a till, and what is true of them.
-use Rattle.std.specs.Prelude.{ℕ, ◌-◌, ◌≤◌, min, length, vec_len, vec_capacity}
+use Rattle.std.specs.Prelude.{ℕ, cond, ◌-◌, ◌≤◌, min, length, vec_len, vec_capacity}
 use Rattle.zvt_till.specs.Refusals.{most_rows}
+use Rattle.zvt_till.specs.UsedTraces.{has_room, AreTracesOf}
 use Rattle.zvt_till.specs.View.{TillValue, CanEndRunning}
 use Rattle.zvt_till.specs.declared.till.Till.TheInside.{Inside}
 
+-- the rows for which there is a place in both lists
+abbrev pub rows_of : Inside → ℕ
+rows_of t = min (vec_capacity t.book - vec_len t.book) (vec_capacity t.unclear - vec_len t.unclear)
+
+-- none without room for their trace numbers
 abbrev pub spare_of : Inside → ℕ
-spare_of t = min (vec_capacity t.book - vec_len t.book) (vec_capacity t.unclear - vec_len t.unclear)
+spare_of t = cond (has_room t.used) (rows_of t) 0
 
 abbrev pub value_of : Inside → TillValue
 value_of t =
@@ -25,6 +31,7 @@ value_of t =
 
 abbrev pub IsSound : Inside → Type 0
 IsSound t =
-    (length t.book.items ≤ most_rows)
+    AreTracesOf t.used t.book.items
+    × (length t.book.items ≤ most_rows)
     × (length t.unclear.items ≤ most_rows)
     × CanEndRunning t.running (length t.book.items) (length t.unclear.items) (spare_of t)

@@ -1,5 +1,5 @@
 -- What is known of a log that is judged from the left.
-use Rattle.std.specs.Prelude.{◌≡◌, ℕ, Bool, true, false, List, [], ◌∷◌, ◌++◌, Option, Some, None, map, fold, nat_eq, slice_index_or}
+use Rattle.std.specs.Prelude.{◌≡◌, ℕ, Bool, true, false, List, [], ◌∷◌, ◌++◌, Option, Some, None, map, fold}
 use Rattle.std.specs.List.{list_any}
 use Rattle.zvt_till.specs.declared.happenings.Happening.{Happening}
 use Rattle.zvt_till.specs.declared.happenings.Sent.{Sent}
@@ -15,6 +15,7 @@ use Rattle.zvt_till.specs.Statuses.{Demand, Payment}
 use Rattle.zvt_till.specs.Segments.{Segment, Ended, segments, is_positive, end_of, statuses}
 use Rattle.zvt_till.specs.Books.{Booked, booked_as, Books, books_of}
 use Rattle.zvt_till.specs.Marks.{entry_of}
+use Rattle.zvt_till.specs.UsedTraces.{AreTracesOf}
 use Rattle.zvt_till.specs.Outcomes.{charged, note}
 
 -- rows as the definitions of a log's books see them
@@ -28,13 +29,13 @@ rows_value rows = map row_value rows
 abbrev pub books_value : BooksFound → Books
 books_value found = record { booked = rows_value found.booked.items; unclear = found.unclear.items }
 
--- each number is marked that some row has, and no other
-abbrev pub Marks : List BookedRow → List Bool → Type 0
-Marks rows marks = (number : ℕ) → slice_index_or marks number false ≡ list_any (λ (row : BookedRow). nat_eq row.trace number) rows
-
 -- rows as a book of which nothing was taken back
 abbrev pub as_book : List Booked → List Entry
 as_book rows = map (entry_of false) rows
+
+-- the trace numbers that are used are those of the rows
+abbrev pub KnowsTraces : BooksFound → Type 0
+KnowsTraces found = AreTracesOf found.used (as_book (rows_value found.booked.items))
 
 -- what a payment with this outcome adds
 abbrev pub written : Books → ℕ → Outcome → Books

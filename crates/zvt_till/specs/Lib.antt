@@ -3,6 +3,7 @@ pub mod Segments
 pub mod Books
 pub mod Marks
 pub mod Outcomes
+pub mod UsedTraces
 pub mod Refusals
 pub mod Sending
 pub mod Till

@@ -114,6 +114,23 @@ fn a_trace_number_is_booked_once(rt: HostRuntime) -> Result<(), Fail> {
 }
 
 #[test]
+fn the_least_and_the_greatest_trace_number_are_booked_once(rt: HostRuntime) -> Result<(), Fail> {
+    let alloc = rt.alloc();
+    for number in [0, 999_999] {
+        let log = [
+            pay()?,
+            approval(number, 5)?,
+            COMPLETION,
+            pay()?,
+            approval(number, 6)?,
+            COMPLETION,
+        ];
+        has_books(&rt, alloc, &log, &[row(number, 5)?], &[Cause::TraceUsed])?;
+    }
+    Ok(())
+}
+
+#[test]
 fn tells_why_a_payment_is_unclear(rt: HostRuntime) -> Result<(), Fail> {
     let alloc = rt.alloc();
     let log = [

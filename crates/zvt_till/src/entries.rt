@@ -1,7 +1,4 @@
 //! The rows of the book.
-ghost use Rattle.std.specs.Prelude.{◌≡◌};
-ghost use Rattle.zvt_till.specs.Outcomes.{trace_used};
-
 use zvt_bcd::{Amount, Trace};
 
 /// A payment that the terminal completed.
@@ -14,11 +11,4 @@ pub struct Entry {
     pub receipt: Option<[u8; 2]>,
     /// Whether it was taken back.
     pub reversed: bool,
-}
-
-/// Whether some entry has this trace number, reversed entries included.
-pub fn trace_used(trace: Trace, book: &[Entry]) -> bool
-    ensures { result ≡ trace_used trace book.now }
-{
-    book.iter().any(|entry| entry.trace == trace)
 }

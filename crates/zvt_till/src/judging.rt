@@ -1,15 +1,15 @@
 //! A log's payments, judged one after another.
-ghost use Rattle.std.specs.Prelude.{◌≡◌, ℕ, ◌++◌, ◌∷◌, [], ◌||◌, List, OnOk, IfOk, false, nat_eq, slice_index_or};
-ghost use Rattle.std.specs.List.{list_any};
+ghost use Rattle.std.specs.Prelude.{◌≡◌, ◌++◌, ◌∷◌, [], ◌||◌, List, OnOk, IfOk};
 ghost use Rattle.zvt_till.specs.Segments.{begun, is_positive, status_of};
 ghost use Rattle.zvt_till.specs.Books.{books};
-ghost use Rattle.zvt_till.specs.Outcomes.{note_if, outcome_by};
-ghost use Rattle.zvt_till.specs.Judging.{rows_value, books_value, as_book, written, paying, opened, IsJudged, Marks};
+ghost use Rattle.zvt_till.specs.Outcomes.{note_if};
+ghost use Rattle.zvt_till.specs.Judging.{books_value, written, paying, opened, IsJudged, KnowsTraces};
 
 use crate::happenings::{Happening, Sent, ends};
 use crate::orders::Order;
 use crate::outcomes::{Cause, Outcome, outcome_by};
 use crate::statuses::{Running, Statuses, demand_of, listened};
+use crate::used_traces::UsedTraces;
 use std::alloc::{AllocError, Global};
 use zvt_bcd::{Amount, Trace};
 
@@ -30,8 +30,8 @@ pub struct Books {
     pub booked: Vec<Booked>,
     /// The payments of which it is not known whether they happened, in the order in which they were sent.
     pub unclear: Vec<(Amount, Cause)>,
-    /// By trace number, whether some row has it. No row has a number behind the last.
-    pub(crate) marks: Vec<bool>,
+    /// The trace numbers of the payments that were completed.
+    pub(crate) used: UsedTraces,
 }
 
 /// A payment without an end so far: whether a positive answer came, and what its statuses say.
@@ -67,29 +67,6 @@ fn opened(order: &Sent) -> Option<OpenPayment>
     }
 }
 
-/// Whether some row has this trace number.
-fn is_booked(trace: Trace, rows: &[Booked], marks: &[bool]) -> bool
-    requires { Marks rows.now marks.now }
-    ensures { result ≡ list_any (λ row. nat_eq row.trace trace) rows.now }
-{
-    match marks.get(trace.get() as usize) {
-        Some(marked) => *marked,
-        None => false,
-    }
-}
-
-/// Marks the number.
-fn mark(marks: &mut Vec<bool>, trace: Trace) -> Result<(), AllocError>
-    ensures { OnOk result ((number : ℕ) → slice_index_or marks.new.items number false ≡ (nat_eq trace number || slice_index_or marks.old.items number false)) }
-{
-    let number = trace.get() as usize;
-    if marks.len() <= number {
-        marks.resize(number + 1, false)?;
-    }
-    marks[number] = true;
-    Ok(())
-}
-
 impl OpenPayment {
     /// The payment after something that does not end it.
     fn listened(&self, happening: &Happening) -> OpenPayment
@@ -110,44 +87,31 @@ impl OpenPayment {
             statuses: next.statuses,
         }
     }
-
-    /// How the payment ends by this, after these rows.
-    fn outcome(&self, rows: &[Booked], marks: &[bool], happening: &Happening) -> Outcome
-        requires { Marks rows.now marks.now }
-        ensures { result ≡ outcome_by (as_book (rows_value rows.now)) (Order.Pay self.now.amount) self.now.statuses happening.now }
-    {
-        let outcome = outcome_by(&[], &Order::Pay(self.amount), &self.statuses, happening);
-        if let Outcome::Paid { trace, .. } = &outcome {
-            if is_booked(*trace, rows, marks) {
-                return Outcome::Unclear(Cause::TraceUsed);
-            }
-        }
-        outcome
-    }
 }
 
 impl Books {
     /// No rows.
     pub(crate) fn new(alloc: Global) -> Books
         ensures none { books_value result ≡ books [] }
-        ensures marked { Marks result.booked.items result.marks.items }
+        ensures traces { KnowsTraces result }
     {
         Books {
             booked: Vec::new(alloc),
             unclear: Vec::new(alloc),
-            marks: Vec::new(alloc),
+            used: UsedTraces::new(alloc),
         }
     }
 
     /// Writes down what a payment of this amount came to.
     fn write(&mut self, amount: Amount, outcome: &Outcome) -> Result<(), AllocError>
-        requires { Marks self.old.booked.items self.old.marks.items }
+        requires { KnowsTraces self.old }
         ensures written { OnOk result (books_value self.new ≡ written (books_value self.old) amount outcome.now) }
-        ensures marked { OnOk result (Marks self.new.booked.items self.new.marks.items) }
+        ensures traces { OnOk result (KnowsTraces self.new) }
     {
         match outcome {
             Outcome::Paid { trace, receipt } => {
-                mark(&mut self.marks, *trace)?;
+                self.used.make_room()?;
+                self.used.insert(*trace);
                 self.booked.push(Booked {
                     amount,
                     trace: *trace,
@@ -162,9 +126,9 @@ impl Books {
 
     /// Nothing more comes to the payment that runs: without an end it is unfinished.
     pub(crate) fn close(&mut self, running: &Option<OpenPayment>) -> Result<(), AllocError>
-        requires { Marks self.old.booked.items self.old.marks.items }
+        requires { KnowsTraces self.old }
         ensures closed { OnOk result ((log : List Happening) → IsJudged log (books_value self.old) running.now → books_value self.new ≡ books log) }
-        ensures marked { OnOk result (Marks self.new.booked.items self.new.marks.items) }
+        ensures traces { OnOk result (KnowsTraces self.new) }
     {
         if let Some(payment) = running {
             self.write(payment.amount, &Outcome::Unclear(Cause::Unfinished))?;
@@ -178,8 +142,8 @@ impl Books {
         running: &Option<OpenPayment>,
         happening: &Happening,
     ) -> Result<Option<OpenPayment>, AllocError>
-        requires { Marks self.old.booked.items self.old.marks.items }
-        ensures marked { OnOk result (Marks self.new.booked.items self.new.marks.items) }
+        requires { KnowsTraces self.old }
+        ensures traces { OnOk result (KnowsTraces self.new) }
         ensures judged { IfOk result (λ next. (log : List Happening) → IsJudged log (books_value self.old) running.now → IsJudged (log ++ happening.now ∷ []) (books_value self.new) next) }
     {
         if let Some(order) = begun(happening) {
@@ -190,7 +154,8 @@ impl Books {
             return Ok(None);
         };
         if ends(payment.positive, happening) {
-            let outcome = payment.outcome(self.booked.as_slice(), self.marks.as_slice(), happening);
+            let order = Order::Pay(payment.amount);
+            let outcome = outcome_by(&self.used, &order, &payment.statuses, happening);
             self.write(payment.amount, &outcome)?;
             return Ok(None);
         }

@@ -15,6 +15,7 @@ mod orders;
 mod outcomes;
 mod statuses;
 mod till;
+mod used_traces;
 
 pub use entries::Entry;
 pub use events::{Event, Run, replay};

@@ -1,12 +1,14 @@
 //! How an order ends.
-ghost use Rattle.std.specs.Prelude.{◌≡◌};
+ghost use Rattle.std.specs.Prelude.{◌≡◌, List};
 ghost use Rattle.zvt_till.specs.Outcomes.{payment_outcome, reversal_outcome, closing_outcome, completion_outcome, broken_outcome, outcome_by};
+ghost use Rattle.zvt_till.specs.UsedTraces.{AreTracesOf};
+ghost use Rattle.zvt_till.specs.declared.entries.Entry.{Entry};
 
-use crate::entries::{Entry, trace_used};
 use crate::happenings::Happening;
 use crate::messages::Heard;
 use crate::orders::Order;
 use crate::statuses::Statuses;
+use crate::used_traces::UsedTraces;
 use std::fmt;
 use zvt_bcd::Trace;
 
@@ -86,15 +88,15 @@ pub enum Outcome {
     DayClosed,
 }
 
-/// How a completed payment ends.
-fn payment_outcome(book: &[Entry], so_far: Statuses) -> Outcome
-    ensures { result ≡ payment_outcome book.now so_far }
+/// How a completed payment ends, where the entries have these trace numbers.
+fn payment_outcome(used: &UsedTraces, so_far: Statuses) -> Outcome
+    ensures { (book : List Entry) → AreTracesOf used.now book → result ≡ payment_outcome book so_far }
 {
     match so_far {
         Statuses::Nothing => Outcome::Unclear(Cause::NoStatus),
         Statuses::Good(None, _) => Outcome::Unclear(Cause::NoTrace),
         Statuses::Good(Some(trace), receipt) => {
-            if trace_used(trace, book) {
+            if used.contains(trace) {
                 Outcome::Unclear(Cause::TraceUsed)
             } else {
                 Outcome::Paid { trace, receipt }
@@ -129,12 +131,12 @@ fn closing_outcome(so_far: Statuses) -> Outcome
 }
 
 /// How an order ends by a completion.
-fn completion_outcome(book: &[Entry], order: &Order, so_far: Statuses) -> Outcome
-    ensures { result ≡ completion_outcome book.now order.now so_far }
+fn completion_outcome(used: &UsedTraces, order: &Order, so_far: Statuses) -> Outcome
+    ensures { (book : List Entry) → AreTracesOf used.now book → result ≡ completion_outcome book order.now so_far }
 {
     match order {
         Order::Register => Outcome::Registered,
-        Order::Pay(_) => payment_outcome(book, so_far),
+        Order::Pay(_) => payment_outcome(used, so_far),
         Order::Reverse(_) => reversal_outcome(so_far),
         Order::CloseDay | Order::Cancel => closing_outcome(so_far),
     }
@@ -150,17 +152,17 @@ fn broken_outcome(so_far: Statuses, plain: Outcome) -> Outcome
     }
 }
 
-/// How the running order ends by this.
+/// How the running order ends by this, where the entries have these trace numbers.
 pub fn outcome_by(
-    book: &[Entry],
+    used: &UsedTraces,
     order: &Order,
     so_far: &Statuses,
     happening: &Happening,
 ) -> Outcome
-    ensures { result ≡ outcome_by book.now order.now so_far.now happening.now }
+    ensures { (book : List Entry) → AreTracesOf used.now book → result ≡ outcome_by book order.now so_far.now happening.now }
 {
     match happening {
-        Happening::Heard(Heard::Completion) => completion_outcome(book, order, *so_far),
+        Happening::Heard(Heard::Completion) => completion_outcome(used, order, *so_far),
         Happening::Heard(Heard::Abort(code)) => broken_outcome(*so_far, Outcome::Aborted(*code)),
         Happening::Heard(Heard::Negative(code)) => broken_outcome(*so_far, Outcome::Refused(*code)),
         Happening::Lost => Outcome::Unclear(Cause::Line),

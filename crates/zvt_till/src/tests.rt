@@ -167,6 +167,23 @@ fn trace_numbers_serve_once(rt: HostRuntime) -> Result<(), Fail> {
     Ok(())
 }
 
+#[test]
+fn each_trace_number_serves_once(rt: HostRuntime) -> Result<(), Fail> {
+    let mut till = registered_till(&rt, rt.alloc())?;
+    let used = Outcome::Unclear(Cause::TraceUsed);
+    for number in [0, 999_999, 63, 64, 999_936] {
+        let heard = [
+            Heard::Positive,
+            approval(PRICE, number, 5)?,
+            Heard::Completion,
+        ];
+        assert_eq!(rt; pays(&rt, &mut till, &heard)?, Some(paid(number, 5)?));
+        assert_eq!(rt; pays(&rt, &mut till, &heard)?, Some(used));
+    }
+    assert_eq!(rt; till.book().len(), 5);
+    Ok(())
+}
+
 /// A payment of the worked price after which these messages come is left unclear for the cause.
 fn is_unclear(rt: &impl Abort, alloc: Global, heard: &[Heard], cause: Cause) -> Result<(), Fail> {
     let mut till = registered_till(rt, alloc)?;

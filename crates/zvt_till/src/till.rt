@@ -7,6 +7,7 @@ use crate::messages::{Heard, reply_to};
 use crate::orders::{Order, OrderRefusal, Outgoing, Reply};
 use crate::outcomes::{Cause, Outcome, outcome_by};
 use crate::statuses::{Running, Statuses, demand_of, listened};
+use crate::used_traces::UsedTraces;
 use std::alloc::{AllocError, Global};
 use std::marker::Model;
 use zvt_apdu::Brief;
@@ -29,6 +30,8 @@ pub struct Till {
     registered: bool,
     running: Option<Running>,
     book: Vec<Entry>,
+    /// The trace numbers of the book.
+    used: UsedTraces,
     unclear: Vec<(Amount, Cause)>,
     last_outcome: Option<Outcome>,
 }
@@ -66,6 +69,7 @@ impl Till {
             registered: false,
             running: None,
             book: Vec::new(alloc),
+            used: UsedTraces::new(alloc),
             unclear: Vec::new(alloc),
             last_outcome: None,
         }
@@ -160,6 +164,7 @@ impl Till {
             Outcome::Registered => self.registered = true,
             Outcome::Paid { trace, receipt } => {
                 if let Order::Pay(amount) = order {
+                    self.used.insert(*trace);
                     self.book.push_reserved(Entry {
                         amount: *amount,
                         trace: *trace,
@@ -189,7 +194,7 @@ impl Till {
     {
         let running = self.running?;
         if ends(running.positive, happening) {
-            let outcome = outcome_by(self.book(), &running.order, &running.statuses, happening);
+            let outcome = outcome_by(&self.used, &running.order, &running.statuses, happening);
             self.finish(&running.order, &outcome);
             return Some(outcome);
         }
@@ -340,6 +345,7 @@ impl Till {
         ensures unchanged { OnErr result (self.new ≡ self.old) }
         ensures state { self.new.state ≡ self.old.state }
     {
+        self.used.make_room()?;
         self.book.reserve(1)?;
         self.unclear.reserve(1)?;
         Ok(())

@@ -11,5 +11,5 @@ loop-happening-preserved c =
     let longer = ap (λ k. take k log) (add-one c.loop-happening.happening-index) ∙ take-suc log c.loop-happening.happening-index happening c.loop-happening-test.true ∙ item in
     record {
       judged = rw longer (c.in_ok-running.ensures.judged (take c.loop-happening.happening-index log) c.loop-happening.invariant.judged);
-      marked = c.in_ok-running.ensures.marked;
+      traces = c.in_ok-running.ensures.traces;
     }

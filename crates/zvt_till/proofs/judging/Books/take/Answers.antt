@@ -1,5 +1,5 @@
 use Rattle.std.proofs.Common.{sym, ◌∙◌}
-use Rattle.zvt_till.specs.Judging.{books_value}
+use Rattle.zvt_till.specs.Judging.{books_value, as_book}
 use Rattle.zvt_till.proofs.BooksLemmas.{judged-order, judged-rest, judged-end, judged-more}
 use Rattle.zvt_till.proofs.judging.Books.take.Goals as goal
 
@@ -15,7 +15,8 @@ returns-in_default-running-clause-judged c log before =
 pub returns-then-ends-clause-judged : goal.returns-then-ends-clause-judged
 returns-then-ends-clause-judged c log before =
     let runs = rw c.in-Some-running.is at before in
-    let written = rw (c.outcome-outcome.ensures, c.as_slice.ensures.value) at c.in_ok-write.ensures.written in
+    let outcome = c.outcome_by-outcome.ensures (as_book (books_value c.args.self.now).booked) c.requires in
+    let written = rw outcome at c.in_ok-write.ensures.written in
     rw written (judged-end log c.args.happening.now (books_value c.args.self.now) c.in-Some-running.payment (sym c.begun.ensures ∙ c.in_default.is) (sym c.ends.ensures ∙ c.if-ends.true) runs)
 
 pub returns-clause-judged : goal.returns-clause-judged

@@ -1,0 +1,72 @@
+//! The trace numbers that are used.
+ghost use Rattle.std.specs.Prelude.{◌≡◌, ◌||◌, ℕ, true, false, nat_eq, OnOk, OnErr};
+
+use std::alloc::{AllocError, Global};
+use std::marker::Model;
+use zvt_bcd::Trace;
+
+/// The words that hold a bit for each number from 0 to 999,999.
+const WORDS: usize = 15_625;
+
+/// Which trace numbers some row has: a set that takes its 125,000 bytes at once, so that a number can be
+/// looked up and inserted in a time that does not depend on how many it has.
+#[derive(Drop)]
+pub struct UsedTraces {
+    /// A number is bit `number % 64` of word `number / 64`. Without room there are no words.
+    words: Vec<u64>,
+}
+
+impl Model for UsedTraces {
+    ghost use Rattle.std.specs.Prelude.{ℕ, List};
+
+    ghost Value = { List ℕ };
+
+    ghost view = { λ used. used.words.items };
+}
+
+impl UsedTraces {
+    ghost use Rattle.zvt_till.specs.UsedTraces.{has_room, has};
+
+    /// No numbers, and no room for any.
+    pub fn new(alloc: Global) -> UsedTraces
+        ensures { (number : ℕ) → has result number ≡ false }
+    {
+        UsedTraces {
+            words: Vec::new(alloc),
+        }
+    }
+
+    /// Sees to it that any number can be inserted without more memory.
+    pub fn make_room(&mut self) -> Result<(), AllocError>
+        ensures room { OnOk result (has_room self.new ≡ true) }
+        ensures has { OnOk result ((number : ℕ) → has self.new number ≡ has self.old number) }
+        ensures full { OnErr result (has_room self.old ≡ false) }
+        ensures unchanged { OnErr result (self.new ≡ self.old) }
+    {
+        if self.words.len() < WORDS {
+            self.words.resize(WORDS, 0)?;
+        }
+        Ok(())
+    }
+
+    /// Whether the number is used.
+    pub fn contains(&self, trace: Trace) -> bool
+        ensures { result ≡ has self.now trace }
+    {
+        let number = trace.get() as usize;
+        match self.words.get(number / 64) {
+            Some(word) => word >> (number % 64) & 1 == 1,
+            None => false,
+        }
+    }
+
+    /// The number is used from now on.
+    pub fn insert(&mut self, trace: Trace)
+        requires { has_room self.old ≡ true }
+        ensures room { has_room self.new ≡ true }
+        ensures has { (number : ℕ) → has self.new number ≡ (nat_eq trace number || has self.old number) }
+    {
+        let number = trace.get() as usize;
+        self.words[number / 64] |= 1 << (number % 64);
+    }
+}
