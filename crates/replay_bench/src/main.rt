@@ -1,4 +1,5 @@
-//! Runs a till over so many payments and prints its book: bench/payments measures its time.
+//! Runs a till over so many payments and prints its book: bench/payments measures its time. Under `replay` the till is
+//! run over the events of its line, under `orders` each payment is an order that runs to its end over memory; else both.
 #![tactic(auto)]
 
 ghost use Rattle.std.specs.Prelude.{◌≤◌};
@@ -7,10 +8,29 @@ use std::alloc::{AllocError, Global};
 use std::process::ExitCode;
 use std::{env, io};
 use zvt_bcd::{Amount, put};
-use zvt_till::{Event, Order, replay};
+use zvt_io::Over;
+use zvt_stream::Stream;
+use zvt_till::{Event, Order, RunFault, Till, replay, run_order};
 
 /// The most payments that a till's book holds.
 const MOST: u32 = 10_000;
+
+/// What the terminal answers to a registration: an acknowledgement and the completion.
+const REGISTERED: [u8; 6] = [0x80, 0x00, 0x00, 0x06, 0x0F, 0x00];
+
+/// What the terminal answers to a payment of 1234: an acknowledgement, an approval, and the completion.
+const APPROVED: [u8; 25] = [
+    0x80, 0x00, 0x00, 0x04, 0x0F, 0x10, 0x27, 0x00, 0x04, 0x00, 0x00, 0x00, 0x00, 0x12, 0x34, 0x0B,
+    0x00, 0x00, 0x00, 0x87, 0x00, 0x01, 0x06, 0x0F, 0x00,
+];
+
+/// What the command line asks for.
+#[derive(Clone, Copy)]
+struct Work {
+    payments: u32,
+    replay: bool,
+    orders: bool,
+}
 
 fn main(rt: HostRuntime) -> ExitCode {
     match run(&rt) {
@@ -20,60 +40,125 @@ fn main(rt: HostRuntime) -> ExitCode {
 }
 
 fn run(rt: &HostRuntime) -> io::Result<()> {
-    let payments = payments(rt);
-    let Ok((entries, total)) = booked(rt.alloc(), payments) else {
-        return eprintln!(rt; "replay_bench: too little memory");
-    };
-    println!(rt; "{payments} payments: {entries} booked, {total} in all")
+    let asked = asked(rt);
+    let payments = asked.payments;
+    if asked.replay {
+        let Ok((entries, total)) = replayed(rt.alloc(), payments) else {
+            return eprintln!(rt; "replay_bench: too little memory");
+        };
+        println!(rt; "{payments} payments replayed: {entries} booked, {total} in all")?;
+    }
+    if asked.orders {
+        let Ok((entries, total)) = ordered(rt.alloc(), payments) else {
+            return eprintln!(rt; "replay_bench: an order did not come to its end");
+        };
+        println!(rt; "{payments} payments ordered: {entries} booked, {total} in all")?;
+    }
+    Ok(())
 }
 
-/// How many payments the command line asks for: 100 where it names no number, and 10,000 at most.
-fn payments(rt: &HostRuntime) -> u32
-    ensures { result ≤ 10000 }
+/// How many payments, 100 where the command line names no number, and 10,000 at most; and which ways, both where it
+/// names none.
+fn asked(rt: &HostRuntime) -> Work
+    ensures { result.payments ≤ 10000 }
 {
-    let Ok(words) = env::args(rt) else {
-        return 100;
+    let mut asked = Work {
+        payments: 100,
+        replay: true,
+        orders: true,
     };
-    let mut asked = 100;
+    let Ok(words) = env::args(rt) else {
+        return asked;
+    };
     for word in words {
-        if let Ok(number) = word.as_str().parse::<u32>() {
-            asked = number;
+        match word.as_str() {
+            "replay" => asked.orders = false,
+            "orders" => asked.replay = false,
+            other => {
+                if let Ok(number) = other.parse::<u32>() {
+                    asked.payments = number;
+                }
+            }
         }
     }
-    asked.min(MOST)
+    asked.payments = asked.payments.min(MOST);
+    asked
 }
 
-/// The entries of the book after so many payments, and their sum.
-fn booked(alloc: Global, payments: u32) -> Result<(usize, u64), AllocError>
-    requires { payments ≤ 10000 }
-{
-    let Some(amount) = Amount::new(1234) else {
+/// The worked price, in cents.
+fn price() -> Amount {
+    let Some(price) = Amount::new(1234) else {
         unreachable!()
     };
+    price
+}
+
+/// What the terminal answers to a payment under this trace number.
+fn approved(trace: u32) -> [u8; 25]
+    requires { trace ≤ 10000 }
+{
+    let mut bytes = APPROVED;
+    put(u64::from(trace), &mut bytes[16..19]);
+    bytes
+}
+
+/// The bytes, as they came on the line.
+fn piece(alloc: Global, bytes: &[u8]) -> Result<Event, AllocError> {
+    let mut piece = Vec::new(alloc);
+    piece.extend_from_slice(bytes)?;
+    Ok(Event::Piece(piece))
+}
+
+/// The entries of the book after a replay of so many payments, and their sum.
+fn replayed(alloc: Global, payments: u32) -> Result<(usize, u64), AllocError>
+    requires { payments ≤ 10000 }
+{
+    let price = price();
     let mut events = Vec::new(alloc);
     events.push(Event::Connected)?;
     events.push(Event::Order(Order::Register))?;
-    events.push(Event::Piece(vec![in alloc; 0x80, 0x00, 0x00, 0x06, 0x0F, 0x00]?))?;
+    events.push(piece(alloc, &REGISTERED)?)?;
     for number in 0..payments {
-        events.push(Event::Order(Order::Pay(amount)))?;
-        events.push(Event::Piece(answers(alloc, number)?))?;
+        events.push(Event::Order(Order::Pay(price)))?;
+        events.push(piece(alloc, &approved(number))?)?;
     }
     let run = replay(alloc, events.as_slice())?;
     Ok((run.till.book().len(), run.till.total()))
 }
 
-/// What the terminal answers to a payment of 1234: an acknowledgement, an approval under this trace number, and the
-/// completion.
-fn answers(alloc: Global, trace: u32) -> Result<Vec<u8>, AllocError>
-    requires { trace ≤ 10000 }
+/// The entries of the book after so many orders to pay, each run to its end over memory, and their sum.
+fn ordered(alloc: Global, payments: u32) -> Result<(usize, u64), RunFault>
+    requires { payments ≤ 10000 }
 {
-    let mut digits = [0; 3];
-    put(u64::from(trace), digits.as_mut_slice());
-    let mut bytes = vec![in alloc;
-        0x80, 0x00, 0x00, 0x04, 0x0F, 0x10, 0x27, 0x00, 0x04, 0x00, 0x00, 0x00, 0x00, 0x12, 0x34,
-        0x0B,
-    ]?;
-    bytes.extend_from_slice(digits.as_slice())?;
-    bytes.extend_from_slice(&[0x87, 0x00, 0x01, 0x06, 0x0F, 0x00])?;
-    Ok(bytes)
+    let price = price();
+    let mut till = Till::with_defaults(alloc);
+    till.connected();
+    let mut stream = Stream::new(alloc);
+    let mut writer = Over::new(Vec::new(alloc));
+    let mut reader = Over::new(REGISTERED.as_slice());
+    let register = Order::Register;
+    run_order(
+        alloc,
+        &mut reader,
+        &mut writer,
+        &mut stream,
+        &mut till,
+        register,
+        1,
+    )?;
+    for number in 0..payments {
+        let answers = approved(number);
+        let mut reader = Over::new(answers.as_slice());
+        let pay = Order::Pay(price);
+        run_order(
+            alloc,
+            &mut reader,
+            &mut writer,
+            &mut stream,
+            &mut till,
+            pay,
+            1,
+        )?;
+    }
+    Ok((till.book().len(), till.total()))
 }
