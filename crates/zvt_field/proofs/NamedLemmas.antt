@@ -13,7 +13,7 @@ use Rattle.zvt_field.specs.declared.bodies.FieldBody.TheVariants.{Bytes}
 use Rattle.zvt_field.specs.declared.shapes.Shape.{Shape}
 use Rattle.zvt_field.specs.declared.shapes.Shape.TheVariants.{Fixed, Digits}
 use Rattle.zvt_field.specs.Shapes.{shape_of}
-use Rattle.zvt_field.specs.Grammar.{Field, plain, IsHead, IsContent}
+use Rattle.zvt_field.specs.Grammar.{Field, plain, IsHead, IsContent, Plain}
 use Rattle.zvt_field.specs.Bodies.{name_of, field_of, HasSpelling}
 use Rattle.zvt_field.specs.Named.{is_named, sole, only_of, content_of, positive, amount_of, trace_of, currency_of}
 
@@ -75,35 +75,33 @@ content_spelled bmp fs f body v content only h same is all =
     subst HasSpelling e h
 
 -- a content of a fixed size
-pub digits_of : (bmp n : ℕ) (content : List ℕ) → shape_of bmp ≡ Some (Digits n) → HasSpelling (plain bmp content) → AreDigits content × (length content ≡ n)
-digits_of bmp n content e h =
-    let p = h.spelled in
+pub digits_of : (bmp n : ℕ) (content bytes : List ℕ) → shape_of bmp ≡ Some (Digits n) → Plain bmp content bytes → AreDigits content × (length content ≡ n)
+digits_of bmp n content bytes e p =
     let head = subst (λ (o : Option Shape). IsHead o p.digits (length content) p.size) e p.is_head in
     (subst (λ (d : Bool). IsContent d content) head.0 p.is_content, head.1)
 
-pub fixed_of : (bmp n : ℕ) (content : List ℕ) → shape_of bmp ≡ Some (Fixed n) → HasSpelling (plain bmp content) → length content ≡ n
-fixed_of bmp n content e h =
-    let p = h.spelled in (subst (λ (o : Option Shape). IsHead o p.digits (length content) p.size) e p.is_head).1
+pub fixed_of : (bmp n : ℕ) (content bytes : List ℕ) → shape_of bmp ≡ Some (Fixed n) → Plain bmp content bytes → length content ≡ n
+fixed_of bmp n content bytes e p = (subst (λ (o : Option Shape). IsHead o p.digits (length content) p.size) e p.is_head).1
 
 pub amount_digits : (content : List ℕ) → HasSpelling (plain 0x04 content) → AreDigits content × (length content ≡ 6)
 unfolding shape_of
-amount_digits content h = digits_of 0x04 6 content refl h
+amount_digits content h = digits_of 0x04 6 content h.bytes refl h.spelled
 
 pub trace_digits : (content : List ℕ) → HasSpelling (plain 0x0B content) → AreDigits content × (length content ≡ 3)
 unfolding shape_of
-trace_digits content h = digits_of 0x0B 3 content refl h
+trace_digits content h = digits_of 0x0B 3 content h.bytes refl h.spelled
 
 pub currency_digits : (content : List ℕ) → HasSpelling (plain 0x49 content) → AreDigits content × (length content ≡ 2)
 unfolding shape_of
-currency_digits content h = digits_of 0x49 2 content refl h
+currency_digits content h = digits_of 0x49 2 content h.bytes refl h.spelled
 
 pub receipt_size : (content : List ℕ) → HasSpelling (plain 0x87 content) → length content ≡ 2
 unfolding shape_of
-receipt_size content h = fixed_of 0x87 2 content refl h
+receipt_size content h = fixed_of 0x87 2 content h.bytes refl h.spelled
 
 pub original_size : (content : List ℕ) → HasSpelling (plain 0x37 content) → length content ≡ 3
 unfolding shape_of
-original_size content h = fixed_of 0x37 3 content refl h
+original_size content h = fixed_of 0x37 3 content h.bytes refl h.spelled
 
 -- a value that is made within its bounds
 pub made : (r : Option ℕ) (n : ℕ) → IsSome r → IfSome r (λ v. v ≡ n) → r ≡ Some n
@@ -119,14 +117,14 @@ made_positive (Some v) (suc n) some least is = ap (λ (x : ℕ). Some x) is ∙ 
 below_power : (content : List ℕ) (k n : ℕ) → n < 100 ^ length content → length content ≡ k → n < 100 ^ k
 below_power content k n lt e = subst (λ (i : ℕ). n < 100 ^ i) e lt
 
-pub trace_small : (content : List ℕ) (n : ℕ) → n < 100 ^ length content → HasSpelling (plain 0x0B content) → n ≤ 999999
-trace_small content n lt h = let below = below_power content 3 n lt (trace_digits content h).1 in omega arith
+pub trace_small : (content : List ℕ) (n : ℕ) → n < 100 ^ length content → length content ≡ 3 → n ≤ 999999
+trace_small content n lt e = let below = below_power content 3 n lt e in omega arith
 
-pub currency_small : (content : List ℕ) (n : ℕ) → n < 100 ^ length content → HasSpelling (plain 0x49 content) → n ≤ 9999
-currency_small content n lt h = let below = below_power content 2 n lt (currency_digits content h).1 in omega arith
+pub currency_small : (content : List ℕ) (n : ℕ) → n < 100 ^ length content → length content ≡ 2 → n ≤ 9999
+currency_small content n lt e = let below = below_power content 2 n lt e in omega arith
 
-pub amount_small : (content : List ℕ) (n : ℕ) → n < 100 ^ length content → HasSpelling (plain 0x04 content) → n ≤ 999999999999
-amount_small content n lt h = let below = below_power content 6 n lt (amount_digits content h).1 in omega arith
+pub amount_small : (content : List ℕ) (n : ℕ) → n < 100 ^ length content → length content ≡ 6 → n ≤ 999999999999
+amount_small content n lt e = let below = below_power content 6 n lt e in omega arith
 
 pub is_amount : (fs : List Field) (content : List ℕ) (n : ℕ) (r : Option ℕ) → Some content ≡ content_of 0x04 fs → n ≡ number_of content → n ≤ 999999999999 → IsSome r ↔ ((1 ≤ n) × (n ≤ 999999999999)) → IfSome r (λ v. v ≡ n) → r ≡ amount_of fs
 is_amount fs content n r e number small given value =

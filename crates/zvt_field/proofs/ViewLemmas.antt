@@ -1,5 +1,5 @@
 -- Facts on views: the field that stands first in bytes that spell fields, and what is behind it.
-use Rattle.std.proofs.Common.{◌≡◌, ℕ, ◌+◌, ◌-◌, ◌<◌, ◌≤◌, true, false, Bool, Option, Some, None, List, [], ◌∷◌, ◌++◌, length, take, drop, slice_index_or, refl, sym, ◌∙◌, ap, subst, append_assoc, arith, length-append, suc, filter, is_some, cond, count_by, ◌^◌}
+use Rattle.std.proofs.Common.{◌≡◌, ℕ, ◌+◌, ◌-◌, ◌<◌, ◌≤◌, true, false, Bool, Option, Some, None, List, [], ◌∷◌, ◌++◌, length, take, drop, slice_index_or, refl, sym, ◌∙◌, ap, subst, append_assoc, arith, length-append, suc, filter, is_some, cond, count_by}
 use Rattle.std.proofs.lemmas.Bool.{cond-true, cond-false, eq-eqb, ne_eqb}
 use Rattle.std.proofs.lemmas.List.Sums.{count_by-le-length, sum_by-cons}
 use Rattle.std.proofs.Math.Seq.{take-length}
@@ -14,13 +14,13 @@ use Rattle.zvt_tlv.proofs.ViewLemmas.{length_loosened, loosened}
 use Rattle.zvt_field.specs.declared.shapes.Shape.{Shape}
 use Rattle.zvt_field.specs.declared.shapes.Shape.TheVariants.{Fixed, Digits, Ll, Lll, Tree}
 use Rattle.zvt_field.specs.Shapes.{shape_of}
-use Rattle.zvt_field.specs.Grammar.{Field, plain, tree, field_code, IsHead, IsContent, FieldOf, FieldList}
+use Rattle.zvt_field.specs.Grammar.{Field, plain, tree, field_code, IsHead, FieldOf, FieldList}
 use Rattle.zvt_field.specs.Views.{FieldsBytes, fields_once, FieldBytes, field_once, Holds, IsLead, LeadFirst, ContentFirst, tree_of, PlainBytes}
 use Rattle.zvt_field.specs.declared.views.FieldView.{FieldView}
 use Rattle.zvt_field.specs.Bodies.{name_of}
 use Rattle.zvt_field.specs.Named.{bytes_of, is_named, sole, only_of, count_of}
 use Rattle.zvt_field.specs.Lent.{shown, all_shown}
-use Rattle.zvt_field.proofs.NamedLemmas.{sole_named}
+use Rattle.zvt_field.proofs.NamedLemmas.{sole_named, digits_of, fixed_of}
 use Rattle.std.proofs.lemmas.List.Elements.{filter_passes}
 use Rattle.zvt_field.specs.Once.{field_size}
 
@@ -243,17 +243,35 @@ no_plain bmp content (tree n i, h) o e = refl
 digits_once : (content : List ℕ) → (a b : AreDigits content) → a ≡ b
 digits_once content = Π_prop (λ k. Π_prop (λ d. Π_prop (λ _. ×_prop le_prop le_prop)))
 
--- the digits of an amount
-pub amount_parts : (content : List ℕ) → PlainBytes 0x04 content → AreDigits content × (length content ≡ 6)
-unfolding shape_of
-amount_parts content p = (
-  ∥∥₁_elim p (digits_once content) (λ p. subst (λ (d : Bool). IsContent d content) p.1.is_head.0 p.1.is_content),
-  ∥∥₁_elim p (Coded-set coded_ℕ _ _) (λ p. p.1.is_head.1),
+-- a content of a fixed size
+digits_in : (bmp n : ℕ) (content : List ℕ) → shape_of bmp ≡ Some (Digits n) → PlainBytes bmp content → AreDigits content × (length content ≡ n)
+digits_in bmp n content e p = (
+  ∥∥₁_elim p (digits_once content) (λ p. (digits_of bmp n content p.0 e p.1).0),
+  ∥∥₁_elim p (Coded-set coded_ℕ _ _) (λ p. (digits_of bmp n content p.0 e p.1).1),
 )
 
-pub amount_most : (content : List ℕ) (n : ℕ) → n < 100 ^ length content → PlainBytes 0x04 content → n ≤ 999999999999
-amount_most content n lt p =
-    let below : n < 100 ^ 6 = subst (λ (i : ℕ). n < 100 ^ i) (amount_parts content p).1 lt in omega arith
+fixed_in : (bmp n : ℕ) (content : List ℕ) → shape_of bmp ≡ Some (Fixed n) → PlainBytes bmp content → length content ≡ n
+fixed_in bmp n content e p = ∥∥₁_elim p (Coded-set coded_ℕ _ _) (λ p. fixed_of bmp n content p.0 e p.1)
+
+pub amount_parts : (content : List ℕ) → PlainBytes 0x04 content → AreDigits content × (length content ≡ 6)
+unfolding shape_of
+amount_parts content p = digits_in 0x04 6 content refl p
+
+pub trace_parts : (content : List ℕ) → PlainBytes 0x0B content → AreDigits content × (length content ≡ 3)
+unfolding shape_of
+trace_parts content p = digits_in 0x0B 3 content refl p
+
+pub currency_parts : (content : List ℕ) → PlainBytes 0x49 content → AreDigits content × (length content ≡ 2)
+unfolding shape_of
+currency_parts content p = digits_in 0x49 2 content refl p
+
+pub receipt_length : (content : List ℕ) → PlainBytes 0x87 content → length content ≡ 2
+unfolding shape_of
+receipt_length content p = fixed_in 0x87 2 content refl p
+
+pub original_length : (content : List ℕ) → PlainBytes 0x37 content → length content ≡ 3
+unfolding shape_of
+original_length content p = fixed_in 0x37 3 content refl p
 
 -- the only field of a BMP has that BMP
 pub only_named : (bmp : ℕ) (fs : List Field) (v : FieldView) → Some (shown v) ≡ only_of bmp fs → v.bmp ≡ bmp

@@ -11,4 +11,4 @@ number-requires-clause-short c = omega (arith, amount_digits c.in_ok-content.fie
 pub returns : goal.returns
 returns c =
     is_amount c.args.fields.now c.in_ok-content.field-0.now c.number.result c.new.result c.in_ok-content.ensures.content c.number.ensures.value
-    (amount_small c.in_ok-content.field-0.now c.number.result c.number.ensures.bound c.in_ok-content.ensures.spelled) c.new.ensures.given c.new.ensures.value
+    (amount_small c.in_ok-content.field-0.now c.number.result c.number.ensures.bound (amount_digits c.in_ok-content.field-0.now c.in_ok-content.ensures.spelled).1) c.new.ensures.given c.new.ensures.value

@@ -9,9 +9,9 @@ pub number-requires-clause-short : goal.number-requires-clause-short
 number-requires-clause-short c = omega (arith, trace_digits c.in_ok-content.field-0.now c.in_ok-content.ensures.spelled)
 
 pub overflow_cast-number : goal.overflow_cast-number
-overflow_cast-number c = omega (arith, trace_small c.in_ok-content.field-0.now c.number.result c.number.ensures.bound c.in_ok-content.ensures.spelled)
+overflow_cast-number c = omega (arith, trace_small c.in_ok-content.field-0.now c.number.result c.number.ensures.bound (trace_digits c.in_ok-content.field-0.now c.in_ok-content.ensures.spelled).1)
 
 pub returns : goal.returns
 returns c =
     is_trace c.args.fields.now c.in_ok-content.field-0.now c.number.result c.new.result c.in_ok-content.ensures.content c.number.ensures.value
-    (trace_small c.in_ok-content.field-0.now c.number.result c.number.ensures.bound c.in_ok-content.ensures.spelled) c.new.ensures.given c.new.ensures.value
+    (trace_small c.in_ok-content.field-0.now c.number.result c.number.ensures.bound (trace_digits c.in_ok-content.field-0.now c.in_ok-content.ensures.spelled).1) c.new.ensures.given c.new.ensures.value

@@ -1,6 +1,6 @@
 use Rattle.std.proofs.Common.{arith}
-use Rattle.zvt_field.proofs.NamedLemmas.{is_amount}
-use Rattle.zvt_field.proofs.ViewLemmas.{amount_parts, amount_most}
+use Rattle.zvt_field.proofs.NamedLemmas.{amount_small, is_amount}
+use Rattle.zvt_field.proofs.ViewLemmas.{amount_parts}
 use Rattle.zvt_field.proofs.views.FieldsView.amount.Goals as goal
 
 pub number-requires-clause-digits : goal.number-requires-clause-digits
@@ -12,4 +12,4 @@ number-requires-clause-short c = omega (arith, (amount_parts c.in_ok-content.fie
 pub returns : goal.returns
 returns c =
     is_amount c.args.self.now c.in_ok-content.field-0.now c.number.result c.new.result c.in_ok-content.ensures.content c.number.ensures.value
-    (amount_most c.in_ok-content.field-0.now c.number.result c.number.ensures.bound c.in_ok-content.ensures.spelled) c.new.ensures.given c.new.ensures.value
+    (amount_small c.in_ok-content.field-0.now c.number.result c.number.ensures.bound (amount_parts c.in_ok-content.field-0.now c.in_ok-content.ensures.spelled).1) c.new.ensures.given c.new.ensures.value
