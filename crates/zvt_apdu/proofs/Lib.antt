@@ -18,3 +18,4 @@ pub mod BriefLemmas
 pub mod Exists
 pub mod OneAnswer
 pub mod ViewLemmas
+pub mod PartLemmas

@@ -260,4 +260,8 @@ message_loosened m s p = record {
 pub control_named : (m : Message) (b : List ℕ) → ∥ Spells padded m b ∥₁ → ∥ IsControl m (slice_index_or b 0 0 ∷ slice_index_or b 1 0 ∷ []) ∥₁
 control_named m b p =
     ∥∥₁_map p (λ p.
-      let l = laid m b p in subst (IsControl m) (sym (ap (λ (s : List ℕ). slice_index_or s 0 0 ∷ slice_index_or s 1 0 ∷ []) l.whole)) l.is_control)
+    let l = laid m b p in subst (IsControl m) (sym (ap (λ (s : List ℕ). slice_index_or s 0 0 ∷ slice_index_or s 1 0 ∷ []) l.whole)) l.is_control)
+
+-- what a reader found or a writer wrote has a view
+pub spelled_bytes : (m : Message) (s : List ℕ) → Spells shortest m s → MessageBytes s
+spelled_bytes m s p = (m, ∣ message_loosened m s p ∣₁)

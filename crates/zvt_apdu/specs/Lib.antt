@@ -5,5 +5,6 @@ pub mod Grammar
 pub mod Judging
 pub mod Laws
 pub mod Briefs
+pub mod Kinds
 pub mod Once
 pub mod Views

@@ -7,6 +7,8 @@ use Rattle.zvt_tlv.proofs.Spelling.{same_front}
 use Rattle.zvt_field.specs.Grammar.{Field}
 use Rattle.zvt_field.proofs.FieldLists.{one_list}
 use Rattle.zvt_apdu.specs.Message.{Message, ack, nack, registration, authorisation, reversal, end_of_day, abort_order, status, intermediate, print_line, text_block, completion, abort, other}
+use Rattle.zvt_apdu.specs.Kinds.{Kind, kind_of, kinds, kind_in, kind_at}
+use Rattle.zvt_apdu.specs.declared.kinds.Kind.TheVariants as kind
 use Rattle.zvt_apdu.specs.Grammar.{Form, IsFrameLength, BytesFrom, table, look_up, form_of, IsControl, Free, Listed, Registered, Data, Spells}
 
 -- no length begins another, and each says one number
@@ -35,45 +37,18 @@ last_of [] = 0
 last_of (x ∷ []) = x
 last_of (x ∷ y ∷ l) = last_of (y ∷ l)
 
--- which kind of message it is
-abbrev kind : Message → ℕ
-kind (ack p) = 0
-kind (nack c p) = 1
-kind (registration w c r) = 2
-kind (authorisation f) = 3
-kind (reversal w f) = 4
-kind (end_of_day w f) = 5
-kind (abort_order f) = 6
-kind (status f) = 7
-kind (intermediate s p) = 8
-kind (print_line s p) = 9
-kind (text_block f) = 10
-kind (completion f) = 11
-kind (abort s p) = 12
-kind (other h l p) = 13
-
-abbrev kinds : List (ℕ × ℕ × ℕ)
-kinds = (0x80, 0x00, 0) ∷ (0x06, 0x00, 2) ∷ (0x06, 0x01, 3) ∷ (0x06, 0x30, 4) ∷ (0x06, 0x50, 5) ∷ (0x06, 0xB0, 6) ∷ (0x04, 0x0F, 7) ∷ (0x04, 0xFF, 8) ∷ (0x06, 0xD1, 9) ∷ (0x06, 0xD3, 10) ∷ (0x06, 0x0F, 11) ∷ (0x06, 0x1E, 12) ∷ []
-
-abbrev kind_in : (high low : ℕ) → List (ℕ × ℕ × ℕ) → ℕ
-kind_in high low [] = 13
-kind_in high low (row ∷ rows) = cond ((high == row.0) && (low == row.1)) row.2 (kind_in high low rows)
-
-unfoldable kind_of : (high low : ℕ) → ℕ
-kind_of high low = cond (high == 0x84) 1 (kind_in high low kinds)
-
 -- the two tables have the same control bytes
-abbrev Alike : List (ℕ × ℕ × Form) → List (ℕ × ℕ × ℕ) → Type 0
+abbrev Alike : List (ℕ × ℕ × Form) → List (ℕ × ℕ × Kind) → Type 0
 Alike [] [] = Unit {0}
 Alike [] (k ∷ ks) = ⊥
 Alike (f ∷ fs) [] = ⊥
 Alike (f ∷ fs) (k ∷ ks) = (f.0 ≡ k.0) × (f.1 ≡ k.1) × Alike fs ks
 
-test : (b : Bool) (form : Form) (fs : Option Form) (k : ℕ) (ks : ℕ) → cond b (Some form) fs ≡ None → (fs ≡ None → ks ≡ 13) → cond b k ks ≡ 13
+test : (b : Bool) (form : Form) (fs : Option Form) (k ks : Kind) → cond b (Some form) fs ≡ None → (fs ≡ None → ks ≡ kind.Other) → cond b k ks ≡ kind.Other
 test true form fs k ks e h = absurd (cc (e))
 test false form fs k ks e h = h e
 
-not_in : (high low : ℕ) (fs : List (ℕ × ℕ × Form)) (ks : List (ℕ × ℕ × ℕ)) → Alike fs ks → look_up high low fs ≡ None → kind_in high low ks ≡ 13
+not_in : (high low : ℕ) (fs : List (ℕ × ℕ × Form)) (ks : List (ℕ × ℕ × Kind)) → Alike fs ks → look_up high low fs ≡ None → kind_in high low ks ≡ kind.Other
 not_in high low [] [] a e = refl
 not_in high low [] (k ∷ ks) a e = absurd a
 not_in high low (f ∷ fs) [] a e = absurd a
@@ -82,40 +57,40 @@ not_in high low (f ∷ fs) (k ∷ ks) a e =
     ap (λ (b : Bool). cond b k.2 (kind_in high low ks)) (sym same)
     ∙ test ((high == f.0) && (low == f.1)) f.2 (look_up high low fs) k.2 (kind_in high low ks) e (not_in high low fs ks a.2)
 
-kind_other : (high low : ℕ) → form_of high low ≡ None → kind_of high low ≡ 13
-unfolding form_of kind_of
+kind_other : (high low : ℕ) → form_of high low ≡ None → kind_at high low ≡ kind.Other
+unfolding form_of kind_at
 kind_other high low e = test' (high == 0x84) e
   where
-    test' : (b : Bool) → cond b (Some (BytesFrom 0)) (look_up high low table) ≡ None → cond b 1 (kind_in high low kinds) ≡ 13
+    test' : (b : Bool) → cond b (Some (BytesFrom 0)) (look_up high low table) ≡ None → cond b kind.Nack (kind_in high low kinds) ≡ kind.Other
     test' true e = absurd (cc (e))
     test' false e = not_in high low table kinds (refl, refl, (refl, refl, (refl, refl, (refl, refl, (refl, refl, (refl, refl, (refl, refl, (refl, refl, (refl, refl, (refl, refl, (refl, refl, (refl, refl, tt)))))))))))) e
 
-kind_named : (r : Reading) (m : Message) (high low : ℕ) (c : List ℕ) → c ≡ high ∷ low ∷ [] → IsControl m c → kind m ≡ kind_of high low
-unfolding kind_of
+pub kind_named : (r : Reading) (m : Message) (high low : ℕ) (c : List ℕ) → c ≡ high ∷ low ∷ [] → IsControl m c → kind_of m ≡ kind_at high low
+unfolding kind_at
 kind_named r m high low c e h = sym (by_message m h)
   where
-    at' : (h l k : ℕ) → c ≡ h ∷ l ∷ [] → kind_of h l ≡ k → kind_of high low ≡ k
+    at' : (h l : ℕ) (k : Kind) → c ≡ h ∷ l ∷ [] → kind_at h l ≡ k → kind_at high low ≡ k
     at' h l k w i =
         let whole : high ∷ low ∷ [] ≡ h ∷ l ∷ [] = sym e ∙ w in
         let highs : high ≡ h = cc (whole) in
         let lows : low ≡ l = cc (whole) in
-        ap (λ (x : ℕ). kind_of x low) highs ∙ ap (λ (x : ℕ). kind_of h x) lows ∙ i
+        ap (λ (x : ℕ). kind_at x low) highs ∙ ap (λ (x : ℕ). kind_at h x) lows ∙ i
 
-    by_message : (m : Message) → IsControl m c → kind_of high low ≡ kind m
-    by_message (ack p) h = at' 0x80 0x00 0 h refl
-    by_message (nack k p) h = at' 0x84 k 1 h.0 refl
-    by_message (registration w g s) h = at' 0x06 0x00 2 h refl
-    by_message (authorisation f) h = at' 0x06 0x01 3 h refl
-    by_message (reversal w f) h = at' 0x06 0x30 4 h refl
-    by_message (end_of_day w f) h = at' 0x06 0x50 5 h refl
-    by_message (abort_order f) h = at' 0x06 0xB0 6 h refl
-    by_message (status f) h = at' 0x04 0x0F 7 h refl
-    by_message (intermediate s p) h = at' 0x04 0xFF 8 h refl
-    by_message (print_line s p) h = at' 0x06 0xD1 9 h refl
-    by_message (text_block f) h = at' 0x06 0xD3 10 h refl
-    by_message (completion f) h = at' 0x06 0x0F 11 h refl
-    by_message (abort s p) h = at' 0x06 0x1E 12 h refl
-    by_message (other a b p) h = at' a b 13 h.0 (kind_other a b h.3)
+    by_message : (m : Message) → IsControl m c → kind_at high low ≡ kind_of m
+    by_message (ack p) h = at' 0x80 0x00 kind.Ack h refl
+    by_message (nack k p) h = at' 0x84 k kind.Nack h.0 refl
+    by_message (registration w g s) h = at' 0x06 0x00 kind.Registration h refl
+    by_message (authorisation f) h = at' 0x06 0x01 kind.Authorisation h refl
+    by_message (reversal w f) h = at' 0x06 0x30 kind.Reversal h refl
+    by_message (end_of_day w f) h = at' 0x06 0x50 kind.EndOfDay h refl
+    by_message (abort_order f) h = at' 0x06 0xB0 kind.AbortOrder h refl
+    by_message (status f) h = at' 0x04 0x0F kind.Status h refl
+    by_message (intermediate s p) h = at' 0x04 0xFF kind.Intermediate h refl
+    by_message (print_line s p) h = at' 0x06 0xD1 kind.PrintLine h refl
+    by_message (text_block f) h = at' 0x06 0xD3 kind.TextBlock h refl
+    by_message (completion f) h = at' 0x06 0x0F kind.Completion h refl
+    by_message (abort s p) h = at' 0x06 0x1E kind.Abort h refl
+    by_message (other a b p) h = at' a b kind.Other h.0 (kind_other a b h.3)
 
 same_free : (k : ℕ) (f p g q a b : List ℕ) → a ≡ b → Free k f p a → Free k g q b → (f ≡ g) × (p ≡ q)
 same_free k f p g q a b e x y = same_front f g p q (x.1 ∙ sym y.1) (sym x.0 ∙ e ∙ y.0)
@@ -136,7 +111,7 @@ last_byte w v c d e =
 longer : (r : Reading) (w : List ℕ) (c : ℕ) (fs : List Field) (a b first : List ℕ) → a ≡ b → Free 4 first [] a → Registered r w c fs b → ⊥
 longer r w c fs a b first e x y = omega (arith, ap length e, ap length x.0, ap length (append-nil first), x.1, ap length y.whole, length-append w (y.digits ++ y.listed), length-append y.digits y.listed, y.count, y.two)
 
-one_content : (r : Reading) (m n : Message) (c a b : List ℕ) → kind m ≡ kind n → IsControl m c → IsControl n c → a ≡ b → Data r m a → Data r n b → m ≡ n
+one_content : (r : Reading) (m n : Message) (c a b : List ℕ) → kind_of m ≡ kind_of n → IsControl m c → IsControl n c → a ≡ b → Data r m a → Data r n b → m ≡ n
 one_content r (ack p) (ack q) c a b k g h e x y = let s = (same_free 0 [] p [] q a b e x y).1 in cc (s)
 one_content r (nack i p) (nack j q) c a b k g h e x y =
     let s = (same_free 0 [] p [] q a b e x y).1 in
@@ -170,10 +145,10 @@ one_content r (other i j p) (other i' j' q) c a b k g h e x y =
     let s = (same_free 0 [] p [] q a b e x y).1 in
     let w : i ∷ j ∷ [] ≡ i' ∷ j' ∷ [] = sym g.0 ∙ h.0 in
     let highs : i ≡ i' = cc (w) in let lows : j ≡ j' = cc (w) in cc (s, highs, lows)
-one_content r m n c a b k g h e x y = absurd (omega (arith, k))
+one_content r m n c a b k g h e x y = absurd (cc (k))
 
 -- two bytes of control
-two_bytes : (m : Message) (c : List ℕ) → IsControl m c → (high : ℕ) × (low : ℕ) × (c ≡ high ∷ low ∷ [])
+pub two_bytes : (m : Message) (c : List ℕ) → IsControl m c → (high : ℕ) × (low : ℕ) × (c ≡ high ∷ low ∷ [])
 two_bytes (ack p) c h = (0x80, 0x00, h)
 two_bytes (nack k p) c h = (0x84, k, h.0)
 two_bytes (registration w g s) c h = (0x06, 0x00, h)

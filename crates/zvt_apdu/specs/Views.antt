@@ -54,3 +54,50 @@ control_of (text_block fields) = 0x06 ∷ 0xD3 ∷ []
 control_of (completion fields) = 0x06 ∷ 0x0F ∷ []
 control_of (abort code payload) = 0x06 ∷ 0x1E ∷ []
 control_of (other high low payload) = high ∷ low ∷ []
+
+-- The code of a refusal, or of an order given up.
+abbrev pub code_in : Message → Option ℕ
+code_in (nack code payload) = Some code
+code_in (abort code payload) = Some code
+code_in _ = None
+
+-- The password before an order.
+abbrev pub password_in : Message → Option (List ℕ)
+password_in (registration password config rest) = Some password
+password_in (reversal password fields) = Some password
+password_in (end_of_day password fields) = Some password
+password_in _ = None
+
+-- The configuration of a registration.
+abbrev pub config_in : Message → Option ℕ
+config_in (registration password config rest) = Some config
+config_in _ = None
+
+-- The currency of a registration, where it stands.
+abbrev pub currency_in : Message → Option ℕ
+currency_in (registration password config (Some rest)) = Some rest.0
+currency_in _ = None
+
+-- What the terminal is at.
+abbrev pub status_in : Message → Option ℕ
+status_in (intermediate step payload) = Some step
+status_in _ = None
+
+-- The attribute of a line to print.
+abbrev pub attribute_in : Message → Option ℕ
+attribute_in (print_line attribute text) = Some attribute
+attribute_in _ = None
+
+-- The text of a line to print.
+abbrev pub text_in : Message → Option (List ℕ)
+text_in (print_line attribute text) = Some text
+text_in _ = None
+
+-- The bytes of any value behind the others.
+abbrev pub payload_in : Message → Option (List ℕ)
+payload_in (ack payload) = Some payload
+payload_in (nack code payload) = Some payload
+payload_in (intermediate step payload) = Some payload
+payload_in (abort code payload) = Some payload
+payload_in (other high low payload) = Some payload
+payload_in _ = None

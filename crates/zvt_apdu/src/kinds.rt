@@ -5,6 +5,7 @@ ghost use Rattle.zvt_bcd.specs.Digits.{AreDigits};
 ghost use Rattle.zvt_spelling.specs.Reading.{AreBytes, shortest};
 ghost use Rattle.zvt_field.specs.Grammar.{FieldList};
 ghost use Rattle.zvt_apdu.specs.Grammar.{form_of, BytesFrom, FieldsFrom};
+ghost use Rattle.zvt_apdu.specs.Kinds.{kind_at};
 ghost use Rattle.zvt_apdu.specs.Judging.{bytes_after, head_size, layout_of};
 ghost use Rattle.zvt_apdu.specs.Messages.{message_of, IsMessage};
 
@@ -12,6 +13,58 @@ use crate::frame::{Form, form_of};
 use crate::messages::{Message, Rest};
 use zvt_bcd::{Currency, number};
 use zvt_field::Fields;
+
+/// Which of the messages one is.
+#[derive(Clone, Copy, Debug, PartialEq, Eq)]
+pub enum Kind {
+    Ack,
+    Nack,
+    Registration,
+    Authorisation,
+    Reversal,
+    EndOfDay,
+    AbortOrder,
+    Status,
+    Intermediate,
+    PrintLine,
+    TextBlock,
+    Completion,
+    Abort,
+    Other,
+}
+
+/// The kind of the message that has these control bytes.
+#[tactic(auto, unfolding(crate::specs::Kinds::kind_at))]
+#[inline(always)]
+pub(crate) fn kind_at(high: u8, low: u8) -> Kind
+    ensures { result ≡ kind_at high low }
+{
+    match high {
+        0x04 => match low {
+            0x0F => Kind::Status,
+            0xFF => Kind::Intermediate,
+            _ => Kind::Other,
+        },
+        0x06 => match low {
+            0x00 => Kind::Registration,
+            0x01 => Kind::Authorisation,
+            0x0F => Kind::Completion,
+            0x1E => Kind::Abort,
+            0x30 => Kind::Reversal,
+            0x50 => Kind::EndOfDay,
+            0xB0 => Kind::AbortOrder,
+            0xD1 => Kind::PrintLine,
+            0xD3 => Kind::TextBlock,
+            _ => Kind::Other,
+        },
+        0x80 => match low {
+            0x00 => Kind::Ack,
+            _ => Kind::Other,
+        },
+        0x84 => Kind::Nack,
+        _ => Kind::Other,
+    }
+}
 
 /// The message whose data are these first bytes and bytes of any value.
 #[inline(always)]

@@ -14,6 +14,7 @@ mod writer;
 pub use apdu::Apdu;
 pub use brief::{Brief, brief_message, put_brief};
 pub use frame::{Layout, judge_size};
+pub use kinds::Kind;
 pub use messages::{BadValue, Message, Rest};
 pub use reader::scan;
 pub use views::{ApduView, view};
@@ -25,3 +26,5 @@ mod brief_tests;
 mod field_tests;
 #[cfg(test)]
 mod tests;
+#[cfg(test)]
+mod view_tests;

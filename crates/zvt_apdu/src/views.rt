@@ -2,13 +2,18 @@
 //! takes each length in any form that holds it, so one view serves the bytes of either reading.
 
 ghost use Rattle.std.specs.Prelude.{◌≡◌, ℕ, List, ◌∷◌, ◌++◌, length};
+ghost use Rattle.std.specs.Option.{option_copied};
 ghost use Rattle.zvt_spelling.specs.Reading.{padded};
 ghost use Rattle.zvt_apdu.specs.Message.{Message};
-ghost use Rattle.zvt_apdu.specs.Grammar.{IsControl, IsFrameLength, Spells};
+ghost use Rattle.zvt_apdu.specs.Grammar.{IsControl, IsFrameLength, Data, Spells};
+ghost use Rattle.zvt_apdu.specs.Kinds.{kind_of};
 ghost use Rattle.zvt_apdu.specs.Views.{MessageBytes, message_once, fields_in, control_of, FrameFirst};
+ghost use Rattle.zvt_apdu.specs.Views.{code_in, password_in, config_in, currency_in, status_in, attribute_in, text_in, payload_in};
 
 use crate::frame::layout_of;
+use crate::kinds::{Kind, kind_at};
 use std::marker::Model;
+use zvt_bcd::{Currency, number};
 use zvt_field::FieldsView;
 
 /// A message in the bytes that spell it. Contracts see the message.
@@ -64,6 +69,109 @@ impl<'a> ApduView<'a> {
             Some(FieldsView::of(&data[layout.free + layout.digits..]))
         } else {
             None
+        }
+    }
+
+    /// Which of the messages it is.
+    pub fn kind(&self) -> Kind
+        ensures { result ≡ kind_of self.now }
+    {
+        let [high, low] = self.control();
+        kind_at(high, low)
+    }
+
+    /// Its data, behind its control bytes and its length.
+    fn data(&self) -> &'a [u8]
+        ensures { ∥ Data padded self.now result.now ∥₁ }
+    {
+        data(self.bytes)
+    }
+
+    /// The code of a refusal (84), or of an order given up (06 1E).
+    pub fn code(&self) -> Option<u8>
+        ensures { result ≡ code_in self.now }
+    {
+        match self.kind() {
+            Kind::Nack => Some(self.control()[1]),
+            Kind::Abort => Some(self.data()[0]),
+            _ => None,
+        }
+    }
+
+    /// The password before a registration, a reversal or the end of a day.
+    pub fn password(&self) -> Option<[u8; 3]>
+        ensures { result ≡ password_in self.now }
+    {
+        match self.kind() {
+            Kind::Registration | Kind::Reversal | Kind::EndOfDay => {
+                let data = self.data();
+                Some([data[0], data[1], data[2]])
+            }
+            _ => None,
+        }
+    }
+
+    /// The configuration of a registration.
+    pub fn config(&self) -> Option<u8>
+        ensures { result ≡ config_in self.now }
+    {
+        match self.kind() {
+            Kind::Registration => Some(self.data()[3]),
+            _ => None,
+        }
+    }
+
+    /// The currency of a registration, where it stands.
+    pub fn currency(&self) -> Option<Currency>
+        ensures { result ≡ currency_in self.now }
+    {
+        match self.kind() {
+            Kind::Registration => match self.data() {
+                [_, _, _, _, high, low, ..] => Currency::new(number(&[*high, *low]) as u16),
+                _ => None,
+            },
+            _ => None,
+        }
+    }
+
+    /// What the terminal is at, as an intermediate status (04 FF) says it.
+    pub fn status(&self) -> Option<u8>
+        ensures { result ≡ status_in self.now }
+    {
+        match self.kind() {
+            Kind::Intermediate => Some(self.data()[0]),
+            _ => None,
+        }
+    }
+
+    /// The attribute of a line to print.
+    pub fn attribute(&self) -> Option<u8>
+        ensures { result ≡ attribute_in self.now }
+    {
+        match self.kind() {
+            Kind::PrintLine => Some(self.data()[0]),
+            _ => None,
+        }
+    }
+
+    /// The text of a line to print, behind its attribute.
+    pub fn text(&self) -> Option<&'a [u8]>
+        ensures { option_copied result ≡ text_in self.now }
+    {
+        match self.kind() {
+            Kind::PrintLine => Some(&self.data()[1..]),
+            _ => None,
+        }
+    }
+
+    /// The bytes of any value that end the message, where neither fields nor a text do.
+    pub fn payload(&self) -> Option<&'a [u8]>
+        ensures { option_copied result ≡ payload_in self.now }
+    {
+        match self.kind() {
+            Kind::Ack | Kind::Nack | Kind::Other => Some(self.data()),
+            Kind::Intermediate | Kind::Abort => Some(&self.data()[1..]),
+            _ => None,
         }
     }
 }

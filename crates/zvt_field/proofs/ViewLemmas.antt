@@ -240,7 +240,7 @@ pub no_plain : (bmp : ℕ) (content : List ℕ) → (v : FieldBytes bmp content)
 no_plain bmp content (plain n c, h) o e = absurd (cc (e))
 no_plain bmp content (tree n i, h) o e = refl
 
-digits_once : (content : List ℕ) → (a b : AreDigits content) → a ≡ b
+pub digits_once : (content : List ℕ) → (a b : AreDigits content) → a ≡ b
 digits_once content = Π_prop (λ k. Π_prop (λ d. Π_prop (λ _. ×_prop le_prop le_prop)))
 
 -- a content of a fixed size
