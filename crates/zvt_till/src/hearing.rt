@@ -1,10 +1,10 @@
 //! What a message of the terminal is to a till.
-ghost use Rattle.std.specs.Prelude.{◌≡◌};
+ghost use Rattle.std.specs.Prelude.{◌≡◌, ◌==◌, cond};
 ghost use Rattle.zvt_till.specs.Hearing.{original_in, facts_in_fields, heard_as};
 
 use crate::messages::{Heard, Original, StatusFacts};
-use zvt_apdu::{Apdu, Message};
-use zvt_field::{Fields, count, original};
+use zvt_apdu::{Apdu, ApduView, Kind, Message};
+use zvt_field::{Fields, FieldsView, count, original};
 
 /// The BMP of the trace number of a payment that is taken back.
 const ORIGINAL_TRACE: u8 = 0x37;
@@ -15,13 +15,18 @@ fn original_in(fields: &Fields) -> Original
 {
     match original(fields) {
         Some(bytes) => Original::Once(bytes),
-        None => {
-            if count(fields, ORIGINAL_TRACE) == 0 {
-                Original::Absent
-            } else {
-                Original::Many
-            }
-        }
+        None => not_once(count(fields, ORIGINAL_TRACE)),
+    }
+}
+
+/// That no payment is taken back, or that it isn't one alone.
+fn not_once(count: usize) -> Original
+    ensures { result ≡ cond (count == 0) Original.Absent Original.Many }
+{
+    if count == 0 {
+        Original::Absent
+    } else {
+        Original::Many
     }
 }
 
@@ -57,6 +62,54 @@ pub fn heard(apdu: &Apdu) -> Heard
         Message::TextBlock(_) => Heard::Passing,
         Message::Completion(_) => Heard::Completion,
         Message::Abort { code, .. } => Heard::Abort(*code),
+        _ => Heard::Strange,
+    }
+}
+
+/// The payment that the fields of a view say is taken back.
+fn original_shown(fields: &FieldsView<'_>) -> Original
+    ensures { result ≡ original_in fields.now }
+{
+    match fields.original() {
+        Some(bytes) => Original::Once(bytes),
+        None => not_once(fields.count(ORIGINAL_TRACE)),
+    }
+}
+
+/// What the fields of a view of a status information say.
+fn facts_shown(fields: &FieldsView<'_>) -> StatusFacts
+    ensures { result ≡ facts_in_fields fields.now }
+{
+    StatusFacts {
+        result: fields.result(),
+        amount: fields.amount(),
+        trace: fields.trace(),
+        receipt: fields.receipt(),
+        original: original_shown(fields),
+    }
+}
+
+/// What the message that a view shows is to a till: as `heard` of the message.
+pub fn heard_view(apdu: &ApduView<'_>) -> Heard
+    ensures { result ≡ heard_as apdu.now }
+{
+    match apdu.kind() {
+        Kind::Ack => Heard::Positive,
+        Kind::Nack => match apdu.code() {
+            Some(0) => Heard::Positive,
+            Some(code) => Heard::Negative(code),
+            None => unreachable!(),
+        },
+        Kind::Status => match apdu.fields() {
+            Some(fields) => Heard::Status(facts_shown(&fields)),
+            None => unreachable!(),
+        },
+        Kind::Intermediate | Kind::PrintLine | Kind::TextBlock => Heard::Passing,
+        Kind::Completion => Heard::Completion,
+        Kind::Abort => match apdu.code() {
+            Some(code) => Heard::Abort(code),
+            None => unreachable!(),
+        },
         _ => Heard::Strange,
     }
 }
