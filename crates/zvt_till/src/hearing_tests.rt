@@ -1,10 +1,10 @@
 //! What a till hears in messages, from their bytes.
 use super::*;
-use crate::hearing::heard;
+use crate::hearing::{heard, heard_view};
 use std::alloc::Global;
 use std::process::Abort;
 use std::test::Fail;
-use zvt_apdu::scan;
+use zvt_apdu::{scan, view};
 use zvt_bcd::{Amount, Trace};
 use zvt_spelling::Scan;
 
@@ -13,13 +13,16 @@ const APPROVAL: [u8; 19] = [
     0x87, 0x00, 0x05,
 ];
 
-/// What is heard in the message that these bytes spell.
+/// What is heard in the message that these bytes spell, by itself and by its view.
 fn heard_in(rt: &impl Abort, alloc: Global, bytes: &[u8]) -> Result<Heard, Fail> {
     let Scan::Whole((apdu, taken)) = scan(alloc, bytes)? else {
         panic!(rt; "a message: {bytes:?}");
     };
     assert_eq!(rt; taken, bytes.len());
-    Ok(heard(&apdu))
+    let heard = heard(&apdu);
+    drop(apdu);
+    assert_eq!(rt; heard_view(&view(&bytes[..taken])), heard);
+    Ok(heard)
 }
 
 /// A status information of nothing but these payments taken back.
