@@ -2,3 +2,6 @@ pub mod HexText
 pub mod Padded
 pub mod Rows
 pub mod Secrets
+pub mod DetailLemmas
+pub mod ObjectLines
+pub mod FieldLemmas

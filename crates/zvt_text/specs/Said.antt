@@ -1,5 +1,5 @@
 -- The text of a message: a head, and a line for each field.
-use Rattle.std.specs.Prelude.{ℕ, ◌+◌, ◌/◌, ◌%◌, List, [], ◌∷◌, ◌++◌, Option, Some, None, codes}
+use Rattle.std.specs.Prelude.{ℕ, ◌+◌, ◌/◌, ◌%◌, List, [], ◌∷◌, ◌++◌, Option, Some, None, option_map, unwrap_or, codes}
 use Rattle.hex.specs.Hex.{encode_upper}
 use Rattle.zvt_field.specs.Grammar.{Field}
 use Rattle.zvt_apdu.specs.Message.{Message, ack, nack, registration, authorisation, reversal, end_of_day, abort_order, status, intermediate, print_line, text_block, completion, abort, other}
@@ -16,10 +16,29 @@ data_text (byte ∷ bytes) = codes " data " ++ encode_upper (byte ∷ bytes)
 abbrev pub four_digits : ℕ → List ℕ
 four_digits n = (48 + n / 1000 % 10) ∷ (48 + n / 100 % 10) ∷ (48 + n / 10 % 10) ∷ (48 + n % 10) ∷ []
 
+-- what is written of a part, where it stands
+abbrev pub part_text : {A : Type 0} → (A → List ℕ) → Option A → List ℕ
+part_text text part = unwrap_or (option_map text part) []
+
+abbrev pub hex_part : ℕ → List ℕ
+hex_part byte = 32 ∷ hex_of byte
+
+abbrev pub words_part : ℕ → List ℕ
+words_part code = 32 ∷ result_words code
+
+abbrev pub quoted_part : List ℕ → List ℕ
+quoted_part line = 32 ∷ quoted line
+
+abbrev pub config_text : ℕ → List ℕ
+config_text config = codes " config " ++ hex_of config
+
+abbrev pub named_currency : ℕ → List ℕ
+named_currency currency = codes " currency " ++ four_digits currency
+
 -- the currency of a registration, where it stands
 abbrev pub currency_text : Option (ℕ × List Field) → List ℕ
 currency_text None = []
-currency_text (Some rest) = codes " currency " ++ four_digits rest.0
+currency_text (Some rest) = named_currency rest.0
 
 -- the name of a message's kind
 abbrev pub kind_text : Message → List ℕ
@@ -41,18 +60,18 @@ kind_text (other high low payload) = codes "Other"
 -- what a head says behind the name; a password is never written
 abbrev pub detail_text : Message → List ℕ
 detail_text (ack payload) = data_text payload
-detail_text (nack code payload) = 32 ∷ hex_of code ++ data_text payload
-detail_text (registration password config rest) = codes " config " ++ hex_of config ++ currency_text rest
+detail_text (nack code payload) = hex_part code ++ data_text payload
+detail_text (registration password config rest) = config_text config ++ currency_text rest
 detail_text (authorisation fields) = []
 detail_text (reversal password fields) = []
 detail_text (end_of_day password fields) = []
 detail_text (abort_order fields) = []
 detail_text (status fields) = []
-detail_text (intermediate step payload) = 32 ∷ hex_of step ++ data_text payload
-detail_text (print_line attribute text) = 32 ∷ hex_of attribute ++ 32 ∷ quoted text
+detail_text (intermediate step payload) = hex_part step ++ data_text payload
+detail_text (print_line attribute text) = hex_part attribute ++ quoted_part text
 detail_text (text_block fields) = []
 detail_text (completion fields) = []
-detail_text (abort code payload) = 32 ∷ result_words code ++ data_text payload
+detail_text (abort code payload) = words_part code ++ data_text payload
 detail_text (other high low payload) = 32 ∷ encode_upper (high ∷ low ∷ []) ++ data_text payload
 
 abbrev pub head_text : Message → List ℕ

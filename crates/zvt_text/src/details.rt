@@ -1,19 +1,28 @@
-//! What a head says behind the name of a message.
+//! What a head says behind the name of a message: each part that the message has.
 ghost use Rattle.std.specs.Prelude.{◌≡◌, ◌≤◌, ◌+◌, ◌++◌, ◌∷◌, [], codes, OnOk};
+ghost use Rattle.std.specs.Option.{option_copied};
 ghost use Rattle.std.specs.String.{string_bytes};
-ghost use Rattle.zvt_apdu.specs.Message.{abort, nack, other, print_line};
-ghost use Rattle.zvt_apdu.specs.Messages.{rest_of};
-ghost use Rattle.zvt_text.specs.Bytes.{hex_of};
-ghost use Rattle.zvt_text.specs.Said.{currency_text, data_text, detail_text, four_digits};
+ghost use Rattle.hex.specs.Hex.{encode_upper};
+ghost use Rattle.zvt_text.specs.Bytes.{hex_of, quoted};
+ghost use Rattle.zvt_text.specs.Results.{result_words};
+ghost use Rattle.zvt_text.specs.Said.{config_text, data_text, four_digits, hex_part, named_currency, part_text, quoted_part, words_part};
 
 use crate::bytes::{byte, hexadecimal, quote};
 use crate::results::result_words;
 use std::alloc::AllocError;
-use zvt_apdu::Rest;
 use zvt_bcd::Currency;
 
 /// The payload, if there is any.
-pub(crate) fn data(text: &mut String, payload: &[u8]) -> Result<(), AllocError>
+pub(crate) fn data(text: &mut String, payload: Option<&[u8]>) -> Result<(), AllocError>
+    ensures { OnOk result (string_bytes text.new ≡ string_bytes text.old ++ part_text data_text (option_copied payload.entry)) }
+{
+    match payload {
+        Some(payload) => payload_data(text, payload),
+        None => Ok(()),
+    }
+}
+
+fn payload_data(text: &mut String, payload: &[u8]) -> Result<(), AllocError>
     ensures { OnOk result (string_bytes text.new ≡ string_bytes text.old ++ data_text payload.now) }
 {
     if payload.is_empty() {
@@ -23,68 +32,65 @@ pub(crate) fn data(text: &mut String, payload: &[u8]) -> Result<(), AllocError>
     hexadecimal(text, payload)
 }
 
-/// A byte in hexadecimal, and the payload.
-pub(crate) fn coded(text: &mut String, code: u8, payload: &[u8]) -> Result<(), AllocError>
-    ensures { OnOk result (string_bytes text.new ≡ string_bytes text.old ++ detail_text (nack code payload.now)) }
+/// A code, a status or an attribute, in hexadecimal.
+pub(crate) fn byte_part(text: &mut String, part: Option<u8>) -> Result<(), AllocError>
+    ensures { OnOk result (string_bytes text.new ≡ string_bytes text.old ++ part_text hex_part part) }
 {
+    let Some(part) = part else {
+        return Ok(());
+    };
     text.push(' ')?;
-    byte(text, code)?;
-    data(text, payload)
+    byte(text, part)
 }
 
-/// A result code in words, and the payload.
-pub(crate) fn given_up(text: &mut String, code: u8, payload: &[u8]) -> Result<(), AllocError>
-    ensures { OnOk result (string_bytes text.new ≡ string_bytes text.old ++ detail_text (abort code payload.now)) }
+/// A result code, in words.
+pub(crate) fn outcome(text: &mut String, code: Option<u8>) -> Result<(), AllocError>
+    ensures { OnOk result (string_bytes text.new ≡ string_bytes text.old ++ part_text words_part code) }
 {
+    let Some(code) = code else {
+        return Ok(());
+    };
     text.push(' ')?;
-    result_words(text, code)?;
-    data(text, payload)
+    result_words(text, code)
 }
 
-/// An attribute, and the quoted line.
-pub(crate) fn printed(text: &mut String, attribute: u8, line: &[u8]) -> Result<(), AllocError>
-    ensures { OnOk result (string_bytes text.new ≡ string_bytes text.old ++ detail_text (print_line attribute line.now)) }
+/// A quoted line.
+pub(crate) fn printed(text: &mut String, line: Option<&[u8]>) -> Result<(), AllocError>
+    ensures { OnOk result (string_bytes text.new ≡ string_bytes text.old ++ part_text quoted_part (option_copied line.entry)) }
 {
-    text.push(' ')?;
-    byte(text, attribute)?;
+    let Some(line) = line else {
+        return Ok(());
+    };
     text.push(' ')?;
     quote(text, line)
 }
 
-/// The control field, and the payload.
-pub(crate) fn unnamed(
-    text: &mut String,
-    high: u8,
-    low: u8,
-    payload: &[u8],
-) -> Result<(), AllocError>
-    ensures { OnOk result (string_bytes text.new ≡ string_bytes text.old ++ detail_text (other high low payload.now)) }
+/// The control field.
+pub(crate) fn control(text: &mut String, control: [u8; 2]) -> Result<(), AllocError>
+    ensures { OnOk result (string_bytes text.new ≡ string_bytes text.old ++ 32 ∷ encode_upper control) }
 {
-    let control = [high, low];
     text.push(' ')?;
-    hexadecimal(text, control.as_slice())?;
-    data(text, payload)
+    hexadecimal(text, control.as_slice())
 }
 
-/// The configuration, and the currency where it stands.
-pub(crate) fn registered(
-    text: &mut String,
-    config: u8,
-    rest: &Option<Rest>,
-) -> Result<(), AllocError>
-    ensures { OnOk result (string_bytes text.new ≡ string_bytes text.old ++ codes " config " ++ hex_of config ++ currency_text (rest_of rest.now)) }
+/// The configuration of a registration.
+pub(crate) fn config(text: &mut String, config: Option<u8>) -> Result<(), AllocError>
+    ensures { OnOk result (string_bytes text.new ≡ string_bytes text.old ++ part_text config_text config) }
 {
+    let Some(config) = config else {
+        return Ok(());
+    };
     text.push_str(" config ")?;
-    byte(text, config)?;
-    match rest {
-        Some(rest) => currency(text, rest.currency),
-        None => Ok(()),
-    }
+    byte(text, config)
 }
 
-fn currency(text: &mut String, currency: Currency) -> Result<(), AllocError>
-    ensures { OnOk result (string_bytes text.new ≡ string_bytes text.old ++ codes " currency " ++ four_digits currency) }
+/// The currency of a registration.
+pub(crate) fn currency(text: &mut String, currency: Option<Currency>) -> Result<(), AllocError>
+    ensures { OnOk result (string_bytes text.new ≡ string_bytes text.old ++ part_text named_currency currency) }
 {
+    let Some(currency) = currency else {
+        return Ok(());
+    };
     text.push_str(" currency ")?;
     four(text, currency.get())
 }

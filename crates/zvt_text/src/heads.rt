@@ -1,86 +1,72 @@
-//! The heads of messages, and the fields behind them.
-ghost use Rattle.std.specs.Prelude.{◌≡◌, ◌++◌, [], OnOk, option_map, unwrap_or};
+//! The heads of messages.
+ghost use Rattle.std.specs.Prelude.{◌≡◌, ◌++◌, OnOk};
 ghost use Rattle.std.specs.String.{string_bytes};
-ghost use Rattle.zvt_apdu.specs.Messages.{message_of, rest_of};
-ghost use Rattle.zvt_text.specs.Said.{detail_text, fields_of, head_text, kind_text, registered_fields};
+ghost use Rattle.zvt_text.specs.Said.{detail_text, head_text, kind_text};
 
-use crate::details::{coded, data, given_up, printed, registered, unnamed};
+use crate::details::{byte_part, config, control, currency, data, outcome, printed};
 use std::alloc::AllocError;
-use zvt_apdu::{Message, Rest};
-use zvt_field::Fields;
+use zvt_apdu::{ApduView, Kind};
 
 /// The name of a message's kind, and what it says behind it.
-pub(crate) fn head(text: &mut String, message: &Message) -> Result<(), AllocError>
-    ensures { OnOk result (string_bytes text.new ≡ string_bytes text.old ++ head_text (message_of message.now)) }
+pub(crate) fn head(text: &mut String, message: &ApduView<'_>) -> Result<(), AllocError>
+    ensures { OnOk result (string_bytes text.new ≡ string_bytes text.old ++ head_text message.now) }
 {
     text.push_str(kind(message))?;
     detail(text, message)
 }
 
 /// The name of a message's kind.
-fn kind(message: &Message) -> &'static str
-    ensures { result.now ≡ kind_text (message_of message.now) }
+fn kind(message: &ApduView<'_>) -> &'static str
+    ensures { result.now ≡ kind_text message.now }
 {
-    match message {
-        Message::Ack { .. } => "Ack",
-        Message::Nack { .. } => "Nack",
-        Message::Registration { .. } => "Registration",
-        Message::Authorisation(_) => "Authorisation",
-        Message::Reversal { .. } => "Reversal",
-        Message::EndOfDay { .. } => "EndOfDay",
-        Message::AbortOrder(_) => "AbortOrder",
-        Message::Status(_) => "Status",
-        Message::Intermediate { .. } => "Intermediate",
-        Message::PrintLine { .. } => "PrintLine",
-        Message::TextBlock(_) => "TextBlock",
-        Message::Completion(_) => "Completion",
-        Message::Abort { .. } => "Abort",
-        Message::Other { .. } => "Other",
+    match message.kind() {
+        Kind::Ack => "Ack",
+        Kind::Nack => "Nack",
+        Kind::Registration => "Registration",
+        Kind::Authorisation => "Authorisation",
+        Kind::Reversal => "Reversal",
+        Kind::EndOfDay => "EndOfDay",
+        Kind::AbortOrder => "AbortOrder",
+        Kind::Status => "Status",
+        Kind::Intermediate => "Intermediate",
+        Kind::PrintLine => "PrintLine",
+        Kind::TextBlock => "TextBlock",
+        Kind::Completion => "Completion",
+        Kind::Abort => "Abort",
+        Kind::Other => "Other",
     }
 }
 
 /// What the head says behind the name.
-fn detail(text: &mut String, message: &Message) -> Result<(), AllocError>
-    ensures { OnOk result (string_bytes text.new ≡ string_bytes text.old ++ detail_text (message_of message.now)) }
+fn detail(text: &mut String, message: &ApduView<'_>) -> Result<(), AllocError>
+    ensures { OnOk result (string_bytes text.new ≡ string_bytes text.old ++ detail_text message.now) }
 {
-    match message {
-        Message::Ack { payload } => data(text, payload),
-        Message::Nack { code, payload } => coded(text, *code, payload),
-        Message::Registration { config, rest, .. } => registered(text, *config, rest),
-        Message::Intermediate { status, payload } => coded(text, *status, payload),
-        Message::PrintLine {
-            attribute,
-            text: line,
-        } => printed(text, *attribute, line),
-        Message::Abort { code, payload } => given_up(text, *code, payload),
-        Message::Other { control, payload } => unnamed(text, control[0], control[1], payload),
+    match message.kind() {
+        Kind::Ack => data(text, message.payload()),
+        Kind::Nack => {
+            byte_part(text, message.code())?;
+            data(text, message.payload())
+        }
+        Kind::Registration => {
+            config(text, message.config())?;
+            currency(text, message.currency())
+        }
+        Kind::Intermediate => {
+            byte_part(text, message.status())?;
+            data(text, message.payload())
+        }
+        Kind::PrintLine => {
+            byte_part(text, message.attribute())?;
+            printed(text, message.text())
+        }
+        Kind::Abort => {
+            outcome(text, message.code())?;
+            data(text, message.payload())
+        }
+        Kind::Other => {
+            control(text, message.control())?;
+            data(text, message.payload())
+        }
         _ => Ok(()),
-    }
-}
-
-/// The fields of a message, where it has some.
-pub(crate) fn fields(message: &Message) -> Option<&Fields>
-    ensures { unwrap_or (option_map (λ fields. fields.now) result) [] ≡ fields_of (message_of message.now) }
-{
-    match message {
-        Message::Registration { rest, .. } => registered_fields(rest),
-        Message::Authorisation(fields) => Some(fields),
-        Message::Reversal { fields, .. } => Some(fields),
-        Message::EndOfDay { fields, .. } => Some(fields),
-        Message::AbortOrder(fields) => Some(fields),
-        Message::Status(fields) => Some(fields),
-        Message::TextBlock(fields) => Some(fields),
-        Message::Completion(fields) => Some(fields),
-        _ => None,
-    }
-}
-
-/// The fields behind a registration's currency.
-fn registered_fields(rest: &Option<Rest>) -> Option<&Fields>
-    ensures { unwrap_or (option_map (λ fields. fields.now) result) [] ≡ registered_fields (rest_of rest.now) }
-{
-    match rest {
-        Some(rest) => Some(&rest.fields),
-        None => None,
     }
 }

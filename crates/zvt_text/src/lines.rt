@@ -1,38 +1,39 @@
 //! The lines of fields.
 ghost use Rattle.std.specs.Prelude.{◌≡◌, ◌++◌, [], OnOk, unwrap_or};
 ghost use Rattle.std.specs.String.{string_bytes};
+ghost use Rattle.zvt_field.specs.Lent.{shown};
 ghost use Rattle.zvt_field.specs.Names.{name_of};
 ghost use Rattle.zvt_text.specs.Lines.{field_line, field_lines, named_text};
 
 use crate::bytes::byte;
-use crate::objects::forest_lines;
+use crate::objects::object_lines;
 use crate::values::value;
 use std::alloc::AllocError;
-use zvt_field::{Field, FieldBody, Fields, name};
+use zvt_field::{FieldView, FieldsView, name};
 
 /// A line for each field; those of a container's objects follow its own.
-pub(crate) fn field_lines(text: &mut String, fields: &Fields) -> Result<(), AllocError>
-    ensures { OnOk result (string_bytes text.new ≡ string_bytes text.old ++ field_lines fields.now) }
+pub(crate) fn field_lines(text: &mut String, fields: FieldsView<'_>) -> Result<(), AllocError>
+    ensures { OnOk result (string_bytes text.new ≡ string_bytes text.old ++ field_lines fields.entry) }
 {
-    for field in fields.list() {
-        field_line(text, field)?;
+    for field in fields {
+        field_line(text, &field)?;
     }
     Ok(())
 }
 
-fn field_line(text: &mut String, field: &Field) -> Result<(), AllocError>
-    ensures { OnOk result (string_bytes text.new ≡ string_bytes text.old ++ field_line field.now) }
+fn field_line(text: &mut String, field: &FieldView<'_>) -> Result<(), AllocError>
+    ensures { OnOk result (string_bytes text.new ≡ string_bytes text.old ++ field_line (shown field.now)) }
 {
-    named(text, field.bmp())?;
-    match field.body() {
-        FieldBody::Bytes(content) => {
+    named(text, field.bmp)?;
+    match field.tree() {
+        None => {
             text.push(' ')?;
-            value(text, field.bmp(), content)?;
+            value(text, field.bmp, field.content)?;
             text.push('\n')
         }
-        FieldBody::Tree(objects) => {
+        Some(objects) => {
             text.push('\n')?;
-            forest_lines(text, objects)
+            object_lines(text, objects, 1)
         }
     }
 }

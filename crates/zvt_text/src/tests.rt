@@ -4,7 +4,7 @@ use crate::{escaped, message, numbers, result_words};
 use std::alloc::Global;
 use std::process::Abort;
 use std::test::Fail;
-use zvt_apdu::scan;
+use zvt_apdu::{scan, view};
 use zvt_bcd::Trace;
 use zvt_spelling::Scan;
 
@@ -14,8 +14,9 @@ fn said(rt: &impl Abort, alloc: Global, bytes: &[u8]) -> Result<String, Fail> {
         panic!(rt; "a message stands first: {bytes:?}");
     };
     assert_eq!(rt; taken, bytes.len());
+    drop(apdu);
     let mut text = String::new(alloc);
-    message(&mut text, apdu.message())?;
+    message(&mut text, &view(&bytes[..taken]))?;
     Ok(text)
 }
 

@@ -2,8 +2,7 @@
 ghost use Rattle.std.specs.Prelude.{◌≡◌, ◌++◌, OnOk};
 ghost use Rattle.std.specs.String.{string_bytes};
 ghost use Rattle.zvt_bcd.specs.Digits.{number_of};
-ghost use Rattle.zvt_field.specs.Bodies.{HasSpelling};
-ghost use Rattle.zvt_field.specs.Grammar.{plain};
+ghost use Rattle.zvt_field.specs.Views.{PlainBytes};
 ghost use Rattle.zvt_text.specs.Lines.{result_text, value_text};
 
 use crate::bytes::{bytes_or_dash, quote};
@@ -14,7 +13,7 @@ use zvt_bcd::number;
 
 /// An amount in its smallest unit, a result in words, quoted text, the size of what is hidden, or bytes in hexadecimal.
 pub(crate) fn value(text: &mut String, bmp: u8, content: &[u8]) -> Result<(), AllocError>
-    requires { HasSpelling (plain bmp content.now) }
+    requires { PlainBytes bmp content.now }
     ensures { OnOk result (string_bytes text.new ≡ string_bytes text.old ++ value_text bmp content.now) }
 {
     match bmp {
@@ -34,7 +33,7 @@ pub(crate) fn value(text: &mut String, bmp: u8, content: &[u8]) -> Result<(), Al
 
 /// The units of an amount.
 fn units(content: &[u8]) -> u64
-    requires { HasSpelling (plain 0x04 content.now) }
+    requires { PlainBytes 0x04 content.now }
     ensures { result ≡ number_of content.now }
 {
     number(content)

@@ -6,7 +6,7 @@ use Rattle.zvt_tlv.specs.declared.trees.Tlv.{Tlv}
 use Rattle.std.specs.declared.vec.Vec.{Vec}
 use Rattle.std.specs.declared.alloc.Global.{Global}
 use Rattle.zvt_tlv.specs.declared.trees.Body.TheVariants.{Prim}
-use Rattle.zvt_spelling.specs.Reading.{shortest, AreBytes}
+use Rattle.zvt_spelling.specs.Reading.{Reading, shortest, AreBytes}
 use Rattle.zvt_tlv.specs.Grammar.{Objects, none, primitive, constructed, IsTag, Spells}
 use Rattle.zvt_tlv.specs.Trees.{before, objects_of}
 use Rattle.zvt_tlv.specs.Sizes.{size_of, length_bytes, spelling}
@@ -28,16 +28,16 @@ spelled_kinds d (primitive tag c rest) s p = and_from _ _ (ap not p.is_kind) (sp
 spelled_kinds d (constructed tag inner rest) s p =
     and_from _ _ (and_from _ _ p.is_kind (spelled_kinds (suc d) inner p.content p.inside.1)) (spelled_kinds d rest p.after p.others)
 
-pub spelled_shallow : (d : ℕ) (f : Objects) (s : List ℕ) → Spells shortest d f s → is_shallow d f ≡ true
-spelled_shallow d none s p = refl
-spelled_shallow d (primitive tag c rest) s p = spelled_shallow d rest p.after p.others
-spelled_shallow d (constructed tag inner rest) s p =
-    and_from _ _ (and_from _ _ (lt-ltb d 6 p.inside.0) (spelled_shallow (suc d) inner p.content p.inside.1)) (spelled_shallow d rest p.after p.others)
+pub spelled_shallow : (r : Reading) (d : ℕ) (f : Objects) (s : List ℕ) → Spells r d f s → is_shallow d f ≡ true
+spelled_shallow r d none s p = refl
+spelled_shallow r d (primitive tag c rest) s p = spelled_shallow r d rest p.after p.others
+spelled_shallow r d (constructed tag inner rest) s p =
+    and_from _ _ (and_from _ _ (lt-ltb d 6 p.inside.0) (spelled_shallow r (suc d) inner p.content p.inside.1)) (spelled_shallow r d rest p.after p.others)
 
 -- what has a fault has no spelling
 pub no_spelling : (f : Objects) (w : BadForest) → HasFault f w → HasSpelling f → ⊥
 no_spelling f Kind h s = cc (h, spelled_kinds 1 f s.bytes s.spelled)
-no_spelling f TooDeep h s = cc (h.1, spelled_shallow 1 f s.bytes s.spelled)
+no_spelling f TooDeep h s = cc (h.1, spelled_shallow shortest 1 f s.bytes s.spelled)
 no_spelling f TooLarge h s = omega (arith, h.2, s.small, spelled_size 1 f s.bytes s.spelled)
 
 pub not_spelled : (us ts : List Tlv) (w : BadForest) → us ≡ ts → HasFault (objects_of us) w → HasSpelling (objects_of ts) → ⊥

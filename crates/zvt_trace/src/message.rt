@@ -8,7 +8,7 @@ ghost use Rattle.zvt_trace.specs.declared.style.Style.TheVariants.{Join};
 
 use crate::style::{Direction, Style};
 use std::alloc::{AllocError, Global};
-use zvt_apdu::{Apdu, Message, encode};
+use zvt_apdu::{Apdu, Message, encode, view};
 
 /// A message with its fields, as a line of a trace, or as a line of a receipt.
 pub(crate) fn write(
@@ -21,19 +21,20 @@ pub(crate) fn write(
     ensures { OnOk result (AddsMessage style from apdu.now (string_bytes text.old) (string_bytes text.new)) }
 {
     match style {
-        Style::Show => show(text, from, apdu),
+        Style::Show => show(alloc, text, from, apdu),
         Style::Join => join(alloc, text, from, apdu),
         Style::Receipts => receipt(text, from, apdu.message()),
     }
 }
 
 /// Its direction and what it says.
-fn show(text: &mut String, from: Direction, apdu: &Apdu) -> Result<(), AllocError>
+fn show(alloc: Global, text: &mut String, from: Direction, apdu: &Apdu) -> Result<(), AllocError>
     ensures { OnOk result (string_bytes text.new ≡ string_bytes text.old ++ shown from apdu.now) }
 {
+    let bytes = encode(alloc, apdu)?;
     text.push_str(from.sign())?;
     text.push(' ')?;
-    zvt_text::message(text, apdu.message())
+    zvt_text::message(text, &view(bytes.as_slice()))
 }
 
 /// Its direction and bytes.

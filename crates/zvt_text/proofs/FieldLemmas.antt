@@ -1,0 +1,37 @@
+-- The field that a view shows, by what the view gives.
+use Rattle.std.proofs.Common.{◌≡◌, ℕ, true, Some, None, List, sym, ◌∙◌, ap, subst}
+use Rattle.std.proofs.Math.Bool.{Bool-set}
+use Rattle.std.proofs.Math.Logic.{∥∥₁_elim}
+use Rattle.zvt_spelling.specs.Reading.{padded}
+use Rattle.zvt_tlv.specs.Grammar.{Objects}
+use Rattle.zvt_tlv.specs.Checks.{is_shallow}
+use Rattle.zvt_tlv.proofs.CheckLemmas.{spelled_shallow}
+use Rattle.zvt_field.specs.Bodies.{name_of}
+use Rattle.zvt_field.specs.Grammar.{Field, plain, tree}
+use Rattle.zvt_field.specs.Lent.{shown}
+use Rattle.zvt_field.specs.Named.{bytes_of}
+use Rattle.zvt_field.specs.Views.{FieldBytes, tree_of}
+use Rattle.zvt_field.specs.declared.views.FieldView.{FieldView}
+use Rattle.zvt_field.proofs.ViewLemmas.{name_is, plain_of}
+
+named_plain : (f : Field) (bmp : ℕ) (content : List ℕ) → name_of f ≡ bmp → bytes_of f ≡ Some content → f ≡ plain bmp content
+named_plain (plain n c) bmp content name bytes = let same : c ≡ content = cc (bytes) in cc (name, same)
+named_plain (tree n o) bmp content name bytes = absurd (cc (bytes))
+
+named_tree : (f : Field) (bmp : ℕ) (objects : Objects) → name_of f ≡ bmp → Some objects ≡ tree_of f → f ≡ tree bmp objects
+named_tree (plain n c) bmp objects name is = absurd (cc (is))
+named_tree (tree n o) bmp objects name is = let same : objects ≡ o = cc (is) in cc (name, same)
+
+pub plain_shown : (v : FieldView) → None ≡ tree_of (shown v) → shown v ≡ plain v.bmp v.content.now
+plain_shown v e = named_plain (shown v) v.bmp v.content.now (name_is v.bmp v.content.now v.field) (plain_of v.bmp v.content.now v.field e).1
+
+pub tree_shown : (v : FieldView) (objects : Objects) → Some objects ≡ tree_of (shown v) → shown v ≡ tree v.bmp objects
+tree_shown v objects e = named_tree (shown v) v.bmp objects (name_is v.bmp v.content.now v.field) e
+
+inside_shallow : (bmp : ℕ) (content : List ℕ) (f : FieldBytes bmp content) (objects : Objects) → Some objects ≡ tree_of f.0 → is_shallow 1 objects ≡ true
+inside_shallow bmp content (plain n c, h) objects e = absurd (cc (e))
+inside_shallow bmp content (tree n o, h) objects e =
+    let same : objects ≡ o = cc (e) in ∥∥₁_elim h (Bool-set _ _) (λ h. ap (is_shallow 1) same ∙ spelled_shallow padded 1 o content h.2)
+
+pub objects_shallow : (v : FieldView) (objects : Objects) → Some objects ≡ tree_of (shown v) → is_shallow 1 objects ≡ true
+objects_shallow v objects e = inside_shallow v.bmp v.content.now v.field objects e

@@ -1,0 +1,19 @@
+use Rattle.std.proofs.Common.{rules, ap}
+use Rattle.std.proofs.lemmas.Grind.{common_steps}
+use Rattle.std.proofs.Common.{arith}
+use Rattle.zvt_field.proofs.ViewLemmas.{plain_of}
+use Rattle.zvt_text.specs.Lines.{field_line}
+use Rattle.zvt_text.proofs.FieldLemmas.{plain_shown, tree_shown, objects_shallow}
+use Rattle.zvt_text.proofs.lines.field_line.Goals as goal
+
+pub value-requires : goal.value-requires
+value-requires c = (plain_of _ _ c.args.field.now.field c.in-None.ensures).0
+
+pub object_lines-requires-clause-shallow : goal.object_lines-requires-clause-shallow
+object_lines-requires-clause-shallow c = objects_shallow c.args.field.now c.in-Some.objects c.in-Some.ensures
+
+pub returns-in_ok-value-in-None : goal.returns-in_ok-value-in-None
+returns-in_ok-value-in-None c = let e = ap field_line (plain_shown c.args.field.now c.in-None.ensures) in rw e (grind (arith, common_steps))
+
+pub returns-in_ok-push-in-Some : goal.returns-in_ok-push-in-Some
+returns-in_ok-push-in-Some c = let e = ap field_line (tree_shown c.args.field.now c.in-Some.objects c.in-Some.ensures) in rw e (grind (arith, common_steps))
