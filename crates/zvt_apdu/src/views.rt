@@ -98,7 +98,7 @@ impl<'a> ApduView<'a> {
         }
     }
 
-    /// The password before a registration, a reversal or the end of a day.
+    /// The password of a registration, of a reversal or of the end of a day.
     pub fn password(&self) -> Option<[u8; 3]>
         ensures { result ≡ password_in self.now }
     {
@@ -164,7 +164,8 @@ impl<'a> ApduView<'a> {
         }
     }
 
-    /// The bytes of any value that end the message, where neither fields nor a text do.
+    /// The bytes of any value that end an acknowledgement, a refusal, an intermediate status, an abort, or a message
+    /// without a name of its own.
     pub fn payload(&self) -> Option<&'a [u8]>
         ensures { option_copied result ≡ payload_in self.now }
     {
