@@ -31,6 +31,13 @@ pub record Follow (streams : Streams) (sides : Sides) : Type 0 where
 
 -- ---- what the functions add to the text
 
+-- the bytes are the one spelling of the message, and of some message
+abbrev pub IsSpelling : Message → List ℕ → Type 0
+IsSpelling = Spells shortest
+
+abbrev pub IsMessage : List ℕ → Type 0
+IsMessage bytes = (message : Message) × IsSpelling message bytes
+
 -- the text grew by a message's
 pub record AddsMessage (style : Style) (from : Direction) (message : Message) (old new : List ℕ) : Type 0 where
   pub one : List ℕ

@@ -1,14 +1,14 @@
 //! What the bytes of one side bring.
-ghost use Rattle.std.specs.Prelude.{◌≡◌, ◌++◌, ◌<◌, ◌≤◌, length, IfOk, OnOk};
+ghost use Rattle.std.specs.Prelude.{◌≡◌, ◌++◌, ◌<◌, ◌≤◌, false, length, IfOk, OnOk};
 ghost use Rattle.std.specs.String.{string_bytes};
 ghost use Rattle.zvt_trace.specs.Trace.{Side};
-ghost use Rattle.zvt_trace.specs.Written.{AddsMessage, AddsPiece, Follows};
+ghost use Rattle.zvt_trace.specs.Written.{AddsMessage, AddsPiece, Follows, IsSpelling};
 
 use crate::fault::Tally;
 use crate::style::{Direction, Style};
 use crate::{message, style};
 use std::alloc::{AllocError, Global};
-use zvt_apdu::Apdu;
+use zvt_apdu::{Apdu, encode};
 use zvt_stream::{Fed, FeedError, Stream};
 
 /// Writes what a piece brings: the messages that end in it, and whether its stream is refused.
@@ -27,11 +27,12 @@ pub(crate) fn write(
     let mut messages = 0;
     let mut rest = bytes;
     'messages: loop {
+        let begun = stream.held() > 0;
         match stream.feed(alloc, rest) {
             Ok(Fed::Message { apdu, taken }) => {
-                write_message(alloc, text, style, from, apdu)?;
+                let (last, after) = rest.split_at(taken);
+                write_message(alloc, text, style, from, apdu, begun, last)?;
                 messages += 1;
-                let (_, after) = rest.split_at(taken);
                 rest = after;
             }
             Ok(Fed::More) => return Ok(Tally { messages, bad: 0 }),
@@ -48,15 +49,23 @@ pub(crate) fn write(
     }
 }
 
-/// Writes a message and gives it up.
+/// Writes a message and gives it up: by the piece's bytes, where it began with them, and else by its own.
 fn write_message(
     alloc: Global,
     text: &mut String,
     style: Style,
     from: Direction,
     apdu: Apdu,
+    begun: bool,
+    last: &[u8],
 ) -> Result<(), AllocError>
+    requires { begun ≡ false → IsSpelling apdu last.now }
     ensures { OnOk result (AddsMessage style from apdu (string_bytes text.old) (string_bytes text.new)) }
 {
-    message::write(alloc, text, style, from, &apdu)
+    if begun {
+        let bytes = encode(alloc, &apdu)?;
+        message::write(text, style, from, bytes.as_slice())
+    } else {
+        message::write(text, style, from, last)
+    }
 }
