@@ -19,12 +19,3 @@ pub use messages::{BadValue, Message, Rest};
 pub use reader::scan;
 pub use views::{ApduView, view};
 pub use writer::{NoRoom, encode, encode_into, size};
-
-#[cfg(test)]
-mod brief_tests;
-#[cfg(test)]
-mod field_tests;
-#[cfg(test)]
-mod tests;
-#[cfg(test)]
-mod view_tests;

@@ -12,6 +12,3 @@ pub use currency::Currency;
 pub use digits::{is_digits, number, put};
 pub use lengths::{ll_digit, ll_put, lll_put};
 pub use trace::Trace;
-
-#[cfg(test)]
-mod tests;

@@ -9,6 +9,3 @@ mod options;
 pub mod words;
 
 pub use chosen::{Choice, ChoiceFault};
-
-#[cfg(test)]
-mod tests;

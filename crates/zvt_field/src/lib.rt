@@ -11,8 +11,6 @@ mod reader;
 mod shapes;
 mod sizes;
 mod table;
-#[cfg(test)]
-mod tests;
 mod views;
 mod writer;
 

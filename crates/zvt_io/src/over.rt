@@ -66,6 +66,3 @@ impl<W: Write> Sink for Over<W> {
         Ok(())
     }
 }
-
-#[cfg(test)]
-mod tests;

@@ -16,12 +16,3 @@ pub use judging::{Judge, Judged, Run};
 pub use keeping::Held;
 pub use line::{Answers, LineFault, Machine, Until};
 pub use steps::Steps;
-
-#[cfg(test)]
-mod feeding_tests;
-#[cfg(test)]
-mod judging_tests;
-#[cfg(test)]
-mod rescan;
-#[cfg(test)]
-mod tests;

@@ -19,10 +19,3 @@ pub use terminal::{Input, MOST_ROWS, Terminal};
 pub use turns::{Phase, Verdict};
 pub use world::{Move, World, run_world};
 pub use writer::{put_report, report_message};
-
-#[cfg(test)]
-mod line_tests;
-#[cfg(test)]
-mod tests;
-#[cfg(test)]
-mod world_tests;

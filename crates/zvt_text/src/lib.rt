@@ -16,6 +16,3 @@ pub use bytes::{escaped, hexadecimal};
 pub use kept::numbers;
 pub use results::result_words;
 pub use said::message;
-
-#[cfg(test)]
-mod tests;

@@ -26,14 +26,3 @@ pub use messages::{Heard, Original, StatusFacts};
 pub use orders::{Order, OrderRefusal, Outgoing, Reply};
 pub use outcomes::{Cause, Outcome};
 pub use till::{MOST_ROWS, Till};
-
-#[cfg(test)]
-mod books_tests;
-#[cfg(test)]
-mod events_tests;
-#[cfg(test)]
-mod hearing_tests;
-#[cfg(test)]
-mod line_tests;
-#[cfg(test)]
-mod tests;

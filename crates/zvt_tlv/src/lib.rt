@@ -12,8 +12,6 @@ mod lengths;
 pub mod reader;
 mod sizes;
 mod tags;
-#[cfg(test)]
-mod tests;
 mod trees;
 mod views;
 mod writer;

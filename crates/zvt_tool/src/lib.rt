@@ -24,6 +24,3 @@ pub use sockets::{SILENCE_SECONDS, run_loop, run_terminal, run_till};
 pub use steps::{Ends, Step, result_code, step_of};
 pub use zvt_choice::{Choice, ChoiceFault, words};
 pub use zvt_trace::{Tally, ToolFault, What, audit, join, receipts, show};
-
-#[cfg(test)]
-mod tests;

@@ -22,10 +22,3 @@ mod traces;
 pub use auditing::audit;
 pub use fault::{Tally, ToolFault, What};
 pub use traces::{join, receipts, show};
-
-#[cfg(test)]
-mod audit_tests;
-#[cfg(test)]
-mod example_tests;
-#[cfg(test)]
-mod tests;

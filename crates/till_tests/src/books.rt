@@ -1,0 +1,166 @@
+//! The books of logs, also of logs that no till can have.
+use std::alloc::Global;
+use std::process::Abort;
+use std::test::Fail;
+use zvt_bcd::{Amount, Trace};
+use zvt_till::books::books;
+use zvt_till::{Booked, Cause, Happening, Heard, OrderRefusal, Original, Sent, StatusFacts};
+
+/// The price of the payments, in cents.
+fn price() -> Result<Amount, Fail> {
+    Ok(Amount::new(1234).ok_or("an amount")?)
+}
+
+fn trace(number: u32) -> Result<Trace, Fail> {
+    Ok(Trace::new(number).ok_or("a trace number")?)
+}
+
+/// The order to pay the price.
+fn pay() -> Result<Happening, Fail> {
+    Ok(Happening::Sent(Sent::Pay(price()?)))
+}
+
+/// An approval of the price under the trace number, with a receipt number.
+fn approval(number: u32, receipt: u8) -> Result<Happening, Fail> {
+    Ok(Happening::Heard(Heard::Status(StatusFacts {
+        result: Some(0),
+        amount: Some(price()?),
+        trace: Some(trace(number)?),
+        receipt: Some([0, receipt]),
+        original: Original::Absent,
+    })))
+}
+
+/// The row of a payment of the price.
+fn row(number: u32, receipt: u8) -> Result<Booked, Fail> {
+    Ok(Booked {
+        amount: price()?,
+        trace: trace(number)?,
+        receipt: Some([0, receipt]),
+    })
+}
+
+/// The log has just these rows.
+fn has_books(
+    rt: &impl Abort,
+    alloc: Global,
+    log: &[Happening],
+    booked: &[Booked],
+    unclear: &[Cause],
+) -> Result<(), Fail> {
+    let found = books(alloc, log)?;
+    assert_eq!(rt; found.booked.as_slice(), booked);
+    assert_eq!(rt; found.unclear.len(), unclear.len());
+    for (row, cause) in found.unclear.iter().zip(unclear) {
+        assert_eq!(rt; *row, (price()?, *cause));
+    }
+    Ok(())
+}
+
+const POSITIVE: Happening = Happening::Heard(Heard::Positive);
+
+const COMPLETION: Happening = Happening::Heard(Heard::Completion);
+
+#[test]
+fn books_a_completed_payment(rt: HostRuntime) -> Result<(), Fail> {
+    let alloc = rt.alloc();
+    let log = [pay()?, POSITIVE, approval(17, 5)?, COMPLETION];
+    has_books(&rt, alloc, &log, &[row(17, 5)?], &[])?;
+    has_books(&rt, alloc, &[], &[], &[])
+}
+
+#[test]
+fn a_payment_without_an_end_is_unfinished(rt: HostRuntime) -> Result<(), Fail> {
+    let alloc = rt.alloc();
+    has_books(&rt, alloc, &[pay()?], &[], &[Cause::Unfinished])?;
+    let log = [pay()?, POSITIVE, approval(17, 5)?];
+    has_books(&rt, alloc, &log, &[], &[Cause::Unfinished])
+}
+
+#[test]
+fn the_next_order_ends_a_segment(rt: HostRuntime) -> Result<(), Fail> {
+    let alloc = rt.alloc();
+    let foreign = Happening::Sent(Sent::Foreign);
+    let log = [pay()?, POSITIVE, approval(17, 5)?, foreign, COMPLETION];
+    has_books(&rt, alloc, &log, &[], &[Cause::Unfinished])?;
+    let log = [pay()?, pay()?, POSITIVE, approval(17, 5)?, COMPLETION];
+    has_books(&rt, alloc, &log, &[row(17, 5)?], &[Cause::Unfinished])?;
+    let cancel = Happening::Sent(Sent::Cancel);
+    let log = [pay()?, POSITIVE, cancel, approval(17, 5)?, COMPLETION];
+    has_books(&rt, alloc, &log, &[row(17, 5)?], &[])
+}
+
+#[test]
+fn a_trace_number_is_booked_once(rt: HostRuntime) -> Result<(), Fail> {
+    let alloc = rt.alloc();
+    let log = [
+        pay()?,
+        approval(17, 5)?,
+        COMPLETION,
+        pay()?,
+        approval(17, 6)?,
+        COMPLETION,
+        pay()?,
+        approval(18, 7)?,
+        COMPLETION,
+    ];
+    has_books(
+        &rt,
+        alloc,
+        &log,
+        &[row(17, 5)?, row(18, 7)?],
+        &[Cause::TraceUsed],
+    )
+}
+
+#[test]
+fn the_least_and_the_greatest_trace_number_are_booked_once(rt: HostRuntime) -> Result<(), Fail> {
+    let alloc = rt.alloc();
+    for number in [0, 999_999] {
+        let log = [
+            pay()?,
+            approval(number, 5)?,
+            COMPLETION,
+            pay()?,
+            approval(number, 6)?,
+            COMPLETION,
+        ];
+        has_books(&rt, alloc, &log, &[row(number, 5)?], &[Cause::TraceUsed])?;
+    }
+    Ok(())
+}
+
+#[test]
+fn tells_why_a_payment_is_unclear(rt: HostRuntime) -> Result<(), Fail> {
+    let alloc = rt.alloc();
+    let log = [
+        pay()?,
+        POSITIVE,
+        COMPLETION,
+        pay()?,
+        approval(17, 5)?,
+        Happening::Lost,
+        pay()?,
+        Happening::Malformed,
+        // Refused by the terminal: known not to have happened.
+        pay()?,
+        Happening::Heard(Heard::Negative(0x9C)),
+    ];
+    has_books(
+        &rt,
+        alloc,
+        &log,
+        &[],
+        &[Cause::NoStatus, Cause::Line, Cause::Malformed],
+    )
+}
+
+#[test]
+fn causes_and_refusals_have_names(rt: HostRuntime) -> Result<(), Fail> {
+    let alloc = rt.alloc();
+    assert_eq!(rt; Cause::AbortAfterApproval.name(), "AbortAfterApproval");
+    assert_eq!(rt; OrderRefusal::NothingToCancel.name(), "NothingToCancel");
+    let shown = format!(in alloc; "{}, {}", Cause::Unfinished, OrderRefusal::Offline)?;
+    assert_eq!(rt; shown.as_str(), "Unfinished, Offline");
+    Ok(())
+}

@@ -1,0 +1,54 @@
+//! The terminal on a line, and what it writes without memory.
+use std::test::Fail;
+use zvt_bcd::Amount;
+use zvt_io::Over;
+use zvt_stream::{LineFault, Machine, Stream, Until, pump};
+use zvt_term::{Line, Report, Served, Terminal, Verdict, put_report};
+
+#[test]
+fn serves_a_line_until_it_ends(rt: HostRuntime) -> Result<(), Fail> {
+    let alloc = rt.alloc();
+    let mut served = Served {
+        terminal: Terminal::new(alloc, 1),
+        verdict: Verdict::Approve,
+    };
+    served.decide(Verdict::Decline(0x6C));
+    let heard = [
+        0x06, 0x00, 0x04, 0x00, 0x00, 0x00, 0xBE, 0x80, 0x00, 0x00, 0x06, 0x01, 0x07, 0x04, 0x00,
+        0x00, 0x00, 0x00, 0x10, 0x00, 0x80, 0x00, 0x00,
+    ];
+    let mut reader = Over::new(heard.as_slice());
+    let mut writer = Over::new(Vec::new(alloc));
+    let mut stream = Stream::new(alloc);
+    let fault = pump(
+        alloc,
+        &mut reader,
+        &mut writer,
+        &mut stream,
+        &mut served,
+        Until::Rest,
+        10,
+    );
+    assert_eq!(rt; fault, Err(LineFault::Ended { have: 0 }));
+    let written = [
+        0x80, 0x00, 0x00, 0x06, 0x0F, 0x05, 0x29, 0x00, 0x00, 0x00, 0x01, 0x80, 0x00, 0x00, 0x04,
+        0x0F, 0x02, 0x27, 0x6C, 0x06, 0x1E, 0x01, 0x6C,
+    ];
+    assert_eq!(rt; writer.inner.as_slice(), written.as_slice());
+    assert!(rt; !served.resting());
+    served.malformed();
+    assert!(rt; served.terminal.ledger().is_empty());
+    Ok(())
+}
+
+#[test]
+fn writes_the_longest_line(rt: HostRuntime) -> Result<(), Fail> {
+    let amount = Amount::new(999_999_999_999).ok_or("an amount")?;
+    let mut buffer = [0x55; 32];
+    let size = put_report(&Report::Line(Line::Approved(amount)), &mut buffer);
+    assert_eq!(rt; size, 25);
+    assert_eq!(rt; &buffer[..4], [0x06, 0xD1, 0x16, 0x00].as_slice());
+    assert_eq!(rt; &buffer[4..25], b"APPROVED 999999999999".as_slice());
+    assert_eq!(rt; &buffer[25..], [0x55; 7].as_slice());
+    Ok(())
+}

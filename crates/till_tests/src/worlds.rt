@@ -1,0 +1,128 @@
+//! Both ends together, move by move.
+use std::alloc::Global;
+use std::process::Abort;
+use std::test::Fail;
+use zvt_bcd::{Amount, Trace};
+use zvt_term::{Move, Row, Verdict, World, run_world};
+use zvt_till::{Cause, Entry, Order};
+
+/// A delivery to a terminal that approves.
+const fn to_terminal(index: usize) -> Move {
+    Move::ToTerminal(index, Verdict::Approve)
+}
+
+fn price() -> Result<Amount, Fail> {
+    Ok(Amount::new(1000).ok_or("an amount")?)
+}
+
+/// A till registers and asks for a payment of 1000, which the terminal approves.
+fn approved(alloc: Global) -> Result<Vec<Move>, Fail> {
+    let moves = [
+        Move::Connect,
+        Move::Order(Order::Register),
+        to_terminal(0),
+        Move::ToTill(0),
+        Move::ToTill(1),
+        to_terminal(1),
+        Move::Order(Order::Pay(price()?)),
+        to_terminal(2),
+    ];
+    Ok(Vec::from_slice(alloc, moves.as_slice())?)
+}
+
+/// Its status reaches the till twice, its line to print never.
+fn booked(alloc: Global) -> Result<Vec<Move>, Fail> {
+    let mut moves = approved(alloc)?;
+    let rest = [
+        Move::ToTill(2),
+        Move::ToTill(3),
+        Move::ToTill(3),
+        to_terminal(3),
+        to_terminal(4),
+        Move::ToTill(5),
+    ];
+    moves.extend_from_slice(rest.as_slice())?;
+    Ok(moves)
+}
+
+/// The ledger has just the approval of 1000, and the book has just that entry, or none.
+fn stands(rt: &impl Abort, world: &World, booked: bool) -> Result<(), Fail> {
+    let row = Row {
+        number: 1,
+        amount: price()?,
+        reverses: None,
+    };
+    assert_eq!(rt; world.terminal.ledger(), [row].as_slice());
+    if booked {
+        let entry = Entry {
+            amount: price()?,
+            trace: Trace::new(1).ok_or("a trace number")?,
+            receipt: Some([0x00, 0x01]),
+            reversed: false,
+        };
+        assert_eq!(rt; world.till.book(), [entry].as_slice());
+    } else {
+        assert!(rt; world.till.book().is_empty());
+    }
+    Ok(())
+}
+
+#[test]
+fn books_once_what_comes_twice(rt: HostRuntime) -> Result<(), Fail> {
+    let alloc = rt.alloc();
+    let moves = booked(alloc)?;
+    let world = run_world(alloc, moves.as_slice())?;
+    stands(&rt, &world, true)?;
+    assert!(rt; world.till.unclear().is_empty());
+    assert_eq!(rt; world.from_till.len(), 6);
+    assert_eq!(rt; world.from_terminal.len(), 6);
+    Ok(())
+}
+
+#[test]
+fn a_cut_line_leaves_a_payment_unclear(rt: HostRuntime) -> Result<(), Fail> {
+    let alloc = rt.alloc();
+    let mut moves = approved(alloc)?;
+    moves.push(Move::TillLost)?;
+    let world = run_world(alloc, moves.as_slice())?;
+    stands(&rt, &world, false)?;
+    assert_eq!(rt; world.till.unclear(), [(price()?, Cause::Line)].as_slice());
+    Ok(())
+}
+
+#[test]
+fn a_late_approval_is_not_booked_again(rt: HostRuntime) -> Result<(), Fail> {
+    let alloc = rt.alloc();
+    let mut moves = booked(alloc)?;
+    let rest = [
+        to_terminal(5),
+        Move::Order(Order::Pay(price()?)),
+        Move::ToTerminal(6, Verdict::Decline(0x6C)),
+        Move::ToTill(6),
+        Move::ToTill(3),
+        Move::ToTill(5),
+    ];
+    moves.extend_from_slice(rest.as_slice())?;
+    let world = run_world(alloc, moves.as_slice())?;
+    stands(&rt, &world, true)?;
+    assert_eq!(rt;
+        world.till.unclear(),
+        [(price()?, Cause::TraceUsed)].as_slice()
+    );
+    Ok(())
+}
+
+#[test]
+fn what_was_never_sent_does_nothing(rt: HostRuntime) -> Result<(), Fail> {
+    let alloc = rt.alloc();
+    let moves = [
+        to_terminal(0),
+        Move::ToTill(0),
+        Move::Order(Order::CloseDay),
+        Move::TerminalLost,
+    ];
+    let world = run_world(alloc, moves.as_slice())?;
+    assert!(rt; world.from_till.is_empty());
+    assert!(rt; world.from_terminal.is_empty());
+    Ok(())
+}

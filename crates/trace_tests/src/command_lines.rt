@@ -1,0 +1,178 @@
+//! Command lines, and the texts of help and of refused words.
+use clap::error::ErrorKind;
+use std::alloc::{AllocError, Global};
+use std::test::Fail;
+use zvt_choice::ChoiceFault;
+use zvt_choice::words::choice;
+
+/// The words of a line, which spaces part.
+fn words<'a>(alloc: Global, line: &'a str) -> Result<Vec<&'a str>, AllocError> {
+    let mut words = Vec::new(alloc);
+    for word in line.split_ascii_whitespace() {
+        words.push(word)?;
+    }
+    Ok(words)
+}
+
+/// The choice of a line, as `Debug` writes it.
+fn chosen(alloc: Global, line: &str) -> Result<String, Fail> {
+    let words = words(alloc, line)?;
+    let choice = choice(alloc, words.as_slice())?;
+    Ok(format!(in alloc; "{choice:?}")?)
+}
+
+/// What is answered to a line that names no command: its kind, and its text.
+fn refused(alloc: Global, line: &str) -> Result<(ErrorKind, String), Fail> {
+    let words = words(alloc, line)?;
+    let Err(fault) = choice(alloc, words.as_slice()) else {
+        return Err(Fail::from("the words name a command"));
+    };
+    let text = format!(in alloc; "{fault}")?;
+    match fault {
+        ChoiceFault::Memory => Err(Fail::from("there is too little memory")),
+        ChoiceFault::Words(error) => Ok((error.kind(), text)),
+    }
+}
+
+#[test]
+fn commands_and_their_options(rt: HostRuntime) -> Result<(), Fail> {
+    let alloc = rt.alloc();
+    let cases = [
+        ("", "Show"),
+        ("zvt", "Show"),
+        ("zvt show", "Show"),
+        ("zvt join", "Join"),
+        ("zvt audit", "Audit"),
+        ("zvt receipts", "Receipts"),
+        ("zvt loop", "Loop { steps: [] }"),
+        (
+            "zvt loop register decline:500:6C",
+            r#"Loop { steps: ["register", "decline:500:6C"] }"#,
+        ),
+        (
+            "zvt till --port 4711 register --host ::1 close",
+            r#"Till { port: 4711, host: "::1", steps: ["register", "close"] }"#,
+        ),
+        (
+            "zvt till --port=65535",
+            r#"Till { port: 65535, host: "127.0.0.1", steps: [] }"#,
+        ),
+        (
+            "zvt terminal --port=1 --decline 6c --tid=99999999",
+            r#"Terminal { port: 1, tid: 99999999, decline: Some("6c") }"#,
+        ),
+        (
+            "zvt terminal --port 4711",
+            "Terminal { port: 4711, tid: 12345678, decline: None }",
+        ),
+    ];
+    for (line, choice) in cases {
+        assert_eq!(rt; chosen(alloc, line)?.as_str(), choice);
+    }
+    Ok(())
+}
+
+#[test]
+fn wrong_words(rt: HostRuntime) -> Result<(), Fail> {
+    let alloc = rt.alloc();
+    let cases = [
+        ("zvt pay", ErrorKind::InvalidSubcommand),
+        ("zvt show x", ErrorKind::UnknownArgument),
+        ("zvt --port 1", ErrorKind::UnknownArgument),
+        ("zvt till close", ErrorKind::MissingRequiredArgument),
+        ("zvt terminal", ErrorKind::MissingRequiredArgument),
+        ("zvt till --port=65536", ErrorKind::ValueValidation),
+        ("zvt till --port=x", ErrorKind::ValueValidation),
+        (
+            "zvt terminal --port=1 --tid=100000000",
+            ErrorKind::ValueValidation,
+        ),
+        ("zvt terminal --port=1 register", ErrorKind::UnknownArgument),
+        ("zvt till --port=1 --port=2", ErrorKind::ArgumentConflict),
+        ("zvt --help", ErrorKind::DisplayHelp),
+        ("zvt till --help", ErrorKind::DisplayHelp),
+        ("zvt --version", ErrorKind::DisplayVersion),
+    ];
+    for (line, kind) in cases {
+        assert_eq!(rt; refused(alloc, line)?.0, kind);
+    }
+    Ok(())
+}
+
+#[test]
+fn texts_of_refused_words(rt: HostRuntime) -> Result<(), Fail> {
+    let alloc = rt.alloc();
+    let cases = [
+        (
+            "zvt receipt",
+            "error: unrecognized subcommand 'receipt'
+
+  tip: a similar subcommand exists: 'receipts'
+
+Usage: zvt [show|join|audit|receipts|loop|till|terminal]
+
+For more information, try '--help'.
+",
+        ),
+        (
+            "zvt xyz",
+            "error: unrecognized subcommand 'xyz'
+
+Usage: zvt [show|join|audit|receipts|loop|till|terminal]
+
+For more information, try '--help'.
+",
+        ),
+        ("zvt --version", "zvt 0.1.0\n"),
+    ];
+    for (line, expected) in cases {
+        let (_, text) = refused(alloc, line)?;
+        assert_eq!(rt; text.as_str(), expected);
+    }
+    let text = format!(in alloc; "{}", ChoiceFault::Memory)?;
+    assert_eq!(rt;
+        text.as_str(),
+        "there is too little memory for the command line"
+    );
+    Ok(())
+}
+
+#[test]
+fn help_of_the_program(rt: HostRuntime) -> Result<(), Fail> {
+    let (_, text) = refused(rt.alloc(), "zvt --help")?;
+    for word in [
+        "\n  show ",
+        "\n  join ",
+        "\n  audit ",
+        "\n  receipts ",
+        "\n  loop ",
+        "\n  till ",
+        "\n  terminal ",
+        "register",
+        "pay:N",
+        "decline:N:XX",
+        "reverse:N",
+        "close",
+        "> HEX",
+        "Exit status:",
+    ] {
+        assert!(rt; text.as_str().contains(word), "{word}");
+    }
+    Ok(())
+}
+
+#[test]
+fn help_of_each_command(rt: HostRuntime) -> Result<(), Fail> {
+    let alloc = rt.alloc();
+    for name in [
+        "show", "join", "audit", "receipts", "loop", "till", "terminal",
+    ] {
+        let line = format!(in alloc; "zvt {name} --help")?;
+        let (_, text) = refused(alloc, line.as_str())?;
+        let usage = format!(in alloc; "Usage: zvt {name}")?;
+        let example = format!(in alloc; "Example:\n  zvt {name} ")?;
+        assert!(rt; text.as_str().contains(usage.as_str()), "{text}");
+        assert!(rt; text.as_str().contains(example.as_str()), "{text}");
+    }
+    Ok(())
+}

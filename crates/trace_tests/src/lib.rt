@@ -1,0 +1,13 @@
+//! The tests of what the program is made of: of traces as text, of its command line, and of its runs.
+#![tactic(auto)]
+
+#[cfg(test)]
+mod audits;
+#[cfg(test)]
+mod command_lines;
+#[cfg(test)]
+mod example;
+#[cfg(test)]
+mod runs;
+#[cfg(test)]
+mod traces;
