@@ -3,68 +3,58 @@
 use std::alloc::Global;
 use std::process::Abort;
 use std::test::Fail;
-use zvt_apdu::{Brief, Message, brief_message, encode_into, put_brief};
+use zvt_apdu::{Brief, brief_message, encode, put_brief};
 use zvt_bcd::{Amount, Currency};
 
-/// The brief is written as these bytes, and so is the message that it stands for.
-fn spells(rt: &impl Abort, alloc: Global, brief: Brief, bytes: &[u8]) -> Result<(), Fail> {
+/// The brief is written as these bytes at the front of a buffer.
+fn is_put_as(rt: &impl Abort, brief: &Brief, bytes: &[u8]) {
     let mut buffer = [0x55; 32];
-    let size = put_brief(&brief, &mut buffer);
-    assert_eq!(rt; size, bytes.len());
-    assert!(rt; size < 32);
-    assert_eq!(rt; &buffer[..size], bytes);
-    assert_eq!(rt; &buffer[size..], &[0x55; 32][size..]);
-    let apdu = brief_message(alloc, &brief)?;
-    let mut out = [0x55; 32];
-    assert_eq!(rt; encode_into(&apdu, out.as_mut_slice()), Ok(size));
-    assert_eq!(rt; out, buffer);
+    let size = put_brief(brief, &mut buffer);
+    let (written, rest) = buffer.split_at(size);
+    assert_eq!(rt; written, bytes);
+    assert!(rt; rest.iter().all(|byte| *byte == 0x55));
+}
+
+/// The message that the brief stands for is written as these bytes.
+fn is_encoded_as(rt: &impl Abort, alloc: Global, brief: &Brief, bytes: &[u8]) -> Result<(), Fail> {
+    let apdu = brief_message(alloc, brief)?;
+    assert_eq!(rt; encode(alloc, &apdu)?.as_slice(), bytes);
     Ok(())
 }
 
+const PASSWORD: [u8; 3] = [1, 2, 3];
+
 #[test]
 fn writes_what_a_till_sends(rt: HostRuntime) -> Result<(), Fail> {
-    let (Some(amount), Some(euro)) = (Amount::new(1234), Currency::new(978)) else {
-        panic!(rt; "an amount and a currency");
+    let amount = Amount::new(1234).expect(&rt, "an amount");
+    let euro = Currency::new(978).expect(&rt, "a currency");
+    let registration = Brief::Register {
+        password: PASSWORD,
+        config: 0xBE,
+        currency: euro,
     };
-    let password = [1, 2, 3];
-    for (brief, bytes) in [
-        (Brief::Ack, [0x80, 0x00, 0x00].as_slice()),
-        (Brief::Nack(0x83), [0x84, 0x83, 0x00].as_slice()),
-        (
-            Brief::Register {
-                password,
-                config: 0xBE,
-                currency: euro,
-            },
-            [0x06, 0x00, 0x06, 1, 2, 3, 0xBE, 0x09, 0x78].as_slice(),
-        ),
+    let reversal = Brief::Reverse {
+        password: PASSWORD,
+        receipt: [0xAB, 0x05],
+    };
+    let end_of_day = Brief::CloseDay { password: PASSWORD };
+    let rows: [(Brief, &[u8]); 7] = [
+        (Brief::Ack, &[0x80, 0x00, 0x00]),
+        (Brief::Nack(0x83), &[0x84, 0x83, 0x00]),
+        (registration, &[0x06, 0x00, 0x06, 1, 2, 3, 0xBE, 0x09, 0x78]),
         (
             Brief::Pay(amount, euro),
-            [
+            &[
                 0x06, 0x01, 0x0A, 0x04, 0x00, 0x00, 0x00, 0x00, 0x12, 0x34, 0x49, 0x09, 0x78,
-            ]
-            .as_slice(),
+            ],
         ),
-        (
-            Brief::Reverse {
-                password,
-                receipt: [0xAB, 0x05],
-            },
-            [0x06, 0x30, 0x06, 1, 2, 3, 0x87, 0xAB, 0x05].as_slice(),
-        ),
-        (
-            Brief::CloseDay { password },
-            [0x06, 0x50, 0x03, 1, 2, 3].as_slice(),
-        ),
-        (Brief::AbortOrder, [0x06, 0xB0, 0x00].as_slice()),
-    ] {
-        spells(&rt, rt.alloc(), brief, bytes)?;
+        (reversal, &[0x06, 0x30, 0x06, 1, 2, 3, 0x87, 0xAB, 0x05]),
+        (end_of_day, &[0x06, 0x50, 0x03, 1, 2, 3]),
+        (Brief::AbortOrder, &[0x06, 0xB0, 0x00]),
+    ];
+    for (brief, bytes) in rows {
+        is_put_as(&rt, &brief, bytes);
+        is_encoded_as(&rt, rt.alloc(), &brief, bytes)?;
     }
-    let apdu = brief_message(rt.alloc(), &Brief::Pay(amount, euro))?;
-    let Message::Authorisation(fields) = apdu.message() else {
-        panic!(rt; "a payment is an authorisation");
-    };
-    assert_eq!(rt; zvt_field::amount(fields), Some(amount));
-    assert_eq!(rt; zvt_field::currency(fields), Some(euro));
     Ok(())
 }

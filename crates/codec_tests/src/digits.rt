@@ -1,5 +1,4 @@
 //! Digits and the values that they spell.
-use std::test::Fail;
 use zvt_bcd::{Amount, Currency, Trace, is_digits, ll_digit, ll_put, lll_put, number, put};
 
 #[test]
@@ -32,22 +31,14 @@ fn lengths_have_a_digit_in_each_byte(rt: HostRuntime) {
     let mut three = [0; 3];
     lll_put(128, &mut three);
     assert_eq!(rt; three, [0xF1, 0xF2, 0xF8]);
-    assert_eq!(rt; ll_digit(0xF9), Some(9));
-    assert_eq!(rt; ll_digit(0xFA), None);
-    assert_eq!(rt; ll_digit(0x39), None);
+    for (byte, digit) in [(0xF0, Some(0)), (0xF9, Some(9)), (0xFA, None), (0x39, None)] {
+        assert_eq!(rt; ll_digit(byte), digit, "{byte:02x}");
+    }
 }
 
 #[test]
-fn values_have_their_limits(rt: HostRuntime) -> Result<(), Fail> {
-    assert!(rt; Amount::new(0).is_none());
-    assert_eq!(rt; Amount::new(1234).ok_or("an amount")?.get(), 1234);
-    assert!(rt; Amount::new(999_999_999_999).is_some());
-    assert!(rt; Amount::new(1_000_000_000_000).is_none());
-    assert_eq!(rt; Trace::new(17).ok_or("a trace number")?.get(), 17);
-    assert!(rt; Trace::new(999_999).is_some());
-    assert!(rt; Trace::new(1_000_000).is_none());
-    assert_eq!(rt; Currency::new(978).ok_or("a currency")?.get(), 978);
-    assert!(rt; Currency::new(9_999).is_some());
-    assert!(rt; Currency::new(10_000).is_none());
-    Ok(())
+fn values_are_what_they_were_made_of(rt: HostRuntime) {
+    assert_eq!(rt; Amount::new(1234).map(Amount::get), Some(1234));
+    assert_eq!(rt; Trace::new(17).map(Trace::get), Some(17));
+    assert_eq!(rt; Currency::new(978).map(Currency::get), Some(978));
 }

@@ -4,15 +4,14 @@ ghost use Rattle.std.specs.Prelude.{◌≡◌, ◌-◌, [], ◌∷◌, false, No
 
 use std::alloc::{AllocError, Global};
 use std::io::{self, Read};
-use std::test::Fail;
 use zvt_apdu::Apdu;
-use zvt_io::{Failed, GhostCount, Over, Sink};
+use zvt_io::{Failed, GhostCount, Over, Sink, Source};
 use zvt_spelling::Why;
 use zvt_stream::{Answers, LineFault, Machine, Stream, Until, pump, send};
 
 const ACK: [u8; 3] = [0x80, 0x00, 0x00];
 
-const ACK_AND_COMPLETION: [u8; 6] = [0x80, 0x00, 0x00, 0x06, 0x0F, 0x00];
+const TWO_ACKS: [u8; 6] = [0x80, 0x00, 0x00, 0x80, 0x00, 0x00];
 
 /// A machine that answers each message by 80 00 00, and rests once it heard so many.
 #[derive(Drop)]
@@ -53,147 +52,113 @@ impl Machine for Parrot {
     }
 }
 
-/// A machine that rests once it heard so many messages.
-fn rests_after(left: u8) -> Parrot {
-    Parrot {
+/// After how many messages the machine rests, how far the line is to go, and in how many turns.
+#[derive(Clone, Copy)]
+struct Course {
+    left: u8,
+    until: Until,
+    turns: u64,
+}
+
+const REST: Course = Course {
+    left: 2,
+    until: Until::Rest,
+    turns: 10,
+};
+
+/// Runs a line over the stream: how the run ended, how many messages the machine still waits for, and whether its line
+/// was lost and was malformed.
+fn run<R: Source, W: Sink>(
+    alloc: Global,
+    mut reader: R,
+    writer: &mut W,
+    stream: &mut Stream,
+    course: Course,
+) -> (Result<(), LineFault>, [u8; 3])
+where
+    R: Drop,
+{
+    let Course { left, until, turns } = course;
+    let mut machine = Parrot {
         left,
         lost: 0,
         malformed: 0,
+    };
+    let ended = pump(
+        alloc,
+        &mut reader,
+        writer,
+        stream,
+        &mut machine,
+        until,
+        turns,
+    );
+    (ended, [machine.left, machine.lost, machine.malformed])
+}
+
+/// What comes on a line and how far it is to go, and then what is written, how the run ends, and what becomes of the
+/// machine.
+type Row<'a> = (&'a [u8], Course, &'a [u8], Result<(), LineFault>, [u8; 3]);
+
+#[test]
+fn lines_go_as_far_as_they_are_to(rt: HostRuntime) {
+    let sent = Course {
+        until: Until::Sent,
+        ..REST
+    };
+    let none = Course { turns: 0, ..REST };
+    let two = [0x80, 0x00, 0x00, 0x06, 0x0F, 0x00];
+    let half = [0x80, 0x00, 0x00, 0x06, 0x0F];
+    let ended = LineFault::Ended { have: 2 };
+    let rows: [Row; 4] = [
+        (&two, REST, &TWO_ACKS, Ok(()), [0, 0, 0]),
+        (&ACK, sent, &ACK, Ok(()), [1, 0, 0]),
+        (&ACK, none, &[], Err(LineFault::Turns), [2, 1, 0]),
+        (&half, REST, &ACK, Err(ended), [1, 1, 0]),
+    ];
+    for (coming, course, written, ended, machine) in rows {
+        let mut writer = Over::new(Vec::new(rt.alloc()));
+        let mut stream = Stream::new(rt.alloc());
+        let found = run(
+            rt.alloc(),
+            Over::new(coming),
+            &mut writer,
+            &mut stream,
+            course,
+        );
+        assert_eq!(rt; found, (ended, machine), "{coming:?}");
+        assert_eq!(rt; writer.inner.as_slice(), written, "{coming:?}");
     }
 }
 
-/// Runs a line of these bytes.
-fn run(
-    alloc: Global,
-    bytes: &[u8],
-    writer: &mut Over<Vec<u8>>,
-    stream: &mut Stream,
-    machine: &mut Parrot,
-    until: Until,
-    turns: u64,
-) -> Result<(), LineFault> {
-    let mut reader = Over::new(bytes);
-    pump(alloc, &mut reader, writer, stream, machine, until, turns)
-}
-
 #[test]
-fn rests_after_two(rt: HostRuntime) -> Result<(), Fail> {
-    let alloc = rt.alloc();
-    let mut writer = Over::new(Vec::new(alloc));
-    let mut stream = Stream::new(alloc);
-    let mut machine = rests_after(2);
-    let result = run(
-        alloc,
-        ACK_AND_COMPLETION.as_slice(),
-        &mut writer,
-        &mut stream,
-        &mut machine,
-        Until::Rest,
-        10,
-    );
-    assert_eq!(rt; result, Ok(()));
-    assert_eq!(rt; writer.inner.as_slice(), [ACK, ACK].as_flattened());
-    assert_eq!(rt; (machine.lost, machine.malformed), (0, 0));
-    Ok(())
-}
-
-#[test]
-fn sends_once(rt: HostRuntime) -> Result<(), Fail> {
-    let alloc = rt.alloc();
-    let mut writer = Over::new(Vec::new(alloc));
-    let mut stream = Stream::new(alloc);
-    let mut machine = rests_after(2);
-    let result = run(
-        alloc,
-        ACK.as_slice(),
-        &mut writer,
-        &mut stream,
-        &mut machine,
-        Until::Sent,
-        10,
-    );
-    assert_eq!(rt; result, Ok(()));
-    assert_eq!(rt; machine.left, 1);
-    assert_eq!(rt; writer.inner.as_slice(), ACK.as_slice());
-    Ok(())
-}
-
-#[test]
-fn no_turn(rt: HostRuntime) -> Result<(), Fail> {
-    let alloc = rt.alloc();
-    let mut writer = Over::new(Vec::new(alloc));
-    let mut stream = Stream::new(alloc);
-    let mut machine = rests_after(2);
-    let result = run(
-        alloc,
-        ACK.as_slice(),
-        &mut writer,
-        &mut stream,
-        &mut machine,
-        Until::Rest,
-        0,
-    );
-    assert_eq!(rt; result, Err(LineFault::Turns));
-    assert_eq!(rt; (machine.lost, machine.malformed), (1, 0));
-    Ok(())
-}
-
-#[test]
-fn refuses_and_stops(rt: HostRuntime) -> Result<(), Fail> {
-    let alloc = rt.alloc();
-    let mut writer = Over::new(Vec::new(alloc));
-    let mut stream = Stream::new(alloc);
-    let mut machine = rests_after(2);
-    let result = run(
-        alloc,
-        [0x06u8, 0x01, 0x02, 0xD0, 0x80, 0x00, 0x00].as_slice(),
-        &mut writer,
-        &mut stream,
-        &mut machine,
-        Until::Rest,
-        10,
-    );
-    let place = 3;
-    let why = Why::UnknownField;
-    assert_eq!(rt; result, Err(LineFault::Malformed { place, why }));
-    assert_eq!(rt; (machine.lost, machine.malformed), (0, 1));
-    let mut machine = rests_after(2);
-    let result = run(
-        alloc,
-        ACK.as_slice(),
-        &mut writer,
-        &mut stream,
-        &mut machine,
-        Until::Rest,
-        10,
-    );
-    assert_eq!(rt; result, Err(LineFault::Stopped));
-    assert_eq!(rt; (machine.lost, machine.malformed), (0, 1));
+fn a_refused_line_stays_stopped(rt: HostRuntime) {
+    let mut writer = Over::new(Vec::new(rt.alloc()));
+    let mut stream = Stream::new(rt.alloc());
+    let malformed = LineFault::Malformed {
+        place: 3,
+        why: Why::UnknownField,
+    };
+    let refused = [0x06, 0x01, 0x02, 0xD0, 0x80, 0x00, 0x00];
+    let rows: [(&[u8], LineFault); 2] = [(&refused, malformed), (&ACK, LineFault::Stopped)];
+    for (coming, fault) in rows {
+        let found = run(
+            rt.alloc(),
+            Over::new(coming),
+            &mut writer,
+            &mut stream,
+            REST,
+        );
+        assert_eq!(rt; found, (Err(fault), [2, 0, 1]));
+    }
     assert!(rt; writer.inner.is_empty());
+}
+
+#[test]
+fn bytes_are_sent(rt: HostRuntime) {
+    let mut writer = Over::new(Vec::new(rt.alloc()));
     assert_eq!(rt; send(&mut writer, &ACK), Ok(()));
     assert_eq!(rt; writer.inner.as_slice(), ACK.as_slice());
-    Ok(())
-}
-
-#[test]
-fn line_ends_within_a_message(rt: HostRuntime) -> Result<(), Fail> {
-    let alloc = rt.alloc();
-    let mut writer = Over::new(Vec::new(alloc));
-    let mut stream = Stream::new(alloc);
-    let mut machine = rests_after(2);
-    let result = run(
-        alloc,
-        [0x80u8, 0x00, 0x00, 0x06, 0x0F].as_slice(),
-        &mut writer,
-        &mut stream,
-        &mut machine,
-        Until::Rest,
-        10,
-    );
-    assert_eq!(rt; result, Err(LineFault::Ended { have: 2 }));
-    assert_eq!(rt; writer.inner.as_slice(), ACK.as_slice());
-    assert_eq!(rt; (machine.lost, machine.malformed), (1, 0));
-    Ok(())
 }
 
 /// A reader that fails each time.
@@ -207,24 +172,17 @@ impl Read for Broken {
 }
 
 #[test]
-fn read_fails(rt: HostRuntime) -> Result<(), Fail> {
-    let alloc = rt.alloc();
-    let mut reader = Over::new(Broken);
-    let mut writer = Over::new(Vec::new(alloc));
-    let mut stream = Stream::new(alloc);
-    let mut machine = rests_after(2);
-    let result = pump(
-        alloc,
-        &mut reader,
+fn read_fails(rt: HostRuntime) {
+    let mut writer = Over::new(Vec::new(rt.alloc()));
+    let mut stream = Stream::new(rt.alloc());
+    let found = run(
+        rt.alloc(),
+        Over::new(Broken),
         &mut writer,
         &mut stream,
-        &mut machine,
-        Until::Rest,
-        10,
+        REST,
     );
-    assert_eq!(rt; result, Err(LineFault::Read));
-    assert_eq!(rt; (machine.lost, machine.malformed), (1, 0));
-    Ok(())
+    assert_eq!(rt; found, (Err(LineFault::Read), [2, 1, 0]));
 }
 
 /// A writer that takes some writes whole, and fails from then on.
@@ -253,29 +211,17 @@ impl Sink for Failing {
 }
 
 #[test]
-fn second_write_fails(rt: HostRuntime) -> Result<(), Fail> {
-    let alloc = rt.alloc();
-    let mut reader = Over::new([ACK, ACK, ACK].as_flattened());
+fn second_write_fails(rt: HostRuntime) {
     let mut writer = Failing {
-        taken: Over::new(Vec::new(alloc)),
+        taken: Over::new(Vec::new(rt.alloc())),
         left: 1,
         failed: GhostCount::zero(),
     };
-    let mut stream = Stream::new(alloc);
-    let mut machine = rests_after(9);
-    let result = pump(
-        alloc,
-        &mut reader,
-        &mut writer,
-        &mut stream,
-        &mut machine,
-        Until::Rest,
-        10,
-    );
-    assert_eq!(rt; result, Err(LineFault::Write));
-    assert_eq!(rt; machine.left, 7);
-    assert_eq!(rt; (machine.lost, machine.malformed), (1, 0));
+    let mut stream = Stream::new(rt.alloc());
+    let reader = Over::new([ACK, ACK, ACK].as_flattened());
+    let course = Course { left: 9, ..REST };
+    let found = run(rt.alloc(), reader, &mut writer, &mut stream, course);
+    assert_eq!(rt; found, (Err(LineFault::Write), [7, 1, 0]));
     assert_eq!(rt; writer.taken.inner.as_slice(), ACK.as_slice());
     assert_eq!(rt; send(&mut writer, &ACK), Err(LineFault::Write));
-    Ok(())
 }

@@ -6,6 +6,7 @@ use std::alloc::{AllocError, Global};
 use std::fmt::Write;
 use std::process::Abort;
 use std::test::Fail;
+use zvt_bcd::{Amount, Currency, Trace};
 use zvt_field::{
     BadField, Field, FieldBody, Fields, PushRefusal, amount, count, currency, name, only, original,
     receipt, result, scan, size, trace, write_into,
@@ -143,63 +144,69 @@ const STATUS: [u8; 30] = [
     0x37, 0x00, 0x00, 0x01, 0x87, 0x00, 0x02, 0x3C, 0xF0, 0xF0, 0xF0, 0xEE, 0xEE, 0xEE,
 ];
 
-fn read(alloc: Global, bytes: &[u8], room: usize) -> Result<Fields, Fail>
+/// The fields that fill a room.
+fn read(rt: &impl Abort, alloc: Global, bytes: &[u8], room: usize) -> Fields
     requires small { room < 2 ^ 16 }
     requires filled { room ≢ 1 }
 {
-    match scan(alloc, bytes, room)? {
-        Scan::Whole(fields) => Ok(fields),
-        Scan::More => Err(Fail::new("more")),
-        Scan::Refused { .. } => Err(Fail::new("refused")),
+    match scan(alloc, bytes, room) {
+        Ok(Scan::Whole(fields)) => fields,
+        _ => panic!(rt; "fields fill the room"),
     }
 }
 
 #[test]
-fn readers(rt: HostRuntime) -> Result<(), Fail> {
-    let fields = read(rt.alloc(), &STATUS, 27)?;
+fn fields_of_a_status(rt: HostRuntime) {
+    let fields = read(&rt, rt.alloc(), &STATUS, 27);
     assert_eq!(rt; result(&fields), Some(0));
-    assert_eq!(rt; amount(&fields).map(|amount| amount.get()), Some(1_000));
-    assert_eq!(rt; trace(&fields).map(|trace| trace.get()), Some(2));
-    assert_eq!(rt; currency(&fields).map(|currency| currency.get()), Some(978));
+    assert_eq!(rt; amount(&fields), Amount::new(1_000));
+    assert_eq!(rt; trace(&fields), Trace::new(2));
+    assert_eq!(rt; currency(&fields), Currency::new(978));
     assert_eq!(rt; original(&fields), Some([0, 0, 1]));
     assert_eq!(rt; receipt(&fields), Some([0, 2]));
-    assert_eq!(rt; only(&fields, 0x3C).map(|field| field.bmp()), Some(0x3C));
+    assert_eq!(rt; only(&fields, 0x3C).map(Field::bmp), Some(0x3C));
     assert!(rt; only(&fields, 0x22).is_none());
+}
 
-    let twice = read(
-        rt.alloc(),
-        &[0x0B, 0x00, 0x00, 0x17, 0x0B, 0x00, 0x00, 0x17],
-        8,
-    )?;
+#[test]
+fn fields_that_stand_twice_say_nothing(rt: HostRuntime) {
+    let bytes = [0x0B, 0x00, 0x00, 0x17, 0x0B, 0x00, 0x00, 0x17];
+    let twice = read(&rt, rt.alloc(), &bytes, 8);
     assert_eq!(rt; count(&twice, 0x0B), 2);
     assert_eq!(rt; count(&twice, 0x04), 0);
     assert!(rt; trace(&twice).is_none());
     assert!(rt; only(&twice, 0x0B).is_none());
+}
 
-    let zero = read(rt.alloc(), &[0x04, 0, 0, 0, 0, 0, 0], 7)?;
-    assert!(rt; amount(&zero).is_none());
-    let odd = read(rt.alloc(), &[0x87, 0xFF, 0xFF], 3)?;
+#[test]
+fn odd_values(rt: HostRuntime) {
+    let zero = read(&rt, rt.alloc(), &[0x04, 0, 0, 0, 0, 0, 0], 7);
+    assert_eq!(rt; amount(&zero), None);
+    let odd = read(&rt, rt.alloc(), &[0x87, 0xFF, 0xFF], 3);
     assert_eq!(rt; receipt(&odd), Some([0xFF, 0xFF]));
+}
+
+/// The fields that fill a room are written at the front of a buffer as they were read.
+fn is_written(rt: &impl Abort, alloc: Global, bytes: &[u8], room: usize) -> Result<(), Fail>
+    requires small { room < 2 ^ 16 }
+    requires filled { room ≢ 1 }
+{
+    let fields = read(rt, alloc, bytes, room);
+    assert_eq!(rt; size(&fields), room);
+    assert!(rt; room <= bytes.len());
+    let mut out = vec![in alloc; 0xEE; bytes.len()]?;
+    assert_eq!(rt; write_into(&fields, &mut out), room);
+    assert_eq!(rt; out.as_slice(), bytes);
     Ok(())
 }
 
 #[test]
 fn written(rt: HostRuntime) -> Result<(), Fail> {
-    let fields = read(rt.alloc(), &STATUS, 27)?;
-    let mut out = [0xEE; 30];
-    assert_eq!(rt; size(&fields), 27);
-    assert_eq!(rt; write_into(&fields, &mut out), 27);
-    assert_eq!(rt; out, STATUS);
-
+    is_written(&rt, rt.alloc(), &STATUS, 27)?;
     let container = [
         0x06, 0x05, 0x07, 0x01, 0x41, 0x25, 0x00, 0x22, 0xF0, 0xF1, 0x55,
     ];
-    let fields = read(rt.alloc(), &container, 11)?;
-    let mut out = [0; 11];
-    assert_eq!(rt; size(&fields), 11);
-    assert_eq!(rt; write_into(&fields, &mut out), 11);
-    assert_eq!(rt; out, container);
-    Ok(())
+    is_written(&rt, rt.alloc(), &container, 11)
 }
 
 /// Whether the body makes a field of that BMP, or why not.
@@ -215,30 +222,34 @@ fn zeros(alloc: Global, count: usize) -> Result<FieldBody, AllocError> {
 }
 
 #[test]
-fn checks(rt: HostRuntime) -> Result<(), Fail> {
-    let alloc = rt.alloc();
-    assert_eq!(rt; fault(0xD0, zeros(alloc, 1)?), Some(BadField::Unknown));
-    assert_eq!(rt; fault(0x27, zeros(alloc, 1)?), None);
-    assert_eq!(rt; fault(0x27, zeros(alloc, 2)?), Some(BadField::Size));
-    assert_eq!(rt; fault(0x06, zeros(alloc, 0)?), Some(BadField::Size));
-    assert_eq!(rt; fault(0x22, zeros(alloc, 99)?), None);
-    assert_eq!(rt; fault(0x22, zeros(alloc, 100)?), Some(BadField::Size));
-    assert_eq!(rt; fault(0x3C, zeros(alloc, 999)?), None);
-    assert_eq!(rt; fault(0x3C, zeros(alloc, 1_000)?), Some(BadField::Size));
-    assert_eq!(rt;
-        fault(0x27, FieldBody::Tree(forest(alloc, 0)?)),
-        Some(BadField::Size)
-    );
+fn sizes_are_checked(rt: HostRuntime) -> Result<(), Fail> {
+    let rows = [
+        (0xD0, 1, Some(BadField::Unknown)),
+        (0x27, 1, None),
+        (0x27, 2, Some(BadField::Size)),
+        (0x06, 0, Some(BadField::Size)),
+        (0x22, 99, None),
+        (0x22, 100, Some(BadField::Size)),
+        (0x3C, 999, None),
+        (0x3C, 1_000, Some(BadField::Size)),
+    ];
+    for (bmp, size, wanted) in rows {
+        assert_eq!(rt; fault(bmp, zeros(rt.alloc(), size)?), wanted);
+    }
+    let objects = FieldBody::Tree(forest(rt.alloc(), 0)?);
+    assert_eq!(rt; fault(0x27, objects), Some(BadField::Size));
+    Ok(())
+}
 
-    let mut digits = Vec::new(alloc);
-    digits.push(0x09)?;
-    digits.push(0x7A)?;
-    let Err((back, why)) = Field::checked(0x49, FieldBody::Bytes(digits)) else {
-        return Err(Fail::new("no digits were taken"));
+#[test]
+fn digits_are_checked(rt: HostRuntime) -> Result<(), Fail> {
+    let digits = Vec::from_slice(rt.alloc(), &[0x09, 0x7A])?;
+    let Err((body, why)) = Field::checked(0x49, FieldBody::Bytes(digits)) else {
+        panic!(rt; "no digits were taken");
     };
     assert_eq!(rt; why, BadField::NotDigit);
-    let FieldBody::Bytes(back) = back else {
-        return Err(Fail::new("another body"));
+    let FieldBody::Bytes(back) = body else {
+        panic!(rt; "another body");
     };
     assert_eq!(rt; back.as_slice(), [0x09, 0x7A].as_slice());
     Ok(())
@@ -260,51 +271,39 @@ fn forest(alloc: Global, count: usize) -> Result<Forest, Fail> {
     }
 }
 
+/// A container of one object with so many bytes of content.
+fn container(rt: &impl Abort, alloc: Global, count: usize) -> Result<Field, Fail> {
+    let Ok(container) = Field::checked(0x06, FieldBody::Tree(forest(alloc, count)?)) else {
+        panic!(rt; "a container");
+    };
+    Ok(container)
+}
+
 #[test]
 fn largest(rt: HostRuntime) -> Result<(), Fail> {
     let alloc = rt.alloc();
-    assert_eq!(rt;
-        fault(0x06, FieldBody::Tree(forest(alloc, 65_528)?)),
-        Some(BadField::Size)
-    );
-
-    let Ok(container) = Field::checked(0x06, FieldBody::Tree(forest(alloc, 65_527)?)) else {
-        return Err(Fail::new("no container"));
-    };
+    let too_large = FieldBody::Tree(forest(alloc, 65_528)?);
+    assert_eq!(rt; fault(0x06, too_large), Some(BadField::Size));
     let mut fields = Fields::new(alloc);
-    assert_eq!(rt; size(&fields), 0);
-    match fields.push(container) {
-        Ok(()) => (),
-        Err(PushRefusal::Memory(back)) => {
-            assert_eq!(rt; back.bmp(), 0x06);
-            assert_eq!(rt; size(&fields), 0);
-            assert!(rt; fields.list().is_empty());
-            return Err(Fail::new("no memory"));
-        }
-        Err(PushRefusal::TooLarge(_)) => return Err(Fail::new("too large")),
-    }
+    assert!(rt; fields.push(container(&rt, alloc, 65_527)?).is_ok());
     assert_eq!(rt; size(&fields), 65_535);
-
-    let Ok(none) = Forest::checked(Vec::new(alloc)) else {
-        return Err(Fail::new("no empty forest"));
+    let Err(PushRefusal::TooLarge(back)) = fields.push(container(&rt, alloc, 0)?) else {
+        panic!(rt; "no room is left");
     };
-    let Ok(empty) = Field::checked(0x06, FieldBody::Tree(none)) else {
-        return Err(Fail::new("no empty container"));
-    };
-    match fields.push(empty) {
-        Err(PushRefusal::TooLarge(back)) => assert_eq!(rt; back.bmp(), 0x06),
-        _ => return Err(Fail::new("not too large")),
-    }
-    assert_eq!(rt; size(&fields), 65_535);
+    assert_eq!(rt; back.bmp(), 0x06);
     assert_eq!(rt; fields.list().len(), 1);
     Ok(())
 }
 
 #[test]
-fn names(rt: HostRuntime) -> Result<(), Fail> {
-    assert_eq!(rt; name(0x04), Some("amount"));
-    assert_eq!(rt; name(0x3A), Some("verification"));
-    assert_eq!(rt; name(0x92), Some("field-92"));
-    assert_eq!(rt; name(0x07), None);
-    Ok(())
+fn names(rt: HostRuntime) {
+    let rows = [
+        (0x04, Some("amount")),
+        (0x3A, Some("verification")),
+        (0x92, Some("field-92")),
+        (0x07, None),
+    ];
+    for (bmp, wanted) in rows {
+        assert_eq!(rt; name(bmp), wanted);
+    }
 }

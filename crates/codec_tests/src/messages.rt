@@ -7,67 +7,95 @@ use zvt_apdu::{Apdu, BadValue, Message, NoRoom, encode, encode_into, scan, size}
 use zvt_field::Fields;
 use zvt_spelling::{Scan, Why};
 
-const PAYMENT: [u8; 13] = [
-    0x06, 0x01, 0x0A, 0x04, 0x00, 0x00, 0x00, 0x00, 0x12, 0x34, 0x49, 0x09, 0x78,
-];
+/// The message is written as these bytes at the front of a buffer.
+fn is_written(rt: &impl Abort, alloc: Global, apdu: &Apdu, bytes: &[u8]) -> Result<(), Fail> {
+    let mut out = vec![in alloc; 0x55; bytes.len() + 1]?;
+    assert_eq!(rt; encode_into(apdu, &mut out), Ok(bytes.len()));
+    let (written, rest) = out.split_at(bytes.len());
+    assert_eq!(rt; written, bytes);
+    assert_eq!(rt; rest, [0x55].as_slice());
+    Ok(())
+}
 
-/// Reads the message that stands first, writes it again, and says its size.
-fn read(rt: &impl Abort, alloc: Global, bytes: &[u8]) -> Result<(Apdu, usize), Fail> {
+/// The message that stands first, of so many bytes, as which it is written again.
+pub fn read(rt: &impl Abort, alloc: Global, bytes: &[u8], wanted: usize) -> Result<Apdu, Fail> {
     let Scan::Whole((apdu, taken)) = scan(alloc, bytes)? else {
         panic!(rt; "a message stands first: {bytes:?}");
     };
-    assert!(rt; taken <= bytes.len());
+    assert_eq!(rt; taken, wanted);
     assert_eq!(rt; size(&apdu), taken);
-    let mut out = vec![in alloc; 0x55; 65_541]?;
-    assert_eq!(rt; encode_into(&apdu, &mut out), Ok(taken));
-    assert!(rt; taken < out.len());
-    assert_eq!(rt; &out[..taken], &bytes[..taken]);
-    assert_eq!(rt; out[taken], 0x55);
-    assert_eq!(rt; encode(alloc, &apdu)?.as_slice(), &bytes[..taken]);
-    Ok((apdu, taken))
+    let (first, _) = bytes.split_at(taken);
+    assert_eq!(rt; encode(alloc, &apdu)?.as_slice(), first);
+    is_written(rt, alloc, &apdu, first)?;
+    Ok(apdu)
+}
+
+/// Bytes that begin no message, and where and why they are refused.
+pub type Refusal<'a> = (&'a [u8], usize, Why);
+
+/// The bytes are refused so.
+pub fn refuses(rt: &impl Abort, alloc: Global, rows: &[Refusal]) -> Result<(), Fail> {
+    for &(bytes, at, reason) in rows {
+        let Scan::Refused { place, why } = scan(alloc, bytes)? else {
+            panic!(rt; "refused: {bytes:?}");
+        };
+        assert_eq!(rt; (place, why), (at, reason), "{bytes:?}");
+    }
+    Ok(())
+}
+
+/// The name of a message without fields, the bytes that it names, and what stands behind them.
+fn parts(message: &Message) -> Option<(&'static str, [u8; 2], &[u8])> {
+    match message {
+        Message::Ack { payload } => Some(("Ack", [0, 0], payload)),
+        Message::Nack { code, payload } => Some(("Nack", [0, *code], payload)),
+        Message::Intermediate { status, payload } => Some(("Intermediate", [0, *status], payload)),
+        Message::PrintLine { attribute, text } => Some(("PrintLine", [0, *attribute], text)),
+        Message::Abort { code, payload } => Some(("Abort", [0, *code], payload)),
+        Message::Other { control, payload } => Some(("Other", *control, payload)),
+        _ => None,
+    }
+}
+
+/// The message has these parts.
+fn has_parts(rt: &impl Abort, message: &Message, wanted: (&str, [u8; 2], &[u8])) {
+    assert_eq!(rt; parts(message), Some(wanted));
 }
 
 #[test]
 fn bytes_behind_control(rt: HostRuntime) -> Result<(), Fail> {
-    let alloc = rt.alloc();
-    let (apdu, taken) = read(&rt, alloc, [0x80, 0x00, 0x00, 0x80].as_slice())?;
-    assert_eq!(rt; taken, 3);
-    assert!(rt; matches!(apdu.message(), Message::Ack { payload } if payload.is_empty()));
-    let (apdu, _) = read(&rt, alloc, [0x80, 0x00, 0x02, 0xAA, 0xBB].as_slice())?;
-    let Message::Ack { payload } = apdu.message() else {
-        panic!(rt; "80 00 takes what came");
-    };
-    assert_eq!(rt; payload.as_slice(), [0xAA, 0xBB].as_slice());
-    let (apdu, _) = read(&rt, alloc, [0x84, 0x6C, 0x00].as_slice())?;
-    assert!(rt; matches!(apdu.message(), Message::Nack { code: 0x6C, .. }));
-    let (apdu, _) = read(&rt, alloc, [0x06, 0x1E, 0x01, 0x6C].as_slice())?;
-    assert!(rt; matches!(apdu.message(), Message::Abort { code: 0x6C, .. }));
-    let (apdu, _) = read(&rt, alloc, [0x04, 0xFF, 0x01, 0x0A].as_slice())?;
-    assert!(rt; matches!(apdu.message(), Message::Intermediate { status: 0x0A, .. }));
-    let (apdu, _) = read(&rt, alloc, [0x06, 0xD1, 0x03, 0x00, 0x4F, 0x4B].as_slice())?;
-    let Message::PrintLine { attribute, text } = apdu.message() else {
-        panic!(rt; "06 D1 is a line to print");
-    };
-    assert_eq!(rt; *attribute, 0x00);
-    assert_eq!(rt; text.as_slice(), b"OK".as_slice());
-    let (apdu, _) = read(&rt, alloc, [0x06, 0x02, 0x00].as_slice())?;
-    assert!(rt;
-        matches!(
-            apdu.message(),
-            Message::Other {
-                control: [0x06, 0x02],
-                ..
-            }
-        )
-    );
+    let rows: [(&[u8], usize, &str, [u8; 2], &[u8]); 7] = [
+        (&[0x80, 0x00, 0x00, 0x80], 3, "Ack", [0, 0], &[]),
+        (
+            &[0x80, 0x00, 0x02, 0xAA, 0xBB],
+            5,
+            "Ack",
+            [0, 0],
+            &[0xAA, 0xBB],
+        ),
+        (&[0x84, 0x6C, 0x00], 3, "Nack", [0, 0x6C], &[]),
+        (&[0x06, 0x1E, 0x01, 0x6C], 4, "Abort", [0, 0x6C], &[]),
+        (&[0x04, 0xFF, 0x01, 0x0A], 4, "Intermediate", [0, 0x0A], &[]),
+        (
+            &[0x06, 0xD1, 0x03, 0x00, 0x4F, 0x4B],
+            6,
+            "PrintLine",
+            [0, 0],
+            b"OK",
+        ),
+        (&[0x06, 0x02, 0x00], 3, "Other", [0x06, 0x02], &[]),
+    ];
+    for (bytes, size, name, named, behind) in rows {
+        let apdu = read(&rt, rt.alloc(), bytes, size)?;
+        has_parts(&rt, apdu.message(), (name, named, behind));
+    }
     Ok(())
 }
 
 #[test]
-fn registrations(rt: HostRuntime) -> Result<(), Fail> {
+fn registration_with_a_currency(rt: HostRuntime) -> Result<(), Fail> {
     let bytes = [0x06, 0x00, 0x06, 0x01, 0x02, 0x03, 0xBE, 0x09, 0x78];
-    let (apdu, taken) = read(&rt, rt.alloc(), bytes.as_slice())?;
-    assert_eq!(rt; taken, 9);
+    let apdu = read(&rt, rt.alloc(), &bytes, 9)?;
     let Message::Registration {
         password,
         config,
@@ -76,98 +104,74 @@ fn registrations(rt: HostRuntime) -> Result<(), Fail> {
     else {
         panic!(rt; "a currency stands");
     };
-    assert_eq!(rt; *password, [1, 2, 3]);
-    assert_eq!(rt; *config, 0xBE);
+    assert_eq!(rt; (*password, *config), ([1, 2, 3], 0xBE));
     assert_eq!(rt; rest.currency.get(), 978);
     assert!(rt; rest.fields.list().is_empty());
-    let (apdu, _) = read(
-        &rt,
-        rt.alloc(),
-        [0x06, 0x00, 0x04, 0x01, 0x02, 0x03, 0xBE].as_slice(),
-    )?;
+    Ok(())
+}
+
+#[test]
+fn registration_alone(rt: HostRuntime) -> Result<(), Fail> {
+    let bytes = [0x06, 0x00, 0x04, 0x01, 0x02, 0x03, 0xBE];
+    let apdu = read(&rt, rt.alloc(), &bytes, 7)?;
     assert!(rt; matches!(apdu.message(), Message::Registration { rest: None, .. }));
     Ok(())
 }
 
 #[test]
 fn long_lengths(rt: HostRuntime) -> Result<(), Fail> {
-    let mut bytes = vec![in rt.alloc(); 0x20; 65_540]?;
-    for (end, low, high) in [(260, 0xFF, 0x00), (65_540, 0xFF, 0xFF)] {
-        assert!(rt; bytes.len() >= 5);
-        assert!(rt; end <= bytes.len());
-        bytes[0] = 0x06;
-        bytes[1] = 0xD1;
-        bytes[2] = 0xFF;
-        bytes[3] = low;
-        bytes[4] = high;
-        let (_, taken) = read(&rt, rt.alloc(), &bytes[..end])?;
-        assert_eq!(rt; taken, end);
+    for (size, low, high) in [(260, 0xFF, 0x00), (65_540, 0xFF, 0xFF)] {
+        let mut bytes = Vec::from_slice(rt.alloc(), &[0x06, 0xD1, 0xFF, low, high])?;
+        bytes.resize(size, 0x20)?;
+        read(&rt, rt.alloc(), &bytes, size)?;
     }
     Ok(())
 }
 
 #[test]
 fn refuses_at_the_first_byte_that_none_can_follow(rt: HostRuntime) -> Result<(), Fail> {
-    for (bytes, at, reason) in [
-        ([0x06, 0x00, 0x05].as_slice(), 2, Why::DoesNotFit),
-        ([0x06, 0x01, 0x01].as_slice(), 2, Why::DoesNotFit),
-        ([0x06, 0x30, 0x02].as_slice(), 2, Why::DoesNotFit),
-        (
-            [0x06, 0x00, 0x06, 0x00, 0x00, 0x00, 0xBE, 0x09, 0x7A].as_slice(),
-            8,
-            Why::NotDigit,
-        ),
-        (
-            [0x06, 0xD1, 0xFF, 0xFE, 0x00].as_slice(),
-            4,
-            Why::NotShortest,
-        ),
-    ] {
-        let Scan::Refused { place, why } = scan(rt.alloc(), bytes)? else {
-            panic!(rt; "refused: {bytes:?}");
-        };
-        assert_eq!(rt; place, at, "{bytes:?}");
-        assert_eq!(rt; why, reason, "{bytes:?}");
-    }
-    for size in 0..3 {
-        assert!(rt;
-            matches!(scan(rt.alloc(), &PAYMENT[..size])?, Scan::More),
-            "{size}"
-        );
-    }
-    Ok(())
+    let no_digit = [0x06, 0x00, 0x06, 0x00, 0x00, 0x00, 0xBE, 0x09, 0x7A];
+    let rows: [Refusal; 5] = [
+        (&[0x06, 0x00, 0x05], 2, Why::DoesNotFit),
+        (&[0x06, 0x01, 0x01], 2, Why::DoesNotFit),
+        (&[0x06, 0x30, 0x02], 2, Why::DoesNotFit),
+        (&no_digit, 8, Why::NotDigit),
+        (&[0x06, 0xD1, 0xFF, 0xFE, 0x00], 4, Why::NotShortest),
+    ];
+    refuses(&rt, rt.alloc(), &rows)
 }
 
 #[test]
-fn checks_messages(rt: HostRuntime) -> Result<(), Fail> {
-    let alloc = rt.alloc();
+fn a_named_control_is_refused(rt: HostRuntime) {
     let other = Message::Other {
         control: [0x06, 0x01],
-        payload: Vec::new(alloc),
+        payload: Vec::new(rt.alloc()),
     };
     let Err((message, fault)) = Apdu::checked(other) else {
         panic!(rt; "06 01 has a name of its own");
     };
     assert_eq!(rt; fault, BadValue::NamedControl);
-    let Message::Other { control, .. } = &message else {
-        panic!(rt; "the message is handed back");
-    };
-    assert_eq!(rt; *control, [0x06, 0x01]);
-    let large = Message::Ack {
-        payload: vec![in alloc; 0; 65_536]?,
-    };
-    assert!(rt; matches!(Apdu::checked(large), Err((_, BadValue::TooLarge))));
-    let Ok(apdu) = Apdu::checked(Message::Completion(Fields::new(alloc))) else {
+    let back = parts(&message).map(|parts| parts.1);
+    assert_eq!(rt; back, Some([0x06, 0x01]));
+}
+
+#[test]
+fn a_large_message_is_refused(rt: HostRuntime) -> Result<(), Fail> {
+    let payload = vec![in rt.alloc(); 0; 65_536]?;
+    let checked = Apdu::checked(Message::Ack { payload });
+    assert!(rt; matches!(checked, Err((_, BadValue::TooLarge))));
+    Ok(())
+}
+
+#[test]
+fn a_short_buffer_is_left_alone(rt: HostRuntime) {
+    let Ok(apdu) = Apdu::checked(Message::Completion(Fields::new(rt.alloc()))) else {
         panic!(rt; "an empty completion has a spelling");
     };
     let mut out = [0x55; 4];
-    assert_eq!(rt; encode_into(&apdu, out.as_mut_slice()), Ok(3));
+    assert_eq!(rt; encode_into(&apdu, &mut out), Ok(3));
     assert_eq!(rt; out, [0x06, 0x0F, 0x00, 0x55]);
     let mut short = [0x55; 2];
-    assert_eq!(rt;
-        encode_into(&apdu, short.as_mut_slice()),
-        Err(NoRoom { need: 3 })
-    );
+    assert_eq!(rt; encode_into(&apdu, &mut short), Err(NoRoom { need: 3 }));
     assert_eq!(rt; short, [0x55; 2]);
-    Ok(())
 }

@@ -218,21 +218,30 @@ fn constructed(rt: &impl Abort, alloc: Global, inner: Tlv) -> Result<Tlv, AllocE
     })
 }
 
+/// The forest of objects that have a spelling.
+fn forest(rt: &impl Abort, objects: Vec<Tlv>) -> Forest {
+    let Ok(forest) = Forest::checked(objects) else {
+        panic!(rt; "the objects have a spelling");
+    };
+    forest
+}
+
+/// The object has no spelling, for the reason, and comes back as it was.
 fn refuses(rt: &impl Abort, alloc: Global, object: Tlv, wanted: BadForest) -> Result<(), Fail> {
     let mut before = String::new(alloc);
     show_object(&mut before, &object)?;
     let Err((objects, fault)) = Forest::checked(vec![in alloc; object]?) else {
         panic!(rt; "refused as {wanted:?}");
     };
+    assert_eq!(rt; fault, wanted);
     let mut after = String::new(alloc);
     show_objects(&mut after, &objects)?;
-    assert_eq!(rt; fault, wanted);
     assert_eq!(rt; after.as_str(), before.as_str());
     Ok(())
 }
 
 #[test]
-fn forests_are_checked_for_a_spelling(rt: HostRuntime) -> Result<(), Fail> {
+fn contents_are_of_the_kind_of_their_tag(rt: HostRuntime) -> Result<(), Fail> {
     let alloc = rt.alloc();
     let bytes_for_objects = Tlv {
         tag: tag(&rt, &[0x25]),
@@ -243,21 +252,25 @@ fn forests_are_checked_for_a_spelling(rt: HostRuntime) -> Result<(), Fail> {
         tag: tag(&rt, &[0x07]),
         body: Body::Cons(Vec::new(alloc)),
     };
-    refuses(&rt, alloc, objects_for_bytes, BadForest::Kind)?;
+    refuses(&rt, alloc, objects_for_bytes, BadForest::Kind)
+}
+
+#[test]
+fn objects_have_a_largest_depth(rt: HostRuntime) -> Result<(), Fail> {
+    let alloc = rt.alloc();
     let mut deep = primitive(&rt, alloc, 70_000)?;
     for _ in 0..6 {
         deep = constructed(&rt, alloc, deep)?;
     }
-    refuses(&rt, alloc, deep, BadForest::TooDeep)?;
-    refuses(
-        &rt,
-        alloc,
-        primitive(&rt, alloc, 65_532)?,
-        BadForest::TooLarge,
-    )?;
-    let Ok(largest) = Forest::checked(vec![in alloc; primitive(&rt, alloc, 65_531)?]?) else {
-        panic!(&rt; "65,535 bytes are a spelling");
-    };
+    refuses(&rt, alloc, deep, BadForest::TooDeep)
+}
+
+#[test]
+fn objects_have_a_largest_size(rt: HostRuntime) -> Result<(), Fail> {
+    let alloc = rt.alloc();
+    let larger = primitive(&rt, alloc, 65_532)?;
+    refuses(&rt, alloc, larger, BadForest::TooLarge)?;
+    let largest = forest(&rt, vec![in alloc; primitive(&rt, alloc, 65_531)?]?);
     assert_eq!(&rt; size(&largest), 65_535);
     Ok(())
 }
@@ -285,9 +298,7 @@ fn comes_back(rt: &impl Abort, alloc: Global, count: usize, wanted: usize) -> Re
     }
     let mut before = String::new(alloc);
     show_object(&mut before, &object)?;
-    let Ok(forest) = Forest::checked(vec![in alloc; object]?) else {
-        panic!(rt; "the objects have a spelling");
-    };
+    let forest = forest(rt, vec![in alloc; object]?);
     assert_eq!(rt; size(&forest), wanted);
     let answer = reader::scan_sized(alloc, &written_sized(rt, alloc, &forest)?, 40_000)?;
     let Scan::Whole(found) = answer else {
@@ -311,76 +322,82 @@ fn what_is_written_is_read_back(rt: HostRuntime) -> Result<(), Fail> {
 #[test]
 fn spellings_are_those_of_the_standard(rt: HostRuntime) -> Result<(), Fail> {
     let alloc = rt.alloc();
-    let inner = constructed(&rt, alloc, primitive(&rt, alloc, 1)?)?;
-    let Ok(forest) = Forest::checked(vec![in alloc; inner, primitive(&rt, alloc, 0)?]?) else {
-        panic!(&rt; "the objects have a spelling");
-    };
+    let first = constructed(&rt, alloc, primitive(&rt, alloc, 1)?)?;
+    let forest = forest(&rt, vec![in alloc; first, primitive(&rt, alloc, 0)?]?);
     let bytes = [
         0x08, 0x3F, 0x01, 0x03, 0x07, 0x01, 0x41, 0x07, 0x00, 0xEE, 0xEE,
     ];
     assert_eq!(&rt; written(alloc, &forest)?.as_slice(), &bytes[1..]);
-    assert_eq!(&rt; written_sized(&rt, alloc, &forest)?.as_slice(), &bytes[..]);
+    assert_eq!(&rt;
+        written_sized(&rt, alloc, &forest)?.as_slice(),
+        bytes.as_slice()
+    );
     Ok(())
 }
 
 #[test]
 fn tags_have_one_to_three_bytes(rt: HostRuntime) {
-    let two = tag(&rt, &[0x1F, 0x7F]);
-    assert_eq!(&rt; two.bytes(), &[0x1F, 0x7F][..]);
-    assert!(&rt; !two.constructed());
-    assert!(&rt; tag(&rt, &[0xFF, 0x81, 0x07]).constructed());
-    for (bytes, what) in [
-        (&[][..], "none"),
-        (&[0x1F][..], "a further byte is missing"),
-        (&[0x07, 0x00][..], "a byte too much"),
-        (&[0x1F, 0x81][..], "the third byte is missing"),
-        (&[0x1F, 0x81, 0x81][..], "a fourth byte is asked for"),
+    let rows: [(&[u8], Option<bool>); 8] = [
+        (&[0x07], Some(false)),
+        (&[0x1F, 0x7F], Some(false)),
+        (&[0xFF, 0x81, 0x07], Some(true)),
+        // A further byte is missing
+        (&[], None),
+        (&[0x1F], None),
+        (&[0x1F, 0x81], None),
+        // A byte too much, and one more that asks for another
+        (&[0x07, 0x00], None),
+        (&[0x1F, 0x81, 0x81], None),
+    ];
+    for (bytes, constructed) in rows {
+        let tag = Tag::checked(bytes);
+        assert_eq!(&rt; tag.map(|tag| tag.constructed()), constructed, "{bytes:?}");
+    }
+    assert_eq!(&rt; tag(&rt, &[0x1F, 0x7F]).bytes(), [0x1F, 0x7F].as_slice());
+}
+
+#[test]
+fn bytes_of_tags_are_judged(rt: HostRuntime) {
+    let (shortest, padded) = (Lengths::Shortest, Lengths::Padded);
+    let second = TagAt::Second { constructed: true };
+    let done = TagNext::Done { constructed: true };
+    for (at, left, depth, byte, lengths, wanted) in [
+        (
+            TagAt::First,
+            3,
+            5,
+            0x3F,
+            shortest,
+            Ok(TagNext::More(second)),
+        ),
+        (TagAt::First, 3, 6, 0x3F, shortest, Err(Why::TooDeep)),
+        (second, 2, 1, 0x07, shortest, Err(Why::DoesNotFit)),
+        (second, 2, 1, 0x07, padded, Ok(done)),
     ] {
-        assert!(&rt; Tag::checked(bytes).is_none(), "{what}");
+        assert_eq!(&rt; judge_tag(at, left, depth, byte, lengths), wanted);
     }
 }
 
 #[test]
-fn bytes_are_judged_one_by_one(rt: HostRuntime) {
+fn bytes_of_lengths_are_judged(rt: HostRuntime) {
     let (shortest, padded) = (Lengths::Shortest, Lengths::Padded);
-    let second = TagAt::Second { constructed: true };
-    assert_eq!(&rt;
-        judge_tag(TagAt::First, 3, 5, 0x3F, shortest),
-        Ok(TagNext::More(second))
-    );
-    assert_eq!(&rt;
-        judge_tag(TagAt::First, 3, 6, 0x3F, shortest),
-        Err(Why::TooDeep)
-    );
-    assert_eq!(&rt;
-        judge_tag(second, 2, 1, 0x07, shortest),
-        Err(Why::DoesNotFit)
-    );
-    let done = TagNext::Done { constructed: true };
-    assert_eq!(&rt; judge_tag(second, 2, 1, 0x07, padded), Ok(done));
-    assert_eq!(&rt;
-        judge_length(LengthAt::First, 3, false, 0x03, shortest),
-        Ok(LengthNext::Done(3))
-    );
-    assert_eq!(&rt;
-        judge_length(LengthAt::First, 3, true, 0x01, shortest),
-        Err(Why::DoesNotFit)
-    );
+    let (first, after) = (LengthAt::First, LengthAt::After81);
     let low = LengthAt::Low82 { high: 1 };
-    assert_eq!(&rt;
-        judge_length(LengthAt::High82, 300, true, 1, shortest),
-        Ok(LengthNext::More(low))
-    );
-    assert_eq!(&rt;
-        judge_length(low, 258, true, 2, shortest),
-        Ok(LengthNext::Done(258))
-    );
-    assert_eq!(&rt;
-        judge_length(LengthAt::After81, 1, true, 0, padded),
-        Err(Why::DoesNotFit)
-    );
-    assert_eq!(&rt;
-        judge_length(LengthAt::After81, 0, true, 0, padded),
-        Ok(LengthNext::Done(0))
-    );
+    for (at, left, nests, byte, lengths, wanted) in [
+        (first, 3, false, 3, shortest, Ok(LengthNext::Done(3))),
+        (first, 3, true, 1, shortest, Err(Why::DoesNotFit)),
+        (
+            LengthAt::High82,
+            300,
+            true,
+            1,
+            shortest,
+            Ok(LengthNext::More(low)),
+        ),
+        (low, 258, true, 2, shortest, Ok(LengthNext::Done(258))),
+        (after, 1, true, 0, padded, Err(Why::DoesNotFit)),
+        (after, 0, true, 0, padded, Ok(LengthNext::Done(0))),
+    ] {
+        assert_eq!(&rt; judge_length(at, left, nests, byte, lengths), wanted);
+    }
 }

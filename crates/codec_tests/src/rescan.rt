@@ -3,7 +3,7 @@
 use std::alloc::Global;
 use zvt_apdu::scan;
 use zvt_spelling::{Scan, Why};
-use zvt_stream::{Fed, FeedError, Truncated};
+use zvt_stream::{Fed, FeedError};
 
 /// The size of the longest message.
 const LONGEST: usize = 65_540;
@@ -85,14 +85,6 @@ impl Rescan {
     fn refuse(&mut self, place: usize, why: Why) -> Fed {
         self.stopped = true;
         Fed::Refused { place, why }
-    }
-
-    /// Whether the stream may end here: Err where bytes of an unfinished message are held. After a refusal it is Ok.
-    pub fn finish(&self) -> Result<(), Truncated> {
-        match self.held.len() {
-            0 => Ok(()),
-            have => Err(Truncated { have }),
-        }
     }
 
     /// How many bytes of the unfinished message are held: fewer than the 65,540 of the longest message, and none after

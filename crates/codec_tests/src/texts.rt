@@ -20,136 +20,133 @@ fn said(rt: &impl Abort, alloc: Global, bytes: &[u8]) -> Result<String, Fail> {
     Ok(text)
 }
 
-#[test]
-fn heads(rt: HostRuntime) -> Result<(), Fail> {
-    for (bytes, text) in [
-        ([0x80, 0x00, 0x00].as_slice(), "Ack\n"),
-        ([0x80, 0x00, 0x02, 0x0A, 0xFF].as_slice(), "Ack data 0AFF\n"),
-        ([0x84, 0x83, 0x00].as_slice(), "Nack 83\n"),
-        ([0x84, 0x83, 0x01, 0x09].as_slice(), "Nack 83 data 09\n"),
-        ([0x06, 0x01, 0x00].as_slice(), "Authorisation\n"),
-        (
-            [0x06, 0x30, 0x03, 0x01, 0x02, 0x03].as_slice(),
-            "Reversal\n",
-        ),
-        (
-            [0x06, 0x50, 0x03, 0x01, 0x02, 0x03].as_slice(),
-            "EndOfDay\n",
-        ),
-        ([0x06, 0xB0, 0x00].as_slice(), "AbortOrder\n"),
-        ([0x04, 0x0F, 0x00].as_slice(), "Status\n"),
-        ([0x04, 0xFF, 0x01, 0x17].as_slice(), "Intermediate 17\n"),
-        (
-            [0x04, 0xFF, 0x03, 0x17, 0xAB, 0xCD].as_slice(),
-            "Intermediate 17 data ABCD\n",
-        ),
-        (
-            [0x06, 0xD1, 0x05, 0x00, 0x4F, 0x4B, 0x22, 0x80].as_slice(),
-            "PrintLine 00 \"OK\\x22\\x80\"\n",
-        ),
-        ([0x06, 0xD1, 0x01, 0x40].as_slice(), "PrintLine 40 \"\"\n"),
-        ([0x06, 0xD3, 0x00].as_slice(), "TextBlock\n"),
-        ([0x06, 0x0F, 0x00].as_slice(), "Completion\n"),
-        (
-            [0x06, 0x1E, 0x01, 0x6C].as_slice(),
-            "Abort 6C abort by time-out or abort key\n",
-        ),
-        (
-            [0x06, 0x1E, 0x02, 0x6D, 0x00].as_slice(),
-            "Abort code 6D data 00\n",
-        ),
-        ([0x05, 0x02, 0x01, 0x4F].as_slice(), "Other 0502 data 4F\n"),
-        ([0x80, 0x01, 0x00].as_slice(), "Other 8001\n"),
-    ] {
-        let said = said(&rt, rt.alloc(), bytes)?;
-        assert_eq!(rt; said.as_str(), text);
+/// Each message has the text beside it.
+fn says(rt: &impl Abort, alloc: Global, rows: &[(&[u8], &str)]) -> Result<(), Fail> {
+    for &(bytes, wanted) in rows {
+        let text = said(rt, alloc, bytes)?;
+        assert_eq!(rt; text.as_str(), wanted);
     }
     Ok(())
 }
 
 #[test]
-fn registrations(rt: HostRuntime) -> Result<(), Fail> {
-    let bytes = [0x06, 0x00, 0x04, 0x01, 0x02, 0x03, 0xBE];
-    let alone = said(&rt, rt.alloc(), bytes.as_slice())?;
-    assert_eq!(rt; alone.as_str(), "Registration config BE\n");
-    let bytes = [0x06, 0x00, 0x06, 0x01, 0x02, 0x03, 0xBE, 0x09, 0x78];
-    let euro = said(&rt, rt.alloc(), bytes.as_slice())?;
-    assert_eq!(rt; euro.as_str(), "Registration config BE currency 0978\n");
-    let bytes = [
-        0x06, 0x00, 0x08, 0x01, 0x02, 0x03, 0xBE, 0x09, 0x78, 0x03, 0x01,
+fn heads(rt: HostRuntime) -> Result<(), Fail> {
+    let rows: [(&[u8], &str); 19] = [
+        (&[0x80, 0x00, 0x00], "Ack\n"),
+        (&[0x80, 0x00, 0x02, 0x0A, 0xFF], "Ack data 0AFF\n"),
+        (&[0x84, 0x83, 0x00], "Nack 83\n"),
+        (&[0x84, 0x83, 0x01, 0x09], "Nack 83 data 09\n"),
+        (&[0x06, 0x01, 0x00], "Authorisation\n"),
+        (&[0x06, 0x30, 0x03, 0x01, 0x02, 0x03], "Reversal\n"),
+        (&[0x06, 0x50, 0x03, 0x01, 0x02, 0x03], "EndOfDay\n"),
+        (&[0x06, 0xB0, 0x00], "AbortOrder\n"),
+        (&[0x04, 0x0F, 0x00], "Status\n"),
+        (&[0x04, 0xFF, 0x01, 0x17], "Intermediate 17\n"),
+        (
+            &[0x04, 0xFF, 0x03, 0x17, 0xAB, 0xCD],
+            "Intermediate 17 data ABCD\n",
+        ),
+        (
+            &[0x06, 0xD1, 0x05, 0x00, 0x4F, 0x4B, 0x22, 0x80],
+            "PrintLine 00 \"OK\\x22\\x80\"\n",
+        ),
+        (&[0x06, 0xD1, 0x01, 0x40], "PrintLine 40 \"\"\n"),
+        (&[0x06, 0xD3, 0x00], "TextBlock\n"),
+        (&[0x06, 0x0F, 0x00], "Completion\n"),
+        (
+            &[0x06, 0x1E, 0x01, 0x6C],
+            "Abort 6C abort by time-out or abort key\n",
+        ),
+        (&[0x06, 0x1E, 0x02, 0x6D, 0x00], "Abort code 6D data 00\n"),
+        (&[0x05, 0x02, 0x01, 0x4F], "Other 0502 data 4F\n"),
+        (&[0x80, 0x01, 0x00], "Other 8001\n"),
     ];
-    let service = said(&rt, rt.alloc(), bytes.as_slice())?;
-    assert_eq!(rt;
-        service.as_str(),
-        "Registration config BE currency 0978\n  03 service 01\n"
-    );
-    Ok(())
+    says(&rt, rt.alloc(), &rows)
+}
+
+#[test]
+fn registrations(rt: HostRuntime) -> Result<(), Fail> {
+    let rows: [(&[u8], &str); 3] = [
+        (
+            &[0x06, 0x00, 0x04, 0x01, 0x02, 0x03, 0xBE],
+            "Registration config BE\n",
+        ),
+        (
+            &[0x06, 0x00, 0x06, 0x01, 0x02, 0x03, 0xBE, 0x09, 0x78],
+            "Registration config BE currency 0978\n",
+        ),
+        (
+            &[
+                0x06, 0x00, 0x08, 0x01, 0x02, 0x03, 0xBE, 0x09, 0x78, 0x03, 0x01,
+            ],
+            "Registration config BE currency 0978\n  03 service 01\n",
+        ),
+    ];
+    says(&rt, rt.alloc(), &rows)
 }
 
 #[test]
 fn payments(rt: HostRuntime) -> Result<(), Fail> {
-    let bytes = [
-        0x06, 0x01, 0x0A, 0x04, 0x00, 0x00, 0x00, 0x00, 0x12, 0x34, 0x49, 0x09, 0x78,
+    let rows: [(&[u8], &str); 3] = [
+        (
+            &[
+                0x06, 0x01, 0x0A, 0x04, 0x00, 0x00, 0x00, 0x00, 0x12, 0x34, 0x49, 0x09, 0x78,
+            ],
+            "Authorisation\n  04 amount 1234\n  49 currency 0978\n",
+        ),
+        (
+            &[
+                0x04, 0x0F, 0x10, 0x27, 0x00, 0x04, 0x00, 0x00, 0x00, 0x00, 0x10, 0x00, 0x0B, 0x00,
+                0x00, 0x01, 0x87, 0x00, 0x01,
+            ],
+            "Status\n  27 result 00 success\n  04 amount 1000\n  0B trace 000001\n  87 receipt 0001\n",
+        ),
+        (
+            &[0x06, 0x30, 0x06, 0x12, 0x34, 0x56, 0x87, 0x00, 0x01],
+            "Reversal\n  87 receipt 0001\n",
+        ),
     ];
-    let payment = said(&rt, rt.alloc(), bytes.as_slice())?;
-    assert_eq!(rt;
-        payment.as_str(),
-        "Authorisation\n  04 amount 1234\n  49 currency 0978\n"
-    );
-    let bytes = [
-        0x04, 0x0F, 0x10, 0x27, 0x00, 0x04, 0x00, 0x00, 0x00, 0x00, 0x10, 0x00, 0x0B, 0x00, 0x00,
-        0x01, 0x87, 0x00, 0x01,
-    ];
-    let status = said(&rt, rt.alloc(), bytes.as_slice())?;
-    assert_eq!(rt;
-        status.as_str(),
-        "Status\n  27 result 00 success\n  04 amount 1000\n  0B trace 000001\n  87 receipt 0001\n"
-    );
-    let bytes = [0x06, 0x30, 0x06, 0x12, 0x34, 0x56, 0x87, 0x00, 0x01];
-    let reversal = said(&rt, rt.alloc(), bytes.as_slice())?;
-    assert_eq!(rt; reversal.as_str(), "Reversal\n  87 receipt 0001\n");
-    Ok(())
+    says(&rt, rt.alloc(), &rows)
 }
 
 #[test]
 fn values_that_are_hidden_or_quoted(rt: HostRuntime) -> Result<(), Fail> {
-    let bytes = [
-        0x04, 0x0F, 0x21, 0x22, 0xF0, 0xF1, 0x55, 0x23, 0xF0, 0xF2, 0x66, 0x77, 0x24, 0xF0, 0xF0,
-        0xF1, 0x88, 0x2D, 0xF0, 0xF0, 0x3A, 0x01, 0x23, 0x3D, 0x12, 0x34, 0x56, 0x8B, 0xF0, 0xF2,
-        0x41, 0x5C, 0x2E, 0xF0, 0xF0, 0xF0,
+    let rows: [(&[u8], &str); 2] = [
+        (
+            &[
+                0x04, 0x0F, 0x21, 0x22, 0xF0, 0xF1, 0x55, 0x23, 0xF0, 0xF2, 0x66, 0x77, 0x24, 0xF0,
+                0xF0, 0xF1, 0x88, 0x2D, 0xF0, 0xF0, 0x3A, 0x01, 0x23, 0x3D, 0x12, 0x34, 0x56, 0x8B,
+                0xF0, 0xF2, 0x41, 0x5C, 0x2E, 0xF0, 0xF0, 0xF0,
+            ],
+            "Status\n  22 pan hidden 1\n  23 track2 hidden 2\n  24 track3 hidden 1\n  2D track1 hidden 0\n  3A verification hidden 2\n  3D password hidden 3\n  8B card-name \"A\\x5C\"\n  2E chip-data -\n",
+        ),
+        (
+            &[
+                0x06, 0x0F, 0x10, 0x2A, 0x31, 0x32, 0x33, 0x34, 0x35, 0x36, 0x37, 0x38, 0x39, 0x30,
+                0x20, 0x7E, 0x7F, 0x41, 0x22,
+            ],
+            "Completion\n  2A contract \"1234567890 ~\\x7FA\\x22\"\n",
+        ),
     ];
-    let status = said(&rt, rt.alloc(), bytes.as_slice())?;
-    assert_eq!(rt;
-        status.as_str(),
-        "Status\n  22 pan hidden 1\n  23 track2 hidden 2\n  24 track3 hidden 1\n  2D track1 hidden 0\n  3A verification hidden 2\n  3D password hidden 3\n  8B card-name \"A\\x5C\"\n  2E chip-data -\n"
-    );
-    let bytes = [
-        0x06, 0x0F, 0x10, 0x2A, 0x31, 0x32, 0x33, 0x34, 0x35, 0x36, 0x37, 0x38, 0x39, 0x30, 0x20,
-        0x7E, 0x7F, 0x41, 0x22,
-    ];
-    let completion = said(&rt, rt.alloc(), bytes.as_slice())?;
-    assert_eq!(rt;
-        completion.as_str(),
-        "Completion\n  2A contract \"1234567890 ~\\x7FA\\x22\"\n"
-    );
-    Ok(())
+    says(&rt, rt.alloc(), &rows)
 }
 
 #[test]
 fn containers(rt: HostRuntime) -> Result<(), Fail> {
-    let bytes = [
-        0x04, 0x0F, 0x0F, 0x06, 0x0B, 0x25, 0x07, 0x07, 0x00, 0x1F, 0x10, 0x02, 0xAB, 0xCD, 0x45,
-        0x00, 0x27, 0x6F,
+    let rows: [(&[u8], &str); 2] = [
+        (
+            &[
+                0x04, 0x0F, 0x0F, 0x06, 0x0B, 0x25, 0x07, 0x07, 0x00, 0x1F, 0x10, 0x02, 0xAB, 0xCD,
+                0x45, 0x00, 0x27, 0x6F,
+            ],
+            "Status\n  06 container\n    25 constructed\n      07 -\n      1F10 ABCD\n    45 -\n  27 result 6F wrong currency\n",
+        ),
+        (
+            &[0x06, 0x0F, 0x02, 0x06, 0x00],
+            "Completion\n  06 container\n",
+        ),
     ];
-    let status = said(&rt, rt.alloc(), bytes.as_slice())?;
-    assert_eq!(rt;
-        status.as_str(),
-        "Status\n  06 container\n    25 constructed\n      07 -\n      1F10 ABCD\n    45 -\n  27 result 6F wrong currency\n"
-    );
-    let bytes = [0x06, 0x0F, 0x02, 0x06, 0x00];
-    let empty = said(&rt, rt.alloc(), bytes.as_slice())?;
-    assert_eq!(rt; empty.as_str(), "Completion\n  06 container\n");
-    Ok(())
+    says(&rt, rt.alloc(), &rows)
 }
 
 #[test]

@@ -7,37 +7,33 @@ use zvt_till::books::books;
 use zvt_till::{Booked, Cause, Happening, Heard, OrderRefusal, Original, Sent, StatusFacts};
 
 /// The price of the payments, in cents.
-fn price() -> Result<Amount, Fail> {
-    Ok(Amount::new(1234).ok_or("an amount")?)
-}
-
-fn trace(number: u32) -> Result<Trace, Fail> {
-    Ok(Trace::new(number).ok_or("a trace number")?)
+fn price(rt: &impl Abort) -> Amount {
+    Amount::new(1234).expect(rt, "an amount")
 }
 
 /// The order to pay the price.
-fn pay() -> Result<Happening, Fail> {
-    Ok(Happening::Sent(Sent::Pay(price()?)))
+fn pay(rt: &impl Abort) -> Happening {
+    Happening::Sent(Sent::Pay(price(rt)))
 }
 
 /// An approval of the price under the trace number, with a receipt number.
-fn approval(number: u32, receipt: u8) -> Result<Happening, Fail> {
-    Ok(Happening::Heard(Heard::Status(StatusFacts {
+fn approval(number: u32, receipt: u8) -> Happening {
+    Happening::Heard(Heard::Status(StatusFacts {
         result: Some(0),
-        amount: Some(price()?),
-        trace: Some(trace(number)?),
+        amount: Amount::new(1234),
+        trace: Trace::new(number),
         receipt: Some([0, receipt]),
         original: Original::Absent,
-    })))
+    }))
 }
 
 /// The row of a payment of the price.
-fn row(number: u32, receipt: u8) -> Result<Booked, Fail> {
-    Ok(Booked {
-        amount: price()?,
-        trace: trace(number)?,
+fn row(rt: &impl Abort, number: u32, receipt: u8) -> Booked {
+    Booked {
+        amount: price(rt),
+        trace: Trace::new(number).expect(rt, "a trace number"),
         receipt: Some([0, receipt]),
-    })
+    }
 }
 
 /// The log has just these rows.
@@ -52,7 +48,7 @@ fn has_books(
     assert_eq!(rt; found.booked.as_slice(), booked);
     assert_eq!(rt; found.unclear.len(), unclear.len());
     for (row, cause) in found.unclear.iter().zip(unclear) {
-        assert_eq!(rt; *row, (price()?, *cause));
+        assert_eq!(rt; *row, (price(rt), *cause));
     }
     Ok(())
 }
@@ -64,16 +60,16 @@ const COMPLETION: Happening = Happening::Heard(Heard::Completion);
 #[test]
 fn books_a_completed_payment(rt: HostRuntime) -> Result<(), Fail> {
     let alloc = rt.alloc();
-    let log = [pay()?, POSITIVE, approval(17, 5)?, COMPLETION];
-    has_books(&rt, alloc, &log, &[row(17, 5)?], &[])?;
+    let log = [pay(&rt), POSITIVE, approval(17, 5), COMPLETION];
+    has_books(&rt, alloc, &log, &[row(&rt, 17, 5)], &[])?;
     has_books(&rt, alloc, &[], &[], &[])
 }
 
 #[test]
 fn a_payment_without_an_end_is_unfinished(rt: HostRuntime) -> Result<(), Fail> {
     let alloc = rt.alloc();
-    has_books(&rt, alloc, &[pay()?], &[], &[Cause::Unfinished])?;
-    let log = [pay()?, POSITIVE, approval(17, 5)?];
+    has_books(&rt, alloc, &[pay(&rt)], &[], &[Cause::Unfinished])?;
+    let log = [pay(&rt), POSITIVE, approval(17, 5)];
     has_books(&rt, alloc, &log, &[], &[Cause::Unfinished])
 }
 
@@ -81,34 +77,34 @@ fn a_payment_without_an_end_is_unfinished(rt: HostRuntime) -> Result<(), Fail> {
 fn the_next_order_ends_a_segment(rt: HostRuntime) -> Result<(), Fail> {
     let alloc = rt.alloc();
     let foreign = Happening::Sent(Sent::Foreign);
-    let log = [pay()?, POSITIVE, approval(17, 5)?, foreign, COMPLETION];
+    let log = [pay(&rt), POSITIVE, approval(17, 5), foreign, COMPLETION];
     has_books(&rt, alloc, &log, &[], &[Cause::Unfinished])?;
-    let log = [pay()?, pay()?, POSITIVE, approval(17, 5)?, COMPLETION];
-    has_books(&rt, alloc, &log, &[row(17, 5)?], &[Cause::Unfinished])?;
+    let log = [pay(&rt), pay(&rt), POSITIVE, approval(17, 5), COMPLETION];
+    has_books(&rt, alloc, &log, &[row(&rt, 17, 5)], &[Cause::Unfinished])?;
     let cancel = Happening::Sent(Sent::Cancel);
-    let log = [pay()?, POSITIVE, cancel, approval(17, 5)?, COMPLETION];
-    has_books(&rt, alloc, &log, &[row(17, 5)?], &[])
+    let log = [pay(&rt), POSITIVE, cancel, approval(17, 5), COMPLETION];
+    has_books(&rt, alloc, &log, &[row(&rt, 17, 5)], &[])
 }
 
 #[test]
 fn a_trace_number_is_booked_once(rt: HostRuntime) -> Result<(), Fail> {
     let alloc = rt.alloc();
     let log = [
-        pay()?,
-        approval(17, 5)?,
+        pay(&rt),
+        approval(17, 5),
         COMPLETION,
-        pay()?,
-        approval(17, 6)?,
+        pay(&rt),
+        approval(17, 6),
         COMPLETION,
-        pay()?,
-        approval(18, 7)?,
+        pay(&rt),
+        approval(18, 7),
         COMPLETION,
     ];
     has_books(
         &rt,
         alloc,
         &log,
-        &[row(17, 5)?, row(18, 7)?],
+        &[row(&rt, 17, 5), row(&rt, 18, 7)],
         &[Cause::TraceUsed],
     )
 }
@@ -134,16 +130,16 @@ fn the_least_and_the_greatest_trace_number_are_booked_once(rt: HostRuntime) -> R
 fn tells_why_a_payment_is_unclear(rt: HostRuntime) -> Result<(), Fail> {
     let alloc = rt.alloc();
     let log = [
-        pay()?,
+        pay(&rt),
         POSITIVE,
         COMPLETION,
-        pay()?,
-        approval(17, 5)?,
+        pay(&rt),
+        approval(17, 5),
         Happening::Lost,
-        pay()?,
+        pay(&rt),
         Happening::Malformed,
         // Refused by the terminal: known not to have happened.
-        pay()?,
+        pay(&rt),
         Happening::Heard(Heard::Negative(0x9C)),
     ];
     has_books(

@@ -25,6 +25,14 @@ fn heard_in(rt: &impl Abort, alloc: Global, bytes: &[u8]) -> Result<Heard, Fail>
     Ok(heard)
 }
 
+/// In the message that these bytes spell, this is heard.
+fn hears(rt: &impl Abort, alloc: Global, rows: &[(&[u8], Heard)]) -> Result<(), Fail> {
+    for &(bytes, wanted) in rows {
+        assert_eq!(rt; heard_in(rt, alloc, bytes)?, wanted, "{bytes:?}");
+    }
+    Ok(())
+}
+
 /// A status information of nothing but these payments taken back.
 fn takes_back(original: Original) -> Heard {
     Heard::Status(StatusFacts {
@@ -38,53 +46,41 @@ fn takes_back(original: Original) -> Heard {
 
 #[test]
 fn hears_statuses(rt: HostRuntime) -> Result<(), Fail> {
-    let alloc = rt.alloc();
-    assert_eq!(rt;
-        heard_in(&rt, alloc, APPROVAL.as_slice())?,
-        Heard::Status(StatusFacts {
-            result: Some(0),
-            amount: Amount::new(1234),
-            trace: Trace::new(17),
-            receipt: Some([0x00, 0x05]),
-            original: Original::Absent,
-        })
-    );
-    for (bytes, original) in [
-        ([0x04, 0x0F, 0x00].as_slice(), Original::Absent),
-        (
-            [0x04, 0x0F, 0x04, 0x37, 0xAB, 0x00, 0x17].as_slice(),
-            Original::Once([0xAB, 0x00, 0x17]),
-        ),
-        (
-            [
-                0x04, 0x0F, 0x08, 0x37, 0x00, 0x00, 0x17, 0x37, 0x00, 0x00, 0x17,
-            ]
-            .as_slice(),
-            Original::Many,
-        ),
-    ] {
-        assert_eq!(rt; heard_in(&rt, alloc, bytes)?, takes_back(original));
-    }
-    Ok(())
+    let approved = Heard::Status(StatusFacts {
+        result: Some(0),
+        amount: Amount::new(1234),
+        trace: Trace::new(17),
+        receipt: Some([0x00, 0x05]),
+        original: Original::Absent,
+    });
+    let once = [0x04, 0x0F, 0x04, 0x37, 0xAB, 0x00, 0x17];
+    let twice = [
+        0x04, 0x0F, 0x08, 0x37, 0x00, 0x00, 0x17, 0x37, 0x00, 0x00, 0x17,
+    ];
+    let rows: [(&[u8], Heard); 4] = [
+        (&APPROVAL, approved),
+        (&[0x04, 0x0F, 0x00], takes_back(Original::Absent)),
+        (&once, takes_back(Original::Once([0xAB, 0x00, 0x17]))),
+        (&twice, takes_back(Original::Many)),
+    ];
+    hears(&rt, rt.alloc(), &rows)
 }
 
 #[test]
 fn hears_the_other_messages(rt: HostRuntime) -> Result<(), Fail> {
-    for (bytes, heard) in [
-        ([0x80, 0x00, 0x00].as_slice(), Heard::Positive),
-        ([0x84, 0x00, 0x00].as_slice(), Heard::Positive),
-        ([0x84, 0x6C, 0x00].as_slice(), Heard::Negative(0x6C)),
-        ([0x04, 0xFF, 0x01, 0x0A].as_slice(), Heard::Passing),
-        ([0x06, 0xD1, 0x01, 0x00].as_slice(), Heard::Passing),
-        ([0x06, 0xD3, 0x00].as_slice(), Heard::Passing),
-        ([0x06, 0x0F, 0x00].as_slice(), Heard::Completion),
-        ([0x06, 0x1E, 0x01, 0x6C].as_slice(), Heard::Abort(0x6C)),
-        ([0x06, 0xB0, 0x00].as_slice(), Heard::Strange),
-        ([0x06, 0x02, 0x00].as_slice(), Heard::Strange),
-    ] {
-        assert_eq!(rt; heard_in(&rt, rt.alloc(), bytes)?, heard, "{bytes:?}");
-    }
-    Ok(())
+    let rows: [(&[u8], Heard); 10] = [
+        (&[0x80, 0x00, 0x00], Heard::Positive),
+        (&[0x84, 0x00, 0x00], Heard::Positive),
+        (&[0x84, 0x6C, 0x00], Heard::Negative(0x6C)),
+        (&[0x04, 0xFF, 0x01, 0x0A], Heard::Passing),
+        (&[0x06, 0xD1, 0x01, 0x00], Heard::Passing),
+        (&[0x06, 0xD3, 0x00], Heard::Passing),
+        (&[0x06, 0x0F, 0x00], Heard::Completion),
+        (&[0x06, 0x1E, 0x01, 0x6C], Heard::Abort(0x6C)),
+        (&[0x06, 0xB0, 0x00], Heard::Strange),
+        (&[0x06, 0x02, 0x00], Heard::Strange),
+    ];
+    hears(&rt, rt.alloc(), &rows)
 }
 
 #[test]

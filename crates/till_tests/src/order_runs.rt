@@ -1,7 +1,7 @@
 //! One order over memory.
 use std::alloc::Global;
 use std::io::{self, Write};
-use std::test::Fail;
+use std::process::Abort;
 use zvt_bcd::Currency;
 use zvt_io::Over;
 use zvt_spelling::Why;
@@ -11,27 +11,27 @@ use zvt_till::{Cause, Order, OrderRefusal, Outcome, RunFault, Till, run_order, s
 const REGISTRATION: [u8; 9] = [0x06, 0x00, 0x06, 0x00, 0x00, 0x00, 0xBE, 0x09, 0x78];
 
 /// A till whose line is up.
-fn connected_till(alloc: Global) -> Result<Till, Fail> {
-    let euro = Currency::new(978).ok_or("a currency")?;
+fn connected_till(rt: &impl Abort, alloc: Global) -> Till {
+    let euro = Currency::new(978).expect(rt, "a currency");
     let mut till = Till::new(alloc, [0; 3], 0xBE, euro);
     till.connected();
-    Ok(till)
+    till
 }
 
-/// A till that was to register, what came of it, and what was written.
-#[derive(Drop)]
-struct Registered {
-    till: Till,
-    result: Result<Outcome, RunFault>,
-    written: Vec<u8>,
-}
-
-/// Registered where these bytes come and so many turns are made.
-fn registers(alloc: Global, coming: &[u8], turns: u64) -> Result<Registered, Fail> {
+/// What comes of registering where these bytes come and so many turns are made, after which this ended last: what was
+/// written.
+fn registers(
+    rt: &impl Abort,
+    alloc: Global,
+    coming: &[u8],
+    turns: u64,
+    wanted: Result<Outcome, RunFault>,
+    last: Outcome,
+) -> Vec<u8> {
     let mut reader = Over::new(coming);
     let mut writer = Over::new(Vec::new(alloc));
     let mut stream = Stream::new(alloc);
-    let mut till = connected_till(alloc)?;
+    let mut till = connected_till(rt, alloc);
     let result = run_order(
         alloc,
         &mut reader,
@@ -41,59 +41,55 @@ fn registers(alloc: Global, coming: &[u8], turns: u64) -> Result<Registered, Fai
         Order::Register,
         turns,
     );
-    Ok(Registered {
-        till,
-        result,
-        written: writer.inner,
-    })
+    assert_eq!(rt; result, wanted);
+    assert_eq!(rt; till.last_outcome(), Some(last));
+    writer.inner
 }
 
 #[test]
-fn an_order_from_end_to_end(rt: HostRuntime) -> Result<(), Fail> {
+fn an_order_from_end_to_end(rt: HostRuntime) {
+    let completed = [0x80, 0x00, 0x00, 0x06, 0x0F, 0x00];
+    let (ended, last) = (Ok(Outcome::Registered), Outcome::Registered);
+    let written = registers(&rt, rt.alloc(), &completed, 10, ended, last);
+    let registration_and_ack = [
+        0x06, 0x00, 0x06, 0x00, 0x00, 0x00, 0xBE, 0x09, 0x78, 0x80, 0x00, 0x00,
+    ];
+    assert_eq!(rt; written.as_slice(), registration_and_ack.as_slice());
+}
+
+#[test]
+fn an_order_whose_line_breaks(rt: HostRuntime) {
     let taken = [0x80, 0x00, 0x00];
     let completed = [0x80, 0x00, 0x00, 0x06, 0x0F, 0x00];
     let malformed = [0x80, 0x00, 0x00, 0x06, 0x0F, 0x03, 0x06];
-    let run = registers(rt.alloc(), completed.as_slice(), 10)?;
-    assert_eq!(rt; run.result, Ok(Outcome::Registered));
-    assert!(rt; run.till.registered());
-    assert_eq!(rt; run.written.len(), 12);
-    assert_eq!(rt; &run.written[..9], REGISTRATION.as_slice());
-    assert_eq!(rt; &run.written[9..], taken.as_slice());
-    let fault = LineFault::Malformed {
+    let ended = LineFault::Ended { have: 0 };
+    let refused = LineFault::Malformed {
         place: 3,
         why: Why::DoesNotFit,
     };
-    for (coming, turns, fault, cause) in [
-        (
-            taken.as_slice(),
-            10,
-            LineFault::Ended { have: 0 },
-            Cause::Line,
-        ),
-        (malformed.as_slice(), 10, fault, Cause::Malformed),
-        (completed.as_slice(), 0, LineFault::Turns, Cause::Line),
-    ] {
-        let run = registers(rt.alloc(), coming, turns)?;
-        assert_eq!(rt; run.result, Err(RunFault::Line(fault)));
-        assert_eq!(rt; run.till.last_outcome(), Some(Outcome::Unclear(cause)));
-        assert_eq!(rt; run.written.as_slice(), REGISTRATION.as_slice());
+    let rows: [(&[u8], u64, LineFault, Cause); 3] = [
+        (&taken, 10, ended, Cause::Line),
+        (&malformed, 10, refused, Cause::Malformed),
+        (&completed, 0, LineFault::Turns, Cause::Line),
+    ];
+    for (coming, turns, fault, cause) in rows {
+        let wanted = Err(RunFault::Line(fault));
+        let last = Outcome::Unclear(cause);
+        let written = registers(&rt, rt.alloc(), coming, turns, wanted, last);
+        assert_eq!(rt; written.as_slice(), REGISTRATION.as_slice());
     }
-    Ok(())
 }
 
 #[test]
-fn an_order_that_is_sent(rt: HostRuntime) -> Result<(), Fail> {
+fn an_order_that_is_sent(rt: HostRuntime) {
     let mut writer = Over::new(Vec::new(rt.alloc()));
-    let mut till = connected_till(rt.alloc())?;
+    let mut till = connected_till(&rt, rt.alloc());
     let refused = RunFault::Order(OrderRefusal::NotRegistered);
-    assert_eq!(rt;
-        send_order(&mut writer, &mut till, Order::CloseDay),
-        Err(refused)
-    );
-    assert_eq!(rt; send_order(&mut writer, &mut till, Order::Register), Ok(()));
+    for (order, sent) in [(Order::CloseDay, Err(refused)), (Order::Register, Ok(()))] {
+        assert_eq!(rt; send_order(&mut writer, &mut till, order), sent);
+    }
     assert_eq!(rt; till.running(), Some(Order::Register));
     assert_eq!(rt; writer.inner.as_slice(), REGISTRATION.as_slice());
-    Ok(())
 }
 
 /// A writer that takes nothing.
@@ -111,12 +107,12 @@ impl Write for Full {
 }
 
 #[test]
-fn an_order_that_cannot_be_sent(rt: HostRuntime) -> Result<(), Fail> {
+fn an_order_that_cannot_be_sent(rt: HostRuntime) {
     let alloc = rt.alloc();
     let mut reader = Over::new([0x80, 0x00, 0x00].as_slice());
     let mut writer = Over::new(Full);
     let mut stream = Stream::new(alloc);
-    let mut till = connected_till(alloc)?;
+    let mut till = connected_till(&rt, alloc);
     let refused = RunFault::Order(OrderRefusal::NotRegistered);
     for (order, fault) in [
         (Order::CloseDay, refused),
@@ -136,5 +132,4 @@ fn an_order_that_cannot_be_sent(rt: HostRuntime) -> Result<(), Fail> {
     }
     assert_eq!(rt; till.last_outcome(), Some(Outcome::Unclear(Cause::Line)));
     assert_eq!(rt; reader.inner.len(), 3);
-    Ok(())
 }

@@ -1,96 +1,131 @@
 //! Whole orders, heard message by message.
 use std::alloc::Global;
 use std::process::Abort;
-use std::test::Fail;
 use zvt_apdu::Brief;
 use zvt_bcd::{Amount, Currency, Trace};
 use zvt_till::{
     Cause, Entry, Heard, Order, OrderRefusal, Original, Outcome, Outgoing, Reply, StatusFacts, Till,
 };
 
-const EURO: u16 = 978;
+const PASSWORD: [u8; 3] = [0; 3];
 
 /// The amount of the worked payments, in cents.
 const PRICE: u64 = 1234;
 
-fn amount(units: u64) -> Result<Amount, Fail> {
-    Ok(Amount::new(units).ok_or("an amount")?)
+fn price(rt: &impl Abort) -> Amount {
+    Amount::new(PRICE).expect(rt, "an amount")
 }
 
-fn trace(number: u32) -> Result<Trace, Fail> {
-    Ok(Trace::new(number).ok_or("a trace number")?)
+fn trace(rt: &impl Abort, number: u32) -> Trace {
+    Trace::new(number).expect(rt, "a trace number")
 }
 
-fn euro() -> Result<Currency, Fail> {
-    Ok(Currency::new(EURO).ok_or("a currency")?)
+fn euro(rt: &impl Abort) -> Currency {
+    Currency::new(978).expect(rt, "a currency")
 }
 
-fn outgoing(brief: Brief) -> Outgoing {
-    Outgoing { brief }
+/// What a till is told, and what it makes of it.
+#[derive(Clone, Copy)]
+enum Told {
+    /// An order that is sent.
+    Sent(Order, Brief),
+    /// An order that is refused.
+    Refused(Order, OrderRefusal),
+    /// A message, what answers it, and the outcome where it ends the order.
+    Heard(Heard, Option<Brief>, Option<Outcome>),
+}
+
+/// The till is told this, one after another.
+fn goes(rt: &impl Abort, till: &mut Till, course: &[Told]) {
+    for told in course {
+        match *told {
+            Told::Sent(order, brief) => {
+                assert_eq!(rt; till.order(order), Ok(Outgoing { brief }));
+            }
+            Told::Refused(order, refusal) => assert_eq!(rt; till.order(order), Err(refusal)),
+            Told::Heard(heard, answer, outcome) => {
+                let send = answer.map(|brief| Outgoing { brief });
+                assert_eq!(rt; till.hear(heard), Reply { send, outcome });
+            }
+        }
+    }
+}
+
+/// A message that is acknowledged, and ends the running order so, if it does.
+fn acknowledged(heard: Heard, outcome: Option<Outcome>) -> Told {
+    Told::Heard(heard, Some(Brief::Ack), outcome)
 }
 
 /// A till that is registered on its line.
-fn registered_till(rt: &impl Abort, alloc: Global) -> Result<Till, Fail> {
-    let mut till = Till::new(alloc, [0; 3], 0xBE, euro()?);
-    assert!(rt; !till.registered());
+fn registered_till(rt: &impl Abort, alloc: Global) -> Till {
+    let mut till = Till::new(alloc, PASSWORD, 0xBE, euro(rt));
     assert_eq!(rt; till.order(Order::Register), Err(OrderRefusal::Offline));
     till.connected();
-    assert_eq!(rt;
-        till.order(Order::CloseDay),
-        Err(OrderRefusal::NotRegistered)
-    );
-    let register = outgoing(Brief::Register {
-        password: [0; 3],
+    let register = Brief::Register {
+        password: PASSWORD,
         config: 0xBE,
-        currency: euro()?,
-    });
-    assert_eq!(rt; till.order(Order::Register), Ok(register));
-    assert_eq!(rt; till.running(), Some(Order::Register));
-    assert_eq!(rt; till.hear(Heard::Positive).send, None);
-    let reply = till.hear(Heard::Completion);
-    assert_eq!(rt; reply.send, Some(outgoing(Brief::Ack)));
-    assert_eq!(rt; reply.outcome, Some(Outcome::Registered));
+        currency: euro(rt),
+    };
+    let course = [
+        Told::Refused(Order::CloseDay, OrderRefusal::NotRegistered),
+        Told::Sent(Order::Register, register),
+        Told::Heard(Heard::Positive, None, None),
+        acknowledged(Heard::Completion, Some(Outcome::Registered)),
+    ];
+    goes(rt, &mut till, &course);
     assert!(rt; till.registered());
-    Ok(till)
+    till
 }
 
-/// An approval of that many cents under the trace number, with a receipt number.
-fn approval(units: u64, number: u32, receipt: u8) -> Result<Heard, Fail> {
-    Ok(Heard::Status(StatusFacts {
+/// What a status says of that many cents under the trace number, with a receipt number.
+fn approval(units: u64, number: u32, receipt: u8) -> Heard {
+    Heard::Status(StatusFacts {
         result: Some(0),
-        amount: Some(amount(units)?),
-        trace: Some(trace(number)?),
+        amount: Amount::new(units),
+        trace: Trace::new(number),
         receipt: Some([0, receipt]),
         original: Original::Absent,
-    }))
+    })
+}
+
+/// What a status says of the worked price, as number 18, taken back from number 17.
+fn reversal(receipt: Option<[u8; 2]>) -> Heard {
+    Heard::Status(StatusFacts {
+        result: Some(0),
+        amount: Amount::new(PRICE),
+        trace: Trace::new(18),
+        receipt,
+        original: Original::Once([0x00, 0x00, 0x17]),
+    })
 }
 
 /// The row of a payment of the worked price.
-fn entry(number: u32, receipt: u8) -> Result<Entry, Fail> {
-    Ok(Entry {
-        amount: amount(PRICE)?,
-        trace: trace(number)?,
+fn entry(rt: &impl Abort, number: u32, receipt: u8) -> Entry {
+    Entry {
+        amount: price(rt),
+        trace: trace(rt, number),
         receipt: Some([0, receipt]),
         reversed: false,
-    })
+    }
 }
 
 /// What was paid under the trace number.
-fn paid(number: u32, receipt: u8) -> Result<Outcome, Fail> {
-    Ok(Outcome::Paid {
-        trace: trace(number)?,
+fn paid(rt: &impl Abort, number: u32, receipt: u8) -> Outcome {
+    Outcome::Paid {
+        trace: trace(rt, number),
         receipt: Some([0, receipt]),
-    })
+    }
+}
+
+/// The order to pay the worked price is sent.
+fn pay(rt: &impl Abort) -> Told {
+    Told::Sent(Order::Pay(price(rt)), Brief::Pay(price(rt), euro(rt)))
 }
 
 /// Pays the worked price, hears the messages, and answers the last outcome that one of them had.
-fn pays(rt: &impl Abort, till: &mut Till, heard: &[Heard]) -> Result<Option<Outcome>, Fail> {
-    let price = amount(PRICE)?;
-    assert_eq!(rt;
-        till.order(Order::Pay(price)),
-        Ok(outgoing(Brief::Pay(price, euro()?)))
-    );
-    assert_eq!(rt; till.running(), Some(Order::Pay(price)));
+fn pays(rt: &impl Abort, till: &mut Till, heard: &[Heard]) -> Option<Outcome> {
+    goes(rt, till, &[pay(rt)]);
+    assert_eq!(rt; till.running(), Some(Order::Pay(price(rt))));
     let mut outcome = None;
     for message in heard {
         let reply = till.hear(*message);
@@ -98,7 +133,7 @@ fn pays(rt: &impl Abort, till: &mut Till, heard: &[Heard]) -> Result<Option<Outc
             outcome = reply.outcome;
         }
     }
-    Ok(outcome)
+    outcome
 }
 
 /// The till has just this book and these unclear payments, nothing runs, and this ended last.
@@ -117,56 +152,49 @@ fn stands(
     assert_eq!(rt; till.last_outcome(), Some(last));
 }
 
-/// The till acknowledges the message, which ends the running order so, if it does.
-fn acknowledges(rt: &impl Abort, till: &mut Till, heard: &Heard, outcome: Option<Outcome>) {
-    let reply = till.hear(*heard);
-    assert_eq!(rt; reply.send, Some(outgoing(Brief::Ack)));
-    assert_eq!(rt; reply.outcome, outcome);
-}
-
 #[test]
-fn repeated_messages_book_once(rt: HostRuntime) -> Result<(), Fail> {
-    let mut till = registered_till(&rt, rt.alloc())?;
-    assert_eq!(rt; pays(&rt, &mut till, &[Heard::Positive])?, None);
-    let price = amount(PRICE)?;
-    assert_eq!(rt; till.order(Order::Pay(price)), Err(OrderRefusal::Busy));
-    let status = approval(PRICE, 17, 5)?;
-    acknowledges(&rt, &mut till, &status, None);
-    acknowledges(&rt, &mut till, &status, None);
-    acknowledges(&rt, &mut till, &Heard::Completion, Some(paid(17, 5)?));
-    acknowledges(&rt, &mut till, &Heard::Completion, None);
-    stands(&rt, &till, &[entry(17, 5)?], &[], 1234, paid(17, 5)?);
-    Ok(())
-}
-
-#[test]
-fn trace_numbers_serve_once(rt: HostRuntime) -> Result<(), Fail> {
-    let mut till = registered_till(&rt, rt.alloc())?;
-    let price = amount(PRICE)?;
-    let first = [Heard::Positive, approval(PRICE, 17, 5)?, Heard::Completion];
-    assert_eq!(rt; pays(&rt, &mut till, &first)?, Some(paid(17, 5)?));
-    let used = Outcome::Unclear(Cause::TraceUsed);
-    assert_eq!(rt; pays(&rt, &mut till, &first)?, Some(used));
+fn repeated_messages_book_once(rt: HostRuntime) {
+    let mut till = registered_till(&rt, rt.alloc());
+    let course = [
+        pay(&rt),
+        Told::Heard(Heard::Positive, None, None),
+        Told::Refused(Order::Pay(price(&rt)), OrderRefusal::Busy),
+        acknowledged(approval(PRICE, 17, 5), None),
+        acknowledged(approval(PRICE, 17, 5), None),
+        acknowledged(Heard::Completion, Some(paid(&rt, 17, 5))),
+        acknowledged(Heard::Completion, None),
+    ];
+    goes(&rt, &mut till, &course);
     stands(
         &rt,
         &till,
-        &[entry(17, 5)?],
-        &[(price, Cause::TraceUsed)],
+        &[entry(&rt, 17, 5)],
+        &[],
         1234,
-        used,
+        paid(&rt, 17, 5),
     );
-    let second = [Heard::Positive, approval(PRICE, 18, 6)?, Heard::Completion];
-    assert_eq!(rt; pays(&rt, &mut till, &second)?, Some(paid(18, 6)?));
-    let book = [entry(17, 5)?, entry(18, 6)?];
-    stands(
-        &rt,
-        &till,
-        &book,
-        &[(price, Cause::TraceUsed)],
-        2468,
-        paid(18, 6)?,
-    );
-    Ok(())
+}
+
+#[test]
+fn trace_numbers_serve_once(rt: HostRuntime) {
+    let mut till = registered_till(&rt, rt.alloc());
+    let used = Outcome::Unclear(Cause::TraceUsed);
+    for (number, receipt, outcome) in [
+        (17, 5, paid(&rt, 17, 5)),
+        (17, 5, used),
+        (18, 6, paid(&rt, 18, 6)),
+    ] {
+        let status = approval(PRICE, number, receipt);
+        let ended = pays(
+            &rt,
+            &mut till,
+            &[Heard::Positive, status, Heard::Completion],
+        );
+        assert_eq!(rt; ended, Some(outcome));
+    }
+    let book = [entry(&rt, 17, 5), entry(&rt, 18, 6)];
+    let unclear = [(price(&rt), Cause::TraceUsed)];
+    stands(&rt, &till, &book, &unclear, 2468, paid(&rt, 18, 6));
 }
 
 #[test]
@@ -187,202 +215,169 @@ fn each_trace_number_serves_once(rt: HostRuntime) -> Result<(), Fail> {
 }
 
 /// A payment of the worked price after which these messages come is left unclear for the cause.
-fn is_unclear(rt: &impl Abort, alloc: Global, heard: &[Heard], cause: Cause) -> Result<(), Fail> {
-    let mut till = registered_till(rt, alloc)?;
-    let unclear = Outcome::Unclear(cause);
-    assert_eq!(rt; pays(rt, &mut till, heard)?, Some(unclear));
-    stands(rt, &till, &[], &[(amount(PRICE)?, cause)], 0, unclear);
-    Ok(())
+fn is_unclear(rt: &impl Abort, alloc: Global, heard: &[Heard], cause: Cause) {
+    let mut till = registered_till(rt, alloc);
+    let ended = pays(rt, &mut till, heard);
+    assert_eq!(rt; ended, Some(Outcome::Unclear(cause)));
+    let unclear = [(price(rt), cause)];
+    stands(rt, &till, &[], &unclear, 0, Outcome::Unclear(cause));
 }
 
 #[test]
-fn doubtful_payments_are_unclear(rt: HostRuntime) -> Result<(), Fail> {
-    let heap = rt.alloc();
-    let approved = approval(PRICE, 17, 5)?;
-    let aborted = [Heard::Positive, approved, Heard::Abort(0x6C)];
-    is_unclear(&rt, heap, &aborted, Cause::AbortAfterApproval)?;
-    let refused = [approval(PRICE, 17, 5)?, Heard::Negative(0x6C)];
-    is_unclear(&rt, heap, &refused, Cause::AbortAfterApproval)?;
+fn doubtful_payments_are_unclear(rt: HostRuntime) {
+    let alloc = rt.alloc();
+    let aborted = [Heard::Positive, approval(PRICE, 17, 5), Heard::Abort(0x6C)];
+    is_unclear(&rt, alloc, &aborted, Cause::AbortAfterApproval);
+    let refused = [approval(PRICE, 17, 5), Heard::Negative(0x6C)];
+    is_unclear(&rt, alloc, &refused, Cause::AbortAfterApproval);
     let other_amount = [
         Heard::Positive,
-        approval(PRICE + 1, 17, 5)?,
+        approval(PRICE + 1, 17, 5),
         Heard::Completion,
     ];
-    is_unclear(&rt, heap, &other_amount, Cause::AmountDiffers)?;
+    is_unclear(&rt, alloc, &other_amount, Cause::AmountDiffers);
     let two_numbers = [
-        approval(PRICE, 17, 5)?,
-        approval(PRICE, 18, 5)?,
+        approval(PRICE, 17, 5),
+        approval(PRICE, 18, 5),
         Heard::Completion,
     ];
-    is_unclear(&rt, heap, &two_numbers, Cause::Conflict)?;
-    is_unclear(
-        &rt,
-        heap,
-        &[Heard::Positive, Heard::Completion],
-        Cause::NoStatus,
-    )?;
-    let reversal = Heard::Status(StatusFacts {
-        result: Some(0),
-        amount: Some(amount(PRICE)?),
-        trace: Some(trace(18)?),
-        receipt: None,
-        original: Original::Once([0x00, 0x00, 0x17]),
-    });
-    is_unclear(
-        &rt,
-        heap,
-        &[Heard::Positive, reversal, Heard::Completion],
-        Cause::Conflict,
-    )?;
-    Ok(())
+    is_unclear(&rt, alloc, &two_numbers, Cause::Conflict);
+    let no_status = [Heard::Positive, Heard::Completion];
+    is_unclear(&rt, alloc, &no_status, Cause::NoStatus);
+    let taken_back = [Heard::Positive, reversal(None), Heard::Completion];
+    is_unclear(&rt, alloc, &taken_back, Cause::Conflict);
 }
 
 #[test]
-fn a_broken_line_leaves_a_payment_unclear(rt: HostRuntime) -> Result<(), Fail> {
-    let price = amount(PRICE)?;
-    let mut till = registered_till(&rt, rt.alloc())?;
-    assert_eq!(rt; pays(&rt, &mut till, &[Heard::Positive])?, None);
-    let lost = Outcome::Unclear(Cause::Line);
-    assert_eq!(rt; till.lost(), Some(lost));
-    stands(&rt, &till, &[], &[(price, Cause::Line)], 0, lost);
+fn a_broken_line_leaves_a_payment_unclear(rt: HostRuntime) {
+    let mut till = registered_till(&rt, rt.alloc());
+    pays(&rt, &mut till, &[Heard::Positive]);
+    assert_eq!(rt; till.lost(), Some(Outcome::Unclear(Cause::Line)));
+    let unclear = [(price(&rt), Cause::Line)];
+    stands(&rt, &till, &[], &unclear, 0, Outcome::Unclear(Cause::Line));
     assert!(rt; !till.registered());
-    assert_eq!(rt; till.order(Order::Pay(price)), Err(OrderRefusal::Offline));
-    assert_eq!(rt;
-        till.hear(Heard::Completion),
-        Reply {
-            send: None,
-            outcome: None
-        }
-    );
-    let mut till = registered_till(&rt, rt.alloc())?;
-    assert_eq!(rt; pays(&rt, &mut till, &[])?, None);
-    let malformed = Outcome::Unclear(Cause::Malformed);
-    assert_eq!(rt; till.malformed(), Some(malformed));
-    stands(&rt, &till, &[], &[(price, Cause::Malformed)], 0, malformed);
-    assert_eq!(rt; till.lost(), None);
-    Ok(())
+    let course = [
+        Told::Refused(Order::Pay(price(&rt)), OrderRefusal::Offline),
+        Told::Heard(Heard::Completion, None, None),
+    ];
+    goes(&rt, &mut till, &course);
 }
 
 #[test]
-fn negative_answers_refuse_at_first_alone(rt: HostRuntime) -> Result<(), Fail> {
-    let mut till = registered_till(&rt, rt.alloc())?;
-    let refused = Outcome::Refused(0x6C);
-    assert_eq!(rt;
-        pays(&rt, &mut till, &[Heard::Negative(0x6C)])?,
-        Some(refused)
+fn a_malformed_line_leaves_a_payment_unclear(rt: HostRuntime) {
+    let mut till = registered_till(&rt, rt.alloc());
+    pays(&rt, &mut till, &[]);
+    let malformed = till.malformed();
+    assert_eq!(rt; malformed, Some(Outcome::Unclear(Cause::Malformed)));
+    let unclear = [(price(&rt), Cause::Malformed)];
+    stands(
+        &rt,
+        &till,
+        &[],
+        &unclear,
+        0,
+        Outcome::Unclear(Cause::Malformed),
     );
-    stands(&rt, &till, &[], &[], 0, refused);
-    let status = approval(PRICE, 17, 5)?;
+    assert_eq!(rt; till.lost(), None);
+}
+
+#[test]
+fn negative_answers_refuse_at_first_alone(rt: HostRuntime) {
+    let mut till = registered_till(&rt, rt.alloc());
+    let first = pays(&rt, &mut till, &[Heard::Negative(0x6C)]);
+    assert_eq!(rt; first, Some(Outcome::Refused(0x6C)));
+    stands(&rt, &till, &[], &[], 0, Outcome::Refused(0x6C));
     let late = [
         Heard::Positive,
-        status,
+        approval(PRICE, 17, 5),
         Heard::Negative(0x83),
         Heard::Completion,
     ];
-    assert_eq!(rt; pays(&rt, &mut till, &late)?, Some(paid(17, 5)?));
-    stands(&rt, &till, &[entry(17, 5)?], &[], 1234, paid(17, 5)?);
-    Ok(())
+    assert_eq!(rt; pays(&rt, &mut till, &late), Some(paid(&rt, 17, 5)));
+    stands(
+        &rt,
+        &till,
+        &[entry(&rt, 17, 5)],
+        &[],
+        1234,
+        paid(&rt, 17, 5),
+    );
 }
 
 #[test]
-fn a_payment_is_taken_back_once(rt: HostRuntime) -> Result<(), Fail> {
-    let mut till = registered_till(&rt, rt.alloc())?;
-    let payment = [Heard::Positive, approval(PRICE, 17, 5)?, Heard::Completion];
-    pays(&rt, &mut till, &payment)?;
-    assert_eq!(rt;
-        till.order(Order::Reverse(1)),
-        Err(OrderRefusal::UnknownEntry)
-    );
-    let message = outgoing(Brief::Reverse {
-        password: [0; 3],
+fn a_payment_is_taken_back_once(rt: HostRuntime) {
+    let mut till = registered_till(&rt, rt.alloc());
+    let payment = [Heard::Positive, approval(PRICE, 17, 5), Heard::Completion];
+    pays(&rt, &mut till, &payment);
+    let message = Brief::Reverse {
+        password: PASSWORD,
         receipt: [0, 5],
-    });
-    assert_eq!(rt; till.order(Order::Reverse(0)), Ok(message));
-    let status = Heard::Status(StatusFacts {
-        result: Some(0),
-        amount: Some(amount(PRICE)?),
-        trace: Some(trace(18)?),
-        receipt: Some([0, 6]),
-        original: Original::Once([0x00, 0x00, 0x17]),
-    });
-    assert_eq!(rt;
-        till.hear(status),
-        Reply {
-            send: Some(outgoing(Brief::Ack)),
-            outcome: None
-        }
-    );
-    assert_eq!(rt;
-        till.hear(Heard::Completion).outcome,
-        Some(Outcome::Reversed)
-    );
+    };
+    let course = [
+        Told::Refused(Order::Reverse(1), OrderRefusal::UnknownEntry),
+        Told::Sent(Order::Reverse(0), message),
+        acknowledged(reversal(Some([0, 6])), None),
+        acknowledged(Heard::Completion, Some(Outcome::Reversed)),
+        Told::Refused(Order::Reverse(0), OrderRefusal::AlreadyReversed),
+    ];
+    goes(&rt, &mut till, &course);
     let row = Entry {
         reversed: true,
-        ..entry(17, 5)?
+        ..entry(&rt, 17, 5)
     };
     stands(&rt, &till, &[row], &[], 0, Outcome::Reversed);
-    assert_eq!(rt;
-        till.order(Order::Reverse(0)),
-        Err(OrderRefusal::AlreadyReversed)
-    );
     let used = Outcome::Unclear(Cause::TraceUsed);
-    assert_eq!(rt; pays(&rt, &mut till, &payment)?, Some(used));
-    Ok(())
+    assert_eq!(rt; pays(&rt, &mut till, &payment), Some(used));
 }
 
 #[test]
-fn other_orders_end_too(rt: HostRuntime) -> Result<(), Fail> {
-    let mut till = registered_till(&rt, rt.alloc())?;
-    assert_eq!(rt;
-        till.order(Order::Cancel),
-        Err(OrderRefusal::NothingToCancel)
-    );
-    assert_eq!(rt;
-        till.order(Order::CloseDay),
-        Ok(outgoing(Brief::CloseDay { password: [0; 3] }))
-    );
-    assert_eq!(rt;
-        till.order(Order::Cancel),
-        Err(OrderRefusal::NothingToCancel)
-    );
-    till.hear(Heard::Positive);
-    assert_eq!(rt; till.order(Order::Cancel), Ok(outgoing(Brief::AbortOrder)));
-    assert_eq!(rt;
-        till.hear(Heard::Strange).send,
-        Some(outgoing(Brief::Nack(0x83)))
-    );
-    assert_eq!(rt;
-        till.hear(Heard::Completion).outcome,
-        Some(Outcome::DayClosed)
-    );
+fn other_orders_end_too(rt: HostRuntime) {
+    let mut till = registered_till(&rt, rt.alloc());
+    let closes = Brief::CloseDay { password: PASSWORD };
+    let course = [
+        Told::Refused(Order::Cancel, OrderRefusal::NothingToCancel),
+        Told::Sent(Order::CloseDay, closes),
+        Told::Refused(Order::Cancel, OrderRefusal::NothingToCancel),
+        Told::Heard(Heard::Positive, None, None),
+        Told::Sent(Order::Cancel, Brief::AbortOrder),
+        Told::Heard(Heard::Strange, Some(Brief::Nack(0x83)), None),
+        acknowledged(Heard::Completion, Some(Outcome::DayClosed)),
+    ];
+    goes(&rt, &mut till, &course);
     stands(&rt, &till, &[], &[], 0, Outcome::DayClosed);
+}
+
+#[test]
+fn a_payment_without_a_receipt_is_not_taken_back(rt: HostRuntime) {
+    let mut till = registered_till(&rt, rt.alloc());
     let silent = Heard::Status(StatusFacts {
         result: Some(0),
-        amount: Some(amount(PRICE)?),
-        trace: Some(trace(17)?),
+        amount: Amount::new(PRICE),
+        trace: Trace::new(17),
         receipt: None,
         original: Original::Absent,
     });
-    pays(&rt, &mut till, &[silent, Heard::Completion])?;
-    assert_eq!(rt; till.order(Order::Reverse(0)), Err(OrderRefusal::NoReceipt));
-    Ok(())
+    pays(&rt, &mut till, &[silent, Heard::Completion]);
+    let refused = Told::Refused(Order::Reverse(0), OrderRefusal::NoReceipt);
+    goes(&rt, &mut till, &[refused]);
 }
 
 #[test]
-fn a_full_book_takes_no_payment(rt: HostRuntime) -> Result<(), Fail> {
-    let mut till = registered_till(&rt, rt.alloc())?;
+fn a_full_book_takes_no_payment(rt: HostRuntime) {
+    let mut till = registered_till(&rt, rt.alloc());
     for number in 0..10_000 {
-        let payment = [
-            Heard::Positive,
-            approval(PRICE, number, 5)?,
-            Heard::Completion,
-        ];
-        pays(&rt, &mut till, &payment)?;
+        let status = approval(PRICE, number, 5);
+        pays(
+            &rt,
+            &mut till,
+            &[Heard::Positive, status, Heard::Completion],
+        );
     }
     assert_eq!(rt; till.book().len(), 10_000);
     assert_eq!(rt; till.total(), 12_340_000);
-    let price = amount(PRICE)?;
-    assert_eq!(rt; till.order(Order::Pay(price)), Err(OrderRefusal::BookFull));
-    assert!(rt; till.order(Order::CloseDay).is_ok());
-    Ok(())
+    let course = [
+        Told::Refused(Order::Pay(price(&rt)), OrderRefusal::BookFull),
+        Told::Sent(Order::CloseDay, Brief::CloseDay { password: PASSWORD }),
+    ];
+    goes(&rt, &mut till, &course);
 }

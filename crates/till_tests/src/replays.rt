@@ -23,249 +23,201 @@ const APPROVAL: [u8; 19] = [
     0x87, 0x00, 0x05,
 ];
 
-/// The same as number 18, with the receipt number 6.
-const SECOND_APPROVAL: [u8; 19] = [
-    0x04, 0x0F, 0x10, 0x27, 0x00, 0x04, 0x00, 0x00, 0x00, 0x00, 0x12, 0x34, 0x0B, 0x00, 0x00, 0x18,
-    0x87, 0x00, 0x06,
-];
-
 /// The price of the payments, in cents.
-fn price() -> Result<Amount, Fail> {
-    Ok(Amount::new(1234).ok_or("an amount")?)
+fn price(rt: &impl Abort) -> Amount {
+    Amount::new(1234).expect(rt, "an amount")
+}
+
+fn trace(rt: &impl Abort, number: u32) -> Trace {
+    Trace::new(number).expect(rt, "a trace number")
 }
 
 /// The row of a payment.
-fn entry(number: u32, receipt: u8) -> Result<Entry, Fail> {
-    Ok(Entry {
-        amount: price()?,
-        trace: Trace::new(number).ok_or("a trace number")?,
+fn entry(rt: &impl Abort, number: u32, receipt: u8) -> Entry {
+    Entry {
+        amount: price(rt),
+        trace: trace(rt, number),
         receipt: Some([0, receipt]),
         reversed: false,
-    })
+    }
 }
 
-fn push(events: &mut Vec<Event>, event: Event) -> Result<(), Fail> {
-    events.push(event)?;
-    Ok(())
+/// What was paid as that number.
+fn paid(rt: &impl Abort, number: u32, receipt: u8) -> Outcome {
+    Outcome::Paid {
+        trace: trace(rt, number),
+        receipt: Some([0, receipt]),
+    }
 }
 
-/// The bytes come on the line, in pieces of at most seven.
-fn comes(alloc: Global, events: &mut Vec<Event>, bytes: &[u8]) -> Result<(), Fail> {
-    for piece in bytes.chunks(7) {
-        push(events, Event::Piece(piece.to_vec(alloc)?))?;
+/// The messages come on the line, in pieces of at most seven bytes.
+fn comes(alloc: Global, events: &mut Vec<Event>, messages: &[&[u8]]) -> Result<(), Fail> {
+    for message in messages {
+        for piece in message.chunks(7) {
+            events.push(Event::Piece(piece.to_vec(alloc)?))?;
+        }
     }
     Ok(())
 }
 
 /// A till registers on a new line.
-fn registers(alloc: Global) -> Result<Vec<Event>, Fail> {
-    let mut events = Vec::new(alloc);
-    push(&mut events, Event::Connected)?;
-    push(&mut events, Event::Order(Order::Register))?;
-    comes(alloc, &mut events, &ACK)?;
-    comes(alloc, &mut events, &COMPLETION)?;
-    Ok(events)
+fn registers(alloc: Global, events: &mut Vec<Event>) -> Result<(), Fail> {
+    events.push(Event::Connected)?;
+    events.push(Event::Order(Order::Register))?;
+    comes(alloc, events, &[&ACK, &COMPLETION])
 }
 
-/// A payment, and what comes on the line after it.
-fn pays(alloc: Global, events: &mut Vec<Event>, messages: &[&[u8]]) -> Result<(), Fail> {
-    push(events, Event::Order(Order::Pay(price()?)))?;
-    for message in messages {
-        comes(alloc, events, message)?;
-    }
-    Ok(())
+/// A payment of the price, and what comes on the line after it.
+fn pays(
+    rt: &impl Abort,
+    alloc: Global,
+    events: &mut Vec<Event>,
+    messages: &[&[u8]],
+) -> Result<(), Fail> {
+    events.push(Event::Order(Order::Pay(price(rt))))?;
+    comes(alloc, events, messages)
 }
 
-/// The run's till has just this book and these unclear payments, and this ended last.
-fn stands(rt: &impl Abort, run: &Run, book: &[Entry], unclear: &[(Amount, Cause)], last: Outcome) {
+/// The run of the events, whose till has just this book and these unclear payments, and this ended last.
+fn runs(
+    rt: &impl Abort,
+    alloc: Global,
+    events: &[Event],
+    book: &[Entry],
+    unclear: &[Cause],
+    last: Outcome,
+) -> Result<Run, Fail> {
+    let run = replay(alloc, events)?;
     assert_eq!(rt; run.till.book(), book);
-    assert_eq!(rt; run.till.unclear(), unclear);
+    assert_eq!(rt; run.till.unclear().len(), unclear.len());
+    for (row, cause) in run.till.unclear().iter().zip(unclear) {
+        assert_eq!(rt; *row, (price(rt), *cause));
+    }
     assert_eq!(rt; run.till.last_outcome(), Some(last));
     assert_eq!(rt; run.till.running(), None);
-}
-
-/// What was paid as that number.
-fn paid(number: u32, receipt: u8) -> Result<Outcome, Fail> {
-    Ok(Outcome::Paid {
-        trace: Trace::new(number).ok_or("a trace number")?,
-        receipt: Some([0, receipt]),
-    })
+    Ok(run)
 }
 
 #[test]
 fn a_payment_is_booked_once(rt: HostRuntime) -> Result<(), Fail> {
     let alloc = rt.alloc();
-    let mut events = registers(alloc)?;
-    let messages = [
-        ACK.as_slice(),
-        APPROVAL.as_slice(),
-        APPROVAL.as_slice(),
-        COMPLETION.as_slice(),
-        COMPLETION.as_slice(),
-    ];
-    pays(alloc, &mut events, &messages)?;
-    let run = replay(alloc, &events)?;
-    stands(&rt, &run, &[entry(17, 5)?], &[], paid(17, 5)?);
+    let mut events = Vec::new(alloc);
+    registers(alloc, &mut events)?;
+    let messages: [&[u8]; 5] = [&ACK, &APPROVAL, &APPROVAL, &COMPLETION, &COMPLETION];
+    pays(&rt, alloc, &mut events, &messages)?;
+    let book = [entry(&rt, 17, 5)];
+    let run = runs(&rt, alloc, &events, &book, &[], paid(&rt, 17, 5))?;
     assert_eq!(rt; run.till.total(), 1234);
+    sends(&rt, alloc, &run)?;
+    logs(&rt, &run.log);
+    Ok(())
+}
+
+/// The run's till sent a registration and a payment, and acknowledged what came behind each.
+fn sends(rt: &impl Abort, alloc: Global, run: &Run) -> Result<(), Fail> {
+    let messages: [&[u8]; 7] = [&REGISTRATION, &ACK, &PAYMENT, &ACK, &ACK, &ACK, &ACK];
     let mut sent = Vec::new(alloc);
-    for message in [
-        REGISTRATION.as_slice(),
-        ACK.as_slice(),
-        PAYMENT.as_slice(),
-        ACK.as_slice(),
-        ACK.as_slice(),
-        ACK.as_slice(),
-        ACK.as_slice(),
-    ] {
+    for message in messages {
         sent.extend_from_slice(message)?;
     }
-    assert_eq!(rt; sent.len(), 37);
     assert_eq!(rt; run.sent.as_slice(), sent.as_slice());
-    let status = Happening::Heard(Heard::Status(StatusFacts {
+    Ok(())
+}
+
+const POSITIVE: Happening = Happening::Heard(Heard::Positive);
+
+const COMPLETED: Happening = Happening::Heard(Heard::Completion);
+
+/// What is heard of the approval.
+fn approved() -> Happening {
+    Happening::Heard(Heard::Status(StatusFacts {
         result: Some(0),
         amount: Amount::new(1234),
         trace: Trace::new(17),
         receipt: Some([0x00, 0x05]),
         original: Original::Absent,
-    }));
-    let positive = Happening::Heard(Heard::Positive);
-    let completion = Happening::Heard(Heard::Completion);
-    assert_eq!(rt;
-        run.log.as_slice(),
-        [
-            Happening::Connected,
-            Happening::Sent(Sent::Register),
-            positive,
-            completion,
-            Happening::Sent(Sent::Pay(price()?)),
-            positive,
-            status,
-            status,
-            completion,
-            completion,
-        ]
-        .as_slice()
-    );
-    Ok(())
+    }))
 }
 
-#[test]
-fn a_number_serves_once(rt: HostRuntime) -> Result<(), Fail> {
-    let alloc = rt.alloc();
-    let mut events = registers(alloc)?;
-    let first = [ACK.as_slice(), APPROVAL.as_slice(), COMPLETION.as_slice()];
-    let second = [
-        ACK.as_slice(),
-        SECOND_APPROVAL.as_slice(),
-        COMPLETION.as_slice(),
+/// The log has a registration, and a payment with two statuses and two completions.
+fn logs(rt: &impl Abort, log: &[Happening]) {
+    let wanted = [
+        Happening::Connected,
+        Happening::Sent(Sent::Register),
+        POSITIVE,
+        COMPLETED,
+        Happening::Sent(Sent::Pay(price(rt))),
+        POSITIVE,
+        approved(),
+        approved(),
+        COMPLETED,
+        COMPLETED,
     ];
-    pays(alloc, &mut events, &first)?;
-    pays(alloc, &mut events, &first)?;
-    let used = (price()?, Cause::TraceUsed);
-    let run = replay(alloc, &events)?;
-    let outcome = Outcome::Unclear(Cause::TraceUsed);
-    stands(&rt, &run, &[entry(17, 5)?], &[used], outcome);
-    pays(alloc, &mut events, &second)?;
-    let run = replay(alloc, &events)?;
-    let book = [entry(17, 5)?, entry(18, 6)?];
-    stands(&rt, &run, &book, &[used], paid(18, 6)?);
-    assert_eq!(rt; run.till.total(), 2468);
-    Ok(())
+    assert_eq!(rt; log, wanted.as_slice());
 }
+
+/// An approval of another amount.
+const OTHER_AMOUNT: [u8; 16] = [
+    0x04, 0x0F, 0x0D, 0x27, 0x00, 0x04, 0x00, 0x00, 0x00, 0x00, 0x12, 0x35, 0x0B, 0x00, 0x00, 0x17,
+];
+
+/// A status of a reversal.
+const TAKES_BACK: [u8; 20] = [
+    0x04, 0x0F, 0x11, 0x27, 0x00, 0x04, 0x00, 0x00, 0x00, 0x00, 0x12, 0x34, 0x0B, 0x00, 0x00, 0x18,
+    0x37, 0x00, 0x00, 0x17,
+];
 
 #[test]
 fn what_leaves_a_payment_unclear(rt: HostRuntime) -> Result<(), Fail> {
-    let other_amount = [
-        0x04, 0x0F, 0x0D, 0x27, 0x00, 0x04, 0x00, 0x00, 0x00, 0x00, 0x12, 0x35, 0x0B, 0x00, 0x00,
-        0x17,
-    ];
-    let takes_back = [
-        0x04, 0x0F, 0x11, 0x27, 0x00, 0x04, 0x00, 0x00, 0x00, 0x00, 0x12, 0x34, 0x0B, 0x00, 0x00,
-        0x18, 0x37, 0x00, 0x00, 0x17,
-    ];
     let aborts = [0x06, 0x1E, 0x01, 0x6C];
     let refuses = [0x84, 0x6C, 0x00];
     let malformed = [0x06, 0x01, 0x02, 0xD0];
-    for (messages, cause) in [
-        (
-            [ACK.as_slice(), APPROVAL.as_slice(), aborts.as_slice()],
-            Cause::AbortAfterApproval,
-        ),
-        (
-            [
-                ACK.as_slice(),
-                other_amount.as_slice(),
-                COMPLETION.as_slice(),
-            ],
-            Cause::AmountDiffers,
-        ),
-        (
-            [ACK.as_slice(), takes_back.as_slice(), COMPLETION.as_slice()],
-            Cause::Conflict,
-        ),
-        (
-            [ACK.as_slice(), COMPLETION.as_slice(), COMPLETION.as_slice()],
-            Cause::NoStatus,
-        ),
-        (
-            [
-                APPROVAL.as_slice(),
-                refuses.as_slice(),
-                COMPLETION.as_slice(),
-            ],
-            Cause::AbortAfterApproval,
-        ),
-        (
-            [
-                malformed.as_slice(),
-                APPROVAL.as_slice(),
-                COMPLETION.as_slice(),
-            ],
-            Cause::Malformed,
-        ),
-    ] {
-        let mut events = registers(rt.alloc())?;
-        pays(rt.alloc(), &mut events, &messages)?;
-        let run = replay(rt.alloc(), &events)?;
-        let unclear = [(price()?, cause)];
-        stands(&rt, &run, &[], &unclear, Outcome::Unclear(cause));
+    let rows: [(&[u8], &[u8], &[u8], Cause); 6] = [
+        (&ACK, &APPROVAL, &aborts, Cause::AbortAfterApproval),
+        (&ACK, &OTHER_AMOUNT, &COMPLETION, Cause::AmountDiffers),
+        (&ACK, &TAKES_BACK, &COMPLETION, Cause::Conflict),
+        (&ACK, &COMPLETION, &COMPLETION, Cause::NoStatus),
+        (&APPROVAL, &refuses, &COMPLETION, Cause::AbortAfterApproval),
+        (&malformed, &APPROVAL, &COMPLETION, Cause::Malformed),
+    ];
+    for (first, second, third, cause) in rows {
+        let mut events = Vec::new(rt.alloc());
+        registers(rt.alloc(), &mut events)?;
+        pays(&rt, rt.alloc(), &mut events, &[first, second, third])?;
+        let last = Outcome::Unclear(cause);
+        runs(&rt, rt.alloc(), &events, &[], &[cause], last)?;
     }
     Ok(())
 }
 
 #[test]
-fn negative_answers_and_a_lost_line(rt: HostRuntime) -> Result<(), Fail> {
+fn negative_answers(rt: HostRuntime) -> Result<(), Fail> {
     let alloc = rt.alloc();
-    let mut events = registers(alloc)?;
-    pays(alloc, &mut events, &[[0x84, 0x6C, 0x00].as_slice()])?;
-    let run = replay(alloc, &events)?;
-    stands(&rt, &run, &[], &[], Outcome::Refused(0x6C));
-    let messages = [
-        [0x84, 0x00, 0x00].as_slice(),
-        APPROVAL.as_slice(),
-        [0x84, 0x83, 0x00].as_slice(),
-        COMPLETION.as_slice(),
-    ];
-    pays(alloc, &mut events, &messages)?;
-    let run = replay(alloc, &events)?;
-    stands(&rt, &run, &[entry(17, 5)?], &[], paid(17, 5)?);
-    pays(alloc, &mut events, &[ACK.as_slice(), &APPROVAL[..10]])?;
-    push(&mut events, Event::Lost)?;
-    pays(alloc, &mut events, &[&APPROVAL[10..]])?;
-    let run = replay(alloc, &events)?;
+    let mut events = Vec::new(alloc);
+    registers(alloc, &mut events)?;
+    pays(&rt, alloc, &mut events, &[&[0x84, 0x6C, 0x00]])?;
+    let refused = Outcome::Refused(0x6C);
+    runs(&rt, alloc, &events, &[], &[], refused)?;
+    let (taken, nack) = ([0x84, 0x00, 0x00], [0x84, 0x83, 0x00]);
+    let messages: [&[u8]; 4] = [&taken, &APPROVAL, &nack, &COMPLETION];
+    pays(&rt, alloc, &mut events, &messages)?;
+    let book = [entry(&rt, 17, 5)];
+    runs(&rt, alloc, &events, &book, &[], paid(&rt, 17, 5))?;
+    Ok(())
+}
+
+#[test]
+fn a_lost_line(rt: HostRuntime) -> Result<(), Fail> {
+    let alloc = rt.alloc();
+    let mut events = Vec::new(alloc);
+    registers(alloc, &mut events)?;
+    pays(&rt, alloc, &mut events, &[&ACK, &APPROVAL[..10]])?;
+    events.push(Event::Lost)?;
+    pays(&rt, alloc, &mut events, &[&APPROVAL[10..]])?;
     let lost = Outcome::Unclear(Cause::Line);
-    stands(
-        &rt,
-        &run,
-        &[entry(17, 5)?],
-        &[(price()?, Cause::Line)],
-        lost,
-    );
+    let run = runs(&rt, alloc, &events, &[], &[Cause::Line], lost)?;
     assert_eq!(rt; run.log.last(), Some(&Happening::Lost));
-    push(&mut events, Event::Connected)?;
-    push(&mut events, Event::Order(Order::Register))?;
-    comes(alloc, &mut events, &ACK)?;
-    comes(alloc, &mut events, &COMPLETION)?;
+    registers(alloc, &mut events)?;
     let run = replay(alloc, &events)?;
     assert!(rt; run.till.registered());
     Ok(())

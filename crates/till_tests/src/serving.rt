@@ -1,12 +1,11 @@
 //! The terminal on a line, and what it writes without memory.
-use std::test::Fail;
 use zvt_bcd::Amount;
 use zvt_io::Over;
 use zvt_stream::{LineFault, Machine, Stream, Until, pump};
 use zvt_term::{Line, Report, Served, Terminal, Verdict, put_report};
 
 #[test]
-fn serves_a_line_until_it_ends(rt: HostRuntime) -> Result<(), Fail> {
+fn serves_a_line_until_it_ends(rt: HostRuntime) {
     let alloc = rt.alloc();
     let mut served = Served {
         terminal: Terminal::new(alloc, 1),
@@ -38,17 +37,17 @@ fn serves_a_line_until_it_ends(rt: HostRuntime) -> Result<(), Fail> {
     assert!(rt; !served.resting());
     served.malformed();
     assert!(rt; served.terminal.ledger().is_empty());
-    Ok(())
 }
 
 #[test]
-fn writes_the_longest_line(rt: HostRuntime) -> Result<(), Fail> {
-    let amount = Amount::new(999_999_999_999).ok_or("an amount")?;
+fn writes_the_longest_line(rt: HostRuntime) {
+    let amount = Amount::new(999_999_999_999).expect(&rt, "an amount");
     let mut buffer = [0x55; 32];
-    let size = put_report(&Report::Line(Line::Approved(amount)), &mut buffer);
-    assert_eq!(rt; size, 25);
-    assert_eq!(rt; &buffer[..4], [0x06, 0xD1, 0x16, 0x00].as_slice());
-    assert_eq!(rt; &buffer[4..25], b"APPROVED 999999999999".as_slice());
-    assert_eq!(rt; &buffer[25..], [0x55; 7].as_slice());
-    Ok(())
+    assert_eq!(rt;
+        put_report(&Report::Line(Line::Approved(amount)), &mut buffer),
+        25
+    );
+    let mut wanted = [0x55; 32];
+    wanted[..25].copy_from_slice(b"\x06\xD1\x16\x00APPROVED 999999999999");
+    assert_eq!(rt; buffer, wanted);
 }

@@ -78,15 +78,17 @@ fn answers_under(
     Ok(())
 }
 
-/// The terminal, which approves, answers the message so.
+/// The terminal, which approves, answers each message by what stands beside it.
 fn answers(
     rt: &impl Abort,
     alloc: Global,
     terminal: &mut Terminal,
-    heard: &[u8],
-    answer: &[u8],
+    course: &[(&[u8], &[u8])],
 ) -> Result<(), Fail> {
-    answers_under(rt, alloc, terminal, Verdict::Approve, heard, answer)
+    for &(heard, answer) in course {
+        answers_under(rt, alloc, terminal, Verdict::Approve, heard, answer)?;
+    }
+    Ok(())
 }
 
 /// A terminal with which a till is registered, idle.
@@ -95,58 +97,64 @@ fn registered_terminal(rt: &impl Abort, alloc: Global) -> Result<Terminal, Fail>
     let completion = [
         0x80, 0x00, 0x00, 0x06, 0x0F, 0x08, 0x29, 0x12, 0x34, 0x56, 0x78, 0x49, 0x09, 0x78,
     ];
-    answers(rt, alloc, &mut terminal, &REGISTRATION, &completion)?;
-    answers(rt, alloc, &mut terminal, &ACK, &[])?;
+    let course: [(&[u8], &[u8]); 2] = [(&REGISTRATION, &completion), (&ACK, &[])];
+    answers(rt, alloc, &mut terminal, &course)?;
     Ok(terminal)
 }
 
 /// A terminal that approved 1000, idle.
 fn approved_terminal(rt: &impl Abort, alloc: Global) -> Result<Terminal, Fail> {
     let mut terminal = registered_terminal(rt, alloc)?;
-    answers(rt, alloc, &mut terminal, &AUTHORISATION, &APPROVED)?;
-    answers(rt, alloc, &mut terminal, &ACK, &APPROVED_LINE)?;
-    answers(rt, alloc, &mut terminal, &ACK, &COMPLETION)?;
-    answers(rt, alloc, &mut terminal, &ACK, &[])?;
-    answers(rt, alloc, &mut terminal, &ACK, &[])?;
+    let course: [(&[u8], &[u8]); 5] = [
+        (&AUTHORISATION, &APPROVED),
+        (&ACK, &APPROVED_LINE),
+        (&ACK, &COMPLETION),
+        (&ACK, &[]),
+        (&ACK, &[]),
+    ];
+    answers(rt, alloc, &mut terminal, &course)?;
     Ok(terminal)
 }
 
-fn row(number: u16, reverses: Option<u16>) -> Result<Row, Fail> {
-    let amount = Amount::new(1000).ok_or("an amount")?;
-    Ok(Row {
+/// A terminal that took its one approval back, idle.
+fn reversed_terminal(rt: &impl Abort, alloc: Global) -> Result<Terminal, Fail> {
+    let mut terminal = approved_terminal(rt, alloc)?;
+    let course: [(&[u8], &[u8]); 4] = [
+        (&REVERSAL, &TAKEN_BACK),
+        (&ACK, &REVERSED_LINE),
+        (&ACK, &COMPLETION),
+        (&ACK, &[]),
+    ];
+    answers(rt, alloc, &mut terminal, &course)?;
+    Ok(terminal)
+}
+
+/// A row of the ledger, of 1000.
+fn row(rt: &impl Abort, number: u16, reverses: Option<u16>) -> Row {
+    Row {
         number,
-        amount,
+        amount: Amount::new(1000).expect(rt, "an amount"),
         reverses,
-    })
+    }
 }
 
 #[test]
 fn registers_tills(rt: HostRuntime) -> Result<(), Fail> {
-    let alloc = rt.alloc();
-    let mut terminal = Terminal::new(alloc, 12_345_678);
-    for order in [
-        AUTHORISATION.as_slice(),
-        REVERSAL.as_slice(),
-        END_OF_DAY.as_slice(),
-    ] {
-        answers(&rt, alloc, &mut terminal, order, &NOT_POSSIBLE)?;
-    }
+    let mut terminal = Terminal::new(rt.alloc(), 12_345_678);
     let bare = [0x06, 0x00, 0x04, 0x00, 0x00, 0x00, 0xBE];
     let completion = [
         0x80, 0x00, 0x00, 0x06, 0x0F, 0x05, 0x29, 0x12, 0x34, 0x56, 0x78,
     ];
-    answers(&rt, alloc, &mut terminal, &bare, &completion)?;
-    answers(&rt, alloc, &mut terminal, &REGISTRATION, &NOT_POSSIBLE)?;
-    answers(&rt, alloc, &mut terminal, &ACK, &[])?;
-    registered_terminal(&rt, alloc)?;
+    let course: [(&[u8], &[u8]); 6] = [
+        (&AUTHORISATION, &NOT_POSSIBLE),
+        (&REVERSAL, &NOT_POSSIBLE),
+        (&END_OF_DAY, &NOT_POSSIBLE),
+        (&bare, &completion),
+        (&REGISTRATION, &NOT_POSSIBLE),
+        (&ACK, &[]),
+    ];
+    answers(&rt, rt.alloc(), &mut terminal, &course)?;
     assert!(rt; terminal.ledger().is_empty());
-    Ok(())
-}
-
-#[test]
-fn approves_payments(rt: HostRuntime) -> Result<(), Fail> {
-    let terminal = approved_terminal(&rt, rt.alloc())?;
-    assert_eq!(rt; terminal.ledger(), [row(1, None)?].as_slice());
     Ok(())
 }
 
@@ -155,36 +163,34 @@ fn declines_payments(rt: HostRuntime) -> Result<(), Fail> {
     let alloc = rt.alloc();
     let mut terminal = registered_terminal(&rt, alloc)?;
     let declined = [0x80, 0x00, 0x00, 0x04, 0x0F, 0x02, 0x27, 0x6C];
-    let verdict = Verdict::Decline(0x6C);
     answers_under(
         &rt,
         alloc,
         &mut terminal,
-        verdict,
+        Verdict::Decline(0x6C),
         &AUTHORISATION,
         &declined,
     )?;
-    answers(&rt, alloc, &mut terminal, &ACK, &[0x06, 0x1E, 0x01, 0x6C])?;
-    answers(&rt, alloc, &mut terminal, &ACK, &[])?;
+    let course: [(&[u8], &[u8]); 2] = [(&ACK, &[0x06, 0x1E, 0x01, 0x6C]), (&ACK, &[])];
+    answers(&rt, alloc, &mut terminal, &course)?;
     assert!(rt; terminal.ledger().is_empty());
     Ok(())
 }
 
 #[test]
 fn refuses_payments_without_an_amount(rt: HostRuntime) -> Result<(), Fail> {
-    let alloc = rt.alloc();
-    let mut terminal = registered_terminal(&rt, alloc)?;
-    for authorisation in [
-        [0x06, 0x01, 0x00].as_slice(),
-        [0x06, 0x01, 0x07, 0x04, 0x00, 0x00, 0x00, 0x00, 0x00, 0x00].as_slice(),
-        [
-            0x06, 0x01, 0x0E, 0x04, 0x00, 0x00, 0x00, 0x00, 0x10, 0x00, 0x04, 0x00, 0x00, 0x00,
-            0x00, 0x10, 0x00,
-        ]
-        .as_slice(),
-    ] {
-        answers(&rt, alloc, &mut terminal, authorisation, &SYSTEM_ERROR)?;
-    }
+    let mut terminal = registered_terminal(&rt, rt.alloc())?;
+    let zero = [0x06, 0x01, 0x07, 0x04, 0x00, 0x00, 0x00, 0x00, 0x00, 0x00];
+    let twice = [
+        0x06, 0x01, 0x0E, 0x04, 0x00, 0x00, 0x00, 0x00, 0x10, 0x00, 0x04, 0x00, 0x00, 0x00, 0x00,
+        0x10, 0x00,
+    ];
+    let course: [(&[u8], &[u8]); 3] = [
+        (&[0x06, 0x01, 0x00], &SYSTEM_ERROR),
+        (&zero, &SYSTEM_ERROR),
+        (&twice, &SYSTEM_ERROR),
+    ];
+    answers(&rt, rt.alloc(), &mut terminal, &course)?;
     assert!(rt; terminal.ledger().is_empty());
     Ok(())
 }
@@ -198,44 +204,32 @@ fn gives_up(
     code: u8,
 ) -> Result<(), Fail> {
     let answer = [0x80, 0x00, 0x00, 0x06, 0x1E, 0x01, code];
-    answers(rt, alloc, terminal, reversal, &answer)?;
-    answers(rt, alloc, terminal, &ACK, &[])?;
-    Ok(())
+    answers(rt, alloc, terminal, &[(reversal, &answer), (&ACK, &[])])
 }
 
 #[test]
 fn takes_an_approval_back_once(rt: HostRuntime) -> Result<(), Fail> {
-    let alloc = rt.alloc();
-    let mut terminal = approved_terminal(&rt, alloc)?;
-    answers(&rt, alloc, &mut terminal, &REVERSAL, &TAKEN_BACK)?;
-    answers(&rt, alloc, &mut terminal, &ACK, &REVERSED_LINE)?;
-    answers(&rt, alloc, &mut terminal, &ACK, &COMPLETION)?;
-    answers(&rt, alloc, &mut terminal, &ACK, &[])?;
-    gives_up(&rt, alloc, &mut terminal, &REVERSAL, 0xB4)?;
-    let rows = [row(1, None)?, row(2, Some(1))?];
+    let mut terminal = reversed_terminal(&rt, rt.alloc())?;
+    gives_up(&rt, rt.alloc(), &mut terminal, &REVERSAL, 0xB4)?;
+    let rows = [row(&rt, 1, None), row(&rt, 2, Some(1))];
     assert_eq!(rt; terminal.ledger(), rows.as_slice());
     Ok(())
 }
 
 #[test]
 fn takes_back_approvals_alone(rt: HostRuntime) -> Result<(), Fail> {
-    let alloc = rt.alloc();
-    let mut terminal = approved_terminal(&rt, alloc)?;
-    answers(&rt, alloc, &mut terminal, &REVERSAL, &TAKEN_BACK)?;
-    answers(&rt, alloc, &mut terminal, &ACK, &REVERSED_LINE)?;
-    answers(&rt, alloc, &mut terminal, &ACK, &COMPLETION)?;
-    answers(&rt, alloc, &mut terminal, &ACK, &[])?;
-    for reversal in [
-        [0x06, 0x30, 0x03, 0x00, 0x00, 0x00].as_slice(),
-        [
+    let mut terminal = reversed_terminal(&rt, rt.alloc())?;
+    let reversals: [&[u8]; 5] = [
+        &[0x06, 0x30, 0x03, 0x00, 0x00, 0x00],
+        &[
             0x06, 0x30, 0x09, 0x00, 0x00, 0x00, 0x87, 0x00, 0x01, 0x87, 0x00, 0x01,
-        ]
-        .as_slice(),
-        [0x06, 0x30, 0x06, 0x00, 0x00, 0x00, 0x87, 0x00, 0x02].as_slice(),
-        [0x06, 0x30, 0x06, 0x00, 0x00, 0x00, 0x87, 0x00, 0x03].as_slice(),
-        [0x06, 0x30, 0x06, 0x00, 0x00, 0x00, 0x87, 0x00, 0x0A].as_slice(),
-    ] {
-        gives_up(&rt, alloc, &mut terminal, reversal, 0xB5)?;
+        ],
+        &[0x06, 0x30, 0x06, 0x00, 0x00, 0x00, 0x87, 0x00, 0x02],
+        &[0x06, 0x30, 0x06, 0x00, 0x00, 0x00, 0x87, 0x00, 0x03],
+        &[0x06, 0x30, 0x06, 0x00, 0x00, 0x00, 0x87, 0x00, 0x0A],
+    ];
+    for reversal in reversals {
+        gives_up(&rt, rt.alloc(), &mut terminal, reversal, 0xB5)?;
     }
     assert_eq!(rt; terminal.ledger().len(), 2);
     Ok(())
@@ -243,38 +237,38 @@ fn takes_back_approvals_alone(rt: HostRuntime) -> Result<(), Fail> {
 
 #[test]
 fn closes_days(rt: HostRuntime) -> Result<(), Fail> {
-    let alloc = rt.alloc();
-    let mut terminal = approved_terminal(&rt, alloc)?;
+    let mut terminal = approved_terminal(&rt, rt.alloc())?;
     let closed = [0x80, 0x00, 0x00, 0x04, 0x0F, 0x02, 0x27, 0x00];
-    answers(&rt, alloc, &mut terminal, &END_OF_DAY, &closed)?;
-    answers(&rt, alloc, &mut terminal, &ACK, &DAY_CLOSED_LINE)?;
     let nack = [0x84, 0x6C, 0x00];
-    answers(&rt, alloc, &mut terminal, &nack, &COMPLETION)?;
-    answers(&rt, alloc, &mut terminal, &nack, &[])?;
-    assert_eq!(rt; terminal.ledger(), [row(1, None)?].as_slice());
+    let course: [(&[u8], &[u8]); 4] = [
+        (&END_OF_DAY, &closed),
+        (&ACK, &DAY_CLOSED_LINE),
+        (&nack, &COMPLETION),
+        (&nack, &[]),
+    ];
+    answers(&rt, rt.alloc(), &mut terminal, &course)?;
+    assert_eq!(rt; terminal.ledger(), [row(&rt, 1, None)].as_slice());
     Ok(())
 }
 
 #[test]
 fn goes_on_with_the_running_order(rt: HostRuntime) -> Result<(), Fail> {
-    let alloc = rt.alloc();
-    let mut terminal = registered_terminal(&rt, alloc)?;
-    answers(&rt, alloc, &mut terminal, &ABORT_ORDER, &ACK)?;
-    answers(&rt, alloc, &mut terminal, &COMPLETION, &NOT_POSSIBLE)?;
-    answers(&rt, alloc, &mut terminal, &AUTHORISATION, &APPROVED)?;
-    for order in [
-        REGISTRATION.as_slice(),
-        AUTHORISATION.as_slice(),
-        REVERSAL.as_slice(),
-        END_OF_DAY.as_slice(),
-        COMPLETION.as_slice(),
-        [0x06, 0x02, 0x00].as_slice(),
-    ] {
-        answers(&rt, alloc, &mut terminal, order, &NOT_POSSIBLE)?;
-    }
-    answers(&rt, alloc, &mut terminal, &ABORT_ORDER, &ACK)?;
-    answers(&rt, alloc, &mut terminal, &ACK, &APPROVED_LINE)?;
-    assert_eq!(rt; terminal.ledger(), [row(1, None)?].as_slice());
+    let mut terminal = registered_terminal(&rt, rt.alloc())?;
+    let course: [(&[u8], &[u8]); 11] = [
+        (&ABORT_ORDER, &ACK),
+        (&COMPLETION, &NOT_POSSIBLE),
+        (&AUTHORISATION, &APPROVED),
+        (&REGISTRATION, &NOT_POSSIBLE),
+        (&AUTHORISATION, &NOT_POSSIBLE),
+        (&REVERSAL, &NOT_POSSIBLE),
+        (&END_OF_DAY, &NOT_POSSIBLE),
+        (&COMPLETION, &NOT_POSSIBLE),
+        (&[0x06, 0x02, 0x00], &NOT_POSSIBLE),
+        (&ABORT_ORDER, &ACK),
+        (&ACK, &APPROVED_LINE),
+    ];
+    answers(&rt, rt.alloc(), &mut terminal, &course)?;
+    assert_eq!(rt; terminal.ledger(), [row(&rt, 1, None)].as_slice());
     Ok(())
 }
 
@@ -283,19 +277,13 @@ fn forgets_the_order_with_the_line(rt: HostRuntime) -> Result<(), Fail> {
     let alloc = rt.alloc();
     for broken in [Input::Lost, Input::Malformed] {
         let mut terminal = registered_terminal(&rt, alloc)?;
-        answers(&rt, alloc, &mut terminal, &AUTHORISATION, &APPROVED)?;
+        answers(&rt, alloc, &mut terminal, &[(&AUTHORISATION, &APPROVED)])?;
         let answered = terminal.step(broken, Verdict::Approve)?;
         assert_eq!(rt; answered.count(), 0);
-        answers(&rt, alloc, &mut terminal, &ACK, &[])?;
-        answers(&rt, alloc, &mut terminal, &AUTHORISATION, &NOT_POSSIBLE)?;
-        assert_eq!(rt; terminal.ledger(), [row(1, None)?].as_slice());
+        let course: [(&[u8], &[u8]); 2] = [(&ACK, &[]), (&AUTHORISATION, &NOT_POSSIBLE)];
+        answers(&rt, alloc, &mut terminal, &course)?;
+        assert_eq!(rt; terminal.ledger(), [row(&rt, 1, None)].as_slice());
     }
-    Ok(())
-}
-
-/// The terminal, which approves, takes the message.
-fn hears(terminal: &mut Terminal, apdu: &Apdu) -> Result<(), Fail> {
-    terminal.step(Input::Message(apdu), Verdict::Approve)?;
     Ok(())
 }
 
@@ -305,37 +293,22 @@ fn full_terminal(rt: &impl Abort, alloc: Global) -> Result<Terminal, Fail> {
     let authorisation = message(rt, alloc, &AUTHORISATION)?;
     let ack = message(rt, alloc, &ACK)?;
     for _ in 0..MOST_ROWS {
-        hears(&mut terminal, &authorisation)?;
-        hears(&mut terminal, &ack)?;
-        hears(&mut terminal, &ack)?;
-        hears(&mut terminal, &ack)?;
+        for apdu in [&authorisation, &ack, &ack, &ack] {
+            terminal.step(Input::Message(apdu), Verdict::Approve)?;
+        }
     }
     assert_eq!(rt; terminal.ledger().len(), 9_999);
     Ok(terminal)
 }
 
 #[test]
-fn a_full_ledger_takes_no_approval(rt: HostRuntime) -> Result<(), Fail> {
+fn a_full_ledger_takes_no_row(rt: HostRuntime) -> Result<(), Fail> {
     let alloc = rt.alloc();
     let mut terminal = full_terminal(&rt, alloc)?;
-    answers(&rt, alloc, &mut terminal, &AUTHORISATION, &SYSTEM_ERROR)?;
-    let verdict = Verdict::Decline(0x6C);
-    answers_under(
-        &rt,
-        alloc,
-        &mut terminal,
-        verdict,
-        &AUTHORISATION,
-        &SYSTEM_ERROR,
-    )?;
-    assert_eq!(rt; terminal.ledger().len(), 9_999);
-    Ok(())
-}
-
-#[test]
-fn a_full_ledger_takes_no_reversal(rt: HostRuntime) -> Result<(), Fail> {
-    let alloc = rt.alloc();
-    let mut terminal = full_terminal(&rt, alloc)?;
+    for verdict in [Verdict::Approve, Verdict::Decline(0x6C)] {
+        let order = &AUTHORISATION;
+        answers_under(&rt, alloc, &mut terminal, verdict, order, &SYSTEM_ERROR)?;
+    }
     gives_up(&rt, alloc, &mut terminal, &REVERSAL, 0xFF)?;
     assert_eq!(rt; terminal.ledger().len(), 9_999);
     Ok(())

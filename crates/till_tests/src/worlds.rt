@@ -11,12 +11,12 @@ const fn to_terminal(index: usize) -> Move {
     Move::ToTerminal(index, Verdict::Approve)
 }
 
-fn price() -> Result<Amount, Fail> {
-    Ok(Amount::new(1000).ok_or("an amount")?)
+fn price(rt: &impl Abort) -> Amount {
+    Amount::new(1000).expect(rt, "an amount")
 }
 
 /// A till registers and asks for a payment of 1000, which the terminal approves.
-fn approved(alloc: Global) -> Result<Vec<Move>, Fail> {
+fn approved(rt: &impl Abort, alloc: Global) -> Result<Vec<Move>, Fail> {
     let moves = [
         Move::Connect,
         Move::Order(Order::Register),
@@ -24,15 +24,15 @@ fn approved(alloc: Global) -> Result<Vec<Move>, Fail> {
         Move::ToTill(0),
         Move::ToTill(1),
         to_terminal(1),
-        Move::Order(Order::Pay(price()?)),
+        Move::Order(Order::Pay(price(rt))),
         to_terminal(2),
     ];
     Ok(Vec::from_slice(alloc, moves.as_slice())?)
 }
 
 /// Its status reaches the till twice, its line to print never.
-fn booked(alloc: Global) -> Result<Vec<Move>, Fail> {
-    let mut moves = approved(alloc)?;
+fn booked(rt: &impl Abort, alloc: Global) -> Result<Vec<Move>, Fail> {
+    let mut moves = approved(rt, alloc)?;
     let rest = [
         Move::ToTill(2),
         Move::ToTill(3),
@@ -46,17 +46,17 @@ fn booked(alloc: Global) -> Result<Vec<Move>, Fail> {
 }
 
 /// The ledger has just the approval of 1000, and the book has just that entry, or none.
-fn stands(rt: &impl Abort, world: &World, booked: bool) -> Result<(), Fail> {
+fn stands(rt: &impl Abort, world: &World, booked: bool) {
     let row = Row {
         number: 1,
-        amount: price()?,
+        amount: price(rt),
         reverses: None,
     };
     assert_eq!(rt; world.terminal.ledger(), [row].as_slice());
     if booked {
         let entry = Entry {
-            amount: price()?,
-            trace: Trace::new(1).ok_or("a trace number")?,
+            amount: price(rt),
+            trace: Trace::new(1).expect(rt, "a trace number"),
             receipt: Some([0x00, 0x01]),
             reversed: false,
         };
@@ -64,15 +64,14 @@ fn stands(rt: &impl Abort, world: &World, booked: bool) -> Result<(), Fail> {
     } else {
         assert!(rt; world.till.book().is_empty());
     }
-    Ok(())
 }
 
 #[test]
 fn books_once_what_comes_twice(rt: HostRuntime) -> Result<(), Fail> {
     let alloc = rt.alloc();
-    let moves = booked(alloc)?;
+    let moves = booked(&rt, alloc)?;
     let world = run_world(alloc, moves.as_slice())?;
-    stands(&rt, &world, true)?;
+    stands(&rt, &world, true);
     assert!(rt; world.till.unclear().is_empty());
     assert_eq!(rt; world.from_till.len(), 6);
     assert_eq!(rt; world.from_terminal.len(), 6);
@@ -82,21 +81,24 @@ fn books_once_what_comes_twice(rt: HostRuntime) -> Result<(), Fail> {
 #[test]
 fn a_cut_line_leaves_a_payment_unclear(rt: HostRuntime) -> Result<(), Fail> {
     let alloc = rt.alloc();
-    let mut moves = approved(alloc)?;
+    let mut moves = approved(&rt, alloc)?;
     moves.push(Move::TillLost)?;
     let world = run_world(alloc, moves.as_slice())?;
-    stands(&rt, &world, false)?;
-    assert_eq!(rt; world.till.unclear(), [(price()?, Cause::Line)].as_slice());
+    stands(&rt, &world, false);
+    assert_eq!(rt;
+        world.till.unclear(),
+        [(price(&rt), Cause::Line)].as_slice()
+    );
     Ok(())
 }
 
 #[test]
 fn a_late_approval_is_not_booked_again(rt: HostRuntime) -> Result<(), Fail> {
     let alloc = rt.alloc();
-    let mut moves = booked(alloc)?;
+    let mut moves = booked(&rt, alloc)?;
     let rest = [
         to_terminal(5),
-        Move::Order(Order::Pay(price()?)),
+        Move::Order(Order::Pay(price(&rt))),
         Move::ToTerminal(6, Verdict::Decline(0x6C)),
         Move::ToTill(6),
         Move::ToTill(3),
@@ -104,10 +106,10 @@ fn a_late_approval_is_not_booked_again(rt: HostRuntime) -> Result<(), Fail> {
     ];
     moves.extend_from_slice(rest.as_slice())?;
     let world = run_world(alloc, moves.as_slice())?;
-    stands(&rt, &world, true)?;
+    stands(&rt, &world, true);
     assert_eq!(rt;
         world.till.unclear(),
-        [(price()?, Cause::TraceUsed)].as_slice()
+        [(price(&rt), Cause::TraceUsed)].as_slice()
     );
     Ok(())
 }
