@@ -1,5 +1,6 @@
 //! The books of traces over memory, and over devices that fail.
 use std::alloc::Global;
+use std::process::Abort;
 use std::test::Fail;
 use zvt_io::{Failed, GhostCount, Over, Sink, Source};
 use zvt_trace::{Tally, ToolFault, What, audit};
@@ -10,6 +11,19 @@ fn audited(alloc: Global, trace: &str) -> (Result<Tally, ToolFault>, Vec<u8>) {
     let mut writer = Over::new(Vec::new(alloc));
     let answer = audit(alloc, &mut reader, &mut writer);
     (answer, writer.inner)
+}
+
+/// The answer and the text that are found of a trace are these.
+fn agrees(
+    rt: &impl Abort,
+    found: (Result<Tally, ToolFault>, Vec<u8>),
+    text: &str,
+    tally: Tally,
+) -> Result<(), Fail> {
+    let (answer, written) = found;
+    assert_eq!(rt; written.as_slice(), text.as_bytes());
+    assert_eq!(rt; answer?, tally, "{text}");
+    Ok(())
 }
 
 #[test]
@@ -84,9 +98,12 @@ fn payments_are_booked(rt: HostRuntime) -> Result<(), Fail> {
         ),
     ];
     for (trace, text, messages, bad) in cases {
-        let (answer, written) = audited(rt.alloc(), trace);
-        assert_eq!(rt; written.as_slice(), text.as_bytes(), "{trace}");
-        assert_eq!(rt; answer?, Tally { messages, bad }, "{trace}");
+        agrees(
+            &rt,
+            audited(rt.alloc(), trace),
+            text,
+            Tally { messages, bad },
+        )?;
     }
     Ok(())
 }
@@ -133,9 +150,12 @@ fn broken_lines_leave_payments_unclear(rt: HostRuntime) -> Result<(), Fail> {
         ),
     ];
     for (between, text, messages, bad) in cases {
-        let (answer, written) = paid(rt.alloc(), between)?;
-        assert_eq!(rt; written.as_slice(), text.as_bytes(), "{between}");
-        assert_eq!(rt; answer?, Tally { messages, bad }, "{between}");
+        agrees(
+            &rt,
+            paid(rt.alloc(), between)?,
+            text,
+            Tally { messages, bad },
+        )?;
     }
     Ok(())
 }
@@ -151,17 +171,12 @@ fn orders_of_other_makers_are_no_payments(rt: HostRuntime) -> Result<(), Fail> {
         "> 06 30 03 00 00 00\n",
     ];
     let text = "unclear 1234 Unfinished\ntotal 0\n";
+    let unfinished = Tally {
+        messages: 4,
+        bad: 0,
+    };
     for between in cases {
-        let (answer, written) = paid(rt.alloc(), between)?;
-        assert_eq!(rt; written.as_slice(), text.as_bytes(), "{between}");
-        assert_eq!(rt;
-            answer?,
-            Tally {
-                messages: 4,
-                bad: 0
-            },
-            "{between}"
-        );
+        agrees(&rt, paid(rt.alloc(), between)?, text, unfinished)?;
     }
     Ok(())
 }

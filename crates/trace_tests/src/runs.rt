@@ -235,20 +235,38 @@ fn ends_that_never_rest(rt: HostRuntime) {
 }
 
 #[test]
-fn no_connection(rt: HostRuntime) -> Result<(), Fail> {
-    let alloc = rt.alloc();
-    let mut writer = Over::new(Vec::new(alloc));
+fn no_till_connects(rt: HostRuntime) -> Result<(), Fail> {
     let listener = TcpListener::bind(&rt, "127.0.0.1:0")?;
     let port = listener.local_addr()?.port();
-    let ended = run_terminal(&rt, alloc, port, 1, Verdict::Approve);
+    let ended = run_terminal(&rt, rt.alloc(), port, 1, Verdict::Approve);
     assert!(rt; matches!(ended, Err(ToolFault::Net)));
-    drop(listener);
-    let ended = run_till(&rt, alloc, "127.0.0.1", port, &[], &mut writer);
+    Ok(())
+}
+
+/// A port at which nobody listens.
+fn closed_port(rt: &HostRuntime) -> Result<u16, Fail> {
+    let listener = TcpListener::bind(rt, "127.0.0.1:0")?;
+    Ok(listener.local_addr()?.port())
+}
+
+#[test]
+fn no_terminal_listens(rt: HostRuntime) -> Result<(), Fail> {
+    let port = closed_port(&rt)?;
+    let mut writer = Over::new(Vec::new(rt.alloc()));
+    let ended = run_till(&rt, rt.alloc(), "127.0.0.1", port, &[], &mut writer);
     assert!(rt; matches!(ended, Err(ToolFault::Net)));
+    assert!(rt; writer.inner.is_empty());
+    Ok(())
+}
+
+#[test]
+fn wrong_words_are_told_first(rt: HostRuntime) -> Result<(), Fail> {
+    let port = closed_port(&rt)?;
+    let mut writer = Over::new(Vec::new(rt.alloc()));
     let words = ["register", "decline:1:6C"];
-    let ended = run_till(&rt, alloc, "127.0.0.1", port, words.as_slice(), &mut writer);
+    let ended = run_till(&rt, rt.alloc(), "127.0.0.1", port, &words, &mut writer);
     assert!(rt; matches!(ended, Err(ToolFault::BadStep { at: 1 })));
-    let ended = run_loop(&rt, alloc, ["pay:0"].as_slice(), &mut writer);
+    let ended = run_loop(&rt, rt.alloc(), &["pay:0"], &mut writer);
     assert!(rt; matches!(ended, Err(ToolFault::BadStep { at: 0 })));
     assert!(rt; writer.inner.is_empty());
     Ok(())

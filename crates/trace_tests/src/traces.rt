@@ -1,8 +1,12 @@
 //! Traces over memory, and over devices that fail.
 use std::alloc::Global;
+use std::process::Abort;
 use std::test::Fail;
 use zvt_io::{Failed, GhostCount, Over, Sink, Source};
 use zvt_trace::{Tally, ToolFault, What, join, receipts, show};
+
+/// A trace, what is written of it, how many messages it has, and how many bad streams.
+type Case<'a> = (&'a str, &'a str, u64, u64);
 
 /// What `show` writes of a trace.
 fn shown(alloc: Global, trace: &str) -> (Result<Tally, ToolFault>, Vec<u8>) {
@@ -26,6 +30,19 @@ fn printed(alloc: Global, trace: &str) -> (Result<Tally, ToolFault>, Vec<u8>) {
     let mut writer = Over::new(Vec::new(alloc));
     let answer = receipts(alloc, &mut reader, &mut writer);
     (answer, writer.inner)
+}
+
+/// The answer and the text are those of the case.
+fn agrees(
+    rt: &impl Abort,
+    found: (Result<Tally, ToolFault>, Vec<u8>),
+    case: Case,
+) -> Result<(), Fail> {
+    let (answer, written) = found;
+    let (trace, text, messages, bad) = case;
+    assert_eq!(rt; written.as_slice(), text.as_bytes(), "{trace}");
+    assert_eq!(rt; answer?, Tally { messages, bad }, "{trace}");
+    Ok(())
 }
 
 const PAY: &str = "> 06 01 0A 04 00 00 00 00 12 34 49 09 78";
@@ -86,10 +103,8 @@ fn messages_are_shown(rt: HostRuntime) -> Result<(), Fail> {
             0,
         ),
     ];
-    for (trace, text, messages, bad) in cases {
-        let (answer, written) = shown(rt.alloc(), trace);
-        assert_eq!(rt; written.as_slice(), text.as_bytes(), "{trace}");
-        assert_eq!(rt; answer?, Tally { messages, bad }, "{trace}");
+    for case in cases {
+        agrees(&rt, shown(rt.alloc(), case.0), case)?;
     }
     Ok(())
 }
@@ -128,10 +143,8 @@ fn sides_are_streams(rt: HostRuntime) -> Result<(), Fail> {
             2,
         ),
     ];
-    for (trace, text, messages, bad) in cases {
-        let (answer, written) = shown(rt.alloc(), trace);
-        assert_eq!(rt; written.as_slice(), text.as_bytes(), "{trace}");
-        assert_eq!(rt; answer?, Tally { messages, bad }, "{trace}");
+    for case in cases {
+        agrees(&rt, shown(rt.alloc(), case.0), case)?;
     }
     Ok(())
 }
@@ -152,10 +165,8 @@ fn messages_are_joined(rt: HostRuntime) -> Result<(), Fail> {
             2,
         ),
     ];
-    for (trace, text, messages, bad) in cases {
-        let (answer, written) = joined(rt.alloc(), trace);
-        assert_eq!(rt; written.as_slice(), text.as_bytes(), "{trace}");
-        assert_eq!(rt; answer?, Tally { messages, bad }, "{trace}");
+    for case in cases {
+        agrees(&rt, joined(rt.alloc(), case.0), case)?;
     }
     Ok(())
 }
@@ -182,10 +193,8 @@ fn print_lines_of_the_terminal_are_receipts(rt: HostRuntime) -> Result<(), Fail>
             2,
         ),
     ];
-    for (trace, text, messages, bad) in cases {
-        let (answer, written) = printed(rt.alloc(), trace);
-        assert_eq!(rt; written.as_slice(), text.as_bytes(), "{trace}");
-        assert_eq!(rt; answer?, Tally { messages, bad }, "{trace}");
+    for case in cases {
+        agrees(&rt, printed(rt.alloc(), case.0), case)?;
     }
     Ok(())
 }
