@@ -133,6 +133,7 @@ fn objects_fill_their_room(rt: HostRuntime) -> Result<(), Fail> {
 
 #[test]
 fn refusals_have_their_place_and_reason(rt: HostRuntime) -> Result<(), Fail> {
+    let inner = [0x25, 0x05, 0x07, 0x01, 0x41, 0x1F];
     let rows: [Row; 13] = [
         (&[0x07, 0x81, 0x01, 0x41], 4, 1, "NotShortest at 1"),
         (&[0x07, 0x02], 5, 1, "DoesNotFit at 1"),
@@ -145,12 +146,7 @@ fn refusals_have_their_place_and_reason(rt: HostRuntime) -> Result<(), Fail> {
         (&[0x07, 0x81, 0x7F], 300, 1, "NotShortest at 2"),
         (&[0x07, 0x82, 0x00], 300, 1, "NotShortest at 2"),
         (&[0x07, 0x82, 0x02], 300, 1, "DoesNotFit at 2"),
-        (
-            &[0x25, 0x05, 0x07, 0x01, 0x41, 0x1F],
-            9,
-            1,
-            "DoesNotFit at 5",
-        ),
+        (&inner, 9, 1, "DoesNotFit at 5"),
         (&NESTED, 12, 1, "TooDeep at 10"),
     ];
     scans(&rt, rt.alloc(), &rows)

@@ -114,14 +114,20 @@ fn the_least_and_the_greatest_trace_number_are_booked_once(rt: HostRuntime) -> R
     let alloc = rt.alloc();
     for number in [0, 999_999] {
         let log = [
-            pay()?,
-            approval(number, 5)?,
+            pay(&rt),
+            approval(number, 5),
             COMPLETION,
-            pay()?,
-            approval(number, 6)?,
+            pay(&rt),
+            approval(number, 6),
             COMPLETION,
         ];
-        has_books(&rt, alloc, &log, &[row(number, 5)?], &[Cause::TraceUsed])?;
+        has_books(
+            &rt,
+            alloc,
+            &log,
+            &[row(&rt, number, 5)],
+            &[Cause::TraceUsed],
+        )?;
     }
     Ok(())
 }

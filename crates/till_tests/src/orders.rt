@@ -198,20 +198,19 @@ fn trace_numbers_serve_once(rt: HostRuntime) {
 }
 
 #[test]
-fn each_trace_number_serves_once(rt: HostRuntime) -> Result<(), Fail> {
-    let mut till = registered_till(&rt, rt.alloc())?;
-    let used = Outcome::Unclear(Cause::TraceUsed);
+fn each_trace_number_serves_once(rt: HostRuntime) {
+    let mut till = registered_till(&rt, rt.alloc());
     for number in [0, 999_999, 63, 64, 999_936] {
         let heard = [
             Heard::Positive,
-            approval(PRICE, number, 5)?,
+            approval(PRICE, number, 5),
             Heard::Completion,
         ];
-        assert_eq!(rt; pays(&rt, &mut till, &heard)?, Some(paid(number, 5)?));
-        assert_eq!(rt; pays(&rt, &mut till, &heard)?, Some(used));
+        assert_eq!(rt; pays(&rt, &mut till, &heard), Some(paid(&rt, number, 5)));
+        let again = pays(&rt, &mut till, &heard);
+        assert_eq!(rt; again, Some(Outcome::Unclear(Cause::TraceUsed)));
     }
     assert_eq!(rt; till.book().len(), 5);
-    Ok(())
 }
 
 /// A payment of the worked price after which these messages come is left unclear for the cause.
