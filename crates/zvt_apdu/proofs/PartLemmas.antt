@@ -1,16 +1,14 @@
 -- Facts on the parts of a message, where its data stands.
-use Rattle.std.proofs.Common.{◌≡◌, ℕ, ◌+◌, ◌-◌, ◌<◌, ◌≤◌, ◌⊎◌, inl, inr, Option, Some, None, List, [], ◌∷◌, ◌++◌, length, take, drop, slice_index_or, refl, sym, ◌∙◌, ap, subst, arith, length-append, append_assoc}
-use Rattle.std.proofs.lemmas.List.{append-nil}
+use Rattle.std.proofs.Common.{◌≡◌, ℕ, ◌-◌, ◌<◌, ◌≤◌, ◌⊎◌, inl, inr, Some, None, List, [], ◌∷◌, ◌++◌, length, take, drop, slice_index_or, refl, sym, ◌∙◌, ap, subst, arith, length-append, append_assoc}
 use Rattle.std.proofs.Math.Logic.{∥∥₁_elim, ∥∥₁_map}
 use Rattle.std.proofs.Math.Nat.{ℕ_set}
 use Rattle.std.specs.Coded.{Coded-set, coded_list, coded_option, coded_ℕ, le_prop}
 use Rattle.zvt_bcd.specs.Digits.{AreDigits, number_of}
 use Rattle.zvt_spelling.specs.Reading.{padded}
 use Rattle.zvt_tlv.proofs.ViewLemmas.{rest_at}
-use Rattle.zvt_field.specs.Grammar.{Field}
 use Rattle.zvt_field.proofs.ViewLemmas.{digits_once}
-use Rattle.zvt_apdu.specs.Message.{Message, ack, nack, registration, authorisation, reversal, end_of_day, abort_order, status, intermediate, print_line, text_block, completion, abort, other}
-use Rattle.zvt_apdu.specs.Grammar.{IsControl, IsFrameLength, Free, Listed, Registered, Data, Spells}
+use Rattle.zvt_apdu.specs.Message.{Message, ack, nack, registration, reversal, end_of_day, intermediate, print_line, abort, other}
+use Rattle.zvt_apdu.specs.Grammar.{IsControl, Data, Spells}
 use Rattle.zvt_apdu.specs.Kinds.{Kind, kind_of, kind_at}
 use Rattle.zvt_apdu.specs.declared.kinds.Kind.TheVariants as kind
 use Rattle.zvt_apdu.specs.contracts.kinds.Kind.{the_type}

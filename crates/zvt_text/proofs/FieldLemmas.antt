@@ -1,5 +1,5 @@
 -- The field that a view shows, by what the view gives.
-use Rattle.std.proofs.Common.{◌≡◌, ℕ, true, Some, None, List, sym, ◌∙◌, ap, subst}
+use Rattle.std.proofs.Common.{◌≡◌, ℕ, true, Some, None, List, ◌∙◌, ap}
 use Rattle.std.proofs.Math.Bool.{Bool-set}
 use Rattle.std.proofs.Math.Logic.{∥∥₁_elim}
 use Rattle.zvt_spelling.specs.Reading.{padded}

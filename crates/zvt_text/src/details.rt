@@ -1,10 +1,8 @@
 //! What a head says behind the name of a message: each part that the message has.
-ghost use Rattle.std.specs.Prelude.{◌≡◌, ◌≤◌, ◌+◌, ◌++◌, ◌∷◌, [], codes, OnOk};
+ghost use Rattle.std.specs.Prelude.{◌≡◌, ◌≤◌, ◌+◌, ◌++◌, ◌∷◌, [], OnOk};
 ghost use Rattle.std.specs.Option.{option_copied};
 ghost use Rattle.std.specs.String.{string_bytes};
 ghost use Rattle.hex.specs.Hex.{encode_upper};
-ghost use Rattle.zvt_text.specs.Bytes.{hex_of, quoted};
-ghost use Rattle.zvt_text.specs.Results.{result_words};
 ghost use Rattle.zvt_text.specs.Said.{config_text, data_text, four_digits, hex_part, named_currency, part_text, quoted_part, words_part};
 
 use crate::bytes::{byte, hexadecimal, quote};

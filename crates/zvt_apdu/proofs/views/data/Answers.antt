@@ -1,7 +1,7 @@
 use Rattle.std.proofs.Common.{arith}
 use Rattle.std.proofs.Math.Logic.{∥∥₁_elim}
 use Rattle.std.specs.Coded.{le_prop}
-use Rattle.zvt_apdu.proofs.ViewLemmas.{data_third, data_long, data_after_long, data_after_short}
+use Rattle.zvt_apdu.proofs.ViewLemmas.{data_third, data_long}
 use Rattle.zvt_apdu.proofs.views.data.Goals as goal
 
 pub bounds-bytes-2 : goal.bounds-bytes-2

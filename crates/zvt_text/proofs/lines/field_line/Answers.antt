@@ -1,6 +1,5 @@
-use Rattle.std.proofs.Common.{rules, ap}
+use Rattle.std.proofs.Common.{ap, arith}
 use Rattle.std.proofs.lemmas.Grind.{common_steps}
-use Rattle.std.proofs.Common.{arith}
 use Rattle.zvt_field.proofs.ViewLemmas.{plain_of}
 use Rattle.zvt_text.specs.Lines.{field_line}
 use Rattle.zvt_text.proofs.FieldLemmas.{plain_shown, tree_shown, objects_shallow}

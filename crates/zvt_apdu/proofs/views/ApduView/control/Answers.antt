@@ -1,4 +1,4 @@
-use Rattle.std.proofs.Common.{◌∷◌, [], List, ℕ, slice_index_or, arith, ap, subst, ◌∙◌}
+use Rattle.std.proofs.Common.{◌∷◌, [], slice_index_or, arith, ap, subst, ◌∙◌}
 use Rattle.zvt_apdu.specs.Message.{Message}
 use Rattle.zvt_apdu.specs.Grammar.{IsControl}
 use Rattle.zvt_apdu.specs.Views.{control_of}
