@@ -2,9 +2,10 @@
 use std::alloc::Global;
 use std::process::Abort;
 use std::test::Fail;
-use zvt_apdu::{Apdu, scan};
+use zvt_apdu::scan;
 use zvt_bcd::Amount;
 use zvt_spelling::Scan;
+use zvt_stream::Answers;
 use zvt_term::{Input, MOST_ROWS, Row, Terminal, Verdict};
 
 const ACK: [u8; 3] = [0x80, 0x00, 0x00];
@@ -54,13 +55,21 @@ const DAY_CLOSED_LINE: [u8; 14] = [
     0x06, 0xD1, 0x0B, 0x00, 0x44, 0x41, 0x59, 0x20, 0x43, 0x4C, 0x4F, 0x53, 0x45, 0x44,
 ];
 
-/// The message that these bytes spell.
-fn message(rt: &impl Abort, alloc: Global, bytes: &[u8]) -> Result<Apdu, Fail> {
+/// What the terminal answers under the verdict to the message that these bytes spell.
+fn step(
+    rt: &impl Abort,
+    alloc: Global,
+    terminal: &mut Terminal,
+    verdict: Verdict,
+    bytes: &[u8],
+) -> Result<Answers, Fail> {
     let Scan::Whole((apdu, taken)) = scan(alloc, bytes)? else {
         panic!(rt; "a message: {bytes:?}");
     };
     assert_eq!(rt; taken, bytes.len());
-    Ok(apdu)
+    let answers = terminal.step(Input::Message(&apdu), verdict);
+    drop(apdu);
+    Ok(answers?)
 }
 
 /// Under the verdict, the terminal answers the message so.
@@ -72,8 +81,7 @@ fn answers_under(
     heard: &[u8],
     answer: &[u8],
 ) -> Result<(), Fail> {
-    let apdu = message(rt, alloc, heard)?;
-    let answers = terminal.step(Input::Message(&apdu), verdict)?;
+    let answers = step(rt, alloc, terminal, verdict, heard)?;
     assert_eq!(rt; answers.bytes(), answer, "{heard:?}");
     Ok(())
 }
@@ -290,11 +298,10 @@ fn forgets_the_order_with_the_line(rt: HostRuntime) -> Result<(), Fail> {
 /// A terminal whose ledger is full.
 fn full_terminal(rt: &impl Abort, alloc: Global) -> Result<Terminal, Fail> {
     let mut terminal = registered_terminal(rt, alloc)?;
-    let authorisation = message(rt, alloc, &AUTHORISATION)?;
-    let ack = message(rt, alloc, &ACK)?;
+    let course: [&[u8]; 4] = [&AUTHORISATION, &ACK, &ACK, &ACK];
     for _ in 0..MOST_ROWS {
-        for apdu in [&authorisation, &ack, &ack, &ack] {
-            terminal.step(Input::Message(apdu), Verdict::Approve)?;
+        for bytes in course {
+            step(rt, alloc, &mut terminal, Verdict::Approve, bytes)?;
         }
     }
     assert_eq!(rt; terminal.ledger().len(), 9_999);
