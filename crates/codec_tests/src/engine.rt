@@ -4,7 +4,7 @@ ghost use Rattle.std.specs.Prelude.{◌≡◌, ◌-◌, [], ◌∷◌, false, No
 
 use std::alloc::{AllocError, Global};
 use std::io::{self, Read};
-use zvt_apdu::Apdu;
+use zvt_apdu::ApduView;
 use zvt_io::{Failed, GhostCount, Over, Sink, Source};
 use zvt_spelling::Why;
 use zvt_stream::{Answers, LineFault, Machine, Stream, Until, pump, send};
@@ -32,7 +32,7 @@ impl Machine for Parrot {
 
     ghost wants_memory = { false };
 
-    fn hear(&mut self, _alloc: Global, _apdu: &Apdu) -> Result<Answers, AllocError> {
+    fn hear(&mut self, _alloc: Global, _apdu: &ApduView<'_>) -> Result<Answers, AllocError> {
         self.left = self.left.saturating_sub(1);
         let mut answers = Answers::new();
         answers.add(&ACK);

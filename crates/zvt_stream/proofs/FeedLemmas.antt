@@ -1,49 +1,18 @@
 -- What a scan of the held bytes and the front of a piece says of the piece.
-use Rattle.std.proofs.Common.{◌≡◌, ℕ, suc, Bool, false, ◌+◌, ◌-◌, ◌<◌, ◌≤◌, List, [], ◌++◌, length, take, drop, min, inl, inr, refl, sym, ◌∙◌, ap, subst, arith, append_assoc, length-append, length-take}
+use Rattle.std.proofs.Common.{◌≡◌, ℕ, suc, Bool, ◌≤◌, List, [], ◌++◌, length, take, drop, inl, inr, sym, ◌∙◌, ap, subst, arith, append_assoc}
 use Rattle.std.proofs.lemmas.Bool.{cases_lt}
 use Rattle.std.proofs.lemmas.List.{take-append-drop, take-append-le}
-use Rattle.std.proofs.Math.Seq.{take-append-add, take-length}
 use Rattle.zvt_spelling.specs.declared.why.Why.{Why}
 use Rattle.zvt_spelling.specs.Reading.{shortest}
 use Rattle.zvt_tlv.proofs.Places.{none_more, place_more, byte_more}
-use Rattle.zvt_apdu.specs.Message.{Message}
 use Rattle.zvt_apdu.specs.Judging.{Position}
-use Rattle.zvt_stream.specs.Apdus.{Spells, Alive, NoneWhole, Unfinished, Place, IsRefused}
-use Rattle.zvt_stream.specs.StreamState.{StreamState, IsSound, holding}
-use Rattle.zvt_stream.proofs.Beginnings.{front_alive, nothing_begun, unfinished_few}
+use Rattle.zvt_stream.specs.Apdus.{Spells, Alive, Unfinished, Place, IsRefused}
+use Rattle.zvt_stream.specs.StreamState.{IsSound}
+use Rattle.zvt_stream.proofs.Beginnings.{front_alive, nothing_begun}
 
 -- what holds nothing is sound
 pub sound_empty : (held : List ℕ) (stopped : Bool) → held ≡ [] → IsSound held stopped
 sound_empty held stopped e = record { unfinished = subst Unfinished (sym e) nothing_begun; none_held = λ h. e }
-
-pub holds : (held bytes : List ℕ) (stopped : Bool) → held ≡ bytes → stopped ≡ false → (let s : StreamState = record { held = held; stopped = stopped } in s) ≡ holding bytes
-holds held bytes stopped e f = rw (e, f) refl
-
--- no message ends within what is held
-whole_past : (held piece : List ℕ) (m : Message) (size : ℕ) → NoneWhole held → Spells m (take size (held ++ piece)) → length held < size
-whole_past held piece m size none s =
-    elim (cases_lt (length held) size) [
-      | inl past ↦ past
-      | inr within ↦ absurd (none m (take size held) (drop size held) (sym (take-append-drop size held)) (subst (Spells m) (take-append-le size held piece within) s))
-    ]
-
--- a message that ends in a front of the piece
-pub fed_whole : (held piece bytes : List ℕ) (n before size : ℕ) (m : Message) → NoneWhole held → bytes ≡ held ++ take n piece → before ≡ length held → size ≤ length bytes → Spells m (take size bytes)
-    → (before < size) × (size - before ≤ length piece) × Spells m (held ++ take (size - before) piece)
-fed_whole held piece bytes n before size m none e b within s =
-    let whole : bytes ++ drop n piece ≡ held ++ piece = ap (λ z. z ++ drop n piece) e ∙ append_assoc held (take n piece) (drop n piece) ∙ ap (λ z. held ++ z) (take-append-drop n piece) in
-    let same : take size bytes ≡ take size (held ++ piece) = sym (take-append-le size bytes (drop n piece) within) ∙ ap (take size) whole in
-    let t : Spells m (take size (held ++ piece)) = subst (Spells m) same s in
-    let past : before < size = omega (arith, whole_past held piece m size none t) in
-    let is : size ≡ length held + (size - before) = omega arith in
-    (past, omega (arith, ap length e, length-append held (take n piece), length-take n piece), subst (Spells m) (ap (λ k. take k (held ++ piece)) is ∙ take-append-add held piece (size - before)) t)
-
--- an unfinished message that fills no more than there is room for is all of the piece
-pub fed_more : (held piece bytes : List ℕ) (n : ℕ) → bytes ≡ held ++ take n piece → n ≡ min (length piece) (65540 - length held) → Unfinished bytes → bytes ≡ held ++ piece
-fed_more held piece bytes n e m u =
-    let few = unfinished_few bytes u in
-    let all : n ≡ length piece = omega (arith, few, ap length e, length-append held (take n piece), length-take n piece, m) in
-    e ∙ ap (λ k. held ++ take k piece) all ∙ ap (λ z. held ++ z) (take-length piece)
 
 -- what is refused stays refused with more behind it
 refused_more : (bytes more : List ℕ) (place : ℕ) (why : Why) → IsRefused bytes place why → IsRefused (bytes ++ more) place why

@@ -4,12 +4,12 @@ use Rattle.std.specs.Prelude.{nat_lt}
 use Rattle.std.specs.Io.KnownBytes.{Consumes, Appends, IsAtEnd, Keeps}
 use Rattle.std.proofs.lemmas.List.{take-append-drop}
 use Rattle.zvt_apdu.specs.Message.{Message}
-use Rattle.zvt_stream.specs.Apdus.{Unfinished, Spelled}
+use Rattle.zvt_stream.specs.Apdus.{NoneWhole, Unfinished, Spelled}
 use Rattle.zvt_spelling.specs.declared.why.Why.{Why}
 use Rattle.zvt_stream.specs.declared.feeding.Fed.TheVariants as fed
 use Rattle.zvt_stream.specs.declared.line.LineFault.{LineFault}
 use Rattle.zvt_stream.specs.declared.line.LineFault.TheVariants as faults
-use Rattle.zvt_stream.specs.StreamState.{StreamState, holding}
+use Rattle.zvt_stream.specs.StreamState.{StreamState}
 use Rattle.zvt_stream.specs.Feeds.{Feeds}
 use Rattle.zvt_stream.specs.Answered.{Answered, bytes_of}
 use Rattle.zvt_stream.specs.Hearing.{Hears, Heard}
@@ -44,23 +44,24 @@ going_message {step = step} {before = before} {after = after} {piece = piece} {r
     let one : Heard step ((after.held ++ take taken rest) ++ later) middle later new reply.answer.bytes (nat_lt 0 reply.answer.count) = heard_one step (after.held ++ take taken rest) later middle new apdu reply.answer f.2 reply.heard in
     let B : List ℕ → Type 0 = λ b. Heard step b middle later new reply.answer.bytes (nat_lt 0 reply.answer.count) in
     let both : Heard step (before.held ++ piece) old later new (going.written ++ reply.answer.bytes) (sent || nat_lt 0 reply.answer.count) = heard_then going.heard (subst B (sym (split after.held rest taken)) one) in
-    let here : Going step before piece (holding []) later old new first last (sent || nat_lt 0 reply.answer.count) = record {
+    let H : List ℕ → Type 0 = λ held. Heard step (before.held ++ piece) old (held ++ later) new (going.written ++ reply.answer.bytes) (sent || nat_lt 0 reply.answer.count) in
+    let here : Going step before piece fresh later old new first last (sent || nat_lt 0 reply.answer.count) = record {
       written = going.written ++ reply.answer.bytes;
       appended = appends_more first now last going.written reply.answer.bytes going.appended reply.appended;
-      heard = both;
-      same = sym runs ∙ going.same;
+      heard = subst H (sym f.3.0) both;
+      same = f.3.1 ∙ sym runs ∙ going.same;
       still = λ e. absurd (conflict before.stopped after.stopped going.same e runs);
     } in
-    let C : Bool → Type 0 = λ b. Going step before piece (holding []) later old new first last (sent || b) in
-    let P : StreamState → Type 0 = λ s. Going step before piece s later old new first last (sent || replied) in
-    subst P (sym f.3) (subst C (sym reply.sending) here)
+    let C : Bool → Type 0 = λ b. Going step before piece fresh later old new first last (sent || b) in
+    subst C (sym reply.sending) here
 
 -- the rest of the piece is held
 pub going_ends : {S : Type 0} {step : S → Message → Answered → S → Type 0} {before after : StreamState} {piece rest : List ℕ} {old new : S} {first last : Option (List ℕ)} {sent : Bool} (end : StreamState) → (going : Going step before piece after rest old new first last sent) → Feeds after rest fed.More end → after.stopped ≡ false → Course step before piece end old new going.written sent
 going_ends {step = step} {before = before} {after = after} {piece = piece} {rest = rest} {old = old} {new = new} {sent = sent} end going f runs =
-    let here : Course step before piece (holding (after.held ++ rest)) old new going.written sent = record { heard = going.heard; cut = record { spelled = going.heard.spelled; none_whole = f.0.none_whole }; same = sym runs ∙ going.same; still = going.still } in
-    let P : StreamState → Type 0 = λ s. Course step before piece s old new going.written sent in
-    subst P (sym f.1) here
+    let H : List ℕ → Type 0 = λ held. Heard step (before.held ++ piece) old held new going.written sent in
+    let N : List ℕ → Type 0 = NoneWhole in
+    let heard : Heard step (before.held ++ piece) old end.held new going.written sent = subst H (sym f.1.0) going.heard in
+    record { heard = heard; cut = record { spelled = heard.spelled; none_whole = subst N (sym f.1.0) f.0.none_whole }; same = f.1.1 ∙ sym runs ∙ going.same; still = going.still }
 
 -- the rest was refused
 pub going_refused : {S : Type 0} {step : S → Message → Answered → S → Type 0} {before after : StreamState} {piece rest : List ℕ} {old new : S} {first last : Option (List ℕ)} {sent : Bool} (place : ℕ) (why : Why) (end : StreamState) → (going : Going step before piece after rest old new first last sent) → Feeds after rest (fed.Refused place why) end → Breaks step (faults.Malformed place why) before piece end old new going.written

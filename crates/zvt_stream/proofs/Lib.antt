@@ -1,5 +1,6 @@
 pub mod Beginnings
 pub mod FeedLemmas
+pub mod LentLemmas
 pub mod HearingLemmas
 pub mod Going
 pub mod TurnLemmas

@@ -4,7 +4,7 @@ use Rattle.std.specs.Io.KnownBytes.{Consumes, Appends, IsAtEnd}
 use Rattle.zvt_io.specs.Devices.{IsFront}
 use Rattle.zvt_apdu.specs.Message.{Message}
 use Rattle.zvt_stream.specs.Apdus.{Spelled, Cut, IsRefused}
-use Rattle.zvt_stream.specs.StreamState.{StreamState, refused}
+use Rattle.zvt_stream.specs.StreamState.{StreamState, HasRefused}
 use Rattle.zvt_stream.specs.Answered.{Answered, bytes_of}
 use Rattle.zvt_stream.specs.Hearing.{Hears, Heard}
 use Rattle.zvt_stream.specs.declared.line.LineFault.{LineFault}
@@ -38,7 +38,7 @@ abbrev pub Breaks : {S : Type 0} → (S → Message → Answered → S → Type 
 Breaks step Read before read after old new written = (sent : Bool) × Course step before read after old new written sent
 Breaks step (Ended have) before read after old new written = (sent : Bool) × Course step before read after old new written sent × (have ≡ length after.held)
 Breaks step Turns before read after old new written = (sent : Bool) × Course step before read after old new written sent
-Breaks step (Malformed place why) before read after old new written = (sent : Bool) × (rest : List ℕ) × Heard step (before.held ++ read) old rest new written sent × IsRefused rest place why × (after ≡ refused)
+Breaks step (Malformed place why) before read after old new written = (sent : Bool) × (rest : List ℕ) × Heard step (before.held ++ read) old rest new written sent × IsRefused rest place why × HasRefused after
 Breaks step Memory before read after old new written = (sent : Bool) × (rest : List ℕ) × Heard step (before.held ++ read) old rest new written sent
 Breaks step Write before read after old new written = CutOff step (before.held ++ read) old new written
 Breaks step Stopped before read after old new written = (before.stopped ≡ true) × (old ≡ new) × (written ≡ [])

@@ -1,18 +1,33 @@
 -- What a feed answers.
-use Rattle.std.specs.Prelude.{◌≡◌, ℕ, suc, ◌-◌, ◌<◌, ◌≤◌, List, [], ◌++◌, length, take}
+use Rattle.std.specs.Prelude.{◌≡◌, ℕ, suc, ◌-◌, ◌<◌, ◌≤◌, Some, None, List, [], ◌++◌, length, take}
+use Rattle.zvt_apdu.specs.Message as message
 use Rattle.zvt_stream.specs.Apdus.{Spells, Unfinished, IsRefused}
-use Rattle.zvt_stream.specs.StreamState.{StreamState, holding, refused}
+use Rattle.zvt_stream.specs.StreamState.{StreamState, Holds, HasRefused}
 use Rattle.zvt_stream.specs.declared.feeding.Fed.{Fed}
 use Rattle.zvt_stream.specs.declared.feeding.Fed.TheVariants.{Message, More, Refused}
+use Rattle.zvt_stream.specs.declared.feeding.FedView.{FedView}
+use Rattle.zvt_stream.specs.declared.feeding.FedView.TheVariants as view
 
 -- From old, the piece gives this answer and leads to new.
 abbrev pub Feeds : StreamState → List ℕ → Fed → StreamState → Type 0
-Feeds old piece (Message apdu taken) new = (0 < taken) × (taken ≤ length piece) × Spells apdu (old.held ++ take taken piece) × (new ≡ holding [])
-Feeds old piece More new = Unfinished (old.held ++ piece) × (new ≡ holding (old.held ++ piece))
-Feeds old piece (Refused place why) new = IsRefused (old.held ++ piece) place why × (length old.held ≤ place) × (new ≡ refused)
+Feeds old piece (Message apdu taken) new = (0 < taken) × (taken ≤ length piece) × Spells apdu (old.held ++ take taken piece) × Holds [] new
+Feeds old piece More new = Unfinished (old.held ++ piece) × Holds (old.held ++ piece) new
+Feeds old piece (Refused place why) new = IsRefused (old.held ++ piece) place why × (length old.held ≤ place) × HasRefused new
+
+-- The same, where a message is lent.
+abbrev pub Lends : StreamState → List ℕ → FedView → StreamState → Type 0
+Lends old piece (view.Message taken) new = (apdu : message.Message) × Feeds old piece (Message apdu taken) new × (new.lent ≡ Some apdu)
+Lends old piece view.More new = Feeds old piece More new × (new.lent ≡ None)
+Lends old piece (view.Refused place why) new = Feeds old piece (Refused place why) new × (new.lent ≡ None)
 
 -- How many bytes of the piece are taken: of a refused one those up to and with the fatal byte.
 abbrev pub taken_by : StreamState → List ℕ → Fed → ℕ
 taken_by old piece (Message apdu taken) = taken
 taken_by old piece More = length piece
 taken_by old piece (Refused place why) = suc place - length old.held
+
+-- How many bytes of the piece are taken where a message is lent.
+abbrev pub taken_in_view : StreamState → List ℕ → FedView → ℕ
+taken_in_view old piece (view.Message taken) = taken
+taken_in_view old piece view.More = length piece
+taken_in_view old piece (view.Refused place why) = suc place - length old.held

@@ -1,5 +1,6 @@
 pub mod Apdus
 pub mod StreamState
+pub mod Lending
 pub mod Feeds
 pub mod Cutting
 pub mod Answered

@@ -5,16 +5,17 @@ ghost use Rattle.std.specs.Result.{IsErrOf};
 ghost use Rattle.std.specs.Io.KnownBytes.{Consumes, Appends};
 ghost use Rattle.zvt_apdu.specs.Message.{Message};
 ghost use Rattle.zvt_stream.specs.Apdus.{Unfinished};
+ghost use Rattle.zvt_stream.specs.StreamState.{IsReserved};
 ghost use Rattle.zvt_stream.specs.Answered.{Answered};
 ghost use Rattle.zvt_stream.specs.Hearing.{Heard};
 ghost use Rattle.zvt_stream.specs.Course.{Course, Breaks, Pumped, Broken, Told, failed_reads, failed_writes, there_at_once, reached, IsPieceFault};
 ghost use Rattle.zvt_stream.specs.Turns.{Arrives, Ends, Falters, line_state, line_ends};
 ghost use Rattle.zvt_stream.specs.Replies.{Replies, Unanswered};
 
-use crate::feeding::{Fed, FeedError, Stream};
+use crate::feeding::{FedView, FeedError, Stream};
 use crate::line::{LineFault, Machine, Until};
 use std::alloc::Global;
-use zvt_apdu::Apdu;
+use zvt_apdu::ApduView;
 use zvt_io::{Sink, Source};
 
 /// Writes all the bytes. Its one fault is `Write`, where the writer counted a failure; no machine is told.
@@ -34,7 +35,7 @@ fn answer<W: Sink, M: Machine>(
     alloc: Global,
     writer: &mut W,
     machine: &mut M,
-    apdu: &Apdu,
+    apdu: &ApduView<'_>,
 ) -> Result<bool, LineFault>
     ensures ok { IfOk result (λ sent. Replies M.hears machine.old apdu.now machine.new (W.written writer.old) (W.written writer.new) sent) }
     ensures err { IfErr result (λ fault. Unanswered M.hears fault machine.old apdu.now machine.new (W.written writer.old) (W.written writer.new)) }
@@ -68,19 +69,22 @@ fn hear_piece<W: Sink, M: Machine>(
         × Breaks M.hears fault stream.old piece.now stream.new machine.old machine.new written) }
     ensures kinds { IfErr result (λ fault. IsPieceFault fault) }
     ensures failures { MatchResult result (λ _. W.failures writer.new ≡ W.failures writer.old) (λ fault. W.failures writer.new ≡ W.failures writer.old + failed_writes fault) }
+    ensures room { stream.old.room ≤ stream.new.room }
+    ensures frugal { M.wants_memory ≡ false → IsReserved stream.old → IsErrOf result LineFault.Memory → ⊥ }
 {
     let mut rest = piece;
     let mut sent = false;
     'messages: loop {
-        match stream.feed(alloc, rest) {
-            Ok(Fed::Message { apdu, taken }) => {
-                let replied = answer(alloc, writer, machine, &apdu);
-                drop(apdu);
-                sent |= replied?;
+        match stream.feed_view(rest) {
+            Ok(FedView::Message { taken }) => {
+                let Some(apdu) = stream.lent() else {
+                    unreachable!()
+                };
+                sent |= answer(alloc, writer, machine, &apdu)?;
                 rest = &rest[taken..];
             }
-            Ok(Fed::More) => return Ok(sent),
-            Ok(Fed::Refused { place, why }) => return Err(LineFault::Malformed { place, why }),
+            Ok(FedView::More) => return Ok(sent),
+            Ok(FedView::Refused { place, why }) => return Err(LineFault::Malformed { place, why }),
             Err(FeedError::Stopped) => return Err(LineFault::Stopped),
             Err(FeedError::Memory) => return Err(LineFault::Memory),
         }
@@ -104,6 +108,8 @@ fn turn<R: Source, W: Sink, M: Machine>(
     ensures reads { R.reads reader.new ≡ R.reads reader.old + 1 }
     ensures reader_failures { MatchResult result (λ _. R.failures reader.new ≡ R.failures reader.old) (λ fault. R.failures reader.new ≡ R.failures reader.old + failed_reads fault) }
     ensures writer_failures { MatchResult result (λ _. W.failures writer.new ≡ W.failures writer.old) (λ fault. W.failures writer.new ≡ W.failures writer.old + failed_writes fault) }
+    ensures room { stream.old.room ≤ stream.new.room }
+    ensures frugal { M.wants_memory ≡ false → IsReserved stream.old → IsErrOf result LineFault.Memory → ⊥ }
 {
     let have = stream.held();
     let mut buffer = [0; 1024];
@@ -142,6 +148,8 @@ fn run_turns<R: Source, W: Sink, M: Machine>(
         (line_ends stream.new machine.new (R.remaining reader.new) (W.written writer.new))) }
     ensures reader_failures { MatchResult result (λ _. R.failures reader.new ≡ R.failures reader.old) (λ fault. R.failures reader.new ≡ R.failures reader.old + failed_reads fault) }
     ensures writer_failures { MatchResult result (λ _. W.failures writer.new ≡ W.failures writer.old) (λ fault. W.failures writer.new ≡ W.failures writer.old + failed_writes fault) }
+    ensures room { stream.old.room ≤ stream.new.room }
+    ensures frugal { M.wants_memory ≡ false → IsReserved stream.old → IsErrOf result LineFault.Memory → ⊥ }
 {
     // What is held begins a message: nothing of it is still to be heard.
     let _ = stream.held();
@@ -162,7 +170,8 @@ fn run_turns<R: Source, W: Sink, M: Machine>(
 /// Before a fault is answered the machine is told of it, once: `malformed` for `Malformed` and `Stopped`, `lost` for
 /// the others. `Read` and `Write` come only where the reader or the writer counted a failure. After `Read`, `Ended`,
 /// `Turns` and `Malformed` all whole messages were heard and answered, after `Write` and `Memory` a front of them,
-/// after `Stopped` none.
+/// after `Stopped` none. `Memory` never comes where the machine wants none and the stream was made by
+/// `Stream::reserved`.
 pub fn pump<R: Source, W: Sink, M: Machine>(
     alloc: Global,
     reader: &mut R,
@@ -189,6 +198,8 @@ pub fn pump<R: Source, W: Sink, M: Machine>(
         (line_ends stream.new machine.new (R.remaining reader.new) (W.written writer.new))) }
     ensures reader_failures { MatchResult result (λ _. R.failures reader.new ≡ R.failures reader.old) (λ fault. R.failures reader.new ≡ R.failures reader.old + failed_reads fault) }
     ensures writer_failures { MatchResult result (λ _. W.failures writer.new ≡ W.failures writer.old) (λ fault. W.failures writer.new ≡ W.failures writer.old + failed_writes fault) }
+    ensures room { stream.old.room ≤ stream.new.room }
+    ensures frugal { M.wants_memory ≡ false → IsReserved stream.old → IsErrOf result LineFault.Memory → ⊥ }
 {
     // What is held begins a message: nothing of it is still to be heard.
     let _ = stream.held();

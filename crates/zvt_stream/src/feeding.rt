@@ -1,18 +1,19 @@
 //! Messages out of pieces of a line.
 
-ghost use Rattle.std.specs.Prelude.{◌≡◌, ℕ, ◌+◌, ◌<◌, ◌≤◌, [], ◌++◌, IfOk, IfNone, IfSome, OnErr, List, length, false, true, MatchResult};
+ghost use Rattle.std.specs.Prelude.{◌≡◌, ℕ, ◌+◌, ◌<◌, ◌≤◌, [], ◌++◌, None, IfOk, IfNone, IfSome, IsNone, IsSome, OnErr, List, length, false, true, MatchResult};
 ghost use Rattle.std.specs.Result.{IsErrOf};
 ghost use Rattle.zvt_stream.specs.Apdus.{Spells, Unfinished};
-ghost use Rattle.zvt_stream.specs.StreamState.{holding, refused};
-ghost use Rattle.zvt_stream.specs.Feeds.{Feeds, taken_by};
+ghost use Rattle.zvt_stream.specs.StreamState.{at_start, Holds, Keeps, IsReserved};
+ghost use Rattle.zvt_stream.specs.Lending.{LentBytes, lent_once};
+ghost use Rattle.zvt_stream.specs.Feeds.{Feeds, Lends, taken_by, taken_in_view};
 ghost use Rattle.zvt_stream.specs.Judge.{HasLevels, IsMessage};
 
 use crate::judging::{Judge, Run};
 use crate::keeping::Held;
 use crate::steps::Steps;
-use std::alloc::Global;
+use std::alloc::{AllocError, Global};
 use std::marker::Model;
-use zvt_apdu::{Apdu, scan};
+use zvt_apdu::{Apdu, ApduView, scan, view};
 use zvt_spelling::{Scan, Why};
 
 /// What a piece gave.
@@ -27,12 +28,24 @@ pub enum Fed {
     Refused { place: usize, why: Why },
 }
 
+/// What a piece gave, where the stream lends its message.
+#[derive(Clone, Copy, Debug, Drop, PartialEq, Eq)]
+pub enum FedView {
+    /// A message ended after the first `taken` bytes of the piece, and `Stream::lent` shows it. The caller feeds the rest
+    /// of the piece.
+    Message { taken: usize },
+    /// The whole piece was taken, and no message ended in it.
+    More,
+    /// As `Fed::Refused`.
+    Refused { place: usize, why: Why },
+}
+
 /// Why a piece was not taken.
 #[derive(Clone, Copy, Debug, Drop, PartialEq, Eq)]
 pub enum FeedError {
     /// Earlier bytes were refused.
     Stopped,
-    /// Memory was refused. Nothing changed, and the same piece may be fed again.
+    /// Memory was refused. Nothing changed but that no message is lent now, and the same piece may be fed again.
     Memory,
 }
 
@@ -42,34 +55,89 @@ pub struct Truncated {
     pub have: usize,
 }
 
-/// One direction of a line: the bytes of its unfinished message, and what they leave open.
+/// One direction of a line: the bytes of its unfinished message and what they leave open, or those of a whole message
+/// that is lent.
 #[derive(Drop)]
 pub struct Stream {
     held: Held,
     judge: Judge,
     stopped: bool,
+    lends: bool,
+    ghost spelled: { LentBytes lends held.bytes } by { lent_once lends held.bytes },
 }
 
 impl Model for Stream {
-    ghost use Rattle.zvt_stream.specs.StreamState.{StreamState, IsSound};
-    ghost use Rattle.zvt_stream.specs.Judge.{StandsFor};
+    ghost use Rattle.zvt_stream.specs.StreamState.{StreamState, state_code, IsSound};
+    ghost use Rattle.zvt_stream.specs.Lending.{held_of, lent_of};
+    ghost use Rattle.std.specs.Prelude.{◌≡◌, true};
+    ghost use Rattle.zvt_stream.specs.Judge.{StandsFor, IsMessage};
 
     ghost Value = { StreamState };
 
-    ghost view = { λ s. record { held = s.held; stopped = s.stopped } };
+    ghost coded = { state_code };
 
-    ghost invariant = { λ s. IsSound s.held s.stopped × StandsFor s.judge s.held };
+    ghost view = { λ s. record { held = held_of s.lends s.held.bytes; stopped = s.stopped; lent = lent_of s.lends s.held.bytes s.spelled; room = s.held.room } };
+
+    ghost invariant = { λ s. IsSound (held_of s.lends s.held.bytes) s.stopped × StandsFor s.judge (held_of s.lends s.held.bytes) × (s.lends ≡ true → IsMessage s.held.bytes) };
 }
 
 impl Stream {
     /// A stream at the start of a line.
     pub fn new(alloc: Global) -> Stream
-        ensures { result ≡ holding [] }
+        ensures { result ≡ at_start }
     {
         Stream {
             held: Held::new(alloc),
             judge: Judge::new(),
             stopped: false,
+            lends: false,
+        }
+    }
+
+    /// A stream at the start of a line, with room for the longest message: `feed_view` never asks it for memory.
+    pub fn reserved(alloc: Global) -> Result<Stream, AllocError>
+        ensures new { IfOk result (λ stream. Holds [] stream × (stream.lent ≡ None)) }
+        ensures reserved { IfOk result (λ stream. IsReserved stream) }
+    {
+        Ok(Stream {
+            held: Held::reserved(alloc)?,
+            judge: Judge::new(),
+            stopped: false,
+            lends: false,
+        })
+    }
+
+    /// The message that the last feed found, where that was a `feed_view`: until the next feed.
+    pub fn lent(&self) -> Option<ApduView<'_>>
+        ensures { result ≡ self.now.lent }
+    {
+        if self.lends {
+            Some(view(self.held.spelled()))
+        } else {
+            None
+        }
+    }
+
+    /// The bytes of the message that is lent.
+    pub fn lent_bytes(&self) -> Option<&[u8]>
+        ensures some { IfSome self.now.lent (λ m. IfSome result (λ bytes. Spells m bytes.now) × IsSome result) }
+        ensures none { self.now.lent ≡ None → IsNone result }
+    {
+        if self.lends {
+            Some(self.held.spelled())
+        } else {
+            None
+        }
+    }
+
+    // Gives up the message that is lent.
+    fn give_up(&mut self)
+        ensures keeps { Keeps self.old self.new }
+        ensures room { self.new.room ≡ self.old.room }
+    {
+        if self.lends {
+            self.lends = false;
+            self.held.cut(0);
         }
     }
 
@@ -83,7 +151,9 @@ impl Stream {
         ensures fed { IfOk result (λ fed. Feeds self.old piece.now fed self.new) }
         ensures stopped { self.old.stopped ≡ true → IsErrOf result FeedError.Stopped }
         ensures only { IsErrOf result FeedError.Stopped → self.old.stopped ≡ true }
-        ensures err { OnErr result (self.new ≡ self.old) }
+        ensures err { OnErr result (Keeps self.old self.new) }
+        ensures lent { self.new.lent ≡ None }
+        ensures room { self.old.room ≤ self.new.room }
     {
         let mut steps = Steps::new();
         self.feed_counted(&mut steps, alloc, piece)
@@ -99,10 +169,13 @@ impl Stream {
         ensures fed { IfOk result (λ fed. Feeds self.old piece.now fed self.new) }
         ensures stopped { self.old.stopped ≡ true → IsErrOf result FeedError.Stopped }
         ensures only { IsErrOf result FeedError.Stopped → self.old.stopped ≡ true }
-        ensures err { OnErr result (self.new ≡ self.old) }
+        ensures err { OnErr result (Keeps self.old self.new) }
+        ensures lent { self.new.lent ≡ None }
+        ensures room { self.old.room ≤ self.new.room }
         ensures count { MatchResult result (λ fed. steps.new.judged.count ≡ steps.old.judged.count + taken_by self.old piece.now fed)
             (λ _. steps.new.judged.count ≤ steps.old.judged.count + length piece.now) }
     {
+        self.give_up();
         if self.stopped {
             return Err(FeedError::Stopped);
         }
@@ -132,25 +205,81 @@ impl Stream {
         }
     }
 
+    /// As `feed`, with the message lent by the stream until its next feed: none is built. Memory is asked for only where
+    /// the longest message that the piece may end has no room.
+    #[inline(always)]
+    pub fn feed_view(&mut self, piece: &[u8]) -> Result<FedView, FeedError>
+        ensures fed { IfOk result (λ fed. Lends self.old piece.now fed self.new) }
+        ensures stopped { self.old.stopped ≡ true → IsErrOf result FeedError.Stopped }
+        ensures only { IsErrOf result FeedError.Stopped → self.old.stopped ≡ true }
+        ensures err { OnErr result (Keeps self.old self.new) }
+        ensures room { self.old.room ≤ self.new.room }
+        ensures frugal { IsReserved self.old → IsErrOf result FeedError.Memory → ⊥ }
+    {
+        let mut steps = Steps::new();
+        self.feed_view_counted(&mut steps, piece)
+    }
+
+    /// The same, with the count of the bytes that are judged.
+    pub fn feed_view_counted(
+        &mut self,
+        steps: &mut Steps,
+        piece: &[u8],
+    ) -> Result<FedView, FeedError>
+        ensures fed { IfOk result (λ fed. Lends self.old piece.now fed self.new) }
+        ensures stopped { self.old.stopped ≡ true → IsErrOf result FeedError.Stopped }
+        ensures only { IsErrOf result FeedError.Stopped → self.old.stopped ≡ true }
+        ensures err { OnErr result (Keeps self.old self.new) }
+        ensures room { self.old.room ≤ self.new.room }
+        ensures frugal { IsReserved self.old → IsErrOf result FeedError.Memory → ⊥ }
+        ensures count { MatchResult result (λ fed. steps.new.judged.count ≡ steps.old.judged.count + taken_in_view self.old piece.now fed)
+            (λ _. steps.new.judged.count ≡ steps.old.judged.count) }
+    {
+        self.give_up();
+        if self.stopped {
+            return Err(FeedError::Stopped);
+        }
+        if self.held.make_room(piece.len()).is_err() {
+            return Err(FeedError::Memory);
+        }
+        match self.judge.run(steps, piece) {
+            Run::Open => {
+                let _ = self.held.add_all(piece);
+                Ok(FedView::More)
+            }
+            Run::Ended { taken } => {
+                let _ = self.held.add_all(&piece[..taken]);
+                self.lends = true;
+                Ok(FedView::Message { taken })
+            }
+            Run::Refused { at, why } => {
+                let place = self.held.len() + at;
+                self.held.cut(0);
+                self.stopped = true;
+                Ok(FedView::Refused { place, why })
+            }
+        }
+    }
+
     /// Whether the stream may end here: Err where bytes of an unfinished message are held. After a refusal it is Ok.
     pub fn finish(&self) -> Result<(), Truncated>
         ensures { MatchResult result (λ _. self.now.held ≡ []) (λ truncated. (0 < truncated.have) × (truncated.have ≡ length self.now.held)) }
     {
-        match self.held.len() {
+        match self.held() {
             0 => Ok(()),
             have => Err(Truncated { have }),
         }
     }
 
-    /// How many bytes of the unfinished message are held: fewer than the 65,540 of the longest message, and none after
-    /// a refusal.
+    /// How many bytes of the unfinished message are held: fewer than the 65,540 of the longest message, none after a
+    /// refusal, and none where a message is lent.
     pub fn held(&self) -> usize
         ensures count { result ≡ length self.now.held }
         ensures unfinished { Unfinished self.now.held }
         ensures few { result < 65540 }
         ensures none { self.now.stopped ≡ true → self.now.held ≡ [] }
     {
-        self.held.len()
+        if self.lends { 0 } else { self.held.len() }
     }
 
     /// How many levels are open: none where nothing is held, else the frame, the fields, and containers and objects in
@@ -160,7 +289,7 @@ impl Stream {
         ensures some { 0 < length self.now.held → HasLevels self.now.held result }
         ensures most { result ≤ 8 }
     {
-        if self.held.len() == 0 {
+        if self.held() == 0 {
             0
         } else {
             self.judge.levels()
@@ -170,9 +299,10 @@ impl Stream {
 
 /// The message that what is held and these bytes behind it are, or none where memory is refused. Nothing is held then.
 fn message(alloc: Global, held: &mut Held, last: &[u8]) -> Option<Apdu>
-    requires { IsMessage (held.old ++ last.now) }
-    ensures some { IfSome result (λ apdu. Spells apdu (held.old ++ last.now) × (held.new ≡ [])) }
-    ensures none { IfNone result (held.new ≡ held.old) }
+    requires { IsMessage (held.old.bytes ++ last.now) }
+    ensures some { IfSome result (λ apdu. Spells apdu (held.old.bytes ++ last.now) × (held.new.bytes ≡ [])) }
+    ensures none { IfNone result (held.new.bytes ≡ held.old.bytes) }
+    ensures room { held.old.room ≤ held.new.room }
 {
     let before = held.len();
     if before == 0 {

@@ -11,8 +11,8 @@ mod moves;
 mod steps;
 
 pub use engine::{pump, send};
-pub use feeding::{Fed, FeedError, Stream, Truncated};
+pub use feeding::{Fed, FedView, FeedError, Stream, Truncated};
 pub use judging::{Judge, Judged, Run};
-pub use keeping::Held;
+pub use keeping::{Held, LONGEST};
 pub use line::{Answers, LineFault, Machine, Until};
 pub use steps::Steps;

@@ -9,7 +9,7 @@ use arrayvec::ArrayVec;
 use std::alloc::{AllocError, Global};
 use std::marker::Model;
 use thiserror::Error;
-use zvt_apdu::Apdu;
+use zvt_apdu::ApduView;
 use zvt_spelling::Why;
 
 /// The messages that answer one message: at most two, of 64 bytes in all.
@@ -85,8 +85,8 @@ pub trait Machine {
     /// Whether a hearing may want memory.
     ghost wants_memory: { Bool };
 
-    /// Hears a message. Where memory is refused the machine is unchanged.
-    fn hear(&mut self, alloc: Global, apdu: &Apdu) -> Result<Answers, AllocError>
+    /// Hears a message where it lies. Where memory is refused the machine is unchanged.
+    fn hear(&mut self, alloc: Global, apdu: &ApduView<'_>) -> Result<Answers, AllocError>
         ensures heard { IfOk result (λ answers. hears self.old apdu.now answers self.new) }
         ensures err { OnErr result (self.new ≡ self.old) }
         ensures frugal { wants_memory ≡ false → IsOk result };

@@ -3,11 +3,12 @@ use Rattle.std.specs.Prelude.{◌≡◌, ℕ, ◌+◌, ◌<◌, ◌≤◌, Optio
 use Rattle.zvt_apdu.specs.Message.{Message}
 use Rattle.zvt_stream.specs.Apdus.{Spells, Spelled}
 use Rattle.zvt_stream.specs.Answered.{Answered}
+use Rattle.zvt_term.specs.declared.messages.Asked.{Asked}
 use Rattle.zvt_term.specs.declared.messages.Report.{Report}
 use Rattle.zvt_term.specs.declared.ledger.Row.{Row}
 use Rattle.zvt_term.specs.declared.turns.Verdict.{Verdict}
 use Rattle.zvt_term.specs.declared.terminal.Input.{Input}
-use Rattle.zvt_term.specs.declared.terminal.Input.TheVariants.{Message as MessageIn, Lost, Malformed}
+use Rattle.zvt_term.specs.declared.terminal.Input.TheVariants.{Message as MessageIn, View, Lost, Malformed}
 use Rattle.zvt_term.specs.Asking.{asked_as}
 use Rattle.zvt_term.specs.Reports.{message_of_report, IsWritable}
 use Rattle.zvt_term.specs.Terminal.{TerminalState, most_rows, next_number, lost_terminal, state_after, reports_to}
@@ -34,10 +35,14 @@ abbrev pub IsNext : TerminalState → Option Row → Type 0
 IsNext s None = Unit {0}
 IsNext s (Some row) = (length s.ledger < most_rows) × (row.number ≡ next_number s)
 
+-- What is asked is answered.
+pub record HearsAsked (verdict : Verdict) (old : TerminalState) (asked : Asked) (answers : Answered) (new : TerminalState) : Type 0 where
+  pub state : new ≡ state_after old asked verdict
+  pub says : Says (reports_to old asked verdict) answers
+
 -- A message is heard and answered.
-pub record Hears (verdict : Verdict) (old : TerminalState) (message : Message) (answers : Answered) (new : TerminalState) : Type 0 where
-  pub state : new ≡ state_after old (asked_as message) verdict
-  pub says : Says (reports_to old (asked_as message) verdict) answers
+abbrev pub Hears : Verdict → TerminalState → Message → Answered → TerminalState → Type 0
+Hears verdict old message = HearsAsked verdict old (asked_as message)
 
 -- a broken line is not answered
 abbrev pub Loses : TerminalState → Answered → TerminalState → Type 0
@@ -45,10 +50,12 @@ Loses old answers new = (new ≡ lost_terminal old) × (answers ≡ record { byt
 
 abbrev pub Steps : TerminalState → Input → Verdict → Answered → TerminalState → Type 0
 Steps old (MessageIn apdu) verdict answers new = Hears verdict old apdu.now answers new
+Steps old (View apdu) verdict answers new = Hears verdict old apdu.now answers new
 Steps old Lost verdict answers new = Loses old answers new
 Steps old Malformed verdict answers new = Loses old answers new
 
 abbrev pub IsBroken : Input → Type 0
 IsBroken (MessageIn apdu) = ⊥
+IsBroken (View apdu) = ⊥
 IsBroken Lost = Unit {0}
 IsBroken Malformed = Unit {0}

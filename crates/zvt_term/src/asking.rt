@@ -3,7 +3,7 @@ ghost use Rattle.std.specs.Prelude.{◌≡◌};
 ghost use Rattle.zvt_term.specs.Asking.{asked_as, currency_in};
 
 use crate::messages::Asked;
-use zvt_apdu::{Apdu, Message, Rest};
+use zvt_apdu::{Apdu, ApduView, Kind, Message, Rest};
 use zvt_bcd::Currency;
 
 /// The currency of a registration.
@@ -28,6 +28,27 @@ pub fn asked(apdu: &Apdu) -> Asked
         Message::Reversal { fields, .. } => Asked::Reversal(zvt_field::receipt(fields)),
         Message::EndOfDay { .. } => Asked::EndOfDay,
         Message::AbortOrder(_) => Asked::AbortOrder,
+        _ => Asked::Unknown,
+    }
+}
+
+/// What the message that a view shows asks: as `asked` of the message.
+pub fn asked_view(apdu: &ApduView<'_>) -> Asked
+    ensures { result ≡ asked_as apdu.now }
+{
+    match apdu.kind() {
+        Kind::Ack | Kind::Nack => Asked::Answer,
+        Kind::Registration => Asked::Registration(apdu.currency()),
+        Kind::Authorisation => match apdu.fields() {
+            Some(fields) => Asked::Authorisation(fields.amount()),
+            None => unreachable!(),
+        },
+        Kind::Reversal => match apdu.fields() {
+            Some(fields) => Asked::Reversal(fields.receipt()),
+            None => unreachable!(),
+        },
+        Kind::EndOfDay => Asked::EndOfDay,
+        Kind::AbortOrder => Asked::AbortOrder,
         _ => Asked::Unknown,
     }
 }

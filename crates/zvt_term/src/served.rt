@@ -4,7 +4,7 @@ ghost use Rattle.std.specs.Prelude.{◌≡◌, true, false};
 use crate::terminal::{Input, Terminal};
 use crate::turns::Verdict;
 use std::alloc::{AllocError, Global};
-use zvt_apdu::Apdu;
+use zvt_apdu::ApduView;
 use zvt_stream::{Answers, Machine};
 
 /// A terminal with its verdict on the next authorisations. It serves its line as long as that lasts, and never rests.
@@ -37,8 +37,8 @@ impl Machine for Served {
 
     ghost wants_memory = { true };
 
-    fn hear(&mut self, _alloc: Global, apdu: &Apdu) -> Result<Answers, AllocError> {
-        self.terminal.step(Input::Message(apdu), self.verdict)
+    fn hear(&mut self, _alloc: Global, apdu: &ApduView<'_>) -> Result<Answers, AllocError> {
+        self.terminal.step(Input::View(apdu), self.verdict)
     }
 
     fn resting(&self) -> bool {

@@ -3,13 +3,13 @@ ghost use Rattle.std.specs.Prelude.{◌≡◌, ◌≤◌, length, IfOk, IsOk, On
 ghost use Rattle.zvt_term.specs.Ledger.{NumberedFrom};
 
 use crate::answers::answers_of;
-use crate::asking::asked;
+use crate::asking::{asked, asked_view};
 use crate::ledger::{Row, approval_by, is_taken_back};
 use crate::messages::{Asked, Line, Reply, Report};
 use crate::turns::{Phase, Turn, Verdict};
 use std::alloc::{AllocError, Global};
 use std::marker::Model;
-use zvt_apdu::Apdu;
+use zvt_apdu::{Apdu, ApduView};
 use zvt_bcd::{Amount, Currency};
 use zvt_stream::Answers;
 
@@ -33,6 +33,8 @@ const SYSTEM_ERROR: u8 = 0xFF;
 pub enum Input<'a> {
     /// A message of the till.
     Message(&'a Apdu),
+    /// The same, by a view of its bytes.
+    View(&'a ApduView<'a>),
     /// The line was lost.
     Lost,
     /// What came on the line was no message, and the line is given up.
@@ -63,7 +65,7 @@ impl Model for Terminal {
 impl Terminal {
     ghost use Rattle.zvt_term.specs.Terminal.{most_rows, new_terminal, lost_terminal, has_room, next_number, is_idle, is_ready, stays, runs, writes, aborts, refuses, registers, decides, authorises, takes_back_row, reverses, closes, goes_on, turn_of, after};
     ghost use Rattle.zvt_term.specs.Inside.{IsSound};
-    ghost use Rattle.zvt_term.specs.Steps.{Hears, IsNext, Steps, IsBroken};
+    ghost use Rattle.zvt_term.specs.Steps.{HearsAsked, IsNext, Steps, IsBroken};
 
     /// A terminal of this number, idle, with nobody registered and an empty ledger.
     pub fn new(alloc: Global, tid: u32) -> Terminal
@@ -312,12 +314,12 @@ impl Terminal {
         Ok(())
     }
 
-    /// Takes a message of the till, and answers it.
-    fn hear(&mut self, apdu: &Apdu, verdict: Verdict) -> Result<Answers, AllocError>
-        ensures heard { IfOk result (λ answers. Hears verdict self.old apdu.now answers self.new) }
+    /// Takes what a message of the till asks, and answers it.
+    fn hear(&mut self, asked: &Asked, verdict: Verdict) -> Result<Answers, AllocError>
+        ensures heard { IfOk result (λ answers. HearsAsked verdict self.old asked.now answers self.new) }
         ensures err { OnErr result (self.new ≡ self.old) }
     {
-        let turn = self.turn_of(&asked(apdu), verdict);
+        let turn = self.turn_of(asked, verdict);
         self.make(&turn)?;
         Ok(answers_of(&turn.reply))
     }
@@ -331,7 +333,8 @@ impl Terminal {
         ensures broken { IsBroken input.entry → IsOk result }
     {
         match input {
-            Input::Message(apdu) => self.hear(apdu, verdict),
+            Input::Message(apdu) => self.hear(&asked(apdu), verdict),
+            Input::View(apdu) => self.hear(&asked_view(apdu), verdict),
             Input::Lost | Input::Malformed => {
                 self.lose();
                 Ok(Answers::new())

@@ -4,7 +4,7 @@ use Rattle.std.proofs.lemmas.Bool.{false≢true}
 use Rattle.std.proofs.lemmas.List.{map-append, take-append-drop}
 use Rattle.zvt_apdu.specs.Message.{Message}
 use Rattle.zvt_stream.specs.Apdus.{Alive, Spelled, Cut}
-use Rattle.zvt_stream.specs.StreamState.{StreamState, holding}
+use Rattle.zvt_stream.specs.StreamState.{StreamState, at_start}
 use Rattle.zvt_stream.specs.Feeds.{Feeds}
 use Rattle.zvt_stream.specs.declared.feeding.Fed.TheVariants as fed
 use Rattle.zvt_spelling.specs.declared.why.Why.{Why}
@@ -33,14 +33,14 @@ reads-nothing log stream piece runs = record { messages = []; spelled = refl; he
 pub reads-message : (log now : List Happening) (held piece rest : List ℕ) (stream after : StreamState) (m : Message) (taken : ℕ) → Reads log held piece now stream rest → Feeds stream rest (fed.Message m taken) after
     → Reads log held piece (now ++ hears m ∷ []) after (drop taken rest)
 reads-message log now held piece rest stream after m taken r f =
-    let new : after.held ≡ [] = ap (λ s. s.held) f.3 in
+    let new : after.held ≡ [] = f.3.0 in
     let one : Spelled (stream.held ++ rest) (m ∷ []) (after.held ++ drop taken rest) =
     (stream.held ++ take taken rest, drop taken rest, split stream.held rest taken, f.2, sym (ap (λ (s : List ℕ). s ++ drop taken rest) new)) in
     record {
       messages = r.messages ++ m ∷ [];
       spelled = spelled_append r.messages (m ∷ []) (held ++ piece) (stream.held ++ rest) (after.held ++ drop taken rest) r.spelled one;
       heard = ap (λ x. x ++ hears m ∷ []) r.heard ∙ append_assoc log (map hears r.messages) (hears m ∷ []) ∙ ap (λ x. log ++ x) (sym (map-append hears r.messages (m ∷ [])));
-      runs = ap (λ s. s.stopped) f.3;
+      runs = f.3.1;
     }
 
 -- a message leaves the line up
@@ -102,7 +102,7 @@ piece-follows log next bytes piece stream after holds up r =
     by_end : (whole : Cut (bytes ++ piece) ((holds up).1.0 ++ r.messages) r.rest) → line_up next ≡ true → EndsLine r.rest r.end → (after.stopped ≡ false) × ((messages : List Message) × Cut (bytes ++ piece) messages after.held)
     by_end whole still (inl alive) =
         let same = r.goes_on alive.1 in
-        (ap (λ s. s.stopped) same, ((holds up).1.0 ++ r.messages, subst (λ (held : List ℕ). Cut (bytes ++ piece) ((holds up).1.0 ++ r.messages) held) (sym (ap (λ s. s.held) same)) whole))
+        (same.1, ((holds up).1.0 ++ r.messages, subst (λ (held : List ℕ). Cut (bytes ++ piece) ((holds up).1.0 ++ r.messages) held) (sym same.0) whole))
     by_end whole still (inr dead) =
         let down : line_up next ≡ false = ap line_up (r.heard ∙ ap (λ x. log ++ (map hears r.messages ++ x)) dead.1) ∙ down-malformed log (map hears r.messages) in
         absurd (false≢true (sym down ∙ still))
@@ -112,14 +112,14 @@ pub piece-unread : (log : List Happening) (bytes piece : List ℕ) (stream : Str
     → (later : List ℕ) × FollowsPiece (line_up log) log bytes piece log later × HoldsLine log later stream
 piece-unread log bytes piece stream holds down = (bytes, follows-down log bytes piece (line_up log) down, holds)
 
-line-begins : (log : List Happening) (bytes : List ℕ) (stream after : StreamState) (up : Bool) → line_up log ≡ up → after ≡ cond up stream (holding []) → HoldsLine log bytes stream
+line-begins : (log : List Happening) (bytes : List ℕ) (stream after : StreamState) (up : Bool) → line_up log ≡ up → after ≡ cond up stream at_start → HoldsLine log bytes stream
     → (after.stopped ≡ false) × ((messages : List Message) × Cut (cond up bytes []) messages after.held)
 line-begins log bytes stream after true e same holds =
     subst (λ s. (s.stopped ≡ false) × ((messages : List Message) × Cut bytes messages s.held)) (sym same) (holds e)
 line-begins log bytes stream after false e same holds =
     subst (λ s. (s.stopped ≡ false) × ((messages : List Message) × Cut [] messages s.held)) (sym same) (refl, ([], record { spelled = refl; none_whole = nothing_begun.none_whole }))
 
-pub connected-follows : (log next : List Happening) (bytes : List ℕ) (stream after : StreamState) (up : Bool) → up ≡ line_up log → after ≡ cond up stream (holding []) → next ≡ log ++ Connected ∷ [] → HoldsLine log bytes stream
+pub connected-follows : (log next : List Happening) (bytes : List ℕ) (stream after : StreamState) (up : Bool) → up ≡ line_up log → after ≡ cond up stream at_start → next ≡ log ++ Connected ∷ [] → HoldsLine log bytes stream
     → (later : List ℕ) × ((next ≡ log ++ Connected ∷ []) × (later ≡ cond (line_up log) bytes [])) × HoldsLine next later after
 connected-follows log next bytes stream after up e same n holds =
     let whole = line-begins log bytes stream after up (sym e) same holds in

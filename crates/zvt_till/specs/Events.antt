@@ -3,7 +3,7 @@ use Rattle.std.specs.Prelude.{◌≡◌, ◌⊎◌, ℕ, Bool, true, false, cond
 use Rattle.zvt_apdu.specs.Message.{Message}
 use Rattle.zvt_apdu.specs.Briefs.{message_of_brief}
 use Rattle.zvt_stream.specs.Apdus.{Alive, Cut, Spelled}
-use Rattle.zvt_stream.specs.StreamState.{StreamState, holding}
+use Rattle.zvt_stream.specs.StreamState.{StreamState, Holds}
 use Rattle.zvt_till.specs.declared.happenings.Happening.{Happening}
 use Rattle.zvt_till.specs.declared.happenings.Happening.TheVariants.{Connected, Sent as SentOut, Heard as HeardIn, Malformed, Lost}
 use Rattle.zvt_till.specs.declared.orders.Order.{Order}
@@ -104,4 +104,4 @@ pub record ReadsPiece (log : List Happening) (held piece : List ℕ) (next : Lis
   pub cut : Cut (held ++ piece) messages rest
   pub ends : EndsLine rest end
   pub heard : next ≡ log ++ (map hears messages ++ end)
-  pub goes_on : end ≡ [] → stream ≡ holding rest
+  pub goes_on : end ≡ [] → Holds rest stream

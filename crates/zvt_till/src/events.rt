@@ -3,7 +3,7 @@ ghost use Rattle.std.specs.Prelude.{◌≡◌, ◌++◌, ◌∷◌, [], ℕ, Lis
 ghost use Rattle.zvt_apdu.specs.Message.{Message};
 ghost use Rattle.zvt_apdu.specs.Briefs.{message_of_brief};
 ghost use Rattle.zvt_stream.specs.Apdus.{Spelled};
-ghost use Rattle.zvt_stream.specs.StreamState.{holding};
+ghost use Rattle.zvt_stream.specs.StreamState.{at_start};
 ghost use Rattle.zvt_till.specs.Refusals.{refusal, sent_as};
 ghost use Rattle.zvt_till.specs.Till.{facts_of, new_till, state_after};
 ghost use Rattle.zvt_till.specs.Log.{IsLog, facts_in, line_up};
@@ -12,13 +12,13 @@ ghost use Rattle.zvt_till.specs.Marks.{entries};
 ghost use Rattle.zvt_till.specs.Events.{IsTied, HoldsLine, Follows, IsLogOf, run_settings, sent_over, log_after_order, message_out, ReadsPiece};
 
 use crate::happenings::{Happening, Sent};
-use crate::hearing::heard;
+use crate::hearing::heard_view;
 use crate::messages::{Heard, Original, StatusFacts};
 use crate::orders::{Order, OrderRefusal, Outgoing};
 use crate::till::Till;
 use std::alloc::{AllocError, Global};
 use zvt_bcd::{Amount, Trace};
-use zvt_stream::{Fed, FeedError, Stream};
+use zvt_stream::{FedView, FeedError, Stream};
 
 /// What a run of a till is made of.
 #[derive(Drop)]
@@ -81,7 +81,7 @@ fn send(sent: &mut Vec<u8>, outgoing: &Outgoing) -> Result<(), AllocError>
 
 /// A line that comes up where it was down has a new stream.
 fn start_line(alloc: Global, stream: &mut Stream, up: bool)
-    ensures { stream.new ≡ (if up then stream.old else holding []) }
+    ensures { stream.new ≡ (if up then stream.old else at_start) }
 {
     if !up {
         *stream = Stream::new(alloc);
@@ -159,7 +159,7 @@ impl Run {
     }
 
     /// A piece of a line that is up: its messages, up to where it is malformed.
-    fn piece(&mut self, alloc: Global, stream: &mut Stream, piece: &[u8]) -> Result<(), AllocError>
+    fn piece(&mut self, stream: &mut Stream, piece: &[u8]) -> Result<(), AllocError>
         requires tied { IsTied self.old.log.items self.old.till.state self.old.sent.items }
         requires up { line_up self.old.log.items ≡ true }
         requires runs { stream.old.stopped ≡ false }
@@ -168,15 +168,17 @@ impl Run {
     {
         let mut rest = piece;
         'messages: loop {
-            match stream.feed(alloc, rest) {
-                Ok(Fed::Message { apdu, taken }) => {
-                    let message = heard(&apdu);
-                    drop(apdu);
+            match stream.feed_view(rest) {
+                Ok(FedView::Message { taken }) => {
+                    let Some(apdu) = stream.lent() else {
+                        unreachable!()
+                    };
+                    let message = heard_view(&apdu);
                     self.heard(&message)?;
                     rest = &rest[taken..];
                 }
-                Ok(Fed::More) => return Ok(()),
-                Ok(Fed::Refused { .. }) => {
+                Ok(FedView::More) => return Ok(()),
+                Ok(FedView::Refused { .. }) => {
                     self.malformed()?;
                     return Ok(());
                 }
@@ -201,7 +203,7 @@ impl Run {
             Event::Order(order) => self.order(*order)?,
             Event::Piece(piece) => {
                 if self.till.line_up() {
-                    self.piece(alloc, stream, piece.as_slice())?;
+                    self.piece(stream, piece.as_slice())?;
                 }
             }
             Event::Lost => self.lost()?,

@@ -2,12 +2,12 @@
 ghost use Rattle.std.specs.Prelude.{◌≡◌, ◌+◌, ◌≤◌, OnOk, IfOk, IfErr, MatchResult};
 ghost use Rattle.zvt_till.specs.Line.{Sends, NotSent, Runs, Fails, IsOver, reads_failed, writes_failed};
 
-use crate::hearing::heard;
+use crate::hearing::heard_view;
 use crate::orders::{Order, OrderRefusal};
 use crate::outcomes::Outcome;
 use crate::till::Till;
 use std::alloc::{AllocError, Global};
-use zvt_apdu::Apdu;
+use zvt_apdu::ApduView;
 use zvt_io::{Sink, Source};
 use zvt_stream::{Answers, LineFault, Machine, Stream, Until, pump, send};
 
@@ -26,8 +26,8 @@ impl Machine for Till {
 
     ghost wants_memory = { false };
 
-    fn hear(&mut self, _alloc: Global, apdu: &Apdu) -> Result<Answers, AllocError> {
-        let answer = Till::hear(self, heard(apdu)).send;
+    fn hear(&mut self, _alloc: Global, apdu: &ApduView<'_>) -> Result<Answers, AllocError> {
+        let answer = Till::hear(self, heard_view(apdu)).send;
         let mut answers = Answers::new();
         if let Some(outgoing) = answer {
             let mut buffer = [0; 32];

@@ -5,7 +5,7 @@ use Rattle.zvt_spelling.specs.Cuts.{Cut}
 use Rattle.zvt_spelling.specs.Reading.{shortest}
 use Rattle.zvt_apdu.specs.Grammar.{Spells}
 use Rattle.zvt_stream.proofs.Beginnings.{nothing_begun}
-use Rattle.zvt_stream.specs.StreamState.{StreamState, holding}
+use Rattle.zvt_stream.specs.StreamState.{StreamState, at_start}
 use Rattle.zvt_trace.specs.Lines.{lost_text, truncated_text}
 use Rattle.zvt_trace.specs.Meanings.{Meaning, lost, meaning_of, piece, remark}
 use Rattle.zvt_trace.specs.Trace.{Side, Sides, cut_off, new_line, remarked, running, stopped, with_side}
@@ -18,7 +18,7 @@ use Rattle.zvt_trace.specs.declared.style.Direction.TheVariants.{FromTill, FromT
 use Rattle.zvt_trace.specs.declared.style.Style.{Style}
 
 -- nothing is held by a new stream
-pub new_follows : (state : StreamState) → state ≡ holding [] → Follows state (running [])
+pub new_follows : (state : StreamState) → state ≡ at_start → Follows state (running [])
 new_follows state is = rw is (refl, [], record { spelled = refl; none_whole = nothing_begun.none_whole })
 
 -- nothing is cut off
@@ -47,7 +47,7 @@ some_cut style from (running bytes) state have old new follows some is grown = b
       messages = refl;
       is_bad = refl;
     }
-some_cut style from stopped state have old new follows some is grown = absurd (omega (arith, some, is, ap (λ (s : StreamState). length s.held) follows))
+some_cut style from stopped state have old new follows some is grown = absurd (omega (arith, some, is, ap length follows.0))
 
 -- both sides end
 pub line_ends : (style : Style) (sides : Sides) (old middle new : List ℕ) (a b : ℕ) (tally : Tally) → AddsSideEnd style FromTill sides.till a old middle → AddsSideEnd style FromTerminal sides.terminal b middle new

@@ -9,7 +9,7 @@ use Rattle.zvt_spelling.specs.Cuts.{Spelled}
 use Rattle.zvt_spelling.specs.Reading.{shortest}
 use Rattle.zvt_apdu.specs.Grammar.{Spells}
 use Rattle.zvt_apdu.specs.Message.{Message}
-use Rattle.zvt_stream.specs.StreamState.{StreamState, holding}
+use Rattle.zvt_stream.specs.StreamState.{StreamState, Holds}
 use Rattle.zvt_till.specs.declared.happenings.Happening.{Happening}
 use Rattle.zvt_till.specs.declared.happenings.Happening.TheVariants.{Malformed}
 use Rattle.zvt_trace.specs.Audit.{Begun, happened, messages_part}
@@ -36,18 +36,18 @@ none_yet from bytes start log = record { messages = []; spelled = refl; grown = 
 -- one more message ends in the piece
 pub one_more : (from : Direction) (bytes rest after : List ℕ) (start state next : StreamState) (old new newer : List Happening) (count taken : ℕ) (m : Message)
     → SoFar from bytes rest start state old new count → state.stopped ≡ false
-    → Spells shortest m (state.held ++ take taken rest) → next ≡ holding [] → after ≡ drop taken rest → newer ≡ new ++ cons_option (happened from m) []
+    → Spells shortest m (state.held ++ take taken rest) → Holds [] next → after ≡ drop taken rest → newer ≡ new ++ cons_option (happened from m) []
     → SoFar from bytes after start next old newer (count + 1)
 one_more from bytes rest after start state next old new newer count taken m so going spells is_next is_after grown =
     let one = cons_option (happened from m) [] in
     let all = filter_map (happened from) so.messages in
     record {
       messages = so.messages ++ m ∷ [];
-      spelled = rw (is_next, is_after) (spelled_push (Spells shortest) so.messages m (start.held ++ bytes) (state.held ++ take taken rest) (drop taken rest) (state.held ++ rest) so.spelled (split state.held rest taken) spells);
+      spelled = rw (is_next.0, is_after) (spelled_push (Spells shortest) so.messages m (start.held ++ bytes) (state.held ++ take taken rest) (drop taken rest) (state.held ++ rest) so.spelled (split state.held rest taken) spells);
       grown = grown ∙ ap (λ (log : List Happening). log ++ one) so.grown ∙ append_assoc old all one
           ∙ ap (λ (log : List Happening). old ++ log) (sym (filter_map-append (happened from) so.messages (m ∷ [])));
       counted = omega (arith, so.counted, length-append so.messages (m ∷ []));
-      same = ap (λ (s : StreamState). s.stopped) is_next ∙ sym going ∙ so.same;
+      same = is_next.1 ∙ sym going ∙ so.same;
     }
 
 -- the piece ends

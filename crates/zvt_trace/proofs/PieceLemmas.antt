@@ -8,10 +8,9 @@ use Rattle.zvt_spelling.specs.Cuts.{Cut, Spelled}
 use Rattle.zvt_spelling.specs.Reading.{shortest}
 use Rattle.zvt_apdu.specs.Grammar.{Spells}
 use Rattle.zvt_apdu.specs.Message.{Message}
-use Rattle.zvt_stream.specs.StreamState.{StreamState, holding}
-use Rattle.zvt_stream.specs.StreamState as stream
-use Rattle.zvt_stream.specs.Feeds.{Feeds}
-use Rattle.zvt_stream.specs.declared.feeding.Fed.{Fed}
+use Rattle.zvt_stream.specs.StreamState.{StreamState, Holds, HasRefused, Keeps}
+use Rattle.zvt_stream.specs.Feeds.{Lends}
+use Rattle.zvt_stream.specs.declared.feeding.FedView.{FedView}
 use Rattle.zvt_stream.specs.declared.feeding.FeedError.{FeedError}
 use Rattle.zvt_stream.specs.declared.feeding.FeedError.TheVariants.{Stopped}
 use Rattle.std.specs.Prelude.{Result, Ok, Err}
@@ -60,23 +59,23 @@ split held rest n = ap (λ r. held ++ r) (sym (take-append-drop n rest)) ∙ sym
 -- one more message ends in the piece
 pub one_more : (style : Style) (from : Direction) (bytes rest after : List ℕ) (start state next : StreamState) (old new newer : List ℕ) (count taken : ℕ) (m : Message)
     → SoFar style from bytes rest start state old new count → state.stopped ≡ false
-    → Spells shortest m (state.held ++ take taken rest) → next ≡ holding [] → after ≡ drop taken rest → AddsMessage style from m new newer
+    → Spells shortest m (state.held ++ take taken rest) → Holds [] next → after ≡ drop taken rest → AddsMessage style from m new newer
     → SoFar style from bytes after start next old newer (count + 1)
 one_more style from bytes rest after start state next old new newer count taken m so going spells is_next is_after adds = record {
   messages = so.messages ++ m ∷ [];
   text = so.text ++ adds.one;
-  spelled = rw (is_next, is_after) (spelled_push (Spells shortest) so.messages m (start.held ++ bytes) (state.held ++ take taken rest) (drop taken rest) (state.held ++ rest) so.spelled (split state.held rest taken) spells);
+  spelled = rw (is_next.0, is_after) (spelled_push (Spells shortest) so.messages m (start.held ++ bytes) (state.held ++ take taken rest) (drop taken rest) (state.held ++ rest) so.spelled (split state.held rest taken) spells);
   says = MessagesText-push style from so.messages m so.text adds.one so.says adds.says;
   grown = adds.grown ∙ ap (λ t. t ++ adds.one) so.grown ∙ append_assoc old so.text adds.one;
   counted = omega (arith, so.counted, length-append so.messages (m ∷ []));
-  same = ap (λ (s : StreamState). s.stopped) is_next ∙ sym going ∙ so.same;
-  fresh = λ e. absurd (false≢true (sym (ap (λ (s : StreamState). s.stopped) is_next) ∙ e));
+  same = is_next.1 ∙ sym going ∙ so.same;
+  fresh = λ e. absurd (false≢true (sym is_next.1 ∙ e));
 }
 
 -- the stream stands behind such an ending
 abbrev pub EndsAs : StreamState → List ℕ → Ending → Type 0
-EndsAs next rest begun = next ≡ holding rest
-EndsAs next rest (refused place why) = next ≡ stream.refused
+EndsAs next rest begun = Holds rest next
+EndsAs next rest (refused place why) = HasRefused next
 
 -- the messages that came are those by which the side's bytes grew
 pub arrived : (before bytes rest : List ℕ) (start : StreamState) (messages : List Message) (ending : Ending) → Follows start (running before)
@@ -97,7 +96,7 @@ pub behind : (before bytes rest : List ℕ) (next : StreamState) (messages : Lis
     → Follows next (side_after (before ++ bytes) ending)
 behind before bytes rest next messages begun arrives is =
     let earlier = arrives.earlier in
-    (ap (λ (s : StreamState). s.stopped) is, earlier ++ messages, subst (λ (s : StreamState). Cut (Spells shortest) (before ++ bytes) (earlier ++ messages) s.held) (sym is) arrives.now)
+    (is.1, earlier ++ messages, subst (λ (held : List ℕ). Cut (Spells shortest) (before ++ bytes) (earlier ++ messages) held) (sym is.0) arrives.now)
 behind before bytes rest next messages (refused place why) arrives is = is
 
 -- the piece ends
@@ -107,7 +106,7 @@ pub ends : (style : Style) (from : Direction) (side : Side) (bytes rest : List �
     → tally.messages ≡ count → tally.bad ≡ (ending_part style from ending).bad → Follows start side
     → AddsPiece style from side bytes next tally old newer
 ends style from stopped bytes rest start state next old new newer count ending tally so going none ended is_end grown messages bad follows =
-    absurd (false≢true (sym going ∙ so.same ∙ ap (λ (s : StreamState). s.stopped) follows))
+    absurd (false≢true (sym going ∙ so.same ∙ follows.1))
 ends style from (running before) bytes rest start state next old new newer count ending tally so going none ended is_end grown messages bad follows = record {
   part = both (record { items = so.text; messages = length so.messages; bad = 0 }) (ending_part style from ending);
   after = side_after (before ++ bytes) ending;
@@ -135,7 +134,7 @@ ends style from (running before) bytes rest start state next old new newer count
 
 -- a piece behind a refusal
 pub stays : (style : Style) (from : Direction) (side : Side) (bytes rest : List ℕ) (start state next : StreamState) (old new newer : List ℕ) (count : ℕ) (tally : Tally)
-    → SoFar style from bytes rest start state old new count → state.stopped ≡ true → next ≡ state → newer ≡ new ++ stopped_text style from
+    → SoFar style from bytes rest start state old new count → state.stopped ≡ true → Keeps state next → newer ≡ new ++ stopped_text style from
     → tally.messages ≡ count → tally.bad ≡ 0 → Follows start side
     → AddsPiece style from side bytes next tally old newer
 stays style from (running before) bytes rest start state next old new newer count tally so still kept grown messages bad follows =
@@ -144,7 +143,7 @@ stays style from stopped bytes rest start state next old new newer count tally s
   part = remarked (stopped_text style from);
   after = stopped;
   says = (refl, refl);
-  follows = kept ∙ (so.fresh still).0 ∙ follows;
+  follows = (kept.0 ∙ ap (λ (s : StreamState). s.held) (so.fresh still).0 ∙ follows.0, kept.1 ∙ still);
   grown = grown ∙ ap (λ t. t ++ stopped_text style from) (so.fresh still).1;
   counts = record { messages = messages ∙ (so.fresh still).2; bad = bad };
 }
@@ -152,7 +151,7 @@ stays style from stopped bytes rest start state next old new newer count tally s
 -- ---- what a feed answered
 
 -- a stream that answered had not stopped
-pub going : (stopped : Bool) (answer : Result Fed FeedError) (fed : Fed) → answer ≡ Ok fed → (stopped ≡ true → IsErrOf answer Stopped) → stopped ≡ false
+pub going : (stopped : Bool) (answer : Result FedView FeedError) (fed : FedView) → answer ≡ Ok fed → (stopped ≡ true → IsErrOf answer Stopped) → stopped ≡ false
 going false answer fed is refuses = refl
 going true answer fed is refuses = absurd (ok_is_no_err (sym is ∙ refuses refl))
   where
@@ -160,5 +159,5 @@ going true answer fed is refuses = absurd (ok_is_no_err (sym is ∙ refuses refl
     ok_is_no_err e = cc
 
 -- its answer as it was matched
-pub fed_as : (old new : StreamState) (piece : List ℕ) (answer fed : Fed) → answer ≡ fed → Feeds old piece answer new → Feeds old piece fed new
-fed_as old new piece answer fed is feeds = subst (λ (f : Fed). Feeds old piece f new) is feeds
+pub fed_as : (old new : StreamState) (piece : List ℕ) (answer fed : FedView) → answer ≡ fed → Lends old piece answer new → Lends old piece fed new
+fed_as old new piece answer fed is feeds = subst (λ (f : FedView). Lends old piece f new) is feeds

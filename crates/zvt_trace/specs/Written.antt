@@ -7,7 +7,7 @@ use Rattle.zvt_spelling.specs.Cuts.{Cut}
 use Rattle.zvt_spelling.specs.Reading.{shortest}
 use Rattle.zvt_apdu.specs.Grammar.{Spells}
 use Rattle.zvt_apdu.specs.Message.{Message}
-use Rattle.zvt_stream.specs.StreamState.{StreamState, refused}
+use Rattle.zvt_stream.specs.StreamState.{StreamState, HasRefused}
 use Rattle.zvt_trace.specs.Meanings.{Meaning, meaning_of}
 use Rattle.zvt_trace.specs.Trace.{LineEnds, LineText, MessageText, PieceText, Side, SideEnds, Sides, WholeText, new_line, running, stopped}
 use Rattle.zvt_trace.specs.Walks.{Broken, Counts, Part}
@@ -23,7 +23,7 @@ use Rattle.zvt_trace.specs.declared.style.Style.{Style}
 -- the stream holds what is left of the side's bytes behind their whole messages
 abbrev pub Follows : StreamState → Side → Type 0
 Follows state (running bytes) = (state.stopped ≡ false) × (messages : List Message) × Cut (Spells shortest) bytes messages state.held
-Follows state stopped = state ≡ refused
+Follows state stopped = HasRefused state
 
 pub record Follow (streams : Streams) (sides : Sides) : Type 0 where
   pub till : Follows streams.till sides.till

@@ -1,6 +1,6 @@
 //! What messages are to a log.
-ghost use Rattle.std.specs.Prelude.{◌≡◌, ◌++◌, ◌∷◌, [], ◌≤◌, ℕ, List, length, IfOk, OnOk};
-ghost use Rattle.zvt_apdu.specs.Messages.{message_of};
+ghost use Rattle.std.specs.Prelude.{◌≡◌, ◌++◌, ◌∷◌, [], ◌≤◌, ℕ, List, Some, length, IfOk, OnOk};
+ghost use Rattle.zvt_apdu.specs.Message.{authorisation};
 ghost use Rattle.zvt_trace.specs.Trace.{running};
 ghost use Rattle.zvt_trace.specs.Written.{Follows};
 ghost use Rattle.std.specs.List.{cons_option};
@@ -9,11 +9,12 @@ ghost use Rattle.zvt_trace.specs.Audited.{AddsMessages, Hears};
 
 use crate::fault::Tally;
 use crate::style::Direction;
-use std::alloc::{AllocError, Global};
-use zvt_apdu::{Apdu, Message};
+use std::alloc::AllocError;
+use zvt_apdu::{ApduView, Kind};
 use zvt_bcd::{Amount, Trace};
-use zvt_stream::{Fed, FeedError, Stream};
-use zvt_till::hearing::heard;
+use zvt_field::FieldsView;
+use zvt_stream::{FedView, FeedError, Stream};
+use zvt_till::hearing::heard_view;
 use zvt_till::{Happening, Heard, Original, Sent, StatusFacts};
 
 /// What a piece brought: so many messages, and whether bytes were refused behind them.
@@ -23,34 +24,43 @@ pub(crate) struct Brought {
     pub(crate) refused: bool,
 }
 
-/// The order that a till gives by this message, if it gives one.
-fn ordered(message: &Message) -> Option<Sent>
-    ensures { result ≡ ordered (message_of message.now) }
+/// The authorisation that these fields order: of their amount, where that stands exactly once and is not zero.
+fn paid(fields: &FieldsView<'_>) -> Sent
+    ensures { Some result ≡ ordered (authorisation fields.now) }
 {
-    match message {
-        Message::Registration { .. } => Some(Sent::Register),
-        Message::Authorisation(fields) => match zvt_field::amount(fields) {
-            Some(amount) => Some(Sent::Pay(amount)),
-            None => Some(Sent::Foreign),
+    match fields.amount() {
+        Some(amount) => Sent::Pay(amount),
+        None => Sent::Foreign,
+    }
+}
+
+/// The order that a till gives by this message, if it gives one.
+fn ordered(apdu: &ApduView<'_>) -> Option<Sent>
+    ensures { result ≡ ordered apdu.now }
+{
+    match apdu.kind() {
+        Kind::Registration => Some(Sent::Register),
+        Kind::Authorisation => match apdu.fields() {
+            Some(fields) => Some(paid(&fields)),
+            None => unreachable!(),
         },
-        Message::AbortOrder(_) => Some(Sent::Cancel),
-        Message::EndOfDay { .. } => Some(Sent::CloseDay),
-        Message::Reversal { .. } => Some(Sent::Foreign),
-        Message::Other { .. } => Some(Sent::Foreign),
+        Kind::AbortOrder => Some(Sent::Cancel),
+        Kind::EndOfDay => Some(Sent::CloseDay),
+        Kind::Reversal | Kind::Other => Some(Sent::Foreign),
         _ => None,
     }
 }
 
 /// What happened by this message, if it counts.
-fn happened(from: Direction, apdu: &Apdu) -> Option<Happening>
+fn happened(from: Direction, apdu: &ApduView<'_>) -> Option<Happening>
     ensures { result ≡ happened from apdu.now }
 {
     match from {
-        Direction::FromTill => match ordered(apdu.message()) {
+        Direction::FromTill => match ordered(apdu) {
             Some(order) => Some(Happening::Sent(order)),
             None => None,
         },
-        Direction::FromTerminal => Some(Happening::Heard(heard(apdu))),
+        Direction::FromTerminal => Some(Happening::Heard(heard_view(apdu))),
     }
 }
 
@@ -69,13 +79,15 @@ pub(crate) fn add(log: &mut Vec<Happening>, happening: Happening) -> Result<(), 
     Ok(())
 }
 
-/// Adds what happened by a message, which it gives up.
-fn add_message(log: &mut Vec<Happening>, from: Direction, apdu: Apdu) -> Result<(), AllocError>
-    ensures { OnOk result (log.new.items ≡ log.old.items ++ cons_option (happened from apdu) []) }
+/// Adds what happened by a message.
+fn add_message(
+    log: &mut Vec<Happening>,
+    from: Direction,
+    apdu: &ApduView<'_>,
+) -> Result<(), AllocError>
+    ensures { OnOk result (log.new.items ≡ log.old.items ++ cons_option (happened from apdu.now) []) }
 {
-    let happening = happened(from, &apdu);
-    drop(apdu);
-    match happening {
+    match happened(from, apdu) {
         Some(happening) => add(log, happening),
         None => Ok(()),
     }
@@ -83,7 +95,6 @@ fn add_message(log: &mut Vec<Happening>, from: Direction, apdu: Apdu) -> Result<
 
 /// Adds what happened by the messages that a piece brings.
 fn add_messages(
-    alloc: Global,
     log: &mut Vec<Happening>,
     from: Direction,
     stream: &mut Stream,
@@ -95,20 +106,23 @@ fn add_messages(
     let mut messages = 0;
     let mut rest = bytes;
     'messages: loop {
-        match stream.feed(alloc, rest) {
-            Ok(Fed::Message { apdu, taken }) => {
-                add_message(log, from, apdu)?;
+        match stream.feed_view(rest) {
+            Ok(FedView::Message { taken }) => {
+                let Some(apdu) = stream.lent() else {
+                    unreachable!()
+                };
+                add_message(log, from, &apdu)?;
                 messages += 1;
                 let (_, after) = rest.split_at(taken);
                 rest = after;
             }
-            Ok(Fed::More) => {
+            Ok(FedView::More) => {
                 return Ok(Brought {
                     messages,
                     refused: false,
                 });
             }
-            Ok(Fed::Refused { .. }) => {
+            Ok(FedView::Refused { .. }) => {
                 return Ok(Brought {
                     messages,
                     refused: true,
@@ -135,7 +149,6 @@ pub(crate) struct Hearing {
 /// Adds what happened by a piece of one side. Where it is refused, the message that the other side has begun is cut
 /// off.
 pub(crate) fn hear(
-    alloc: Global,
     log: &mut Vec<Happening>,
     from: Direction,
     stream: &mut Stream,
@@ -146,7 +159,7 @@ pub(crate) fn hear(
     ensures few { IfOk result (λ hearing. hearing.tally.messages ≤ length bytes.now) }
     ensures two { IfOk result (λ hearing. hearing.tally.bad ≤ 2) }
 {
-    let brought = add_messages(alloc, log, from, stream, bytes)?;
+    let brought = add_messages(log, from, stream, bytes)?;
     let messages = brought.messages;
     if brought.refused {
         add(log, Happening::Malformed)?;

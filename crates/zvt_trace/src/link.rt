@@ -43,7 +43,7 @@ impl Link {
     {
         match line {
             Line::Remark => Ok(Tally::none()),
-            Line::Piece { from, bytes } => self.take_piece(alloc, log, *from, bytes),
+            Line::Piece { from, bytes } => self.take_piece(log, *from, bytes),
             Line::Lost => {
                 let bad = self.cut_off();
                 add(log, Happening::Lost)?;
@@ -57,7 +57,6 @@ impl Link {
     /// Adds what happened by a piece of that side.
     fn take_piece(
         &mut self,
-        alloc: Global,
         log: &mut Vec<Happening>,
         from: Direction,
         bytes: &[u8],
@@ -71,8 +70,8 @@ impl Link {
         }
         let Streams { till, terminal } = &mut self.streams;
         let hearing = match from {
-            Direction::FromTill => hear(alloc, log, from, till, terminal, bytes)?,
-            Direction::FromTerminal => hear(alloc, log, from, terminal, till, bytes)?,
+            Direction::FromTill => hear(log, from, till, terminal, bytes)?,
+            Direction::FromTerminal => hear(log, from, terminal, till, bytes)?,
         };
         self.deaf = hearing.refused;
         Ok(hearing.tally)

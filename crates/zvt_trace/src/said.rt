@@ -27,7 +27,7 @@ pub(crate) fn write_said(
 {
     match line {
         Line::Remark => Ok(Tally::none()),
-        Line::Piece { from, bytes } => write_piece(alloc, text, style, streams, *from, bytes),
+        Line::Piece { from, bytes } => write_piece(text, style, streams, *from, bytes),
         Line::Lost => {
             let tally = write_end(text, style, streams)?;
             style::lost(text, style)?;
@@ -39,7 +39,6 @@ pub(crate) fn write_said(
 
 /// Writes what a piece of that side brings.
 fn write_piece(
-    alloc: Global,
     text: &mut String,
     style: Style,
     streams: &mut Streams,
@@ -51,10 +50,8 @@ fn write_piece(
     ensures one { IfOk result (λ tally. tally.bad ≤ 1) }
 {
     match from {
-        Direction::FromTill => piece::write(alloc, text, style, from, &mut streams.till, bytes),
-        Direction::FromTerminal => {
-            piece::write(alloc, text, style, from, &mut streams.terminal, bytes)
-        }
+        Direction::FromTill => piece::write(text, style, from, &mut streams.till, bytes),
+        Direction::FromTerminal => { piece::write(text, style, from, &mut streams.terminal, bytes) }
     }
 }
 

@@ -7,7 +7,7 @@ use Rattle.zvt_stream.proofs.Going.{pumped_starts, pumped_more, broken_more}
 use Rattle.zvt_stream.proofs.engine.run_turns.Goals as goal
 
 pub turns-init : goal.turns-init
-turns-init g c = record { pumped = pumped_starts _ _ _ _ _ c.held.ensures.unfinished; reads = omega arith; waited = refl; reader_failures = refl; writer_failures = refl }
+turns-init g c = record { pumped = pumped_starts _ _ _ _ _ c.held.ensures.unfinished; reads = omega arith; waited = refl; room = omega arith; reader_failures = refl; writer_failures = refl }
 
 pub returns-in_err-sent-clause-err : goal.returns-in_err-sent-clause-err
 returns-in_err-sent-clause-err g c =
@@ -30,6 +30,7 @@ turns-preserved g c =
       pumped = pumped_more before.pumped told.ok.0;
       reads = omega (arith, told.reads, before.reads);
       waited = waited_more g.M.Machine.hears g.M.Machine.is_resting c.args.until c.turns.made (line_state c.args.stream.now c.args.machine.now (g.R.Source.remaining c.args.reader.now) (g.W.Sink.written c.args.writer.now)) (line_ends c.turns.stream c.turns.machine (g.R.Source.remaining c.turns.reader) (g.W.Sink.written c.turns.writer) c.turns.sent) (line_ends c.turn.new.stream c.turn.new.machine (g.R.Source.remaining c.turn.new.reader) (g.W.Sink.written c.turn.new.writer) sent) before.waited (record { sent = c.in_ok-sent.field-0; pumped = told.ok.0; one_read = told.ok.1; some_read = told.ok.2; sending = refl }) not_there;
+      room = omega (arith, told.room, before.room);
       reader_failures = told.reader_failures ∙ before.reader_failures;
       writer_failures = told.writer_failures ∙ before.writer_failures;
     }

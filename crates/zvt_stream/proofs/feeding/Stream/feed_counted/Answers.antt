@@ -1,31 +1,36 @@
-use Rattle.std.proofs.Common.{ℕ, List, true, arith, sym, ap, subst}
-use Rattle.zvt_stream.specs.StreamState.{StreamState}
+use Rattle.std.proofs.Common.{◌+◌, None, arith, sym, ap, subst}
 use Rattle.zvt_stream.specs.Judge.{JudgeState, StandsFor}
-use Rattle.zvt_stream.proofs.JudgedFeeds.{fresh, place_few, ran_out}
+use Rattle.zvt_stream.proofs.JudgedFeeds.{place_few}
+use Rattle.zvt_stream.proofs.LentLemmas.{idle, emptied, feeds_refused}
 use Rattle.zvt_stream.proofs.feeding.Stream.feed_counted.Goals as goal
+
+pub message-requires : goal.message-requires
+message-requires c =
+    let i = idle _ _ _ _ _ _ c.args.self.now c.give_up.new.self c.self.view_is c.give_up.ensures.keeps c.self.invariant in
+    let told = c.in-Ended.ensures.judged c.self.inside.held.bytes (subst (λ (j : JudgeState). StandsFor j c.self.inside.held.bytes) (sym c.again-judge.ensures) i.stands) in
+    told.2
 
 pub invariant_of-self-in-Some : goal.invariant_of-self-in-Some
 invariant_of-self-in-Some c =
-    let s = subst (λ (j : JudgeState). StandsFor j c.self.inside.held) (sym c.again-judge.ensures) c.self.invariant.1 in
-    let told = c.in-Ended.ensures.judged c.self.inside.held s in
-    fresh _ _ _ told.3 (c.in-Some.ensures.some.1)
+    let i = idle _ _ _ _ _ _ c.args.self.now c.give_up.new.self c.self.view_is c.give_up.ensures.keeps c.self.invariant in
+    let told = c.in-Ended.ensures.judged c.self.inside.held.bytes (subst (λ (j : JudgeState). StandsFor j c.self.inside.held.bytes) (sym c.again-judge.ensures) i.stands) in
+    emptied _ _ _ _ i.idle told.3 (c.in-Some.ensures.some.1)
 
 pub overflow_add-place : goal.overflow_add-place
 overflow_add-place c =
-    let s = subst (λ (j : JudgeState). StandsFor j c.self.inside.held) (sym c.again-judge.ensures) c.self.invariant.1 in
-    let told = c.in-Refused.ensures.judged c.self.inside.held s in
+    let i = idle _ _ _ _ _ _ c.args.self.now c.give_up.new.self c.self.view_is c.give_up.ensures.keeps c.self.invariant in
+    let told = c.in-Refused.ensures.judged c.self.inside.held.bytes (subst (λ (j : JudgeState). StandsFor j c.self.inside.held.bytes) (sym c.again-judge.ensures) i.stands) in
     let few = place_few _ _ _ told.1 in
     omega (arith, few, c.len.ensures)
 
 pub invariant_of-self-in-Refused : goal.invariant_of-self-in-Refused
 invariant_of-self-in-Refused c =
-    let s = subst (λ (j : JudgeState). StandsFor j c.self.inside.held) (sym c.again-judge.ensures) c.self.invariant.1 in
-    let told = c.in-Refused.ensures.judged c.self.inside.held s in
-    fresh _ _ _ told.2 c.cut.ensures
+    let i = idle _ _ _ _ _ _ c.args.self.now c.give_up.new.self c.self.view_is c.give_up.ensures.keeps c.self.invariant in
+    let told = c.in-Refused.ensures.judged c.self.inside.held.bytes (subst (λ (j : JudgeState). StandsFor j c.self.inside.held.bytes) (sym c.again-judge.ensures) i.stands) in
+    emptied _ _ _ _ i.idle told.2 (ap (λ h. h.bytes) c.cut.ensures)
 
 pub returns-in-Refused-clause-fed : goal.returns-in-Refused-clause-fed
 returns-in-Refused-clause-fed c =
-    let s = subst (λ (j : JudgeState). StandsFor j c.self.inside.held) (sym c.again-judge.ensures) c.self.invariant.1 in
-    let told = c.in-Refused.ensures.judged c.self.inside.held s in
-    let out = ran_out c.run.new.self c.self.inside.held c.args.piece.now c.in-Refused.at c.in-Refused.why c.self.invariant.0.unfinished told in
-    rw (← c.self.view_is, c.len.ensures) (out.0, out.1, ap (λ (h : List ℕ). let v : StreamState = record { held = h; stopped = true } in v) c.cut.ensures)
+    let i = idle _ _ _ _ _ _ c.args.self.now c.give_up.new.self c.self.view_is c.give_up.ensures.keeps c.self.invariant in
+    let told = c.in-Refused.ensures.judged c.self.inside.held.bytes (subst (λ (j : JudgeState). StandsFor j c.self.inside.held.bytes) (sym c.again-judge.ensures) i.stands) in
+    feeds_refused _ _ _ _ None 0 c.in-Refused.at _ c.in-Refused.why _ _ _ i told (ap (λ n. n + c.in-Refused.at) c.len.ensures) (ap (λ h. h.bytes) c.cut.ensures)

@@ -1,0 +1,132 @@
+-- What is lent is what the bytes spell.
+use Rattle.std.proofs.Common.{◌≡◌, ℕ, ◌+◌, ◌≤◌, min, Bool, true, false, Option, Some, None, IfSome, Result, Ok, Err, is_err, IsOk, OnOk, List, [], ◌++◌, length, take, sym, ◌∙◌, ap, subst, refl, arith}
+use Rattle.std.proofs.Math.Logic.{∥∥₁_elim}
+use Rattle.std.specs.Coded.{Coded-set}
+use Rattle.zvt_spelling.specs.Reading.{padded}
+use Rattle.zvt_apdu.specs.Message.{Message}
+use Rattle.zvt_apdu.specs.MessageCode.{message_code}
+use Rattle.zvt_apdu.specs.Grammar as grammar
+use Rattle.zvt_apdu.specs.Views.{MessageBytes}
+use Rattle.zvt_apdu.proofs.ViewLemmas.{message_loosened, same_message, spelled_bytes}
+use Rattle.zvt_spelling.specs.declared.why.Why.{Why}
+use Rattle.zvt_stream.specs.Apdus.{Spells, Unfinished}
+use Rattle.zvt_stream.specs.Feeds.{Feeds, Lends}
+use Rattle.zvt_stream.specs.Judge.{JudgeState, IsMessage, Ran, StandsFor, start}
+use Rattle.zvt_stream.specs.Lending.{LentBytes, lent_of, held_of}
+use Rattle.zvt_stream.specs.StreamState.{StreamState, IsSound, Keeps}
+use Rattle.zvt_stream.specs.declared.feeding.Fed.TheVariants as fed
+use Rattle.zvt_stream.specs.declared.feeding.FedView.TheVariants as view
+use Rattle.zvt_stream.specs.declared.judging.Run.TheVariants as run
+use Rattle.zvt_stream.proofs.JudgedFeeds.{fresh, ran_out}
+
+-- bytes that a judge found whole
+pub message_bytes : (bytes : List ℕ) → IsMessage bytes → MessageBytes bytes
+message_bytes bytes m = spelled_bytes m.0 bytes m.1
+
+-- a view of the bytes that are lent shows the message that is
+pub lent_is : (lends : Bool) (bytes d : List ℕ) (s : LentBytes lends bytes) (r : Message) → lends ≡ true → d ≡ bytes → ((m : Message) → grammar.Spells padded m d → r ≡ m) → Some r ≡ lent_of lends bytes s
+lent_is true bytes d s r is e x =
+    ap Some (∥∥₁_elim (s refl).1 (Coded-set message_code _ _) (λ p. x (s refl).0 (subst (grammar.Spells padded (s refl).0) (sym e) p)))
+lent_is false bytes d s r is e x = absurd (cc (is))
+
+pub none_lent : (lends : Bool) (bytes : List ℕ) (s : LentBytes lends bytes) → lends ≡ false → None ≡ lent_of lends bytes s
+none_lent false bytes s is = refl
+none_lent true bytes s is = absurd (cc (is))
+
+-- the bytes that are lent are the one spelling of the message that is
+pub lent_spells : (lends : Bool) (bytes : List ℕ) (s : LentBytes lends bytes) → (lends ≡ true → IsMessage bytes) → (m : Message) → lent_of lends bytes s ≡ Some m → Spells m bytes
+lent_spells true bytes s whole m is =
+    let w : IsMessage bytes = whole refl in
+    let same : (s refl).0 ≡ w.0 = same_message w.0 bytes ∣ message_loosened w.0 bytes w.1 ∣₁ (s refl) in
+    subst (λ (k : Message). Spells k bytes) (sym same ∙ some_is is) w.1
+  where
+    some_is : {a b : Message} → Some a ≡ Some b → a ≡ b
+    some_is e = cc (e)
+lent_spells false bytes s whole m is = absurd (cc (is))
+
+pub some_spelled : (lends : Bool) (bytes : List ℕ) (s : LentBytes lends bytes) → (lends ≡ true → IsMessage bytes) → IfSome (lent_of lends bytes s) (λ m. Spells m bytes × (true ≡ true))
+some_spelled true bytes s whole = (lent_spells true bytes s whole (s refl).0 refl, refl)
+some_spelled false bytes s whole = tt
+
+-- A stream that lends nothing holds all its bytes.
+pub record Idle (lends : Bool) (bytes : List ℕ) (judge : JudgeState) (old : StreamState) : Type 0 where
+  pub idle : lends ≡ false
+  pub is_held : bytes ≡ old.held
+  pub unfinished : Unfinished bytes
+  pub stands : StandsFor judge bytes
+
+pub idle : (lends stopped : Bool) (bytes : List ℕ) (s : LentBytes lends bytes) (room : ℕ) (judge : JudgeState) (old now : StreamState)
+    → (let state : StreamState = record { held = held_of lends bytes; stopped = stopped; lent = lent_of lends bytes s; room = room } in state) ≡ now → Keeps old now
+    → IsSound (held_of lends bytes) stopped × StandsFor judge (held_of lends bytes) × (lends ≡ true → IsMessage bytes) → Idle lends bytes judge old
+idle false stopped bytes s room judge old now is keeps sound = record { idle = refl; is_held = ap (λ (t : StreamState). t.held) is ∙ keeps.0; unfinished = sound.0.unfinished; stands = sound.1 }
+idle true stopped bytes s room judge old now is keeps sound = absurd (some_is_none (ap (λ (t : StreamState). t.lent) is ∙ keeps.2))
+  where
+    some_is_none : {m : Message} → Some m ≡ None → ⊥
+    some_is_none e = cc
+
+-- a stream that holds nothing, with a new judge
+pub emptied : (lends stopped : Bool) (bytes : List ℕ) (judge : JudgeState) → lends ≡ false → judge ≡ start → bytes ≡ [] → IsSound (held_of lends bytes) stopped × StandsFor judge (held_of lends bytes) × (lends ≡ true → IsMessage bytes)
+emptied false stopped bytes judge is e f = let new = fresh judge bytes stopped e f in (new.0, new.1, λ lent. absurd cc)
+emptied true stopped bytes judge is e f = absurd (cc (is))
+
+-- a stream that holds more
+pub grown : (lends stopped : Bool) (bytes : List ℕ) (judge : JudgeState) → lends ≡ false → stopped ≡ false → StandsFor judge bytes → IsSound (held_of lends bytes) stopped × StandsFor judge (held_of lends bytes) × (lends ≡ true → IsMessage bytes)
+grown false stopped bytes judge is runs s = (record { unfinished = s.unfinished; none_held = λ e. absurd (true_is_false (sym e ∙ runs)) }, s, λ lent. absurd cc)
+  where
+    true_is_false : true ≡ false → ⊥
+    true_is_false e = cc
+grown true stopped bytes judge is runs s = absurd (cc (is))
+
+-- a stream that lends
+pub lending : (stopped : Bool) (bytes : List ℕ) (judge : JudgeState) → stopped ≡ false → judge ≡ start → IsMessage bytes → IsSound [] stopped × StandsFor judge [] × (true ≡ true → IsMessage bytes)
+lending stopped bytes judge runs e whole = let new = fresh judge [] stopped e refl in (new.0, new.1, λ lent. whole)
+
+-- what a feed gives where no message ended
+pub feeds_more : (lends stopped : Bool) (bytes piece after : List ℕ) (lent : Option Message) (room : ℕ) (judge new : JudgeState) (old : StreamState)
+    → Idle lends bytes judge old → StandsFor new (bytes ++ piece) → after ≡ bytes ++ piece → stopped ≡ false
+    → Feeds old piece fed.More (let state : StreamState = record { held = held_of lends after; stopped = stopped; lent = lent; room = room } in state)
+feeds_more false stopped bytes piece after lent room judge new old i s is runs =
+    let same : bytes ++ piece ≡ old.held ++ piece = ap (λ (b : List ℕ). b ++ piece) i.is_held in
+    (subst Unfinished same s.unfinished, (is ∙ same, runs))
+feeds_more true stopped bytes piece after lent room judge new old i s is runs = absurd (cc (i.idle))
+
+-- and where bytes were refused
+pub feeds_refused : (lends : Bool) (bytes piece after : List ℕ) (lent : Option Message) (room at place : ℕ) (why : Why) (judge new : JudgeState) (old : StreamState)
+    → Idle lends bytes judge old → Ran bytes piece (run.Refused at why) new → place ≡ length bytes + at → after ≡ []
+    → Feeds old piece (fed.Refused place why) (let state : StreamState = record { held = held_of lends after; stopped = true; lent = lent; room = room } in state)
+feeds_refused false bytes piece after lent room at place why judge new old i ran is none =
+    let out = ran_out new bytes piece at why i.unfinished ran in
+    rw (← i.is_held, is) (out.0, out.1, (none, refl))
+feeds_refused true bytes piece after lent room at place why judge new old i ran is none = absurd (cc (i.idle))
+
+-- and where a message ended, which is lent
+pub lends_message : (stopped : Bool) (bytes piece after : List ℕ) (s : LentBytes true after) (room taken : ℕ) (judge new : JudgeState) (lends : Bool) (old : StreamState)
+    → Idle lends bytes judge old → Ran bytes piece (run.Ended taken) new → after ≡ bytes ++ take taken piece → stopped ≡ false
+    → Lends old piece (view.Message taken) (let state : StreamState = record { held = []; stopped = stopped; lent = lent_of true after s; room = room } in state)
+lends_message stopped bytes piece after s room taken judge new lends old i ran is runs =
+    let whole : IsMessage after = subst IsMessage (sym is) ran.2 in
+    let spells : Spells whole.0 (old.held ++ take taken piece) = subst (Spells whole.0) (is ∙ ap (λ (b : List ℕ). b ++ take taken piece) i.is_held) whole.1 in
+    (whole.0, (ran.0, ran.1, spells, (refl, runs)), ap Some (same_message whole.0 after ∣ message_loosened whole.0 after whole.1 ∣₁ (s refl)))
+
+-- a feed whose message is the one that is shown
+pub feeds_shown : (old new : StreamState) (piece : List ℕ) (taken : ℕ) (shown : Option Message) (apdu : Message) → Lends old piece (view.Message taken) new → shown ≡ new.lent → shown ≡ Some apdu → Feeds old piece (fed.Message apdu taken) new
+feeds_shown old new piece taken shown apdu lends is found = subst (λ (m : Message). Feeds old piece (fed.Message m taken) new) (some_is (sym lends.2 ∙ sym is ∙ found)) lends.1
+  where
+    some_is : {a b : Message} → Some a ≡ Some b → a ≡ b
+    some_is e = cc (e)
+
+-- what a growth that went well has made
+pub went_well : {T E : Type 0} (r : Result T E) (failed : Bool) (P : Type 0) → failed ≡ is_err r → failed ≡ false → OnOk r P → P
+went_well (Ok x) failed P is not p = p
+went_well (Err e) failed P is not p = absurd (true_is_false (sym is ∙ not))
+  where
+    true_is_false : true ≡ false → ⊥
+    true_is_false e = cc
+
+pub sure : {T E : Type 0} (r : Result T E) (P : Type 0) → IsOk r → OnOk r P → P
+sure (Ok x) P ok p = p
+sure (Err e) P ok p = absurd (cc (ok))
+
+-- the room that was made is enough for what begins a message, or is one
+pub room_for : (before more room n : ℕ) → min (before + more) 65540 ≤ room → n ≤ more → before + n ≤ 65540 → before + n ≤ room
+room_for before more room n made few all = omega (arith, made, few, all)

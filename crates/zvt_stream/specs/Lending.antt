@@ -1,0 +1,28 @@
+-- What a stream keeps of a line, and what it lends of it.
+use Rattle.std.specs.Prelude.{◌≡◌, ℕ, Bool, true, false, Option, Some, None, List, []}
+use mathlib.Core.HLevel.{Π_prop}
+use Rattle.std.proofs.Common.{refl}
+use Rattle.zvt_apdu.specs.Message.{Message}
+use Rattle.zvt_apdu.specs.Views.{MessageBytes, message_once}
+
+-- The bytes that are kept, and how many there is room for before memory is asked for.
+pub record HeldState : Type 0 where
+  pub bytes : List ℕ
+  pub room : ℕ
+
+-- Where the bytes are lent they spell a message.
+abbrev pub LentBytes : (lends : Bool) → List ℕ → Type 0
+LentBytes lends bytes = lends ≡ true → MessageBytes bytes
+
+pub lent_once : (lends : Bool) (bytes : List ℕ) → (a b : LentBytes lends bytes) → a ≡ b
+lent_once lends bytes = Π_prop (λ _. message_once bytes)
+
+-- The message that is lent.
+abbrev pub lent_of : (lends : Bool) → (bytes : List ℕ) → LentBytes lends bytes → Option Message
+lent_of true bytes spelled = Some (spelled refl).0
+lent_of false bytes spelled = None
+
+-- What is held of an unfinished message: nothing where the bytes are lent.
+abbrev pub held_of : (lends : Bool) → List ℕ → List ℕ
+held_of true bytes = []
+held_of false bytes = bytes
