@@ -13,7 +13,7 @@ use Rattle.zvt_stream.specs.Feeds.{Lends}
 use Rattle.zvt_stream.specs.declared.feeding.FedView.{FedView}
 use Rattle.zvt_stream.specs.declared.feeding.FeedError.{FeedError}
 use Rattle.zvt_stream.specs.declared.feeding.FeedError.TheVariants.{Stopped}
-use Rattle.std.specs.Prelude.{Result, Ok, Err}
+use Rattle.std.specs.Prelude.{Result, Ok, Err, Option, Some, IfSome, IsSome}
 use Rattle.std.specs.Result.{IsErrOf}
 use Rattle.zvt_trace.specs.Lines.{stopped_text}
 use Rattle.zvt_trace.specs.Trace.{Arrives, Ending, EndsIn, MessageText, MessagesText, Side, begun, ending_part, running, refused, remarked, side_after, stopped}
@@ -161,3 +161,10 @@ going true answer fed is refuses = absurd (ok_is_no_err (sym is ∙ refuses refl
 -- its answer as it was matched
 pub fed_as : (old new : StreamState) (piece : List ℕ) (answer fed : FedView) → answer ≡ fed → Lends old piece answer new → Lends old piece fed new
 fed_as old new piece answer fed is feeds = subst (λ (f : FedView). Lends old piece f new) is feeds
+
+-- the bytes that are lent are the spelling of the message that is
+pub lent_spelling : {A : Type 0} (now : A → List ℕ) (shown : Option A) (bytes : A) (lent : Option Message) (m : Message) → lent ≡ Some m
+    → IfSome lent (λ n. IfSome shown (λ b. Spells shortest n (now b)) × IsSome shown) → shown ≡ Some bytes → Spells shortest m (now bytes)
+lent_spelling now shown bytes lent m is told found =
+    let here = subst (λ l. IfSome l (λ n. IfSome shown (λ b. Spells shortest n (now b)) × IsSome shown)) is told in
+    subst (λ s. IfSome s (λ b. Spells shortest m (now b))) found here.0

@@ -1,4 +1,5 @@
 use Rattle.std.proofs.Common.{Err, ap, arith, refl}
+use Rattle.zvt_stream.proofs.LentLemmas.{feeds_shown}
 use Rattle.zvt_trace.specs.Trace.{begun, refused}
 use Rattle.zvt_trace.proofs.HeardLemmas.{ends, never, one_more}
 use Rattle.zvt_trace.proofs.PieceLemmas.{fed_as, going}
@@ -8,9 +9,9 @@ use Rattle.zvt_trace.proofs.happened.add_messages.Goals as goal
 pub messages-preserved : goal.messages-preserved
 messages-preserved c =
     let lends = fed_as c.messages.stream c.feed_view.new.self c.messages.rest.now c.in-Ok-Message.field-0 (fed.Message c.in-Ok-Message.taken) c.in-Ok-Message.field-0-is c.in-Ok-Message.ensures.fed in
-    let feeds = lends.1 in
+    let feeds = feeds_shown c.messages.stream c.feed_view.new.self _ c.in-Ok-Message.taken c.lent.result c.in-Some.apdu lends c.lent.ensures c.in-Some.is in
     record {
-      so_far = one_more _ _ c.messages.rest.now _ _ c.messages.stream c.feed_view.new.self _ _ _ _ c.in-Ok-Message.taken lends.0 c.messages.invariant.so_far
+      so_far = one_more _ _ c.messages.rest.now _ _ c.messages.stream c.feed_view.new.self _ _ _ _ c.in-Ok-Message.taken c.in-Some.apdu c.messages.invariant.so_far
           (going _ _ _ c.in-Ok-Message.is c.feed_view.ensures.stopped) feeds.2 feeds.3 c.split_at.ensures.back c.in_ok-add_message-in-Ok-Message.ensures;
       few = omega (arith, feeds.0, feeds.1, c.split_at.ensures.back_len);
     }

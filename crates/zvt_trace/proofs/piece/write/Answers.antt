@@ -1,16 +1,22 @@
 use Rattle.std.proofs.Common.{Err, ap, arith, refl, append-nil, sym}
 use Rattle.zvt_trace.specs.Trace.{begun, refused}
-use Rattle.zvt_trace.proofs.PieceLemmas.{ends, fed_as, going, one_more, stays}
+use Rattle.zvt_trace.proofs.PieceLemmas.{ends, fed_as, going, lent_spelling, one_more, stays}
 use Rattle.zvt_stream.specs.declared.feeding.FedView.TheVariants as fed
 use Rattle.zvt_trace.proofs.piece.write.Goals as goal
+
+pub write-requires : goal.write-requires
+write-requires c =
+    let lends = fed_as c.messages.stream c.feed_view.new.self c.messages.rest.now c.in-Ok-Message.field-0 (fed.Message c.in-Ok-Message.taken) c.in-Ok-Message.field-0-is c.in-Ok-Message.ensures.fed in
+    (lends.0, lent_spelling (λ b. b.now) c.lent_bytes.result c.in-Some.spelled _ lends.0 lends.2 c.lent_bytes.ensures.some c.in-Some.is)
 
 pub messages-preserved : goal.messages-preserved
 messages-preserved c =
     let lends = fed_as c.messages.stream c.feed_view.new.self c.messages.rest.now c.in-Ok-Message.field-0 (fed.Message c.in-Ok-Message.taken) c.in-Ok-Message.field-0-is c.in-Ok-Message.ensures.fed in
     let feeds = lends.1 in
+    let spells = lent_spelling (λ b. b.now) c.lent_bytes.result c.in-Some.spelled _ lends.0 lends.2 c.lent_bytes.ensures.some c.in-Some.is in
     record {
       so_far = one_more _ _ _ c.messages.rest.now _ _ c.messages.stream c.feed_view.new.self _ _ _ _ c.in-Ok-Message.taken lends.0 c.messages.invariant.so_far
-          (going _ _ _ c.in-Ok-Message.is c.feed_view.ensures.stopped) feeds.2 feeds.3 c.split_at.ensures.back c.in_ok-write_message-in-Ok-Message.ensures;
+          (going _ _ _ c.in-Ok-Message.is c.feed_view.ensures.stopped) feeds.2 feeds.3 c.split_at.ensures.back (c.in_ok-write-in-Ok-Message.ensures lends.0 spells);
       few = omega (arith, feeds.0, feeds.1, c.split_at.ensures.back_len);
     }
 
