@@ -4,6 +4,7 @@ ghost use Rattle.std.specs.Prelude.{◌≡◌, ◌-◌, [], ◌∷◌, false, No
 
 use std::alloc::{AllocError, Global};
 use std::io::{self, Read};
+use std::test::Fail;
 use zvt_apdu::ApduView;
 use zvt_io::{Failed, GhostCount, Over, Sink, Source};
 use zvt_spelling::Why;
@@ -101,7 +102,7 @@ where
 type Row<'a> = (&'a [u8], Course, &'a [u8], Result<(), LineFault>, [u8; 3]);
 
 #[test]
-fn lines_go_as_far_as_they_are_to(rt: HostRuntime) {
+fn lines_go_as_far_as_they_are_to(rt: HostRuntime) -> Result<(), Fail> {
     let sent = Course {
         until: Until::Sent,
         ..REST
@@ -117,18 +118,20 @@ fn lines_go_as_far_as_they_are_to(rt: HostRuntime) {
         (&half, REST, &ACK, Err(ended), [1, 1, 0]),
     ];
     for (coming, course, written, ended, machine) in rows {
-        let mut writer = Over::new(Vec::new(rt.alloc()));
-        let mut stream = Stream::new(rt.alloc());
-        let found = run(
-            rt.alloc(),
-            Over::new(coming),
-            &mut writer,
-            &mut stream,
-            course,
-        );
-        assert_eq!(rt; found, (ended, machine), "{coming:?}");
-        assert_eq!(rt; writer.inner.as_slice(), written, "{coming:?}");
+        for mut stream in [Stream::new(rt.alloc()), Stream::reserved(rt.alloc())?] {
+            let mut writer = Over::new(Vec::new(rt.alloc()));
+            let found = run(
+                rt.alloc(),
+                Over::new(coming),
+                &mut writer,
+                &mut stream,
+                course,
+            );
+            assert_eq!(rt; found, (ended, machine), "{coming:?}");
+            assert_eq!(rt; writer.inner.as_slice(), written, "{coming:?}");
+        }
     }
+    Ok(())
 }
 
 #[test]

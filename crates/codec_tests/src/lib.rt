@@ -17,6 +17,8 @@ mod fields;
 #[cfg(test)]
 mod judging;
 #[cfg(test)]
+mod lending;
+#[cfg(test)]
 mod message_fields;
 #[cfg(test)]
 mod message_views;

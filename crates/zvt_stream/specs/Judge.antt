@@ -94,6 +94,11 @@ PassesOver at left to less count =
     (outer bytes more : List ℕ) → AreBytes more → length more ≡ count →
     StandsFor (record { at = at; left = left; outer = outer }) bytes → StandsFor (record { at = to; left = less; outer = outer }) (bytes ++ more)
 
+-- These bytes do.
+abbrev pub Passes : At → (left : ℕ) → (to : At) → (less : ℕ) → (more : List ℕ) → Type 0
+Passes at left to less more =
+    (outer bytes : List ℕ) → StandsFor (record { at = at; left = left; outer = outer }) bytes → StandsFor (record { at = to; left = less; outer = outer }) (bytes ++ more)
+
 -- The judge has taken this front of more bytes, and no message ends in it.
 abbrev pub Skips : (old new : JudgeState) → (more : List ℕ) → Type 0
 Skips old new more = (bytes : List ℕ) → StandsFor old bytes → StandsFor new (bytes ++ more)

@@ -1,9 +1,10 @@
 //! The judge of a line's bytes, each looked at once.
 
 ghost use Rattle.std.specs.Prelude.{◌≡◌, ℕ, ◌+◌, ◌<◌, ◌≤◌, List, [], ◌∷◌, ◌++◌, false, length, take, reverse, IfSome};
+ghost use Rattle.zvt_bcd.specs.Digits.{AreDigits};
 ghost use Rattle.zvt_spelling.specs.Reading.{shortest};
 ghost use Rattle.zvt_stream.specs.Standing.{Where, Between};
-ghost use Rattle.zvt_stream.specs.Judge.{start, StandsFor, HasLevels, Stepped, Ran, taken_by, Closes, Settles, Judges, PassesOver, Skips};
+ghost use Rattle.zvt_stream.specs.Judge.{start, StandsFor, HasLevels, Stepped, Ran, taken_by, Closes, Settles, Judges, Passes, PassesOver, Skips};
 ghost use Rattle.zvt_stream.specs.Moves.{IsReady};
 
 use crate::moves::{At, Move, judge_byte};
@@ -40,7 +41,7 @@ pub(crate) struct Goes {
     left: usize,
 }
 
-/// What bytes without tests leave of a content, and how many they are.
+/// What bytes that end nothing lead to, and how many they are.
 #[derive(Clone, Copy)]
 pub(crate) struct Passed {
     at: At,
@@ -127,13 +128,13 @@ impl Judge {
         }
     }
 
-    // Takes the bytes at the front that have no tests and end nothing: how many they are.
+    // Takes the bytes at the front that end nothing and need no step of their own: how many they are.
     fn skip(&mut self, steps: &mut Steps, bytes: &[u8]) -> usize
         ensures few { result ≤ length bytes.now }
         ensures judged { Skips self.old self.new (take result bytes.now) }
         ensures count { steps.new.judged.count ≡ steps.old.judged.count + result }
     {
-        match pass(self.at, self.left, bytes.len()) {
+        match pass(self.at, self.left, bytes) {
             Some(passed) => {
                 self.at = passed.at;
                 self.left = passed.left;
@@ -144,7 +145,8 @@ impl Judge {
         }
     }
 
-    /// Judges bytes up to the end of a message. Bytes of a content that have no tests are taken at once.
+    /// Judges bytes up to the end of a message. Both control bytes, and those of a content but its last one, are taken at
+    /// once.
     pub fn run(&mut self, steps: &mut Steps, bytes: &[u8]) -> Run
         ensures judged { (held : List ℕ) → StandsFor self.old held → Ran held bytes.now result self.new }
         ensures count { steps.new.judged.count ≡ steps.old.judged.count + taken_by bytes.now result }
@@ -186,20 +188,33 @@ fn judge_in(
     }
 }
 
-/// The most bytes that are next without tests and end nothing, at most so many: none where there is no such byte.
-fn pass(at: At, left: usize, most: usize) -> Option<Passed>
+/// The bytes at the front that end nothing and need no step of their own: none where there is no such byte.
+fn pass(at: At, left: usize, bytes: &[u8]) -> Option<Passed>
     requires { IsReady at left }
-    ensures { IfSome result (λ passed. (passed.count ≤ most) × PassesOver at left passed.at passed.left passed.count) }
+    ensures { IfSome result (λ passed. (passed.count ≤ length bytes.now) × Passes at left passed.at passed.left (take passed.count bytes.now)) }
 {
     match at {
-        At::Payload => pass_payload(left, most),
-        At::Content { digits, more } => {
-            if digits {
-                return None;
-            }
-            pass_content(more, left, most)
-        }
-        At::Object { more } => pass_object(more, left, most),
+        At::FirstControl => pass_control(left, bytes),
+        At::Payload => pass_payload(left, bytes.len()),
+        At::Content { digits, more } => pass_content(digits, more, left, bytes),
+        At::Object { more } => pass_object(more, left, bytes.len()),
+        _ => None,
+    }
+}
+
+/// Both control bytes, where they stand there.
+fn pass_control(left: usize, bytes: &[u8]) -> Option<Passed>
+    ensures { IfSome result (λ passed. (passed.count ≤ length bytes.now) × Passes At.FirstControl left passed.at passed.left (take passed.count bytes.now)) }
+{
+    match bytes {
+        [high, low, ..] => Some(Passed {
+            at: At::FirstSize {
+                high: *high,
+                low: *low,
+            },
+            left,
+            count: 2,
+        }),
         _ => None,
     }
 }
@@ -219,23 +234,44 @@ fn pass_payload(left: usize, most: usize) -> Option<Passed>
     })
 }
 
-fn pass_content(more: usize, left: usize, most: usize) -> Option<Passed>
+/// Bytes of a content but its last one: of digits, those up to the first byte that is none.
+fn pass_content(digits: bool, more: usize, left: usize, bytes: &[u8]) -> Option<Passed>
     requires some { 0 < more }
     requires room { more ≤ left }
-    ensures { IfSome result (λ passed. (passed.count ≤ most) × PassesOver (At.Content false more) left passed.at passed.left passed.count) }
+    ensures { IfSome result (λ passed. (passed.count ≤ length bytes.now) × Passes (At.Content digits more) left passed.at passed.left (take passed.count bytes.now)) }
 {
-    let count = (more - 1).min(most);
+    let most = (more - 1).min(bytes.len());
+    let count = if digits {
+        digits_first(&bytes[..most])
+    } else {
+        most
+    };
     if count == 0 {
         return None;
     }
     Some(Passed {
         at: At::Content {
-            digits: false,
+            digits,
             more: more - count,
         },
         left: left - count,
         count,
     })
+}
+
+/// How many bytes at the front are two digits each.
+fn digits_first(bytes: &[u8]) -> usize
+    ensures few { result ≤ length bytes.now }
+    ensures digits { AreDigits (take result bytes.now) }
+{
+    let mut count = 0;
+    while count < bytes.len() {
+        if bytes[count] / 16 > 9 || bytes[count] % 16 > 9 {
+            return count;
+        }
+        count += 1;
+    }
+    count
 }
 
 fn pass_object(more: usize, left: usize, most: usize) -> Option<Passed>

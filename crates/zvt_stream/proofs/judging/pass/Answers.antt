@@ -1,10 +1,16 @@
+use Rattle.std.proofs.Common.{arith}
+use Rattle.zvt_apdu.proofs.DataMoves.{are_bytes}
+use Rattle.zvt_stream.proofs.PassLemmas.{front_passes}
 use Rattle.zvt_stream.proofs.judging.pass.Goals as goal
 
-pub returns-in-Payload : goal.returns-in-Payload
-returns-in-Payload c = rw c.in-Payload.is c.pass_payload.ensures
+pub returns-in-FirstControl : goal.returns-in-FirstControl
+returns-in-FirstControl c = rw c.in-FirstControl.is c.pass_control.ensures
 
-pub returns-else-digits : goal.returns-else-digits
-returns-else-digits c = rw (c.in-Content.is, c.if-digits.false) c.pass_content.ensures
+pub returns-in-Payload : goal.returns-in-Payload
+returns-in-Payload c = rw c.in-Payload.is (front_passes _ _ _ c.args.bytes.now (are_bytes c.args.bytes.now (λ i. omega (arith, c.type_inv.bytes i))) c.pass_payload.ensures)
+
+pub returns-in-Content : goal.returns-in-Content
+returns-in-Content c = rw c.in-Content.is c.pass_content.ensures
 
 pub returns-in-Object : goal.returns-in-Object
-returns-in-Object c = rw c.in-Object.is c.pass_object.ensures
+returns-in-Object c = rw c.in-Object.is (front_passes _ _ _ c.args.bytes.now (are_bytes c.args.bytes.now (λ i. omega (arith, c.type_inv.bytes i))) c.pass_object.ensures)

@@ -1,0 +1,107 @@
+//! Messages that a stream lends, and the bytes that it keeps, worked by hand.
+
+use std::alloc::{AllocError, Global};
+use std::process::Abort;
+use std::test::Fail;
+use zvt_apdu::Kind;
+use zvt_spelling::Why;
+use zvt_stream::{Fed, FedView, FeedError, Held, LONGEST, Stream};
+
+const STATUS: [u8; 19] = [
+    0x04, 0x0F, 0x10, 0x27, 0x00, 0x04, 0x00, 0x00, 0x00, 0x00, 0x12, 0x34, 0x0B, 0x00, 0x00, 0x17,
+    0x87, 0x00, 0x05,
+];
+
+const ACK: [u8; 3] = [0x80, 0x00, 0x00];
+
+/// The stream lends this message, and holds nothing.
+fn lends(rt: &impl Abort, stream: &Stream, kind: Kind, bytes: &[u8]) {
+    let Some(apdu) = stream.lent() else {
+        panic!(rt; "nothing is lent");
+    };
+    assert_eq!(rt; apdu.kind(), kind);
+    assert_eq!(rt; stream.lent_bytes(), Some(bytes));
+    assert_eq!(rt; stream.held(), 0);
+    assert_eq!(rt; stream.finish(), Ok(()));
+}
+
+#[test]
+fn a_message_is_lent_at_any_cut(rt: HostRuntime) -> Result<(), Fail> {
+    for cut in 1..19 {
+        let mut stream = Stream::new(rt.alloc());
+        let (first, last) = STATUS.split_at(cut);
+        assert_eq!(rt; stream.feed_view(first)?, FedView::More);
+        assert!(rt; stream.lent().is_none());
+        assert_eq!(rt; stream.held(), cut);
+        assert_eq!(rt; stream.feed_view(last)?, FedView::Message { taken: 19 - cut });
+        lends(&rt, &stream, Kind::Status, &STATUS);
+    }
+    Ok(())
+}
+
+#[test]
+fn the_next_feed_gives_it_up(rt: HostRuntime) -> Result<(), Fail> {
+    let mut stream = Stream::new(rt.alloc());
+    assert_eq!(rt; stream.feed_view(&ACK)?, FedView::Message { taken: 3 });
+    lends(&rt, &stream, Kind::Ack, &ACK);
+    assert_eq!(rt; stream.feed_view(&STATUS)?, FedView::Message { taken: 19 });
+    lends(&rt, &stream, Kind::Status, &STATUS);
+    let fed = stream.feed(rt.alloc(), &ACK)?;
+    assert!(rt; matches!(fed, Fed::Message { taken: 3, .. }));
+    assert_eq!(rt; stream.lent_bytes(), None);
+    Ok(())
+}
+
+#[test]
+fn refused_where_it_lends(rt: HostRuntime) -> Result<(), Fail> {
+    let mut stream = Stream::new(rt.alloc());
+    assert_eq!(rt; stream.feed_view(&ACK)?, FedView::Message { taken: 3 });
+    let refused = FedView::Refused {
+        place: 3,
+        why: Why::DoesNotFit,
+    };
+    assert_eq!(rt; stream.feed_view(&[0x06, 0x0F, 0x03, 0x06])?, refused);
+    assert_eq!(rt; stream.lent_bytes(), None);
+    assert_eq!(rt; stream.feed_view(&ACK), Err(FeedError::Stopped));
+    Ok(())
+}
+
+/// The longest line to print, and an acknowledgement behind it.
+fn longest(alloc: Global) -> Result<Vec<u8>, AllocError> {
+    let mut line = Vec::new(alloc);
+    line.extend_from_slice(&[0x06, 0xD1, 0xFF, 0xFF, 0xFF])?;
+    line.resize(LONGEST, 0x20)?;
+    line.extend_from_slice(&ACK)?;
+    Ok(line)
+}
+
+#[test]
+fn the_longest_message_on_a_reserved_stream(rt: HostRuntime) -> Result<(), Fail> {
+    let line = longest(rt.alloc())?;
+    let mut stream = Stream::reserved(rt.alloc())?;
+    for cut in [1, 65_539] {
+        assert!(rt; cut <= line.len());
+        let (first, second) = line.split_at(cut);
+        assert_eq!(rt; stream.feed_view(first)?, FedView::More);
+        let Ok(FedView::Message { taken }) = stream.feed_view(second) else {
+            panic!(rt; "no message ends in the second piece");
+        };
+        assert_eq!(rt; taken, LONGEST - cut);
+        assert_eq!(rt; stream.lent_bytes().map_or(0, <[u8]>::len), LONGEST);
+    }
+    Ok(())
+}
+
+#[test]
+fn held_bytes(rt: HostRuntime) -> Result<(), Fail> {
+    let mut held = Held::reserved(rt.alloc())?;
+    held.make_room(LONGEST)?;
+    for byte in STATUS {
+        held.add(byte)?;
+    }
+    assert_eq!(rt; held.len(), 19);
+    held.cut(2);
+    held.add_all(&STATUS[2..])?;
+    assert_eq!(rt; held.len(), 19);
+    Ok(())
+}
