@@ -5,7 +5,7 @@ use std::test::Fail;
 use zvt_apdu::scan;
 use zvt_bcd::Amount;
 use zvt_spelling::Scan;
-use zvt_stream::Answers;
+use zvt_stream::{Answers, FedView, Stream};
 use zvt_term::{Input, MOST_ROWS, Row, Terminal, Verdict};
 
 const ACK: [u8; 3] = [0x80, 0x00, 0x00];
@@ -63,13 +63,13 @@ fn step(
     verdict: Verdict,
     bytes: &[u8],
 ) -> Result<Answers, Fail> {
-    let Scan::Whole((apdu, taken)) = scan(alloc, bytes)? else {
+    let mut stream = Stream::new(alloc);
+    let taken = bytes.len();
+    assert_eq!(rt; stream.feed_view(bytes)?, FedView::Message { taken });
+    let Some(apdu) = stream.lent() else {
         panic!(rt; "a message: {bytes:?}");
     };
-    assert_eq!(rt; taken, bytes.len());
-    let answers = terminal.step(Input::Message(&apdu), verdict);
-    drop(apdu);
-    Ok(answers?)
+    Ok(terminal.step(Input::View(&apdu), verdict)?)
 }
 
 /// Under the verdict, the terminal answers the message so.
@@ -97,6 +97,25 @@ fn answers(
         answers_under(rt, alloc, terminal, Verdict::Approve, heard, answer)?;
     }
     Ok(())
+}
+
+#[test]
+fn a_message_that_was_built_is_heard_as_its_view(rt: HostRuntime) -> Result<(), Fail> {
+    let Scan::Whole((apdu, _)) = scan(rt.alloc(), &END_OF_DAY)? else {
+        panic!(rt; "a message");
+    };
+    let mut terminal = Terminal::new(rt.alloc(), 12_345_678);
+    let answers = terminal.step(Input::Message(&apdu), Verdict::Approve);
+    drop(apdu);
+    assert_eq!(rt; answers?.bytes(), NOT_POSSIBLE.as_slice());
+    answers_under(
+        &rt,
+        rt.alloc(),
+        &mut terminal,
+        Verdict::Approve,
+        &END_OF_DAY,
+        &NOT_POSSIBLE,
+    )
 }
 
 /// A terminal with which a till is registered, idle.

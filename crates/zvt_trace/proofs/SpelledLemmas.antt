@@ -1,37 +1,19 @@
 -- Hexadecimal text, pair by pair.
-use Rattle.std.proofs.Common.{◌≡◌, ◌≢◌, ◌∙◌, sym, ap, refl, arith, ℕ, zero, suc, ◌+◌, ◌-◌, ◌*◌, ◌%◌, ◌<◌, Bool, true, false, ◌⊎◌, inl, inr, List, [], ◌∷◌, ◌++◌, length, take, drop, slice_index, slice_set, ◌&&◌, ◌==◌, ◌≤◌, Option, None, Some, Result, Ok, Err, unwrap_or, append_assoc, append-nil, length-drop}
+use Rattle.std.proofs.Common.{◌≡◌, ◌≢◌, ◌∙◌, sym, ap, subst, refl, arith, ℕ, zero, suc, ◌+◌, ◌-◌, ◌*◌, ◌%◌, ◌<◌, Bool, true, false, ◌⊎◌, inl, inr, List, [], ◌∷◌, ◌++◌, length, take, drop, slice_index, slice_set, ◌&&◌, ◌==◌, ◌≤◌, Option, None, Some, Result, Ok, Err, unwrap_or, append_assoc, append-nil, length-drop}
 use Rattle.std.specs.Prelude.{IsErr, MatchOption}
 use Rattle.std.proofs.lemmas.Bool.{and_parts, cases_eq, cases_lt, eqb-true}
 use Rattle.std.proofs.lemmas.Bool.Decides.{nat_tests}
-use Rattle.std.proofs.lemmas.List.{take_all, take_more_set}
+use Rattle.std.proofs.lemmas.List.{drop_more, take_all, take_more_set}
 use Rattle.hex.specs.Hex.{decode_of, decode_pairs, digit_or_error, hex_digit_value, ◌>>=◌}
 use Rattle.hex.specs.declared.error.FromHexError.{FromHexError}
 use Rattle.hex.proofs.HexLemmas.{decode_of-even, decode_of-odd}
 use Rattle.zvt_trace.specs.Meanings.{without_spaces}
-use Rattle.zvt_trace.specs.Spelled.{IsDigit}
+use Rattle.zvt_trace.specs.Spelled.{IsDigit, pair_before, spells, behind_bytes}
 
 -- the bytes of a result
 abbrev pub bytes_in : Result (List ℕ) FromHexError → Option (List ℕ)
 bytes_in (Ok bytes) = Some bytes
 bytes_in (Err e) = None
-
--- a byte of two digits, before the bytes that follow
-abbrev pub pair_before : Option ℕ → Option ℕ → Option (List ℕ) → Option (List ℕ)
-pair_before None low bytes = None
-pair_before (Some h) None bytes = None
-pair_before (Some h) (Some l) None = None
-pair_before (Some h) (Some l) (Some bytes) = Some ((h * 16 + l) ∷ bytes)
-
--- the bytes that pairs of digits spell
-unfoldable pub spells : List ℕ → Option (List ℕ)
-spells [] = Some []
-spells (digit ∷ []) = None
-spells (high ∷ low ∷ rest) = pair_before (hex_digit_value high) (hex_digit_value low) (spells rest)
-
--- bytes that stand before others
-abbrev pub behind_bytes : List ℕ → Option (List ℕ) → Option (List ℕ)
-behind_bytes done None = None
-behind_bytes done (Some bytes) = Some (done ++ bytes)
 
 -- ---- `spells` is the definition of the crate `hex`
 
@@ -156,6 +138,34 @@ read_pair text rest low next room count h l fits some other same some_low other_
     let pair : spells (without_spaces rest) ≡ pair_before (Some h) (Some l) (spells (without_spaces next)) =
     ap spells two ∙ pair_spells _ _ _ ∙ rw (high, last) refl in
     rw (take_more_set room count (h * 16 + l) fits) (behind_pair (take count room) h l _ ∙ ap (behind_bytes (take count room)) (sym pair) ∙ so)
+
+digit_no_space : (d v : ℕ) → IsDigit d v → v ≤ 15 → d ≢ 32
+digit_no_space d v h small e = absurd (by d e h)
+  where
+    by : (n : ℕ) → n ≡ 32 → IsDigit n v → ⊥
+    by n is told = let at_space : IsDigit 32 v = subst (λ (k : ℕ). IsDigit k v) is told in omega (arith, at_space, small)
+
+kept_one : (x : ℕ) (xs : List ℕ) → x ≢ 32 → without_spaces (x ∷ xs) ≡ x ∷ without_spaces xs
+kept_one x xs other = first_kept (x ∷ xs) (omega arith) other
+
+-- a pair was read that no space stands in
+pub read_plain : (text room : List ℕ) (count h l : ℕ) → count < length room → 2 * count + 1 < length text
+    → IsDigit (slice_index text (2 * count)) h → IsDigit (slice_index text (2 * count + 1)) l → h ≤ 15 → l ≤ 15
+    → behind_bytes (take count room) (spells (without_spaces (drop (2 * count) text))) ≡ spells (without_spaces text)
+    → behind_bytes (take (count + 1) (slice_set room count (h * 16 + l))) (spells (without_spaces (drop (2 * (count + 1)) text))) ≡ spells (without_spaces text)
+read_plain text room count h l fits some dh dl sh sl so =
+    let n = 2 * count in
+    let apart : drop n text ≡ slice_index text n ∷ slice_index text (n + 1) ∷ drop (n + 1 + 1) text =
+    drop_more text n 0 (omega (arith, some)) ∙ ap (λ (t : List ℕ). slice_index text n ∷ t) (drop_more text (n + 1) 0 some) in
+    let kept : without_spaces (drop n text) ≡ slice_index text n ∷ slice_index text (n + 1) ∷ without_spaces (drop (n + 1 + 1) text) =
+    ap without_spaces apart ∙ kept_one _ (slice_index text (n + 1) ∷ drop (n + 1 + 1) text) (digit_no_space _ h dh sh)
+    ∙ ap (λ (t : List ℕ). slice_index text n ∷ t) (kept_one _ (drop (n + 1 + 1) text) (digit_no_space _ l dl sl)) in
+    let end : n + 1 + 1 ≡ 2 * (count + 1) = omega arith in
+    let pair : spells (without_spaces (drop n text)) ≡ pair_before (Some h) (Some l) (spells (without_spaces (drop (n + 1 + 1) text))) =
+    ap spells kept ∙ pair_spells _ _ _ ∙ rw (digit_is _ h dh sh, digit_is _ l dl sl) refl in
+    let behind : behind_bytes (take (count + 1) (slice_set room count (h * 16 + l))) (spells (without_spaces (drop (n + 1 + 1) text))) ≡ spells (without_spaces text) =
+    rw (take_more_set room count (h * 16 + l) fits) (behind_pair (take count room) h l _ ∙ ap (behind_bytes (take count room)) (sym pair) ∙ so) in
+    subst (λ (k : ℕ). behind_bytes (take (count + 1) (slice_set room count (h * 16 + l))) (spells (without_spaces (drop k text))) ≡ spells (without_spaces text)) end behind
 
 refused : (done text rest : List ℕ) → spells (without_spaces rest) ≡ None
     → behind_bytes done (spells (without_spaces rest)) ≡ spells (without_spaces text) → IsErr (decode_of (without_spaces text))

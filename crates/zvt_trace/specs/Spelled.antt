@@ -1,7 +1,25 @@
--- The digits of a text.
-use Rattle.std.specs.Prelude.{◌≡◌, ℕ, ◌<◌, MatchOption}
+-- The digits of a text, and the bytes that they spell.
+use Rattle.std.specs.Prelude.{◌≡◌, ℕ, ◌+◌, ◌*◌, ◌<◌, MatchOption, Option, Some, None, List, [], ◌∷◌, ◌++◌}
 use Rattle.hex.specs.Hex.{hex_digit_value}
 
 -- the value of a digit, and above 15 for what is none
 abbrev pub IsDigit : ℕ → ℕ → Type 0
 IsDigit digit value = MatchOption (hex_digit_value digit) (15 < value) (λ is. value ≡ is)
+
+-- a byte of two digits, before the bytes that follow
+abbrev pub pair_before : Option ℕ → Option ℕ → Option (List ℕ) → Option (List ℕ)
+pair_before None low bytes = None
+pair_before (Some h) None bytes = None
+pair_before (Some h) (Some l) None = None
+pair_before (Some h) (Some l) (Some bytes) = Some ((h * 16 + l) ∷ bytes)
+
+-- the bytes that pairs of digits spell
+unfoldable pub spells : List ℕ → Option (List ℕ)
+spells [] = Some []
+spells (digit ∷ []) = None
+spells (high ∷ low ∷ rest) = pair_before (hex_digit_value high) (hex_digit_value low) (spells rest)
+
+-- bytes that stand before others
+abbrev pub behind_bytes : List ℕ → Option (List ℕ) → Option (List ℕ)
+behind_bytes done None = None
+behind_bytes done (Some bytes) = Some (done ++ bytes)

@@ -1,8 +1,8 @@
 //! Bytes that are spelled in hexadecimal text with spaces.
-ghost use Rattle.std.specs.Prelude.{◌≡◌, ◌≢◌, ◌*◌, ◌+◌, ◌≤◌, length, slice_index, take, Ok, IfSome, IsErr, MatchOption};
+ghost use Rattle.std.specs.Prelude.{◌≡◌, ◌≢◌, ◌*◌, ◌+◌, ◌≤◌, drop, length, slice_index, take, Ok, IfSome, IsErr, MatchOption};
 ghost use Rattle.hex.specs.Hex.{decode_of};
 ghost use Rattle.zvt_trace.specs.Meanings.{without_spaces};
-ghost use Rattle.zvt_trace.specs.Spelled.{IsDigit};
+ghost use Rattle.zvt_trace.specs.Spelled.{IsDigit, behind_bytes, spells};
 
 /// Reads the bytes into the front of the room, and answers how many there are. Where the text is none, the room ends
 /// with anything.
@@ -11,8 +11,9 @@ pub(crate) fn read(text: &[u8], room: &mut [u8]) -> Option<usize>
     ensures read { MatchOption result (IsErr (decode_of (without_spaces text.now))) (λ count. decode_of (without_spaces text.now) ≡ Ok (take count room.new)) }
     ensures few { IfSome result (λ count. 2 * count ≤ length text.now) }
 {
-    let mut rest = skip_spaces(text);
-    let mut count = 0;
+    let front = skip_spaces(text);
+    let mut count = read_pairs(front, room);
+    let mut rest = skip_spaces(&front[2 * count..]);
     'pairs: while let [high, after @ ..] = rest {
         let [low, after @ ..] = skip_spaces(after) else {
             return None;
@@ -27,6 +28,25 @@ pub(crate) fn read(text: &[u8], room: &mut [u8]) -> Option<usize>
         rest = skip_spaces(after);
     }
     Some(count)
+}
+
+/// Reads the pairs of digits at the front that no space parts: so a line without spaces is read with no test for them.
+fn read_pairs(text: &[u8], room: &mut [u8]) -> usize
+    requires { length text.now ≤ 2 * length room.old + 1 }
+    ensures few { 2 * result ≤ length text.now }
+    ensures read { behind_bytes (take result room.new) (spells (without_spaces (drop (2 * result) text.now))) ≡ spells (without_spaces text.now) }
+{
+    let mut count = 0;
+    while 2 * count + 1 < text.len() {
+        let high = value(text[2 * count]);
+        let low = value(text[2 * count + 1]);
+        if high > 15 || low > 15 {
+            return count;
+        }
+        room[count] = high * 16 + low;
+        count += 1;
+    }
+    count
 }
 
 /// The text from its first byte that is no space.

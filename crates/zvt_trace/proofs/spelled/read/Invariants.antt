@@ -1,6 +1,6 @@
 use Rattle.std.proofs.Common.{◌≡◌, ◌≢◌, ◌≤◌, ◌+◌, ◌*◌, length, take, slice_index}
 use Rattle.zvt_trace.specs.Meanings.{without_spaces}
-use Rattle.zvt_trace.proofs.SpelledLemmas.{behind_bytes, spells}
+use Rattle.zvt_trace.specs.Spelled.{behind_bytes, spells}
 use Rattle.zvt_trace.proofs.spelled.read.Given as goal
 
 abbrev pub invariant-pairs : goal.invariant-pairs
