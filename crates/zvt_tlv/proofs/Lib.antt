@@ -17,3 +17,4 @@ pub mod SizedMoves
 pub mod LawProofs
 pub mod Rows
 pub mod ViewLemmas
+pub mod OwnedLemmas

@@ -9,6 +9,7 @@ mod heads;
 mod judging;
 pub mod laws;
 mod lengths;
+mod owning;
 pub mod reader;
 mod sizes;
 mod tags;
@@ -18,6 +19,7 @@ mod writer;
 
 pub use judging::{LengthAt, LengthNext, TagAt, TagNext, judge_length, judge_tag};
 pub use lengths::Lengths;
+pub use owning::owned;
 pub use sizes::{length_size, size};
 pub use tags::Tag;
 pub use trees::{BadForest, Body, Forest, Tlv};

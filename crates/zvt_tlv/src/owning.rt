@@ -1,0 +1,43 @@
+//! Values of their own from views.
+
+ghost use Rattle.std.specs.Prelude.{◌≡◌, IfOk};
+ghost use Rattle.zvt_tlv.specs.Checks.{AllParts};
+ghost use Rattle.zvt_tlv.specs.Spelled.{HasSpelling};
+ghost use Rattle.zvt_tlv.specs.Trees.{objects_of};
+
+use crate::tags::Tag;
+use crate::trees::{Body, Forest, Tlv};
+use crate::views::ForestView;
+use std::alloc::{AllocError, Global};
+
+/// The objects of a view, in memory of their own. The only error is want of memory. The shortest spelling of the objects
+/// has to fit 65,535 bytes; that of the view may be longer.
+pub fn owned(alloc: Global, objects: ForestView<'_>) -> Result<Forest, AllocError>
+    requires { ∥ HasSpelling objects ∥₁ }
+    ensures { IfOk result (λ made. made ≡ objects.entry) }
+{
+    let made = owned_objects(alloc, objects)?;
+    let Ok(forest) = Forest::checked(made) else {
+        unreachable!()
+    };
+    Ok(forest)
+}
+
+/// The objects of a view, one after another.
+fn owned_objects(alloc: Global, objects: ForestView<'_>) -> Result<Vec<Tlv>, AllocError>
+    requires { ∥ AllParts objects ∥₁ }
+    ensures { IfOk result (λ made. objects_of made.items ≡ objects.entry) }
+{
+    let mut made = Vec::new(alloc);
+    for object in objects {
+        let Some(tag) = Tag::checked(object.tag) else {
+            unreachable!()
+        };
+        let body = match object.children() {
+            None => Body::Prim(Vec::from_slice(alloc, object.content)?),
+            Some(inner) => Body::Cons(owned_objects(alloc, inner)?),
+        };
+        made.push(Tlv { tag, body })?;
+    }
+    Ok(made)
+}
