@@ -18,3 +18,4 @@ pub mod Writing
 pub mod NamedLemmas
 pub mod Exists
 pub mod SizedSpelling
+pub mod OwnedLemmas

@@ -1,0 +1,52 @@
+//! Values of their own from views.
+
+ghost use Rattle.std.specs.Prelude.{◌≡◌, IfOk};
+ghost use Rattle.zvt_field.specs.Bodies.{field_of, HasSpelling, HaveSpelling};
+ghost use Rattle.zvt_field.specs.Lent.{shown};
+
+use crate::bodies::{Field, FieldBody};
+use crate::lists::{Fields, PushRefusal};
+use crate::views::{FieldView, FieldsView};
+use std::alloc::{AllocError, Global};
+
+/// What a field holds, in memory of its own.
+fn owned_body(alloc: Global, field: &FieldView<'_>) -> Result<FieldBody, AllocError>
+    requires { ∥ HasSpelling (shown field.now) ∥₁ }
+    ensures { IfOk result (λ body. field_of field.now.bmp body ≡ shown field.now) }
+{
+    match field.tree() {
+        Some(objects) => Ok(FieldBody::Tree(zvt_tlv::owned(alloc, objects)?)),
+        None => Ok(FieldBody::Bytes(Vec::from_slice(alloc, field.content)?)),
+    }
+}
+
+/// The field that a view shows, in memory of its own. The only error is want of memory. The shortest spelling of the
+/// field has to fit 65,535 bytes; that of the view may be longer.
+pub fn owned_field(alloc: Global, field: &FieldView<'_>) -> Result<Field, AllocError>
+    requires { ∥ HasSpelling (shown field.now) ∥₁ }
+    ensures { IfOk result (λ made. made ≡ shown field.now) }
+{
+    let body = owned_body(alloc, field)?;
+    let Ok(made) = Field::checked(field.bmp, body) else {
+        unreachable!()
+    };
+    Ok(made)
+}
+
+/// The fields of a view, in memory of their own. The only error is want of memory. The shortest spelling of the fields
+/// has to fit 65,535 bytes; that of the view may be longer.
+pub fn owned(alloc: Global, fields: FieldsView<'_>) -> Result<Fields, AllocError>
+    requires { ∥ HaveSpelling fields ∥₁ }
+    ensures { IfOk result (λ made. made ≡ fields.entry) }
+{
+    let mut made = Fields::new(alloc);
+    for field in fields {
+        let field = owned_field(alloc, &field)?;
+        match made.push(field) {
+            Ok(()) => (),
+            Err(PushRefusal::Memory(_)) => return Err(AllocError),
+            Err(PushRefusal::TooLarge(_)) => unreachable!(),
+        }
+    }
+    Ok(made)
+}
