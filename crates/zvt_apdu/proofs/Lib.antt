@@ -19,3 +19,4 @@ pub mod Exists
 pub mod OneAnswer
 pub mod ViewLemmas
 pub mod PartLemmas
+pub mod OwnedLemmas
