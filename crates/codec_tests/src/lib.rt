@@ -27,6 +27,8 @@ mod messages;
 #[cfg(test)]
 mod objects;
 #[cfg(test)]
+mod owned;
+#[cfg(test)]
 mod rescan;
 #[cfg(test)]
 mod texts;

@@ -8,7 +8,7 @@ use zvt_bcd::Currency;
 use zvt_spelling::Scan;
 
 /// The view of the message that the reader found in the bytes.
-fn viewed<'a>(rt: &impl Abort, alloc: Global, bytes: &'a [u8]) -> Result<ApduView<'a>, Fail> {
+pub fn viewed<'a>(rt: &impl Abort, alloc: Global, bytes: &'a [u8]) -> Result<ApduView<'a>, Fail> {
     let Scan::Whole((apdu, taken)) = scan(alloc, bytes)? else {
         panic!(rt; "a message stands first: {bytes:?}");
     };
