@@ -30,6 +30,7 @@ fn note_spelling(apdu: &ApduView<'_>)
     let _ = apdu.bytes();
 }
 
+/// The message that the view shows, by its parts.
 fn owned_message(alloc: Global, apdu: &ApduView<'_>) -> Result<Message, AllocError>
     requires { ∥ HasSpelling apdu.now ∥₁ }
     ensures { IfOk result (λ made. message_of made ≡ apdu.now) }
