@@ -1,33 +1,47 @@
 //! What a till sends, worked by hand.
 
-use std::alloc::Global;
+use std::alloc::{AllocError, Global};
 use std::process::Abort;
 use std::test::Fail;
-use zvt_apdu::{Brief, brief_message, encode, put_brief};
+use zvt_apdu::{Apdu, Brief, brief_message, encode, put_brief};
 use zvt_bcd::{Amount, Currency};
 
 /// The brief is written as these bytes at the front of a buffer.
 fn is_put_as(rt: &impl Abort, brief: &Brief, bytes: &[u8]) {
+    assert!(rt; bytes.len() <= 32);
+    let mut wanted = [0x55; 32];
+    wanted[..bytes.len()].copy_from_slice(bytes);
     let mut buffer = [0x55; 32];
-    let size = put_brief(brief, &mut buffer);
-    let (written, rest) = buffer.split_at(size);
-    assert_eq!(rt; written, bytes);
-    assert!(rt; rest.iter().all(|byte| *byte == 0x55));
+    assert_eq!(rt; put_brief(brief, &mut buffer), bytes.len());
+    assert_eq!(rt; buffer, wanted);
+}
+
+fn spelling(alloc: Global, apdu: &Apdu) -> Result<Vec<u8>, AllocError> {
+    encode(alloc, apdu)
 }
 
 /// The message that the brief stands for is written as these bytes.
 fn is_encoded_as(rt: &impl Abort, alloc: Global, brief: &Brief, bytes: &[u8]) -> Result<(), Fail> {
     let apdu = brief_message(alloc, brief)?;
-    assert_eq!(rt; encode(alloc, &apdu)?.as_slice(), bytes);
+    let spelled = spelling(alloc, &apdu);
+    drop(apdu);
+    assert_eq!(rt; spelled?.as_slice(), bytes);
     Ok(())
 }
 
 const PASSWORD: [u8; 3] = [1, 2, 3];
 
+fn price(rt: &impl Abort) -> Amount {
+    Amount::new(1234).expect(rt, "an amount")
+}
+
+fn euro(rt: &impl Abort) -> Currency {
+    Currency::new(978).expect(rt, "a currency")
+}
+
 #[test]
 fn writes_what_a_till_sends(rt: HostRuntime) -> Result<(), Fail> {
-    let amount = Amount::new(1234).expect(&rt, "an amount");
-    let euro = Currency::new(978).expect(&rt, "a currency");
+    let (amount, euro) = (price(&rt), euro(&rt));
     let registration = Brief::Register {
         password: PASSWORD,
         config: 0xBE,

@@ -17,12 +17,17 @@ fn reads_what_is_left(rt: HostRuntime) {
     }
 }
 
+/// What one write answers.
+fn write<S: Sink>(sink: &mut S, bytes: &[u8]) -> Result<(), Failed> {
+    sink.write_all(bytes)
+}
+
 #[test]
 fn writes_one_after_another(rt: HostRuntime) {
     let mut sink = Over::new(Vec::new(rt.alloc()));
     let pieces: [&[u8]; 3] = [&[1, 2], &[], &[3]];
     for bytes in pieces {
-        assert_eq!(rt; sink.write_all(bytes), Ok(()));
+        assert_eq!(rt; write(&mut sink, bytes), Ok(()));
     }
     assert_eq!(rt; sink.inner.as_slice(), [1, 2, 3].as_slice());
 }

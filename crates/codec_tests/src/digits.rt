@@ -1,16 +1,27 @@
 //! Digits and the values that they spell.
 use zvt_bcd::{Amount, Currency, Trace, is_digits, ll_digit, ll_put, lll_put, number, put};
 
+/// The number that the bytes spell, where they are digits and not too many.
+fn spelled(bytes: &[u8]) -> Option<u64> {
+    if bytes.len() <= 9 && is_digits(bytes) {
+        Some(number(bytes))
+    } else {
+        None
+    }
+}
+
 #[test]
 fn digits_spell_numbers(rt: HostRuntime) {
-    let bytes = [0x00, 0x00, 0x00, 0x00, 0x12, 0x34];
-    assert!(rt; is_digits(bytes.as_slice()));
-    assert_eq!(rt; number(bytes.as_slice()), 1234);
-    for wrong in [0x0A, 0xA0, 0x1F] {
-        assert!(rt; !is_digits(&[0x12, wrong]), "{wrong:02x}");
+    let rows: [(&[u8], Option<u64>); 5] = [
+        (&[0x00, 0x00, 0x00, 0x00, 0x12, 0x34], Some(1234)),
+        (&[], Some(0)),
+        (&[0x12, 0x0A], None),
+        (&[0x12, 0xA0], None),
+        (&[0x12, 0x1F], None),
+    ];
+    for (bytes, wanted) in rows {
+        assert_eq!(rt; spelled(bytes), wanted, "{bytes:?}");
     }
-    assert!(rt; is_digits(&[]));
-    assert_eq!(rt; number(&[]), 0);
 }
 
 #[test]

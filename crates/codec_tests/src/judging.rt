@@ -3,7 +3,7 @@
 ghost use Rattle.std.specs.Prelude.{◌<◌};
 
 use crate::rescan::Rescan;
-use std::alloc::Global;
+use std::alloc::{AllocError, Global};
 use std::process::Abort;
 use std::test::Fail;
 use zvt_spelling::Why;
@@ -98,6 +98,16 @@ fn told(fed: &Result<Fed, FeedError>) -> (u8, usize, Option<Why>) {
     }
 }
 
+/// What the stream answers to the piece.
+fn told_by_stream(alloc: Global, stream: &mut Stream, piece: &[u8]) -> (u8, usize, Option<Why>) {
+    told(&stream.feed(alloc, piece))
+}
+
+/// What the reader that reads all again answers to it.
+fn told_by_rescan(alloc: Global, rescan: &mut Rescan, piece: &[u8]) -> (u8, usize, Option<Why>) {
+    told(&rescan.feed(alloc, piece))
+}
+
 /// Feeds a piece to both, and what is behind each message.
 fn same(
     rt: &impl Abort,
@@ -108,8 +118,8 @@ fn same(
 ) -> bool {
     let mut rest = piece;
     for _ in 0..piece.len() + 1 {
-        let one = told(&stream.feed(alloc, rest));
-        let two = told(&rescan.feed(alloc, rest));
+        let one = told_by_stream(alloc, stream, rest);
+        let two = told_by_rescan(alloc, rescan, rest);
         assert_eq!(rt; one, two);
         assert_eq!(rt; stream.held(), rescan.held());
         if one.0 != 0 {
@@ -120,24 +130,35 @@ fn same(
     true
 }
 
+/// Feeds the bytes in these pieces, up to a refusal.
+fn in_pieces(rt: &impl Abort, alloc: Global, pieces: &[&[u8]]) {
+    let mut stream = Stream::new(alloc);
+    let mut rescan = Rescan::new(alloc);
+    for piece in pieces {
+        if !same(rt, alloc, &mut stream, &mut rescan, piece) {
+            return;
+        }
+    }
+}
+
+fn one_by_one(rt: &impl Abort, alloc: Global, bytes: &[u8]) {
+    let mut stream = Stream::new(alloc);
+    let mut rescan = Rescan::new(alloc);
+    for byte in bytes.chunks(1) {
+        if !same(rt, alloc, &mut stream, &mut rescan, byte) {
+            return;
+        }
+    }
+}
+
 /// Feeds the bytes in two pieces at each cut, and byte by byte.
 fn each_cut(rt: &impl Abort, alloc: Global, bytes: &[u8], step: usize)
     requires { 0 < step }
 {
     for cut in (0..bytes.len() + 1).step_by(step) {
-        let mut stream = Stream::new(alloc);
-        let mut rescan = Rescan::new(alloc);
-        if same(rt, alloc, &mut stream, &mut rescan, &bytes[..cut]) {
-            same(rt, alloc, &mut stream, &mut rescan, &bytes[cut..]);
-        }
+        in_pieces(rt, alloc, &[&bytes[..cut], &bytes[cut..]]);
     }
-    let mut stream = Stream::new(alloc);
-    let mut rescan = Rescan::new(alloc);
-    for at in 0..bytes.len() {
-        if !same(rt, alloc, &mut stream, &mut rescan, &bytes[at..at + 1]) {
-            return;
-        }
-    }
+    one_by_one(rt, alloc, bytes);
 }
 
 /// The bytes with each byte changed to each of some others.
@@ -165,20 +186,27 @@ fn levels_of_nested_objects(rt: HostRuntime) -> Result<(), Fail> {
     assert_eq!(rt; stream.levels(), 0);
     let levels = [1usize, 1, 2, 2, 3, 3, 4, 4, 5, 5, 6, 6, 7, 7, 8, 8, 0];
     for at in 0..17usize {
-        let _ = stream.feed(alloc, &NESTED[at..at + 1]);
+        told_by_stream(alloc, &mut stream, &NESTED[at..at + 1]);
         assert_eq!(rt; stream.levels(), levels[at], "after {at}");
     }
     Ok(())
 }
 
+/// These bytes, and behind them the byte up to the size.
+fn filled(alloc: Global, first: &[u8], byte: u8, size: usize) -> Result<Vec<u8>, AllocError> {
+    let mut row = Vec::new(alloc);
+    row.extend_from_slice(first)?;
+    row.resize(size, byte)?;
+    Ok(row)
+}
+
 #[test]
 fn rows_at_every_cut(rt: HostRuntime) -> Result<(), Fail> {
-    for row in ROWS {
+    for &row in &ROWS {
         each_cut(&rt, rt.alloc(), row, 1);
     }
     for (first, byte, size) in LONG_ROWS {
-        let mut row = Vec::from_slice(rt.alloc(), first)?;
-        row.resize(size, byte)?;
+        let row = filled(rt.alloc(), first, byte, size)?;
         each_cut(&rt, rt.alloc(), &row, 1);
     }
     Ok(())
@@ -186,7 +214,7 @@ fn rows_at_every_cut(rt: HostRuntime) -> Result<(), Fail> {
 
 #[test]
 fn changed_rows(rt: HostRuntime) -> Result<(), Fail> {
-    for row in ROWS {
+    for &row in &ROWS {
         each_change(&rt, rt.alloc(), row)?;
     }
     Ok(())

@@ -15,6 +15,8 @@ mod feeding;
 #[cfg(test)]
 mod fields;
 #[cfg(test)]
+mod forests;
+#[cfg(test)]
 mod judging;
 #[cfg(test)]
 mod lending;

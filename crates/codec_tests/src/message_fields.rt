@@ -1,6 +1,7 @@
 //! Messages with fields, worked by hand.
 
-use crate::messages::{Refusal, read, refuses};
+use crate::messages::{Refusal, first, is_read, refuses};
+use std::alloc::{AllocError, Global};
 use std::test::Fail;
 use zvt_apdu::{Message, scan};
 use zvt_spelling::{Scan, Why};
@@ -14,14 +15,20 @@ const STATUS: [u8; 19] = [
     0x87, 0x00, 0x05,
 ];
 
+/// How many fields the payment has.
+fn fields_of_payment(message: &Message) -> Option<usize> {
+    match message {
+        Message::Authorisation(fields) => Some(fields.list().len()),
+        _ => None,
+    }
+}
+
 #[test]
 fn reads_fields(rt: HostRuntime) -> Result<(), Fail> {
-    let apdu = read(&rt, rt.alloc(), &PAYMENT, 13)?;
-    let Message::Authorisation(fields) = apdu.message() else {
-        panic!(rt; "06 01 is a payment");
-    };
-    assert_eq!(rt; fields.list().len(), 2);
-    Ok(())
+    let apdu = first(&rt, rt.alloc(), &PAYMENT)?;
+    assert_eq!(rt; fields_of_payment(apdu.message()), Some(2));
+    drop(apdu);
+    is_read(&rt, rt.alloc(), &PAYMENT, 13)
 }
 
 #[test]
@@ -40,16 +47,19 @@ fn takes_each_message_whole(rt: HostRuntime) -> Result<(), Fail> {
         &nested,
     ];
     for bytes in rows {
-        read(&rt, rt.alloc(), bytes, bytes.len())?;
+        is_read(&rt, rt.alloc(), bytes, bytes.len())?;
     }
     Ok(())
+}
+
+fn wants_more(alloc: Global, bytes: &[u8]) -> Result<bool, AllocError> {
+    Ok(matches!(scan(alloc, bytes)?, Scan::More))
 }
 
 #[test]
 fn wants_more_until_a_message_is_whole(rt: HostRuntime) -> Result<(), Fail> {
     for size in 0..19 {
-        let answer = scan(rt.alloc(), &STATUS[..size])?;
-        assert!(rt; matches!(answer, Scan::More), "{size}");
+        assert!(rt; wants_more(rt.alloc(), &STATUS[..size])?, "{size}");
     }
     Ok(())
 }
@@ -58,8 +68,7 @@ fn wants_more_until_a_message_is_whole(rt: HostRuntime) -> Result<(), Fail> {
 fn takes_a_long_object(rt: HostRuntime) -> Result<(), Fail> {
     let mut bytes = [0x20; 134];
     bytes[..8].copy_from_slice(&[0x06, 0x0F, 0x83, 0x06, 0x81, 0x80, 0x07, 0x7E]);
-    read(&rt, rt.alloc(), &bytes, 134)?;
-    Ok(())
+    is_read(&rt, rt.alloc(), &bytes, 134)
 }
 
 #[test]

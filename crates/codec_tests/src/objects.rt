@@ -1,12 +1,12 @@
-//! Worked examples, and that each call succeeds where there is memory.
+//! Objects read: worked examples.
 
 use std::alloc::{AllocError, Global};
 use std::process::Abort;
 use std::test::Fail;
 use zvt_spelling::{Scan, Why};
 use zvt_tlv::{
-    BadForest, Body, Forest, LengthAt, LengthNext, Lengths, Tag, TagAt, TagNext, Tlv, judge_length,
-    judge_tag, length_size, put_sized, reader, size, write_into,
+    Body, Forest, LengthAt, LengthNext, Lengths, TagAt, TagNext, Tlv, judge_length, judge_tag,
+    reader,
 };
 
 /// Writes each object as its tag and its content, a constructed one's in parentheses.
@@ -42,6 +42,12 @@ fn show_bytes(text: &mut String, bytes: &[u8]) -> Result<(), AllocError> {
     Ok(())
 }
 
+pub fn shown_objects(alloc: Global, objects: &[Tlv]) -> Result<String, AllocError> {
+    let mut text = String::new(alloc);
+    show_objects(&mut text, objects)?;
+    Ok(text)
+}
+
 fn shown(alloc: Global, answer: &Scan<Forest>) -> Result<String, AllocError> {
     match answer {
         Scan::Whole(forest) => {
@@ -70,20 +76,27 @@ fn shown_sized(alloc: Global, answer: &Scan<(Forest, usize)>) -> Result<String, 
 /// Bytes, a room, a depth, and the answer.
 type Row<'a> = (&'a [u8], usize, usize, &'a str);
 
-fn scans(rt: &impl Abort, alloc: Global, rows: &[Row]) -> Result<(), Fail> {
-    for &(bytes, room, depth, wanted) in rows {
-        assert!(rt; room < 65_536 && room != 1 && depth >= 1 && depth <= 6);
-        let answer = reader::scan(alloc, bytes, room, depth)?;
-        assert_eq!(rt; shown(alloc, &answer)?.as_str(), wanted);
+/// What the reader of those lengths answers.
+fn scanned(
+    rt: &impl Abort,
+    alloc: Global,
+    row: &Row,
+    lengths: Lengths,
+) -> Result<Scan<Forest>, AllocError> {
+    let &(bytes, room, depth, _) = row;
+    assert!(rt; room < 65_536 && room != 1 && depth >= 1 && depth <= 6);
+    match lengths {
+        Lengths::Shortest => reader::scan(alloc, bytes, room, depth),
+        Lengths::Padded => reader::scan_loose(alloc, bytes, room, depth),
     }
-    Ok(())
 }
 
-fn scans_loose(rt: &impl Abort, alloc: Global, rows: &[Row]) -> Result<(), Fail> {
-    for &(bytes, room, depth, wanted) in rows {
-        assert!(rt; room < 65_536 && room != 1 && depth >= 1 && depth <= 6);
-        let answer = reader::scan_loose(alloc, bytes, room, depth)?;
-        assert_eq!(rt; shown(alloc, &answer)?.as_str(), wanted);
+fn scans(rt: &impl Abort, alloc: Global, rows: &[Row], lengths: Lengths) -> Result<(), Fail> {
+    for row in rows {
+        let answer = scanned(rt, alloc, row, lengths)?;
+        let text = shown(alloc, &answer);
+        drop(answer);
+        assert_eq!(rt; text?.as_str(), row.3);
     }
     Ok(())
 }
@@ -91,20 +104,35 @@ fn scans_loose(rt: &impl Abort, alloc: Global, rows: &[Row]) -> Result<(), Fail>
 /// Bytes, a room, and the answer.
 type SizedRow<'a> = (&'a [u8], usize, &'a str);
 
-fn scans_sized(rt: &impl Abort, alloc: Global, rows: &[SizedRow]) -> Result<(), Fail> {
-    for &(bytes, room, wanted) in rows {
-        assert!(rt; room < 65_536 && room != 0 && room != 2);
-        let answer = reader::scan_sized(alloc, bytes, room)?;
-        assert_eq!(rt; shown_sized(alloc, &answer)?.as_str(), wanted);
+/// What the reader of a length and of what it counts answers.
+fn scanned_sized(
+    rt: &impl Abort,
+    alloc: Global,
+    row: &SizedRow,
+    lengths: Lengths,
+) -> Result<Scan<(Forest, usize)>, AllocError> {
+    let &(bytes, room, _) = row;
+    assert!(rt; room < 65_536 && room != 0);
+    match lengths {
+        Lengths::Shortest => {
+            assert!(rt; room != 2);
+            reader::scan_sized(alloc, bytes, room)
+        }
+        Lengths::Padded => reader::scan_sized_loose(alloc, bytes, room),
     }
-    Ok(())
 }
 
-fn scans_sized_loose(rt: &impl Abort, alloc: Global, rows: &[SizedRow]) -> Result<(), Fail> {
-    for &(bytes, room, wanted) in rows {
-        assert!(rt; room < 65_536 && room != 0);
-        let answer = reader::scan_sized_loose(alloc, bytes, room)?;
-        assert_eq!(rt; shown_sized(alloc, &answer)?.as_str(), wanted);
+fn scans_sized(
+    rt: &impl Abort,
+    alloc: Global,
+    rows: &[SizedRow],
+    lengths: Lengths,
+) -> Result<(), Fail> {
+    for row in rows {
+        let answer = scanned_sized(rt, alloc, row, lengths)?;
+        let text = shown_sized(alloc, &answer);
+        drop(answer);
+        assert_eq!(rt; text?.as_str(), row.2);
     }
     Ok(())
 }
@@ -128,7 +156,7 @@ fn objects_fill_their_room(rt: HostRuntime) -> Result<(), Fail> {
         (&several, 10, 1, "whole 25(07=41;1F2A=;);08=;"),
         (&several[..9], 10, 1, "more"),
     ];
-    scans(&rt, rt.alloc(), &rows)
+    scans(&rt, rt.alloc(), &rows, Lengths::Shortest)
 }
 
 #[test]
@@ -149,7 +177,7 @@ fn refusals_have_their_place_and_reason(rt: HostRuntime) -> Result<(), Fail> {
         (&inner, 9, 1, "DoesNotFit at 5"),
         (&NESTED, 12, 1, "TooDeep at 10"),
     ];
-    scans(&rt, rt.alloc(), &rows)
+    scans(&rt, rt.alloc(), &rows, Lengths::Shortest)
 }
 
 #[test]
@@ -162,13 +190,13 @@ fn padded_lengths_are_read_by_the_loose_readers(rt: HostRuntime) -> Result<(), F
         (&[0x25, 0x81], 4, 1, "DoesNotFit at 1"),
         (&[0x07, 0x80], 4, 1, "LengthForm at 1"),
     ];
-    scans_loose(&rt, rt.alloc(), &rows)?;
+    scans(&rt, rt.alloc(), &rows, Lengths::Padded)?;
     let sized: [SizedRow; 3] = [
         (&[0x81, 0x00], 2, "whole in 2 "),
         (&[0x81, 0x02, 0x07, 0x00], 4, "whole in 4 07=;"),
         (&[0x80], 2, "LengthForm at 0"),
     ];
-    scans_sized_loose(&rt, rt.alloc(), &sized)
+    scans_sized(&rt, rt.alloc(), &sized, Lengths::Padded)
 }
 
 #[test]
@@ -192,164 +220,7 @@ fn lengths_count_the_objects_behind_them(rt: HostRuntime) -> Result<(), Fail> {
         (&[0x82, 0x02], 300, "DoesNotFit at 1"),
         (&counted, 13, "TooDeep at 11"),
     ];
-    scans_sized(&rt, rt.alloc(), &rows)
-}
-
-fn tag(rt: &impl Abort, bytes: &[u8]) -> Tag {
-    Tag::checked(bytes).expect(rt, "a tag")
-}
-
-/// A primitive object of so many bytes of content.
-fn primitive(rt: &impl Abort, alloc: Global, count: usize) -> Result<Tlv, AllocError> {
-    Ok(Tlv {
-        tag: tag(rt, &[0x07]),
-        body: Body::Prim(vec![in alloc; 0x41; count]?),
-    })
-}
-
-fn constructed(rt: &impl Abort, alloc: Global, inner: Tlv) -> Result<Tlv, AllocError> {
-    Ok(Tlv {
-        tag: tag(rt, &[0x3F, 0x01]),
-        body: Body::Cons(vec![in alloc; inner]?),
-    })
-}
-
-/// The forest of objects that have a spelling.
-fn forest(rt: &impl Abort, objects: Vec<Tlv>) -> Forest {
-    let Ok(forest) = Forest::checked(objects) else {
-        panic!(rt; "the objects have a spelling");
-    };
-    forest
-}
-
-/// The object has no spelling, for the reason, and comes back as it was.
-fn refuses(rt: &impl Abort, alloc: Global, object: Tlv, wanted: BadForest) -> Result<(), Fail> {
-    let mut before = String::new(alloc);
-    show_object(&mut before, &object)?;
-    let Err((objects, fault)) = Forest::checked(vec![in alloc; object]?) else {
-        panic!(rt; "refused as {wanted:?}");
-    };
-    assert_eq!(rt; fault, wanted);
-    let mut after = String::new(alloc);
-    show_objects(&mut after, &objects)?;
-    assert_eq!(rt; after.as_str(), before.as_str());
-    Ok(())
-}
-
-#[test]
-fn contents_are_of_the_kind_of_their_tag(rt: HostRuntime) -> Result<(), Fail> {
-    let alloc = rt.alloc();
-    let bytes_for_objects = Tlv {
-        tag: tag(&rt, &[0x25]),
-        body: Body::Prim(vec![in alloc; 0x41; 70_000]?),
-    };
-    refuses(&rt, alloc, bytes_for_objects, BadForest::Kind)?;
-    let objects_for_bytes = Tlv {
-        tag: tag(&rt, &[0x07]),
-        body: Body::Cons(Vec::new(alloc)),
-    };
-    refuses(&rt, alloc, objects_for_bytes, BadForest::Kind)
-}
-
-#[test]
-fn objects_have_a_largest_depth(rt: HostRuntime) -> Result<(), Fail> {
-    let alloc = rt.alloc();
-    let mut deep = primitive(&rt, alloc, 70_000)?;
-    for _ in 0..6 {
-        deep = constructed(&rt, alloc, deep)?;
-    }
-    refuses(&rt, alloc, deep, BadForest::TooDeep)
-}
-
-#[test]
-fn objects_have_a_largest_size(rt: HostRuntime) -> Result<(), Fail> {
-    let alloc = rt.alloc();
-    let larger = primitive(&rt, alloc, 65_532)?;
-    refuses(&rt, alloc, larger, BadForest::TooLarge)?;
-    let largest = forest(&rt, vec![in alloc; primitive(&rt, alloc, 65_531)?]?);
-    assert_eq!(&rt; size(&largest), 65_535);
-    Ok(())
-}
-
-/// Writes a forest, without its length and with it: the bytes, and two more that were there.
-fn written(alloc: Global, forest: &Forest) -> Result<Vec<u8>, AllocError> {
-    let mut out = vec![in alloc; 0xEE; size(forest) + 2]?;
-    let _size = write_into(forest, &mut out);
-    Ok(out)
-}
-
-fn written_sized(rt: &impl Abort, alloc: Global, forest: &Forest) -> Result<Vec<u8>, AllocError> {
-    let content = size(forest);
-    let size = length_size(content) + content;
-    let mut out = vec![in alloc; 0xEE; size + 2]?;
-    assert_eq!(rt; put_sized(forest, &mut out), size);
-    Ok(out)
-}
-
-/// Writes one object of so many bytes in five others, and reads it back.
-fn comes_back(rt: &impl Abort, alloc: Global, count: usize, wanted: usize) -> Result<(), Fail> {
-    let mut object = primitive(rt, alloc, count)?;
-    for _ in 0..5 {
-        object = constructed(rt, alloc, object)?;
-    }
-    let mut before = String::new(alloc);
-    show_object(&mut before, &object)?;
-    let forest = forest(rt, vec![in alloc; object]?);
-    assert_eq!(rt; size(&forest), wanted);
-    let answer = reader::scan_sized(alloc, &written_sized(rt, alloc, &forest)?, 40_000)?;
-    let Scan::Whole(found) = answer else {
-        panic!(rt; "a length and its objects stand first");
-    };
-    let mut after = String::new(alloc);
-    show_objects(&mut after, found.0.objects())?;
-    assert_eq!(rt; found.1, length_size(wanted) + wanted);
-    assert_eq!(rt; after.as_str(), before.as_str());
-    Ok(())
-}
-
-#[test]
-fn what_is_written_is_read_back(rt: HostRuntime) -> Result<(), Fail> {
-    for (count, wanted) in [(0, 17), (127, 149), (128, 151), (256, 285)] {
-        comes_back(&rt, rt.alloc(), count, wanted)?;
-    }
-    Ok(())
-}
-
-#[test]
-fn spellings_are_those_of_the_standard(rt: HostRuntime) -> Result<(), Fail> {
-    let alloc = rt.alloc();
-    let first = constructed(&rt, alloc, primitive(&rt, alloc, 1)?)?;
-    let forest = forest(&rt, vec![in alloc; first, primitive(&rt, alloc, 0)?]?);
-    let bytes = [
-        0x08, 0x3F, 0x01, 0x03, 0x07, 0x01, 0x41, 0x07, 0x00, 0xEE, 0xEE,
-    ];
-    assert_eq!(&rt; written(alloc, &forest)?.as_slice(), &bytes[1..]);
-    assert_eq!(&rt;
-        written_sized(&rt, alloc, &forest)?.as_slice(),
-        bytes.as_slice()
-    );
-    Ok(())
-}
-
-#[test]
-fn tags_have_one_to_three_bytes(rt: HostRuntime) {
-    let rows: [(&[u8], Option<bool>); 8] = [
-        (&[0x07], Some(false)),
-        (&[0x1F, 0x7F], Some(false)),
-        (&[0xFF, 0x81, 0x07], Some(true)),
-        // A further byte is missing
-        (&[], None),
-        (&[0x1F], None),
-        (&[0x1F, 0x81], None),
-        // A byte too much, and one more that asks for another
-        (&[0x07, 0x00], None),
-        (&[0x1F, 0x81, 0x81], None),
-    ];
-    for (bytes, constructed) in rows {
-        let tag = Tag::checked(bytes);
-        assert_eq!(&rt; tag.map(|tag| tag.constructed()), constructed, "{bytes:?}");
-    }
-    assert_eq!(&rt; tag(&rt, &[0x1F, 0x7F]).bytes(), [0x1F, 0x7F].as_slice());
+    scans_sized(&rt, rt.alloc(), &rows, Lengths::Shortest)
 }
 
 #[test]
@@ -374,6 +245,19 @@ fn bytes_of_tags_are_judged(rt: HostRuntime) {
     }
 }
 
+/// The byte, before so many others, is judged so.
+fn judges_length(
+    rt: &impl Abort,
+    at: LengthAt,
+    left: usize,
+    nests: bool,
+    byte: u8,
+    lengths: Lengths,
+    wanted: Result<LengthNext, Why>,
+) {
+    assert_eq!(rt; judge_length(at, left, nests, byte, lengths), wanted);
+}
+
 #[test]
 fn bytes_of_lengths_are_judged(rt: HostRuntime) {
     let (shortest, padded) = (Lengths::Shortest, Lengths::Padded);
@@ -394,6 +278,6 @@ fn bytes_of_lengths_are_judged(rt: HostRuntime) {
         (after, 1, true, 0, padded, Err(Why::DoesNotFit)),
         (after, 0, true, 0, padded, Ok(LengthNext::Done(0))),
     ] {
-        assert_eq!(&rt; judge_length(at, left, nests, byte, lengths), wanted);
+        judges_length(&rt, at, left, nests, byte, lengths, wanted);
     }
 }

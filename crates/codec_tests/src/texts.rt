@@ -1,22 +1,18 @@
 //! Messages worked by hand.
 
+use crate::message_views::viewed;
 use std::alloc::Global;
 use std::process::Abort;
 use std::test::Fail;
-use zvt_apdu::{scan, view};
 use zvt_bcd::Trace;
-use zvt_spelling::Scan;
 use zvt_text::{escaped, message, numbers, result_words};
 
 /// The message that stands first, as text.
 fn said(rt: &impl Abort, alloc: Global, bytes: &[u8]) -> Result<String, Fail> {
-    let Scan::Whole((apdu, taken)) = scan(alloc, bytes)? else {
-        panic!(rt; "a message stands first: {bytes:?}");
-    };
-    assert_eq!(rt; taken, bytes.len());
-    drop(apdu);
+    let apdu = viewed(rt, alloc, bytes)?;
+    assert_eq!(rt; apdu.bytes().len(), bytes.len());
     let mut text = String::new(alloc);
-    message(&mut text, &view(&bytes[..taken]))?;
+    message(&mut text, &apdu)?;
     Ok(text)
 }
 

@@ -1,0 +1,199 @@
+//! Objects made and written, and that each call succeeds where there is memory.
+
+use crate::objects::shown_objects;
+use std::alloc::{AllocError, Global};
+use std::process::Abort;
+use std::test::Fail;
+use zvt_spelling::Scan;
+use zvt_tlv::{
+    BadForest, Body, Forest, Tag, Tlv, length_size, put_sized, reader, size, write_into,
+};
+
+fn tag(rt: &impl Abort, bytes: &[u8]) -> Tag {
+    Tag::checked(bytes).expect(rt, "a tag")
+}
+
+/// A primitive object of so many bytes of content.
+fn primitive(rt: &impl Abort, alloc: Global, count: usize) -> Result<Tlv, AllocError> {
+    Ok(Tlv {
+        tag: tag(rt, &[0x07]),
+        body: Body::Prim(vec![in alloc; 0x41; count]?),
+    })
+}
+
+fn constructed(rt: &impl Abort, alloc: Global, inner: Tlv) -> Result<Tlv, AllocError> {
+    Ok(Tlv {
+        tag: tag(rt, &[0x3F, 0x01]),
+        body: Body::Cons(vec![in alloc; inner]?),
+    })
+}
+
+/// One object of so many bytes in so many others.
+fn deep(rt: &impl Abort, alloc: Global, count: usize, levels: usize) -> Result<Tlv, AllocError> {
+    let mut object = primitive(rt, alloc, count)?;
+    for _ in 0..levels {
+        object = constructed(rt, alloc, object)?;
+    }
+    Ok(object)
+}
+
+/// The forest of objects that have a spelling.
+fn forest(rt: &impl Abort, objects: Vec<Tlv>) -> Forest {
+    let Ok(forest) = Forest::checked(objects) else {
+        panic!(rt; "the objects have a spelling");
+    };
+    forest
+}
+
+/// Why the objects have no spelling, as which they come back.
+fn fault(objects: Vec<Tlv>) -> Option<(Vec<Tlv>, BadForest)> {
+    match Forest::checked(objects) {
+        Ok(_) => None,
+        Err(refused) => Some(refused),
+    }
+}
+
+/// The object has no spelling, for the reason, and comes back as it was.
+fn refuses(rt: &impl Abort, alloc: Global, object: Tlv, wanted: BadForest) -> Result<(), Fail> {
+    let objects = vec![in alloc; object]?;
+    let before = shown_objects(alloc, &objects)?;
+    let Some((back, found)) = fault(objects) else {
+        panic!(rt; "refused as {wanted:?}");
+    };
+    assert_eq!(rt; found, wanted);
+    assert_eq!(rt; shown_objects(alloc, &back)?.as_str(), before.as_str());
+    Ok(())
+}
+
+#[test]
+fn contents_are_of_the_kind_of_their_tag(rt: HostRuntime) -> Result<(), Fail> {
+    let alloc = rt.alloc();
+    let bytes_for_objects = Tlv {
+        tag: tag(&rt, &[0x25]),
+        body: Body::Prim(vec![in alloc; 0x41; 70_000]?),
+    };
+    refuses(&rt, alloc, bytes_for_objects, BadForest::Kind)?;
+    let objects_for_bytes = Tlv {
+        tag: tag(&rt, &[0x07]),
+        body: Body::Cons(Vec::new(alloc)),
+    };
+    refuses(&rt, alloc, objects_for_bytes, BadForest::Kind)
+}
+
+#[test]
+fn objects_have_a_largest_depth(rt: HostRuntime) -> Result<(), Fail> {
+    let alloc = rt.alloc();
+    let object = deep(&rt, alloc, 70_000, 6)?;
+    refuses(&rt, alloc, object, BadForest::TooDeep)
+}
+
+#[test]
+fn objects_have_a_largest_size(rt: HostRuntime) -> Result<(), Fail> {
+    let alloc = rt.alloc();
+    let larger = primitive(&rt, alloc, 65_532)?;
+    refuses(&rt, alloc, larger, BadForest::TooLarge)?;
+    let largest = forest(&rt, vec![in alloc; primitive(&rt, alloc, 65_531)?]?);
+    assert_eq!(&rt; size(&largest), 65_535);
+    Ok(())
+}
+
+/// Writes a forest, without its length and with it: the bytes, and two more that were there.
+fn written(alloc: Global, forest: &Forest) -> Result<Vec<u8>, AllocError> {
+    let mut out = vec![in alloc; 0xEE; size(forest) + 2]?;
+    let _size = write_into(forest, &mut out);
+    Ok(out)
+}
+
+fn written_sized(rt: &impl Abort, alloc: Global, forest: &Forest) -> Result<Vec<u8>, AllocError> {
+    let content = size(forest);
+    let size = length_size(content) + content;
+    let mut out = vec![in alloc; 0xEE; size + 2]?;
+    assert_eq!(rt; put_sized(forest, &mut out), size);
+    Ok(out)
+}
+
+/// One object of so many bytes in five others.
+fn nested(rt: &impl Abort, alloc: Global, count: usize) -> Result<Forest, AllocError> {
+    let object = deep(rt, alloc, count, 5)?;
+    let objects = vec![in alloc; object]?;
+    Ok(forest(rt, objects))
+}
+
+/// The objects behind the length that stands first, and the size of both.
+fn read_back(rt: &impl Abort, alloc: Global, bytes: &[u8]) -> Result<(Forest, usize), AllocError> {
+    let Scan::Whole(found) = reader::scan_sized(alloc, bytes, 40_000)? else {
+        panic!(rt; "a length and its objects stand first");
+    };
+    Ok(found)
+}
+
+/// Writes one object of so many bytes in five others, and reads it back.
+fn comes_back(rt: &impl Abort, alloc: Global, count: usize, wanted: usize) -> Result<(), Fail> {
+    let forest = nested(rt, alloc, count)?;
+    assert_eq!(rt; size(&forest), wanted);
+    let bytes = written_sized(rt, alloc, &forest)?;
+    let (back, taken) = read_back(rt, alloc, &bytes)?;
+    assert!(rt; wanted < 65_536);
+    assert_eq!(rt; taken, length_size(wanted) + wanted);
+    let before = shown_objects(alloc, forest.objects())?;
+    assert_eq!(rt;
+        shown_objects(alloc, back.objects())?.as_str(),
+        before.as_str()
+    );
+    Ok(())
+}
+
+#[test]
+fn what_is_written_is_read_back(rt: HostRuntime) -> Result<(), Fail> {
+    for (count, wanted) in [(0, 17), (127, 149), (128, 151), (256, 285)] {
+        comes_back(&rt, rt.alloc(), count, wanted)?;
+    }
+    Ok(())
+}
+
+/// An object of one byte in another, and an empty one behind it.
+fn pair(rt: &impl Abort, alloc: Global) -> Result<Forest, AllocError> {
+    let first = constructed(rt, alloc, primitive(rt, alloc, 1)?)?;
+    Ok(forest(rt, vec![in alloc; first, primitive(rt, alloc, 0)?]?))
+}
+
+#[test]
+fn spellings_are_those_of_the_standard(rt: HostRuntime) -> Result<(), Fail> {
+    let alloc = rt.alloc();
+    let forest = pair(&rt, alloc)?;
+    let bytes = [
+        0x08, 0x3F, 0x01, 0x03, 0x07, 0x01, 0x41, 0x07, 0x00, 0xEE, 0xEE,
+    ];
+    assert_eq!(&rt; written(alloc, &forest)?.as_slice(), &bytes[1..]);
+    assert_eq!(&rt;
+        written_sized(&rt, alloc, &forest)?.as_slice(),
+        bytes.as_slice()
+    );
+    Ok(())
+}
+
+/// Whether a tag of these bytes is constructed, where they are one.
+fn kind_of_tag(rt: &impl Abort, bytes: &[u8]) -> Option<bool> {
+    let tag = Tag::checked(bytes)?;
+    assert!(rt; *tag.bytes() == *bytes);
+    Some(tag.constructed())
+}
+
+#[test]
+fn tags_have_one_to_three_bytes(rt: HostRuntime) {
+    let rows: [(&[u8], Option<bool>); 8] = [
+        (&[0x07], Some(false)),
+        (&[0x1F, 0x7F], Some(false)),
+        (&[0xFF, 0x81, 0x07], Some(true)),
+        // A further byte is missing
+        (&[], None),
+        (&[0x1F], None),
+        (&[0x1F, 0x81], None),
+        // A byte too much, and one more that asks for another
+        (&[0x07, 0x00], None),
+        (&[0x1F, 0x81, 0x81], None),
+    ];
+    for (bytes, constructed) in rows {
+        assert_eq!(&rt; kind_of_tag(&rt, bytes), constructed, "{bytes:?}");
+    }
+}
