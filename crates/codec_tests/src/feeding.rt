@@ -52,19 +52,28 @@ fn two_messages_in_a_piece(rt: HostRuntime) {
     assert_eq!(rt; stream.finish(), Ok(()));
 }
 
+/// Where and why the piece is refused, or none where it isn't.
+fn refusal(
+    alloc: Global,
+    stream: &mut Stream,
+    piece: &[u8],
+) -> Result<Option<(usize, Why)>, FeedError> {
+    match stream.feed(alloc, piece)? {
+        Fed::Refused { place, why } => Ok(Some((place, why))),
+        _ => Ok(None),
+    }
+}
+
 #[test]
-fn refused_at_the_fatal_byte(rt: HostRuntime) -> Result<(), Fail> {
+fn refused_at_the_fatal_byte(rt: HostRuntime) {
     let mut stream = Stream::new(rt.alloc());
     let first = status(&rt, rt.alloc(), &mut stream, &[0x06, 0x0F, 0x03]);
     assert_eq!(rt; first, None);
-    let Fed::Refused { place, why } = stream.feed(rt.alloc(), &[0x06])? else {
-        panic!(rt; "no length fits behind 06");
-    };
-    assert_eq!(rt; (place, why), (3, Why::DoesNotFit));
+    let refused = refusal(rt.alloc(), &mut stream, &[0x06]);
+    assert_eq!(rt; refused, Ok(Some((3, Why::DoesNotFit))));
     assert_eq!(rt; stream.held(), 0);
-    let next = stream.feed(rt.alloc(), &[0x80, 0x00, 0x00]);
-    assert!(rt; matches!(next, Err(FeedError::Stopped)));
-    Ok(())
+    let next = refusal(rt.alloc(), &mut stream, &[0x80, 0x00, 0x00]);
+    assert_eq!(rt; next, Err(FeedError::Stopped));
 }
 
 #[test]

@@ -14,6 +14,11 @@ const STATUS: [u8; 19] = [
 
 const ACK: [u8; 3] = [0x80, 0x00, 0x00];
 
+// Says nothing of what it answers: beside that each step of a caller's proof is dear.
+fn feed(stream: &mut Stream, piece: &[u8]) -> Result<FedView, FeedError> {
+    stream.feed_view(piece)
+}
+
 /// The stream lends this message, and holds nothing.
 fn lends(rt: &impl Abort, stream: &Stream, kind: Kind, bytes: &[u8]) {
     let Some(apdu) = stream.lent() else {
@@ -30,10 +35,13 @@ fn a_message_is_lent_at_any_cut(rt: HostRuntime) -> Result<(), Fail> {
     for cut in 1..19 {
         let mut stream = Stream::new(rt.alloc());
         let (first, last) = STATUS.split_at(cut);
-        assert_eq!(rt; stream.feed_view(first)?, FedView::More);
+        assert_eq!(rt; feed(&mut stream, first)?, FedView::More);
         assert!(rt; stream.lent().is_none());
         assert_eq!(rt; stream.held(), cut);
-        assert_eq!(rt; stream.feed_view(last)?, FedView::Message { taken: 19 - cut });
+        assert_eq!(rt;
+            feed(&mut stream, last)?,
+            FedView::Message { taken: 19 - cut }
+        );
         lends(&rt, &stream, Kind::Status, &STATUS);
     }
     Ok(())
@@ -42,9 +50,9 @@ fn a_message_is_lent_at_any_cut(rt: HostRuntime) -> Result<(), Fail> {
 #[test]
 fn the_next_feed_gives_it_up(rt: HostRuntime) -> Result<(), Fail> {
     let mut stream = Stream::new(rt.alloc());
-    assert_eq!(rt; stream.feed_view(&ACK)?, FedView::Message { taken: 3 });
+    assert_eq!(rt; feed(&mut stream, &ACK)?, FedView::Message { taken: 3 });
     lends(&rt, &stream, Kind::Ack, &ACK);
-    assert_eq!(rt; stream.feed_view(&STATUS)?, FedView::Message { taken: 19 });
+    assert_eq!(rt; feed(&mut stream, &STATUS)?, FedView::Message { taken: 19 });
     lends(&rt, &stream, Kind::Status, &STATUS);
     let fed = stream.feed(rt.alloc(), &ACK)?;
     assert!(rt; matches!(fed, Fed::Message { taken: 3, .. }));
@@ -55,14 +63,14 @@ fn the_next_feed_gives_it_up(rt: HostRuntime) -> Result<(), Fail> {
 #[test]
 fn refused_where_it_lends(rt: HostRuntime) -> Result<(), Fail> {
     let mut stream = Stream::new(rt.alloc());
-    assert_eq!(rt; stream.feed_view(&ACK)?, FedView::Message { taken: 3 });
+    assert_eq!(rt; feed(&mut stream, &ACK)?, FedView::Message { taken: 3 });
     let refused = FedView::Refused {
         place: 3,
         why: Why::DoesNotFit,
     };
-    assert_eq!(rt; stream.feed_view(&[0x06, 0x0F, 0x03, 0x06])?, refused);
+    assert_eq!(rt; feed(&mut stream, &[0x06, 0x0F, 0x03, 0x06])?, refused);
     assert_eq!(rt; stream.lent_bytes(), None);
-    assert_eq!(rt; stream.feed_view(&ACK), Err(FeedError::Stopped));
+    assert_eq!(rt; feed(&mut stream, &ACK), Err(FeedError::Stopped));
     Ok(())
 }
 
@@ -82,8 +90,8 @@ fn the_longest_message_on_a_reserved_stream(rt: HostRuntime) -> Result<(), Fail>
     for cut in [1, 65_539] {
         assert!(rt; cut <= line.len());
         let (first, second) = line.split_at(cut);
-        assert_eq!(rt; stream.feed_view(first)?, FedView::More);
-        let Ok(FedView::Message { taken }) = stream.feed_view(second) else {
+        assert_eq!(rt; feed(&mut stream, first)?, FedView::More);
+        let Ok(FedView::Message { taken }) = feed(&mut stream, second) else {
             panic!(rt; "no message ends in the second piece");
         };
         assert_eq!(rt; taken, LONGEST - cut);

@@ -8,7 +8,7 @@ use zvt_field::Fields;
 use zvt_spelling::{Scan, Why};
 
 // These two say nothing of what they answer: beside it each step of a caller's proof is dear.
-fn spelling(alloc: Global, apdu: &Apdu) -> Result<Vec<u8>, AllocError> {
+pub fn spelling(alloc: Global, apdu: &Apdu) -> Result<Vec<u8>, AllocError> {
     encode(alloc, apdu)
 }
 
