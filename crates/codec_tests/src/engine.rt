@@ -118,7 +118,11 @@ fn lines_go_as_far_as_they_are_to(rt: HostRuntime) -> Result<(), Fail> {
         (&half, REST, &ACK, Err(ended), [1, 1, 0]),
     ];
     for (coming, course, written, ended, machine) in rows {
-        for mut stream in [Stream::new(rt.alloc()), Stream::reserved(rt.alloc())?] {
+        for reserved in [false, true] {
+            let mut stream = Stream::new(rt.alloc());
+            if reserved {
+                stream = Stream::reserved(rt.alloc())?;
+            }
             let mut writer = Over::new(Vec::new(rt.alloc()));
             let found = run(
                 rt.alloc(),

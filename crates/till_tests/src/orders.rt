@@ -35,17 +35,26 @@ enum Told {
     Heard(Heard, Option<Brief>, Option<Outcome>),
 }
 
+// These two say nothing of what they answer: beside it each step of a caller's proof is dear.
+fn order(till: &mut Till, order: Order) -> Result<Outgoing, OrderRefusal> {
+    till.order(order)
+}
+
+fn hear(till: &mut Till, heard: Heard) -> Reply {
+    till.hear(heard)
+}
+
 /// The till is told this, one after another.
 fn goes(rt: &impl Abort, till: &mut Till, course: &[Told]) {
     for told in course {
         match *told {
-            Told::Sent(order, brief) => {
-                assert_eq!(rt; till.order(order), Ok(Outgoing { brief }));
+            Told::Sent(sent, brief) => {
+                assert_eq!(rt; order(till, sent), Ok(Outgoing { brief }));
             }
-            Told::Refused(order, refusal) => assert_eq!(rt; till.order(order), Err(refusal)),
+            Told::Refused(sent, refusal) => assert_eq!(rt; order(till, sent), Err(refusal)),
             Told::Heard(heard, answer, outcome) => {
                 let send = answer.map(|brief| Outgoing { brief });
-                assert_eq!(rt; till.hear(heard), Reply { send, outcome });
+                assert_eq!(rt; hear(till, heard), Reply { send, outcome });
             }
         }
     }
@@ -56,11 +65,20 @@ fn acknowledged(heard: Heard, outcome: Option<Outcome>) -> Told {
     Told::Heard(heard, Some(Brief::Ack), outcome)
 }
 
+/// A till whose line is up.
+fn connected_till(rt: &impl Abort, alloc: Global) -> Till {
+    let mut till = Till::new(alloc, PASSWORD, 0xBE, euro(rt));
+    assert_eq!(rt;
+        order(&mut till, Order::Register),
+        Err(OrderRefusal::Offline)
+    );
+    till.connected();
+    till
+}
+
 /// A till that is registered on its line.
 fn registered_till(rt: &impl Abort, alloc: Global) -> Till {
-    let mut till = Till::new(alloc, PASSWORD, 0xBE, euro(rt));
-    assert_eq!(rt; till.order(Order::Register), Err(OrderRefusal::Offline));
-    till.connected();
+    let mut till = connected_till(rt, alloc);
     let register = Brief::Register {
         password: PASSWORD,
         config: 0xBE,
@@ -128,12 +146,17 @@ fn pays(rt: &impl Abort, till: &mut Till, heard: &[Heard]) -> Option<Outcome> {
     assert_eq!(rt; till.running(), Some(Order::Pay(price(rt))));
     let mut outcome = None;
     for message in heard {
-        let reply = till.hear(*message);
+        let reply = hear(till, *message);
         if reply.outcome.is_some() {
             outcome = reply.outcome;
         }
     }
     outcome
+}
+
+/// The till's total, what runs, and what ended last.
+fn ends(till: &Till) -> (u64, Option<Order>, Option<Outcome>) {
+    (till.total(), till.running(), till.last_outcome())
 }
 
 /// The till has just this book and these unclear payments, nothing runs, and this ended last.
@@ -147,9 +170,7 @@ fn stands(
 ) {
     assert_eq!(rt; till.book(), book);
     assert_eq!(rt; till.unclear(), unclear);
-    assert_eq!(rt; till.total(), total);
-    assert_eq!(rt; till.running(), None);
-    assert_eq!(rt; till.last_outcome(), Some(last));
+    assert_eq!(rt; ends(till), (total, None, Some(last)));
 }
 
 #[test]
