@@ -89,6 +89,15 @@ abbrev pub IsJudged : List Happening → Books → Option OpenPayment → Type 0
 IsJudged log b None = Rests (segments log) b
 IsJudged log b (Some p) = Runs (segments log) b p
 
+-- books that go on, and the payment that runs
+pub record BooksSoFar : Type 0 where
+  pub books : Books
+  pub running : Option OpenPayment
+
+-- they are those of this log, but for the payment that runs at its end
+abbrev pub HasJudged : List Happening → BooksSoFar → Type 0
+HasJudged log b = IsJudged log b.books b.running
+
 abbrev pub opened : Sent → Option OpenPayment
 opened Register = None
 opened (Pay a) = Some (record { amount = a; positive = false; statuses = Nothing })

@@ -1,25 +1,75 @@
 //! The books of a whole log.
-ghost use Rattle.std.specs.Prelude.{◌≡◌, IfOk};
+ghost use Rattle.std.specs.Prelude.{◌≡◌, ◌++◌, ◌∷◌, [], List, IfOk, OnOk};
 ghost use Rattle.zvt_till.specs.Books.{books};
-ghost use Rattle.zvt_till.specs.Judging.{books_value};
+ghost use Rattle.zvt_till.specs.Judging.{HasJudged, books_value};
 
 use crate::happenings::Happening;
-use crate::judging::Books;
+use crate::judging::{Books, OpenPayment};
 use crate::statuses::Statuses;
 use std::alloc::{AllocError, Global};
+use std::marker::Model;
+use zvt_bcd::Trace;
+
+/// The books of a log that goes on: each happening is judged as it comes, and none is kept.
+#[derive(Drop)]
+pub struct Bookkeeping {
+    found: Books,
+    /// The payment that has no end so far.
+    running: Option<OpenPayment>,
+}
+
+impl Model for Bookkeeping {
+    ghost use Rattle.zvt_till.specs.Judging.{BooksSoFar, KnowsTraces, books_value};
+
+    ghost Value = { BooksSoFar };
+
+    ghost view = { λ b. record { books = books_value b.found; running = b.running } };
+
+    ghost invariant = { λ b. KnowsTraces b.found };
+}
+
+impl Bookkeeping {
+    /// The books of a log in which nothing has happened.
+    pub fn new(alloc: Global) -> Bookkeeping
+        ensures { HasJudged [] result }
+    {
+        Bookkeeping {
+            found: Books::new(alloc),
+            running: None,
+        }
+    }
+
+    /// Judges what happened next. Where memory is refused the books are those of no log any more.
+    pub fn take(&mut self, happening: &Happening) -> Result<(), AllocError>
+        ensures { OnOk result ((log : List Happening) → HasJudged log self.old → HasJudged (log ++ happening.now ∷ []) self.new) }
+    {
+        // Names the types that a running payment is made of, which the proof asks for.
+        let _statuses: Option<Statuses> = None;
+        let _trace: Option<Trace> = None;
+        let running = self.found.take(&self.running, happening)?;
+        self.running = running;
+        Ok(())
+    }
+
+    /// The log ends: a payment without an end is unfinished.
+    pub fn close(self) -> Result<Books, AllocError>
+        ensures { IfOk result (λ found. (log : List Happening) → HasJudged log self → books_value found ≡ books log) }
+    {
+        let Bookkeeping { found, running } = self;
+        let mut found = found;
+        found.close(&running)?;
+        Ok(found)
+    }
+}
 
 /// The payments of a log, each judged by all that was heard up to the next order. Any log will do, also one that no
 /// till of this crate can have. The error is want of memory.
 pub fn books(alloc: Global, log: &[Happening]) -> Result<Books, AllocError>
     ensures { IfOk result (λ found. books_value found ≡ books log.now) }
 {
-    // Names a type that a running payment is made of, which the proof of the loop asks for.
-    let _statuses: Option<Statuses> = None;
-    let mut found = Books::new(alloc);
-    let mut running = None;
+    let mut keeping = Bookkeeping::new(alloc);
     for happening in log {
-        running = found.take(&running, happening)?;
+        keeping.take(happening)?;
     }
-    found.close(&running)?;
-    Ok(found)
+    keeping.close()
 }

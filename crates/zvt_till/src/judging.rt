@@ -106,17 +106,17 @@ impl Books {
     fn write(&mut self, amount: Amount, outcome: &Outcome) -> Result<(), AllocError>
         requires { KnowsTraces self.old }
         ensures written { OnOk result (books_value self.new ≡ written (books_value self.old) amount outcome.now) }
-        ensures traces { OnOk result (KnowsTraces self.new) }
+        ensures traces { KnowsTraces self.new }
     {
         match outcome {
             Outcome::Paid { trace, receipt } => {
                 self.used.make_room()?;
-                self.used.insert(*trace);
                 self.booked.push(Booked {
                     amount,
                     trace: *trace,
                     receipt: *receipt,
                 })?;
+                self.used.insert(*trace);
             }
             Outcome::Unclear(cause) => self.unclear.push((amount, *cause))?,
             _ => {}
@@ -128,7 +128,7 @@ impl Books {
     pub(crate) fn close(&mut self, running: &Option<OpenPayment>) -> Result<(), AllocError>
         requires { KnowsTraces self.old }
         ensures closed { OnOk result ((log : List Happening) → IsJudged log (books_value self.old) running.now → books_value self.new ≡ books log) }
-        ensures traces { OnOk result (KnowsTraces self.new) }
+        ensures traces { KnowsTraces self.new }
     {
         if let Some(payment) = running {
             self.write(payment.amount, &Outcome::Unclear(Cause::Unfinished))?;
@@ -143,7 +143,7 @@ impl Books {
         happening: &Happening,
     ) -> Result<Option<OpenPayment>, AllocError>
         requires { KnowsTraces self.old }
-        ensures traces { OnOk result (KnowsTraces self.new) }
+        ensures traces { KnowsTraces self.new }
         ensures judged { IfOk result (λ next. (log : List Happening) → IsJudged log (books_value self.old) running.now → IsJudged (log ++ happening.now ∷ []) (books_value self.new) next) }
     {
         if let Some(order) = begun(happening) {

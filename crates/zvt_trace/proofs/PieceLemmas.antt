@@ -3,11 +3,12 @@ use Rattle.std.proofs.Common.{◌≡◌, ℕ, ◌+◌, Bool, true, false, subst,
 use Rattle.std.proofs.lemmas.List.{take-append-drop}
 use Rattle.std.proofs.lemmas.Bool.{false≢true}
 use Rattle.zvt_spelling.proofs.CutLemmas.{spelled_append, spelled_more, spelled_push}
-use Rattle.zvt_spelling.specs.Beginnings.{NoneWhole}
+use Rattle.zvt_spelling.specs.Beginnings.{Alive, NoneWhole}
 use Rattle.zvt_spelling.specs.Cuts.{Cut, Spelled}
 use Rattle.zvt_spelling.specs.Reading.{shortest}
 use Rattle.zvt_apdu.specs.Grammar.{Spells}
 use Rattle.zvt_apdu.specs.Message.{Message}
+use Rattle.zvt_stream.proofs.Beginnings.{nothing_begun}
 use Rattle.zvt_stream.specs.StreamState.{StreamState, Holds, HasRefused, Keeps}
 use Rattle.zvt_stream.specs.Feeds.{Lends}
 use Rattle.zvt_stream.specs.declared.feeding.FedView.{FedView}
@@ -72,6 +73,11 @@ one_more style from bytes rest after start state next old new newer count taken 
   fresh = λ e. absurd (false≢true (sym is_next.1 ∙ e));
 }
 
+-- nothing is held, and nothing comes
+pub nothing_left : (held rest : List ℕ) → held ≡ [] → length rest ≡ 0 → held ++ rest ≡ []
+nothing_left held [] none empty = append-nil held ∙ none
+nothing_left held (byte ∷ rest) none empty = absurd (omega (arith, empty))
+
 -- the stream stands behind such an ending
 abbrev pub EndsAs : StreamState → List ℕ → Ending → Type 0
 EndsAs next rest begun = Holds rest next
@@ -131,6 +137,15 @@ ends style from (running before) bytes rest start state next old new newer count
     no_messages : (ending : Ending) → (ending_part style from ending).messages ≡ 0
     no_messages begun = refl
     no_messages (refused place why) = refl
+
+-- nothing of the piece is left behind a message
+pub ends_whole : (style : Style) (from : Direction) (side : Side) (bytes rest : List ℕ) (start state : StreamState) (old new : List ℕ) (count : ℕ) (tally : Tally)
+    → SoFar style from bytes rest start state old new count → Holds [] state → length rest ≡ 0 → tally.messages ≡ count → tally.bad ≡ 0 → Follows start side
+    → AddsPiece style from side bytes state tally old new
+ends_whole style from side bytes rest start state old new count tally so holds none messages bad follows =
+    let nothing = nothing_left state.held rest holds.0 none in
+    ends style from side bytes rest start state state old new new count begun tally so holds.1 (subst (NoneWhole (Spells shortest)) (sym nothing) nothing_begun.none_whole)
+    (subst (Alive (Spells shortest)) (sym nothing) nothing_begun.alive) (holds.0 ∙ sym nothing, holds.1) (sym (append-nil new)) messages bad follows
 
 -- a piece behind a refusal
 pub stays : (style : Style) (from : Direction) (side : Side) (bytes rest : List ℕ) (start state next : StreamState) (old new newer : List ℕ) (count : ℕ) (tally : Tally)

@@ -6,6 +6,7 @@ use Rattle.std.specs.Str.Lines.{lines}
 use Rattle.zvt_stream.specs.StreamState.{StreamState}
 use Rattle.zvt_apdu.specs.Message.{Message}
 use Rattle.zvt_till.specs.Books.{books}
+use Rattle.zvt_till.specs.Judging.{BooksSoFar, HasJudged}
 use Rattle.zvt_till.specs.declared.happenings.Happening.{Happening}
 use Rattle.zvt_till.specs.declared.happenings.Happening.TheVariants.{Connected}
 use Rattle.zvt_trace.specs.Audit.{LinkState, LineSays, Tells, WholeAudit, deaf, happened, listening, new_link}
@@ -30,44 +31,48 @@ StandsFor state (listening till terminal) =
     (state.deaf ≡ false) × Follows state.streams.till (running till) × Follows state.streams.terminal (running terminal)
 StandsFor state deaf = state.deaf ≡ true
 
--- ---- what the functions add to the log
+-- ---- what the functions add to the books
+
+-- the books of a log became those of the log with these happenings behind it
+abbrev pub Takes : (old new : BooksSoFar) → List Happening → Type 0
+Takes old new happened = (log : List Happening) → HasJudged log old → HasJudged (log ++ happened) new
 
 abbrev pub is_stopped : Side → Bool
 is_stopped (running bytes) = false
 is_stopped stopped = true
 
--- the log grew by what happened by the messages that a piece brings, and the stream goes on behind it
-pub record AddsMessages (from : Direction) (before bytes : List ℕ) (state : StreamState) (brought : Brought) (old new : List Happening) : Type 0 where
+-- the books took what happened by the messages that a piece brings, and the stream goes on behind it
+pub record AddsMessages (from : Direction) (before bytes : List ℕ) (state : StreamState) (brought : Brought) (old new : BooksSoFar) : Type 0 where
   pub messages : List Message
   pub rest : List ℕ
   pub ending : Ending
   pub arrives : Arrives before bytes messages rest ending
   pub follows : Follows state (side_after (before ++ bytes) ending)
-  pub grown : new ≡ old ++ filter_map (happened from) messages
+  pub taken : Takes old new (filter_map (happened from) messages)
   pub counted : brought.messages ≡ length messages
   pub ends : brought.refused ≡ is_stopped (side_after (before ++ bytes) ending)
 
--- the log grew by what a piece comes to
-pub record Hears (from : Direction) (before beside bytes : List ℕ) (state : StreamState) (hearing : Hearing) (old new : List Happening) : Type 0 where
+-- the books took what a piece comes to
+pub record Hears (from : Direction) (before beside bytes : List ℕ) (state : StreamState) (hearing : Hearing) (old new : BooksSoFar) : Type 0 where
   pub part : Part Happening
   pub after : Side
   pub tells : Tells from before beside bytes part after
   pub follows : Follows state after
-  pub grown : new ≡ old ++ part.items
+  pub taken : Takes old new part.items
   pub counts : Counts hearing.tally part
   pub ends : hearing.refused ≡ is_stopped after
 
--- the log grew by what a line of the trace comes to
-pub record AddsLine (link : LinkState) (meaning : Meaning) (state : Link) (tally : Tally) (old new : List Happening) : Type 0 where
+-- the books took what a line of the trace comes to
+pub record AddsLine (link : LinkState) (meaning : Meaning) (state : Link) (tally : Tally) (old new : BooksSoFar) : Type 0 where
   pub part : Part Happening
   pub after : LinkState
   pub says : LineSays meaning link part after
   pub stands : StandsFor state after
-  pub grown : new ≡ old ++ part.items
+  pub taken : Takes old new part.items
   pub counts : Counts tally part
 
--- the line of that number can be read, and the log grew by what it comes to; or it can't be read
-abbrev pub TakesLine : LinkState → (number : ℕ) → (line : List ℕ) → Link → (old new : List Happening) → Result Tally ToolFault → Type 0
+-- the line of that number can be read, and the books took what it comes to; or it can't be read
+abbrev pub TakesLine : LinkState → (number : ℕ) → (line : List ℕ) → Link → (old new : BooksSoFar) → Result Tally ToolFault → Type 0
 TakesLine link number line state old new (Ok tally) = (meaning : Meaning) × (meaning_of line ≡ Ok meaning) × AddsLine link meaning state tally old new
 TakesLine link number line state old new (Err (Trace at what)) = (at ≡ number) × (meaning_of line ≡ Err what)
 TakesLine link number line state old new (Err Memory) = Unit {0}
@@ -78,9 +83,9 @@ TakesLine link number line state old new (Err (Line broken)) = ⊥
 TakesLine link number line state old new (Err (BadStep at)) = ⊥
 TakesLine link number line state old new (Err Net) = ⊥
 
--- all lines can be read, and the log grew by what they come to; or one is the first that can't be read
-abbrev pub TakesLines : List (List ℕ) → (old new : List Happening) → Result Tally ToolFault → Type 0
-TakesLines lines old new (Ok tally) = (all : Part Happening) × WholeAudit lines all × (new ≡ old ++ all.items) × Counts tally all
+-- all lines can be read, and the books took what they come to; or one is the first that can't be read
+abbrev pub TakesLines : List (List ℕ) → (old new : BooksSoFar) → Result Tally ToolFault → Type 0
+TakesLines lines old new (Ok tally) = (all : Part Happening) × WholeAudit lines all × Takes old new all.items × Counts tally all
 TakesLines lines old new (Err (Trace number what)) = (all : Part Happening) × Broken LineSays new_link lines number what all
 TakesLines lines old new (Err Memory) = Unit {0}
 TakesLines lines old new (Err TooLong) = ⊥

@@ -7,7 +7,6 @@ ghost use Rattle.zvt_trace.specs.Audited.{AnswersAudit, StandsFor, TakesLine, Ta
 
 use crate::booked;
 use crate::fault::{Tally, ToolFault};
-use crate::happened::add;
 use crate::input::read_trace;
 use crate::line::{BadLine, read_line};
 use crate::link::Link;
@@ -15,7 +14,7 @@ use crate::traces::{next_line, put};
 use std::alloc::Global;
 use zvt_io::{Sink, Source};
 use zvt_till::Happening;
-use zvt_till::books::books;
+use zvt_till::books::Bookkeeping;
 
 /// Writes the books of the trace: a line for each payment that was completed, then one for each of which it is not
 /// known whether it happened, and the sum of the former in the smallest unit of the currency. Payments that were taken
@@ -37,20 +36,20 @@ pub fn audit<R: Source, W: Sink>(
     ensures write { result ≡ Err ToolFault.Write → W.failures writer.old < W.failures writer.new }
 {
     let trace = read_trace(alloc, reader)?;
-    let mut log = Vec::new(alloc);
-    add(&mut log, Happening::Connected)?;
-    let tally = add_lines(alloc, &mut log, trace.as_slice())?;
-    let found = books(alloc, log.as_slice())?;
+    let mut books = Bookkeeping::new(alloc);
+    books.take(&Happening::Connected)?;
+    let tally = add_lines(alloc, &mut books, trace.as_slice())?;
+    let found = books.close()?;
     let mut text = String::new(alloc);
     booked::write(&mut text, &found)?;
     put(&text, writer)?;
     Ok(tally)
 }
 
-/// Adds what happened by the lines of a trace.
-fn add_lines(alloc: Global, log: &mut Vec<Happening>, trace: &[u8]) -> Result<Tally, ToolFault>
+/// Takes what happened by the lines of a trace.
+fn add_lines(alloc: Global, books: &mut Bookkeeping, trace: &[u8]) -> Result<Tally, ToolFault>
     requires { length trace.now ≤ limit }
-    ensures { TakesLines (lines trace.now) log.old.items log.new.items result }
+    ensures { TakesLines (lines trace.now) books.old books.new result }
 {
     let mut tally = Tally::none();
     let mut link = Link::new(alloc);
@@ -60,7 +59,7 @@ fn add_lines(alloc: Global, log: &mut Vec<Happening>, trace: &[u8]) -> Result<Ta
     'lines: while !rest.is_empty() {
         let (content, after) = next_line(rest);
         number += 1;
-        let counted = add_line(alloc, log, &mut link, &mut buffer, number, content)?;
+        let counted = add_line(alloc, books, &mut link, &mut buffer, number, content)?;
         tally.messages += counted.messages;
         tally.bad += counted.bad;
         rest = after;
@@ -69,16 +68,16 @@ fn add_lines(alloc: Global, log: &mut Vec<Happening>, trace: &[u8]) -> Result<Ta
     Ok(tally)
 }
 
-/// Adds what happened by the line of that number.
+/// Takes what happened by the line of that number.
 fn add_line(
     alloc: Global,
-    log: &mut Vec<Happening>,
+    books: &mut Bookkeeping,
     link: &mut Link,
     buffer: &mut Vec<u8>,
     number: u64,
     content: &[u8],
 ) -> Result<Tally, ToolFault>
-    ensures takes { (state : LinkState) → StandsFor link.old state → TakesLine state number content.now link.new log.old.items log.new.items result }
+    ensures takes { (state : LinkState) → StandsFor link.old state → TakesLine state number content.now link.new books.old books.new result }
     ensures few { IfOk result (λ tally. tally.messages ≤ length content.now) }
     ensures two { IfOk result (λ tally. tally.bad ≤ 2) }
 {
@@ -87,5 +86,5 @@ fn add_line(
         Err(BadLine::Wrong(what)) => return Err(ToolFault::Trace { line: number, what }),
         Err(BadLine::Memory) => return Err(ToolFault::Memory),
     };
-    Ok(link.take(alloc, log, &line)?)
+    Ok(link.take(alloc, books, &line)?)
 }

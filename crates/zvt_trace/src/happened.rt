@@ -1,21 +1,21 @@
-//! What messages are to a log.
-ghost use Rattle.std.specs.Prelude.{◌≡◌, ◌++◌, ◌∷◌, [], ◌≤◌, ℕ, List, Some, length, IfOk, OnOk};
+//! What messages are to the books.
+ghost use Rattle.std.specs.Prelude.{◌≡◌, [], ◌≤◌, ℕ, List, Some, length, IfOk, OnOk};
 ghost use Rattle.zvt_apdu.specs.Message.{authorisation};
 ghost use Rattle.zvt_trace.specs.Trace.{running};
 ghost use Rattle.zvt_trace.specs.Written.{Follows};
 ghost use Rattle.std.specs.List.{cons_option};
 ghost use Rattle.zvt_trace.specs.Audit.{Begun, happened, ordered};
-ghost use Rattle.zvt_trace.specs.Audited.{AddsMessages, Hears};
+ghost use Rattle.zvt_trace.specs.Audited.{AddsMessages, Hears, Takes};
 
 use crate::fault::Tally;
 use crate::style::Direction;
 use std::alloc::AllocError;
 use zvt_apdu::{ApduView, Kind};
-use zvt_bcd::{Amount, Trace};
 use zvt_field::FieldsView;
 use zvt_stream::{FedView, FeedError, Stream};
+use zvt_till::books::Bookkeeping;
 use zvt_till::hearing::heard_view;
-use zvt_till::{Happening, Heard, Original, Sent, StatusFacts};
+use zvt_till::{Happening, Sent};
 
 /// What a piece brought: so many messages, and whether bytes were refused behind them.
 #[derive(Clone, Copy, Debug, PartialEq, Eq)]
@@ -64,43 +64,28 @@ fn happened(from: Direction, apdu: &ApduView<'_>) -> Option<Happening>
     }
 }
 
-/// Adds what happened to a log. Its first lines do nothing: they name the types that a happening is made of, which the
-/// proof of `push` asks for.
-pub(crate) fn add(log: &mut Vec<Happening>, happening: Happening) -> Result<(), AllocError>
-    ensures { OnOk result (log.new.items ≡ log.old.items ++ happening ∷ []) }
-{
-    let _sent: Option<Sent> = None;
-    let _heard: Option<Heard> = None;
-    let _status: Option<StatusFacts> = None;
-    let _amount: Option<Amount> = None;
-    let _trace: Option<Trace> = None;
-    let _original: Option<Original> = None;
-    log.push(happening)?;
-    Ok(())
-}
-
-/// Adds what happened by a message.
+/// Takes what happened by a message.
 fn add_message(
-    log: &mut Vec<Happening>,
+    books: &mut Bookkeeping,
     from: Direction,
     apdu: &ApduView<'_>,
 ) -> Result<(), AllocError>
-    ensures { OnOk result (log.new.items ≡ log.old.items ++ cons_option (happened from apdu.now) []) }
+    ensures { OnOk result (Takes books.old books.new (cons_option (happened from apdu.now) [])) }
 {
     match happened(from, apdu) {
-        Some(happening) => add(log, happening),
+        Some(happening) => books.take(&happening),
         None => Ok(()),
     }
 }
 
-/// Adds what happened by the messages that a piece brings.
+/// Takes what happened by the messages that a piece brings.
 fn add_messages(
-    log: &mut Vec<Happening>,
+    books: &mut Bookkeeping,
     from: Direction,
     stream: &mut Stream,
     bytes: &[u8],
 ) -> Result<Brought, AllocError>
-    ensures adds { (before : List ℕ) → Follows stream.old (running before) → IfOk result (λ brought. AddsMessages from before bytes.now stream.new brought log.old.items log.new.items) }
+    ensures adds { (before : List ℕ) → Follows stream.old (running before) → IfOk result (λ brought. AddsMessages from before bytes.now stream.new brought books.old books.new) }
     ensures few { IfOk result (λ brought. brought.messages ≤ length bytes.now) }
 {
     let mut messages = 0;
@@ -111,9 +96,16 @@ fn add_messages(
                 let Some(apdu) = stream.lent() else {
                     unreachable!()
                 };
-                add_message(log, from, &apdu)?;
+                add_message(books, from, &apdu)?;
                 messages += 1;
                 let (_, after) = rest.split_at(taken);
+                // Most pieces end with a message.
+                if after.is_empty() {
+                    return Ok(Brought {
+                        messages,
+                        refused: false,
+                    });
+                }
                 rest = after;
             }
             Ok(FedView::More) => {
@@ -146,23 +138,23 @@ pub(crate) struct Hearing {
     pub(crate) refused: bool,
 }
 
-/// Adds what happened by a piece of one side. Where it is refused, the message that the other side has begun is cut
+/// Takes what happened by a piece of one side. Where it is refused, the message that the other side has begun is cut
 /// off.
 pub(crate) fn hear(
-    log: &mut Vec<Happening>,
+    books: &mut Bookkeeping,
     from: Direction,
     stream: &mut Stream,
     other: &Stream,
     bytes: &[u8],
 ) -> Result<Hearing, AllocError>
-    ensures hears { (before beside : List ℕ) → Follows stream.old (running before) → Follows other.now (running beside) → IfOk result (λ hearing. Hears from before beside bytes.now stream.new hearing log.old.items log.new.items) }
+    ensures hears { (before beside : List ℕ) → Follows stream.old (running before) → Follows other.now (running beside) → IfOk result (λ hearing. Hears from before beside bytes.now stream.new hearing books.old books.new) }
     ensures few { IfOk result (λ hearing. hearing.tally.messages ≤ length bytes.now) }
     ensures two { IfOk result (λ hearing. hearing.tally.bad ≤ 2) }
 {
-    let brought = add_messages(log, from, stream, bytes)?;
+    let brought = add_messages(books, from, stream, bytes)?;
     let messages = brought.messages;
     if brought.refused {
-        add(log, Happening::Malformed)?;
+        books.take(&Happening::Malformed)?;
         let bad = 1 + count_begun(other);
         return Ok(Hearing {
             tally: Tally { messages, bad },

@@ -38,6 +38,7 @@ impl From<AllocError> for BadLine {
 }
 
 /// Reads a line, which has lost its line feed. The bytes of a piece stand in the buffer.
+#[inline(always)]
 pub(crate) fn read_line<'a>(buffer: &'a mut Vec<u8>, line: &[u8]) -> Result<Line<'a>, BadLine>
     ensures ok { IfOk result (λ read. meaning_of line.now ≡ Ok (meant_by read)) }
     ensures wrong { (what : What) → result ≡ Err (BadLine.Wrong what) → meaning_of line.now ≡ Err what }
@@ -53,6 +54,7 @@ pub(crate) fn read_line<'a>(buffer: &'a mut Vec<u8>, line: &[u8]) -> Result<Line
 }
 
 /// Reads the bytes that are spelled in hexadecimal text into the buffer, which grows where it is too small for them.
+#[inline(always)]
 fn read_piece<'a>(
     buffer: &'a mut Vec<u8>,
     from: Direction,

@@ -5,12 +5,13 @@ ghost use Rattle.zvt_trace.specs.Audit.{LinkEnds, LinkState, new_link};
 ghost use Rattle.zvt_trace.specs.Audited.{AddsLine, StandsFor};
 
 use crate::fault::Tally;
-use crate::happened::{add, count_begun, hear};
+use crate::happened::{count_begun, hear};
 use crate::line::Line;
 use crate::streams::Streams;
 use crate::style::Direction;
 use std::alloc::{AllocError, Global};
 use zvt_till::Happening;
+use zvt_till::books::Bookkeeping;
 
 /// Both sides' streams. Once one of them was refused, neither is read.
 #[derive(Drop)]
@@ -30,38 +31,40 @@ impl Link {
         }
     }
 
-    /// Adds what happened by a line of the trace.
+    /// Takes what happened by a line of the trace.
+    #[inline(always)]
     pub(crate) fn take(
         &mut self,
         alloc: Global,
-        log: &mut Vec<Happening>,
+        books: &mut Bookkeeping,
         line: &Line<'_>,
     ) -> Result<Tally, AllocError>
-        ensures adds { (link : LinkState) → StandsFor self.old link → IfOk result (λ tally. AddsLine link (meant_by line.now) self.new tally log.old.items log.new.items) }
+        ensures adds { (link : LinkState) → StandsFor self.old link → IfOk result (λ tally. AddsLine link (meant_by line.now) self.new tally books.old books.new) }
         ensures few { IfOk result (λ tally. tally.messages ≤ size_of (meant_by line.now)) }
         ensures two { IfOk result (λ tally. tally.bad ≤ 2) }
     {
         match line {
             Line::Remark => Ok(Tally::none()),
-            Line::Piece { from, bytes } => self.take_piece(log, *from, bytes),
+            Line::Piece { from, bytes } => self.take_piece(books, *from, bytes),
             Line::Lost => {
                 let bad = self.cut_off();
-                add(log, Happening::Lost)?;
-                add(log, Happening::Connected)?;
+                books.take(&Happening::Lost)?;
+                books.take(&Happening::Connected)?;
                 *self = Link::new(alloc);
                 Ok(Tally { messages: 0, bad })
             }
         }
     }
 
-    /// Adds what happened by a piece of that side.
+    /// Takes what happened by a piece of that side.
+    #[inline(always)]
     fn take_piece(
         &mut self,
-        log: &mut Vec<Happening>,
+        books: &mut Bookkeeping,
         from: Direction,
         bytes: &[u8],
     ) -> Result<Tally, AllocError>
-        ensures adds { (link : LinkState) → StandsFor self.old link → IfOk result (λ tally. AddsLine link (piece from bytes.now) self.new tally log.old.items log.new.items) }
+        ensures adds { (link : LinkState) → StandsFor self.old link → IfOk result (λ tally. AddsLine link (piece from bytes.now) self.new tally books.old books.new) }
         ensures few { IfOk result (λ tally. tally.messages ≤ length bytes.now) }
         ensures two { IfOk result (λ tally. tally.bad ≤ 2) }
     {
@@ -70,8 +73,8 @@ impl Link {
         }
         let Streams { till, terminal } = &mut self.streams;
         let hearing = match from {
-            Direction::FromTill => hear(log, from, till, terminal, bytes)?,
-            Direction::FromTerminal => hear(log, from, terminal, till, bytes)?,
+            Direction::FromTill => hear(books, from, till, terminal, bytes)?,
+            Direction::FromTerminal => hear(books, from, terminal, till, bytes)?,
         };
         self.deaf = hearing.refused;
         Ok(hearing.tally)

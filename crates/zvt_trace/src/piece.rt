@@ -33,6 +33,10 @@ pub(crate) fn write(
                 message::write(text, style, from, spelled)?;
                 messages += 1;
                 let (_, after) = rest.split_at(taken);
+                // Most pieces end with a message.
+                if after.is_empty() {
+                    return Ok(Tally { messages, bad: 0 });
+                }
                 rest = after;
             }
             Ok(FedView::More) => return Ok(Tally { messages, bad: 0 }),

@@ -14,6 +14,7 @@ use std::alloc::{AllocError, Global};
 use zvt_stream::{Stream, Truncated};
 
 /// Writes what the line says.
+#[inline(always)]
 pub(crate) fn write_said(
     alloc: Global,
     text: &mut String,
@@ -38,6 +39,7 @@ pub(crate) fn write_said(
 }
 
 /// Writes what a piece of that side brings.
+#[inline(always)]
 fn write_piece(
     text: &mut String,
     style: Style,

@@ -6,6 +6,7 @@ ghost use Rattle.zvt_trace.specs.Spelled.{IsDigit, behind_bytes, spells};
 
 /// Reads the bytes into the front of the room, and answers how many there are. Where the text is none, the room ends
 /// with anything.
+#[inline(always)]
 pub(crate) fn read(text: &[u8], room: &mut [u8]) -> Option<usize>
     requires { length text.now ≤ 2 * length room.old + 1 }
     ensures read { MatchOption result (IsErr (decode_of (without_spaces text.now))) (λ count. decode_of (without_spaces text.now) ≡ Ok (take count room.new)) }
@@ -31,6 +32,7 @@ pub(crate) fn read(text: &[u8], room: &mut [u8]) -> Option<usize>
 }
 
 /// Reads the pairs of digits at the front that no space parts: so a line without spaces is read with no test for them.
+#[inline(always)]
 fn read_pairs(text: &[u8], room: &mut [u8]) -> usize
     requires { length text.now ≤ 2 * length room.old + 1 }
     ensures few { 2 * result ≤ length text.now }

@@ -129,6 +129,7 @@ fn write_blocks<W: Sink>(
 }
 
 /// Adds the text of one line to the block, which stays as it is where the line can't be read.
+#[inline(always)]
 fn add_line<W: Sink>(
     alloc: Global,
     buffer: &mut Vec<u8>,
@@ -180,6 +181,7 @@ fn add_last<W: Sink>(
 
 /// Puts the text behind the block. Where either is full, the block is written first, and the text becomes the block
 /// without a copy.
+#[inline(always)]
 fn move_in<W: Sink>(text: &mut String, block: &mut String, writer: &mut W) -> Result<(), ToolFault>
     ensures moved { OnOk result (Appends (behind (W.written writer.old) (string_bytes block.old)) (behind (W.written writer.new) (string_bytes block.new)) (string_bytes text.old)) }
     ensures fault { IfErr result (λ fault. (fault ≡ ToolFault.Write) ⊎ (fault ≡ ToolFault.Memory)) }
@@ -187,6 +189,10 @@ fn move_in<W: Sink>(text: &mut String, block: &mut String, writer: &mut W) -> Re
     ensures least { W.failures writer.old ≤ W.failures writer.new }
     ensures count { OnOk result (W.failures writer.new ≡ W.failures writer.old) }
 {
+    // Most pieces end no message.
+    if text.is_empty() {
+        return Ok(());
+    }
     if block.len() < BLOCK && text.len() < BLOCK {
         block.push_str(text.as_str())?;
         return Ok(());
@@ -221,6 +227,7 @@ pub(crate) fn put<W: Sink>(text: &String, writer: &mut W) -> Result<(), ToolFaul
 }
 
 /// The first line, and what follows it.
+#[inline(always)]
 pub(crate) fn next_line(rest: &[u8]) -> (&[u8], &[u8])
     requires { 0 < length rest.now }
     ensures lines { lines rest.now ≡ result.0.now ∷ lines result.1.now }
@@ -234,6 +241,7 @@ pub(crate) fn next_line(rest: &[u8]) -> (&[u8], &[u8])
 }
 
 /// Where the first line feed stands.
+#[inline(always)]
 fn newline(bytes: &[u8]) -> Option<usize>
     ensures { result ≡ position (λ byte. byte == 10) bytes.now }
 {
@@ -241,6 +249,7 @@ fn newline(bytes: &[u8]) -> Option<usize>
 }
 
 /// The line without one carriage return at its end.
+#[inline(always)]
 fn without_return(line: &[u8]) -> &[u8]
     ensures value { result.now ≡ strip_carriage_return line.now }
     ensures shorter { length result.now ≤ length line.now }

@@ -10,6 +10,5 @@ loop-happening-preserved c =
     let item = ap (λ (h : Happening). take c.loop-happening.happening-index log ++ h ∷ []) (sym c.happening-item.is) in
     let longer = ap (λ k. take k log) (add-one c.loop-happening.happening-index) ∙ take-suc log c.loop-happening.happening-index happening c.loop-happening-test.true ∙ item in
     record {
-      judged = rw longer (c.in_ok-running.ensures.judged (take c.loop-happening.happening-index log) c.loop-happening.invariant.judged);
-      traces = c.in_ok-running.ensures.traces;
+      judged = rw longer (c.in_ok-take.ensures (take c.loop-happening.happening-index log) c.loop-happening.invariant.judged);
     }

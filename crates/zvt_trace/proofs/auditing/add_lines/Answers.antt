@@ -27,7 +27,7 @@ returns-in_err-counted c =
     let p = err_from_is_err_and c.from_residual.result c.from_residual.ensures.1 in
     let so = c.lines.invariant.so_far in
     rw (p.1, p.2) (failed c.args.trace.now c.lines.rest.now c.next_line.result.0.now c.next_line.result.1.now c.lines.number c.lines.link c.add_line.new.link c.in_err-counted.field-0.0
-    c.args.log.now.items c.lines.log.items c.add_line.new.log.items c.lines.tally so c.next_line.ensures.lines (c.in_err-counted.ensures.takes so.link so.stands))
+    c.args.books.now c.lines.books c.add_line.new.books c.lines.tally so c.next_line.ensures.lines (c.in_err-counted.ensures.takes so.link so.stands))
 
 pub returns : goal.returns
 returns c =

@@ -4,7 +4,7 @@ use Rattle.zvt_trace.proofs.auditing.add_lines.Given as goal
 
 abbrev pub invariant-lines : goal.invariant-lines
 invariant-lines l = record {
-  so_far : SoFar l.trace l.rest l.number l.link l.initial.log.items l.log.items l.tally;
+  so_far : SoFar l.trace l.rest l.number l.link l.initial.books l.books l.tally;
   lines : l.number + length l.rest ≤ length l.trace;
   messages : l.tally.messages + length l.rest ≤ length l.trace;
   bad : l.tally.bad ≤ 2 * l.number;

@@ -8,8 +8,8 @@ returns-then-self-clause-adds c = λ link stands. unheard link _ _ _ _ _ stands 
 
 pub returns-clause-adds : goal.returns-clause-adds
 returns-clause-adds c = λ link stands. elim c.match-from.branch [
-  | in-FromTill+in_ok-hearing-in-FromTill w ↦ rw (w.self-is, w.log-is, w.hearing-is)
+  | in-FromTill+in_ok-hearing-in-FromTill w ↦ rw (w.self-is, w.books-is, w.hearing-is)
       (till_heard link _ _ c.args.self.now _ w.in_ok-hearing-in-FromTill.hearing _ _ w.in-FromTill.is stands c.if-self.false w.in_ok-hearing-in-FromTill.ensures.hears refl refl)
-  | in-FromTerminal+in_ok-hearing-in-FromTerminal w ↦ rw (w.self-is, w.log-is, w.hearing-is)
+  | in-FromTerminal+in_ok-hearing-in-FromTerminal w ↦ rw (w.self-is, w.books-is, w.hearing-is)
       (terminal_heard link _ _ c.args.self.now _ w.in_ok-hearing-in-FromTerminal.hearing _ _ w.in-FromTerminal.is stands c.if-self.false w.in_ok-hearing-in-FromTerminal.ensures.hears refl refl)
 ]
