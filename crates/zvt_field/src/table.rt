@@ -8,6 +8,7 @@ use crate::Shape;
 
 /// The shape of the field of that BMP, where the table lists it.
 #[tactic(auto, unfolding(crate::specs::Shapes::shape_of))]
+#[inline(always)]
 pub fn shape(bmp: u8) -> Option<Shape>
     ensures { result ≡ shape_of bmp }
 {

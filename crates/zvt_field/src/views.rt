@@ -25,6 +25,7 @@ impl<'a> FieldView<'a> {
     ghost use Rattle.zvt_field.specs.Lent.{shown};
 
     /// The objects inside, where the BMP is one of a container.
+    #[inline(always)]
     pub fn tree(&self) -> Option<ForestView<'a>>
         ensures { result ≡ tree_of (shown self.now) }
     {
@@ -172,6 +173,7 @@ impl<'a> Iterator for FieldsView<'a> {
 
     ghost remaining = { fields_left };
 
+    #[inline]
     fn next(&mut self) -> Option<FieldView<'a>> {
         let bytes = self.bytes;
         if bytes.is_empty() {
@@ -192,6 +194,7 @@ fn note_size(bytes: &[u8])
 }
 
 /// The size of what stands before the content behind a BMP of that shape, and the size of the content.
+#[inline(always)]
 fn lead(shape: Option<Shape>, bytes: &[u8]) -> (usize, usize)
     requires { ∥ LeadFirst shape bytes.now ∥₁ }
     ensures { (n : ℕ) (size after : List ℕ) → bytes.now ≡ size ++ after → IsLead shape n size → (result.0 ≡ length size) × (result.1 ≡ n) }
@@ -216,6 +219,7 @@ fn digit(byte: u8) -> usize
 }
 
 /// The content that stands first behind a BMP of that shape, and what is behind it.
+#[inline(always)]
 fn first_content(shape: Option<Shape>, bytes: &[u8]) -> (&[u8], &[u8])
     requires { ∥ ContentFirst shape bytes.now ∥₁ }
     ensures { (size content after : List ℕ) → bytes.now ≡ size ++ (content ++ after) → IsLead shape (length content) size → (result.0.now ≡ content) × (result.1.now ≡ after) }

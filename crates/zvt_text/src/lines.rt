@@ -21,6 +21,7 @@ pub(crate) fn field_lines(text: &mut String, fields: FieldsView<'_>) -> Result<(
     Ok(())
 }
 
+#[inline(always)]
 fn field_line(text: &mut String, field: &FieldView<'_>) -> Result<(), AllocError>
     ensures { OnOk result (string_bytes text.new ≡ string_bytes text.old ++ field_line (shown field.now)) }
 {
@@ -39,6 +40,7 @@ fn field_line(text: &mut String, field: &FieldView<'_>) -> Result<(), AllocError
 }
 
 /// A BMP and its name.
+#[inline(always)]
 fn named(text: &mut String, bmp: u8) -> Result<(), AllocError>
     ensures { OnOk result (string_bytes text.new ≡ string_bytes text.old ++ named_text bmp) }
 {
