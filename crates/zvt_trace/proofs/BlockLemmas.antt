@@ -1,8 +1,15 @@
 -- Text that goes out in blocks.
-use Rattle.std.proofs.Common.{◌≡◌, ℕ, List, Result, refl, [], ◌++◌, Option, Some, None, Ok, Err, sym, ◌∙◌, ap, append_assoc, append-nil}
+use Rattle.std.proofs.Common.{◌≡◌, ℕ, List, Result, refl, [], ◌++◌, inl, inr, Option, Some, None, Ok, Err, sym, ◌∙◌, ap, subst, append_assoc, append-nil}
+use Rattle.std.proofs.KnownBytes.{Appends-trans}
+use Rattle.std.proofs.lemmas.List.{append_cancel_left}
+use Rattle.zvt_io.specs.Devices.{IsFront}
 use Rattle.std.specs.Str.Lines.{lines}
-use Rattle.std.specs.Io.KnownBytes.{Appends}
-use Rattle.zvt_trace.specs.Written.{AnswersLines, behind}
+use Rattle.std.specs.Io.KnownBytes.{Appends, Keeps}
+use Rattle.std.specs.Prelude.{IfSome}
+use Rattle.zvt_trace.specs.Trace.{LineText, new_line}
+use Rattle.zvt_trace.specs.Walks.{nothing}
+use Rattle.zvt_trace.proofs.WalkLemmas.{broken_leading, leading_none}
+use Rattle.zvt_trace.specs.Written.{AnswersLines, AnswersTrace, AppendsFront, Extends, IsShortOf, ReadsTrace, behind}
 use Rattle.zvt_trace.specs.declared.fault.Tally.{Tally}
 use Rattle.zvt_trace.specs.declared.fault.ToolFault.{ToolFault}
 use Rattle.zvt_trace.specs.declared.fault.ToolFault.TheVariants.{BadStep, Line, Memory, Net, Read, TooLong, Trace, Write}
@@ -25,6 +32,60 @@ all_written (Some x) None next block all so written = absurd so
 all_written (Some x) (Some y) None block all so written = absurd written
 all_written (Some x) (Some y) (Some z) block all so written = written ∙ so
 
+-- ---- what a device has that failed
+
+pub appends_none : (held : Option (List ℕ)) → Appends held held []
+appends_none None = tt
+appends_none (Some bytes) = sym (append-nil bytes)
+
+pub extends_none : (held : Option (List ℕ)) → Extends held held
+extends_none held = ([], appends_none held)
+
+pub extends_more : (a b c : Option (List ℕ)) → Extends a b → Extends b c → Extends a c
+extends_more a b c first second = (first.0 ++ second.0, Appends-trans a b c first.0 second.0 first.1 second.1)
+
+-- a front of a front
+pub front_more : (a b c : List ℕ) → IsFront a b → IsFront b c → IsFront a c
+front_more a b c first second = (first.0 ++ second.0, second.1 ∙ ap (λ (l : List ℕ). l ++ second.0) first.1 ∙ append_assoc a first.0 second.0)
+
+-- some front of the block was written
+pub wrote_front : (held next : Option (List ℕ)) (block : List ℕ) → AppendsFront held next block → IsShortOf (behind held block) next
+wrote_front None next block wrote = tt
+wrote_front (Some bytes) None block wrote = absurd wrote.2
+wrote_front (Some bytes) (Some now) block wrote =
+    (wrote.1.0, ap (λ (l : List ℕ). bytes ++ l) wrote.1.1 ∙ sym (append_assoc bytes wrote.0 wrote.1.0) ∙ ap (λ (l : List ℕ). l ++ wrote.1.0) (sym wrote.2))
+
+-- a block that could not be written is given up
+pub given_up : (held next : Option (List ℕ)) (block left : List ℕ) → AppendsFront held next block → left ≡ [] → IsShortOf (behind held block) (behind next left)
+given_up held next block left wrote none = subst (λ (o : Option (List ℕ)). IsShortOf (behind held block) o) (sym (behind_nothing next left none)) (wrote_front held next block wrote)
+
+-- the device has what it had and a front of the text, where it has a front of all
+pub short_of : (first device whole : Option (List ℕ)) (block all : List ℕ) → Extends first device → Appends first whole all → IsShortOf whole (behind device block) → AppendsFront first (behind device block) all
+short_of None device whole block all kept grown short = ([], (all, refl), tt)
+short_of (Some x) None whole block all kept grown short = absurd kept.1
+short_of (Some x) (Some y) None block all kept grown short = absurd grown
+short_of (Some x) (Some y) (Some z) block all kept grown short =
+    let front = kept.0 ++ block in
+    let is : y ++ block ≡ x ++ front = ap (λ (l : List ℕ). l ++ block) kept.1 ∙ append_assoc x kept.0 block in
+    let split : x ++ all ≡ x ++ (front ++ short.0) = sym grown ∙ short.1 ∙ ap (λ (l : List ℕ). l ++ short.0) is ∙ append_assoc x front short.0 in
+    (front, (short.0, append_cancel_left x all (front ++ short.0) split), is)
+
+-- the last block could not be written
+pub last_failed : (first held next : Option (List ℕ)) (block all : List ℕ) → Extends first held → AppendsFront first (behind held block) all → AppendsFront held next block → AppendsFront first next all
+last_failed first held next block all kept so wrote =
+    let whole = given_up held next block [] wrote refl in
+    let extended = extends_more first held next kept (wrote.0, wrote.2) in
+    let part = subst (λ (o : Option (List ℕ)). AppendsFront first o so.0) (behind_nothing next [] refl) (short_of first next (behind held block) [] so.0 extended so.2 whole) in
+    (part.0, front_more part.0 so.0 all part.1 so.1, part.2)
+
+-- all of a text is a front of it
+pub whole_front : (old new : Option (List ℕ)) (text : List ℕ) → Appends old new text → AppendsFront old new text
+whole_front old new text wrote = (text, ([], sym (append-nil text)), wrote)
+
+-- the last block was written after a failure
+pub last_written : (first held next : Option (List ℕ)) (block all : List ℕ) → AppendsFront first (behind held block) all → Appends held next block → AppendsFront first next all
+last_written first held next block all so written = (so.0, so.1, all_written first held next block so.0 so.2 written)
+
 -- what was answered for the lines holds once the last block is written
 pub answered : (style : Style) (lines : List (List ℕ)) (first held next : Option (List ℕ)) (block : List ℕ) (answer : Result Tally ToolFault)
     → AnswersLines style lines first (behind held block) answer → Appends held next block → AnswersLines style lines first next answer
@@ -32,8 +93,42 @@ answered style lines first held next block (Ok tally) so written = (so.0, so.1, 
 answered style lines first held next block (Err (Trace number what)) so written = (so.0, so.1, all_written first held next block so.0.items so.2 written)
 answered style lines first held next block (Err TooLong) never written = absurd never
 answered style lines first held next block (Err Read) never written = absurd never
-answered style lines first held next block (Err Write) t written = tt
-answered style lines first held next block (Err Memory) t written = tt
+answered style lines first held next block (Err Write) so written = (so.0, so.1, last_written first held next block so.0.items so.2 written)
+answered style lines first held next block (Err Memory) so written = (so.0, so.1, all_written first held next block so.0.items so.2 written)
 answered style lines first held next block (Err (Line broken)) never written = absurd never
 answered style lines first held next block (Err (BadStep at)) never written = absurd never
 answered style lines first held next block (Err Net) never written = absurd never
+
+-- and where it can't be written, a front of the text stands there
+pub answered_failed : (style : Style) (lines : List (List ℕ)) (first held next : Option (List ℕ)) (block : List ℕ) (answer : Result Tally ToolFault)
+    → AnswersLines style lines first (behind held block) answer → Extends first held → AppendsFront held next block → AnswersLines style lines first next (Err Write)
+answered_failed style lines first held next block (Ok tally) so kept wrote = (so.0, inr so.1, last_failed first held next block so.0.items kept (whole_front first (behind held block) so.0.items so.2) wrote)
+answered_failed style lines first held next block (Err (Trace number what)) so kept wrote =
+    (so.0, inl (broken_leading (LineText style) new_line lines number what so.0 so.1), last_failed first held next block so.0.items kept (whole_front first (behind held block) so.0.items so.2) wrote)
+answered_failed style lines first held next block (Err TooLong) never kept wrote = absurd never
+answered_failed style lines first held next block (Err Read) never kept wrote = absurd never
+answered_failed style lines first held next block (Err Write) so kept wrote = (so.0, so.1, last_failed first held next block so.0.items kept so.2 wrote)
+answered_failed style lines first held next block (Err Memory) so kept wrote = (so.0, inl so.1, last_failed first held next block so.0.items kept (whole_front first (behind held block) so.0.items so.2) wrote)
+answered_failed style lines first held next block (Err (Line broken)) never kept wrote = absurd never
+answered_failed style lines first held next block (Err (BadStep at)) never kept wrote = absurd never
+answered_failed style lines first held next block (Err Net) never kept wrote = absurd never
+
+-- nothing was read, and nothing written
+pub unread : (style : Style) (lines : List (List ℕ)) (held : Option (List ℕ)) → AnswersLines style lines held held (Err Memory)
+unread style lines held = (nothing, leading_none (LineText style) new_line lines, appends_none held)
+
+keeps_same : (held : Option (List ℕ)) → Keeps held held
+keeps_same None = tt
+keeps_same (Some bytes) = refl
+
+-- the trace could not be read
+pub read_failed : (style : Style) (left held : Option (List ℕ)) (fault : ToolFault) → ReadsTrace left (Err fault) → IfSome left (λ trace. AnswersTrace style trace held held (Err fault))
+read_failed style None held fault reads = tt
+read_failed style (Some trace) held TooLong reads = (reads, keeps_same held)
+read_failed style (Some trace) held Read reads = keeps_same held
+read_failed style (Some trace) held Memory reads = unread style (lines trace) held
+read_failed style (Some trace) held Write never = absurd never
+read_failed style (Some trace) held (Trace number what) never = absurd never
+read_failed style (Some trace) held (Line broken) never = absurd never
+read_failed style (Some trace) held (BadStep at) never = absurd never
+read_failed style (Some trace) held Net never = absurd never

@@ -1,12 +1,13 @@
 -- The lines of a trace, one after another.
-use Rattle.std.proofs.Common.{◌≡◌, ℕ, ◌+◌, List, [], ◌∷◌, length, Option, Some, None, Ok, Err, refl, sym, arith, append-nil}
+use Rattle.std.proofs.Common.{◌≡◌, ℕ, ◌+◌, List, [], ◌∷◌, length, Option, Some, None, inl, Ok, Err, refl, arith}
 use Rattle.std.specs.Str.Lines.{lines}
 use Rattle.std.specs.Io.KnownBytes.{Appends}
 use Rattle.std.proofs.KnownBytes.{Appends-kept, Appends-trans}
 use Rattle.zvt_trace.specs.Trace.{LineText, Sides, new_line}
 use Rattle.zvt_trace.specs.Walks.{Part, both, nothing}
-use Rattle.zvt_trace.specs.Written.{AnswersLines, AppendsEnd, AppendsLine, Follow, WritesEnd, WritesLine}
-use Rattle.zvt_trace.proofs.WalkLemmas.{Walked, walked_all, walked_broken, walked_more, walked_none}
+use Rattle.zvt_trace.specs.Written.{AnswersLines, AppendsEnd, AppendsLine, Extends, Follow, WritesEnd, WritesLine, behind}
+use Rattle.zvt_trace.proofs.WalkLemmas.{Walked, walked_all, walked_broken, walked_leading, walked_more, walked_none}
+use Rattle.zvt_trace.proofs.BlockLemmas.{appends_none, short_of}
 use Rattle.zvt_trace.specs.declared.fault.Tally.{Tally}
 use Rattle.zvt_trace.specs.declared.fault.ToolFault.{ToolFault}
 use Rattle.zvt_trace.specs.declared.fault.ToolFault.TheVariants.{BadStep, Line, Memory, Net, Read, TooLong, Trace, Write}
@@ -21,10 +22,6 @@ pub record SoFar (style : Style) (trace rest : List ℕ) (number : ℕ) (streams
   pub walked : Walked (LineText style) new_line trace rest number tally all sides
   pub follow : Follow streams sides
   pub appended : Appends old now all.items
-
-appends_none : (held : Option (List ℕ)) → Appends held held []
-appends_none None = tt
-appends_none (Some bytes) = sym (append-nil bytes)
 
 pub none_yet : (style : Style) (trace : List ℕ) (streams : Streams) (held : Option (List ℕ)) (tally : Tally) → Follow streams new_line → tally.messages ≡ 0 → tally.bad ≡ 0
     → SoFar style trace trace 0 streams held held tally
@@ -68,29 +65,47 @@ closed style trace rest number streams old now new tally counted grown none so l
     )
 
 -- a line has no text
-pub failed : (style : Style) (trace rest content after : List ℕ) (number : ℕ) (streams next : Streams) (fault : ToolFault) (old now new : Option (List ℕ)) (tally : Tally)
-    → (so : SoFar style trace rest number streams old now tally) → lines rest ≡ content ∷ lines after → WritesLine style so.sides (number + 1) content next now new (Err fault)
-    → AnswersLines style (lines trace) old new (Err fault)
-failed style trace rest content after number streams next (Trace at what) old now new tally so first wrong = (
+pub failed : (style : Style) (trace rest content after : List ℕ) (number : ℕ) (streams next : Streams) (fault : ToolFault) (old now device : Option (List ℕ)) (block : List ℕ) (tally : Tally)
+    → (so : SoFar style trace rest number streams old now tally) → lines rest ≡ content ∷ lines after → WritesLine style so.sides (number + 1) content next now (behind device block) (Err fault)
+    → Extends old device → AnswersLines style (lines trace) old (behind device block) (Err fault)
+failed style trace rest content after number streams next (Trace at what) old now device block tally so first wrong kept = (
   so.all,
   walked_broken (LineText style) new_line so.sides trace rest content after number at what tally so.all so.walked first wrong.0 wrong.1,
-  Appends-kept old now new so.all.items so.appended wrong.2,
+  Appends-kept old now (behind device block) so.all.items so.appended wrong.2,
 )
-failed style trace rest content after number streams next TooLong old now new tally so first never = absurd never
-failed style trace rest content after number streams next Read old now new tally so first never = absurd never
-failed style trace rest content after number streams next Write old now new tally so first t = tt
-failed style trace rest content after number streams next Memory old now new tally so first t = tt
-failed style trace rest content after number streams next (Line broken) old now new tally so first never = absurd never
-failed style trace rest content after number streams next (BadStep at) old now new tally so first never = absurd never
-failed style trace rest content after number streams next Net old now new tally so first never = absurd never
+failed style trace rest content after number streams next TooLong old now device block tally so first never kept = absurd never
+failed style trace rest content after number streams next Read old now device block tally so first never kept = absurd never
+failed style trace rest content after number streams next Write old now device block tally so first short kept = (
+  so.all,
+  inl (walked_leading (LineText style) new_line so.sides trace rest number tally so.all so.walked),
+  short_of old device now block so.all.items kept so.appended short,
+)
+failed style trace rest content after number streams next Memory old now device block tally so first same kept = (
+  so.all,
+  walked_leading (LineText style) new_line so.sides trace rest number tally so.all so.walked,
+  Appends-kept old now (behind device block) so.all.items so.appended same,
+)
+failed style trace rest content after number streams next (Line broken) old now device block tally so first never kept = absurd never
+failed style trace rest content after number streams next (BadStep at) old now device block tally so first never kept = absurd never
+failed style trace rest content after number streams next Net old now device block tally so first never kept = absurd never
 
 -- the end has no text
-pub end_failed : (style : Style) (lines : List (List ℕ)) (sides : Sides) (fault : ToolFault) (old now new : Option (List ℕ)) → WritesEnd style sides now new (Err fault) → AnswersLines style lines old new (Err fault)
-end_failed style lines sides (Trace at what) old now new never = absurd never
-end_failed style lines sides TooLong old now new never = absurd never
-end_failed style lines sides Read old now new never = absurd never
-end_failed style lines sides Write old now new t = tt
-end_failed style lines sides Memory old now new t = tt
-end_failed style lines sides (Line broken) old now new never = absurd never
-end_failed style lines sides (BadStep at) old now new never = absurd never
-end_failed style lines sides Net old now new never = absurd never
+pub end_failed : (style : Style) (trace rest : List ℕ) (number : ℕ) (streams : Streams) (fault : ToolFault) (old now device : Option (List ℕ)) (block : List ℕ) (tally : Tally)
+    → (so : SoFar style trace rest number streams old now tally) → WritesEnd style so.sides now (behind device block) (Err fault)
+    → Extends old device → AnswersLines style (lines trace) old (behind device block) (Err fault)
+end_failed style trace rest number streams (Trace at what) old now device block tally so never kept = absurd never
+end_failed style trace rest number streams TooLong old now device block tally so never kept = absurd never
+end_failed style trace rest number streams Read old now device block tally so never kept = absurd never
+end_failed style trace rest number streams Write old now device block tally so short kept = (
+  so.all,
+  inl (walked_leading (LineText style) new_line so.sides trace rest number tally so.all so.walked),
+  short_of old device now block so.all.items kept so.appended short,
+)
+end_failed style trace rest number streams Memory old now device block tally so same kept = (
+  so.all,
+  walked_leading (LineText style) new_line so.sides trace rest number tally so.all so.walked,
+  Appends-kept old now (behind device block) so.all.items so.appended same,
+)
+end_failed style trace rest number streams (Line broken) old now device block tally so never kept = absurd never
+end_failed style trace rest number streams (BadStep at) old now device block tally so never kept = absurd never
+end_failed style trace rest number streams Net old now device block tally so never kept = absurd never

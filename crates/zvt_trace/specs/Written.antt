@@ -1,8 +1,9 @@
 -- What the commands answer and write.
-use Rattle.std.specs.Prelude.{◌≡◌, ℕ, ◌<◌, ◌≤◌, ◌++◌, false, List, length, Option, None, Some, IfSome, Result, Ok, Err, Vec}
+use Rattle.std.specs.Prelude.{◌≡◌, ℕ, ◌<◌, ◌≤◌, ◌++◌, ◌⊎◌, false, List, length, Option, None, Some, IfSome, Result, Ok, Err, Vec}
 use Rattle.std.specs.Global.{Global}
 use Rattle.std.specs.Io.KnownBytes.{Appends, Consumes, IsAtEnd, Keeps}
 use Rattle.std.specs.Str.Lines.{lines}
+use Rattle.zvt_io.specs.Devices.{IsFront}
 use Rattle.zvt_spelling.specs.Cuts.{Cut}
 use Rattle.zvt_spelling.specs.Reading.{shortest}
 use Rattle.zvt_apdu.specs.Grammar.{Spells}
@@ -10,7 +11,7 @@ use Rattle.zvt_apdu.specs.Message.{Message}
 use Rattle.zvt_stream.specs.StreamState.{StreamState, HasRefused}
 use Rattle.zvt_trace.specs.Meanings.{Meaning, meaning_of}
 use Rattle.zvt_trace.specs.Trace.{LineEnds, LineText, MessageText, PieceText, Side, SideEnds, Sides, WholeText, new_line, running, stopped}
-use Rattle.zvt_trace.specs.Walks.{Broken, Counts, Part}
+use Rattle.zvt_trace.specs.Walks.{Broken, Counts, Leading, Part}
 use Rattle.zvt_trace.specs.declared.fault.Tally.{Tally}
 use Rattle.zvt_trace.specs.declared.fault.ToolFault.{ToolFault}
 use Rattle.zvt_trace.specs.declared.fault.ToolFault.TheVariants.{BadStep, Line, Memory, Net, Read, TooLong, Trace, Write}
@@ -77,6 +78,24 @@ pub record AddsLine (style : Style) (sides : Sides) (meaning : Meaning) (streams
   pub grown : new ≡ old ++ part.items
   pub counts : Counts tally part
 
+-- ---- what a device that failed has
+
+-- the device has all that it had
+abbrev pub Extends : (old new : Option (List ℕ)) → Type 0
+Extends old new = (more : List ℕ) × Appends old new more
+
+-- the device has a front of what was to stand there
+abbrev pub IsShortOf : (whole new : Option (List ℕ)) → Type 0
+IsShortOf None new = Unit {0}
+IsShortOf (Some bytes) None = ⊥
+IsShortOf (Some bytes) (Some front) = IsFront front bytes
+
+-- the device has besides a front of the text
+abbrev pub AppendsFront : (old new : Option (List ℕ)) → List ℕ → Type 0
+AppendsFront old new text = (front : List ℕ) × IsFront front text × Appends old new front
+
+-- ---- lines and the end
+
 -- the device has besides what a line of the trace comes to
 pub record AppendsLine (style : Style) (sides : Sides) (line : List ℕ) (streams : Streams) (tally : Tally) (old new : Option (List ℕ)) : Type 0 where
   pub meaning : Meaning
@@ -94,8 +113,8 @@ WritesLine style sides number line streams old new (Ok tally) = AppendsLine styl
 WritesLine style sides number line streams old new (Err (Trace at what)) = (at ≡ number) × (meaning_of line ≡ Err what) × Keeps old new
 WritesLine style sides number line streams old new (Err TooLong) = ⊥
 WritesLine style sides number line streams old new (Err Read) = ⊥
-WritesLine style sides number line streams old new (Err Write) = Unit {0}
-WritesLine style sides number line streams old new (Err Memory) = Unit {0}
+WritesLine style sides number line streams old new (Err Write) = IsShortOf old new
+WritesLine style sides number line streams old new (Err Memory) = Keeps old new
 WritesLine style sides number line streams old new (Err (Line broken)) = ⊥
 WritesLine style sides number line streams old new (Err (BadStep at)) = ⊥
 WritesLine style sides number line streams old new (Err Net) = ⊥
@@ -113,8 +132,8 @@ WritesEnd style sides old new (Ok tally) = AppendsEnd style sides tally old new
 WritesEnd style sides old new (Err (Trace number what)) = ⊥
 WritesEnd style sides old new (Err TooLong) = ⊥
 WritesEnd style sides old new (Err Read) = ⊥
-WritesEnd style sides old new (Err Write) = Unit {0}
-WritesEnd style sides old new (Err Memory) = Unit {0}
+WritesEnd style sides old new (Err Write) = IsShortOf old new
+WritesEnd style sides old new (Err Memory) = Keeps old new
 WritesEnd style sides old new (Err (Line broken)) = ⊥
 WritesEnd style sides old new (Err (BadStep at)) = ⊥
 WritesEnd style sides old new (Err Net) = ⊥
@@ -128,14 +147,19 @@ behind (Some bytes) block = Some (bytes ++ block)
 
 -- ---- what a command answers
 
--- What a command answers for the lines of a trace.
+-- what so many lines from the first on come to, or all of them and the end
+abbrev pub TextSoFar : Style → List (List ℕ) → Part ℕ → Type 0
+TextSoFar style lines all = Leading (LineText style) new_line lines all ⊎ WholeText style lines all
+
+-- What a command answers for the lines of a trace. Where memory is refused, the text of the lines before is written; of a
+-- write that failed, some front of the text.
 abbrev pub AnswersLines : Style → List (List ℕ) → (old new : Option (List ℕ)) → Result Tally ToolFault → Type 0
 AnswersLines style lines old new (Ok tally) = (all : Part ℕ) × WholeText style lines all × Appends old new all.items × Counts tally all
 AnswersLines style lines old new (Err (Trace number what)) = (all : Part ℕ) × Broken (LineText style) new_line lines number what all × Appends old new all.items
 AnswersLines style lines old new (Err TooLong) = ⊥
 AnswersLines style lines old new (Err Read) = ⊥
-AnswersLines style lines old new (Err Write) = Unit {0}
-AnswersLines style lines old new (Err Memory) = Unit {0}
+AnswersLines style lines old new (Err Write) = (all : Part ℕ) × TextSoFar style lines all × AppendsFront old new all.items
+AnswersLines style lines old new (Err Memory) = (all : Part ℕ) × Leading (LineText style) new_line lines all × Appends old new all.items
 AnswersLines style lines old new (Err (Line broken)) = ⊥
 AnswersLines style lines old new (Err (BadStep at)) = ⊥
 AnswersLines style lines old new (Err Net) = ⊥
@@ -150,8 +174,8 @@ AnswersTrace style trace old new (Ok tally) = (length trace ≤ limit) × Answer
 AnswersTrace style trace old new (Err (Trace line what)) = (length trace ≤ limit) × AnswersLines style (lines trace) old new (Err (Trace line what))
 AnswersTrace style trace old new (Err TooLong) = (limit < length trace) × Keeps old new
 AnswersTrace style trace old new (Err Read) = Keeps old new
-AnswersTrace style trace old new (Err Write) = Unit {0}
-AnswersTrace style trace old new (Err Memory) = Unit {0}
+AnswersTrace style trace old new (Err Write) = (length trace ≤ limit) × AnswersLines style (lines trace) old new (Err Write)
+AnswersTrace style trace old new (Err Memory) = AnswersLines style (lines trace) old new (Err Memory)
 AnswersTrace style trace old new (Err (Line broken)) = ⊥
 AnswersTrace style trace old new (Err (BadStep at)) = ⊥
 AnswersTrace style trace old new (Err Net) = ⊥

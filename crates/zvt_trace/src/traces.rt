@@ -6,7 +6,7 @@ ghost use Rattle.zvt_io.specs.Devices.{CountsFailure};
 ghost use Rattle.std.specs.List.{position};
 ghost use Rattle.std.specs.Str.Lines.{lines, strip_carriage_return};
 ghost use Rattle.zvt_trace.specs.Trace.{Sides};
-ghost use Rattle.zvt_trace.specs.Written.{AnswersLines, AnswersTrace, Follow, WritesEnd, WritesLine, behind, limit};
+ghost use Rattle.zvt_trace.specs.Written.{AnswersLines, AnswersTrace, AppendsFront, Extends, Follow, IsShortOf, WritesEnd, WritesLine, behind, limit};
 ghost use Rattle.zvt_trace.specs.declared.style.Style.TheVariants.{Join, Receipts, Show};
 
 use crate::fault::{Tally, ToolFault};
@@ -98,6 +98,7 @@ fn write_blocks<W: Sink>(
     ensures writes { AnswersLines style (lines trace.now) (W.written writer.old) (behind (W.written writer.new) (string_bytes block.new)) result }
     ensures write { result ≡ Err ToolFault.Write → W.failures writer.old < W.failures writer.new }
     ensures least { W.failures writer.old ≤ W.failures writer.new }
+    ensures extends { Extends (W.written writer.old) (W.written writer.new) }
 {
     let mut tally = Tally::none();
     let mut streams = Streams::new(alloc);
@@ -147,6 +148,7 @@ fn add_line<W: Sink>(
     ensures write { result ≡ Err ToolFault.Write → W.failures writer.old < W.failures writer.new }
     ensures least { W.failures writer.old ≤ W.failures writer.new }
     ensures count { IfOk result (λ _. W.failures writer.new ≡ W.failures writer.old) }
+    ensures extends { Extends (W.written writer.old) (W.written writer.new) }
 {
     let line = match read_line(buffer, content) {
         Ok(line) => line,
@@ -172,6 +174,7 @@ fn add_last<W: Sink>(
     ensures two { IfOk result (λ tally. tally.bad ≤ 2) }
     ensures write { result ≡ Err ToolFault.Write → W.failures writer.old < W.failures writer.new }
     ensures least { W.failures writer.old ≤ W.failures writer.new }
+    ensures extends { Extends (W.written writer.old) (W.written writer.new) }
 {
     text.clear();
     let tally = write_end(text, style, streams)?;
@@ -188,6 +191,9 @@ fn move_in<W: Sink>(text: &mut String, block: &mut String, writer: &mut W) -> Re
     ensures write { result ≡ Err ToolFault.Write → W.failures writer.old < W.failures writer.new }
     ensures least { W.failures writer.old ≤ W.failures writer.new }
     ensures count { OnOk result (W.failures writer.new ≡ W.failures writer.old) }
+    ensures memory { result ≡ Err ToolFault.Memory → Keeps (behind (W.written writer.old) (string_bytes block.old)) (behind (W.written writer.new) (string_bytes block.new)) }
+    ensures short { result ≡ Err ToolFault.Write → IsShortOf (behind (W.written writer.old) (string_bytes block.old)) (behind (W.written writer.new) (string_bytes block.new)) }
+    ensures extends { Extends (W.written writer.old) (W.written writer.new) }
 {
     // Most pieces end no message.
     if text.is_empty() {
@@ -208,6 +214,7 @@ fn flush<W: Sink>(block: &mut String, writer: &mut W) -> Result<(), ToolFault>
     ensures fault { IfErr result (λ fault. fault ≡ ToolFault.Write) }
     ensures failures { CountsFailure (W.failures writer.old) (W.failures writer.new) result }
     ensures empty { string_bytes block.new ≡ [] }
+    ensures front { OnErr result (AppendsFront (W.written writer.old) (W.written writer.new) (string_bytes block.old)) }
 {
     let answer = put(block, writer);
     block.clear();
@@ -219,6 +226,7 @@ pub(crate) fn put<W: Sink>(text: &String, writer: &mut W) -> Result<(), ToolFaul
     ensures bytes { OnOk result (Appends (W.written writer.old) (W.written writer.new) (string_bytes text.now)) }
     ensures fault { IfErr result (λ fault. fault ≡ ToolFault.Write) }
     ensures failures { CountsFailure (W.failures writer.old) (W.failures writer.new) result }
+    ensures front { OnErr result (AppendsFront (W.written writer.old) (W.written writer.new) (string_bytes text.now)) }
 {
     match writer.write_all(text.as_bytes()) {
         Ok(()) => Ok(()),

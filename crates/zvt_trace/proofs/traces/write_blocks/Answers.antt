@@ -2,7 +2,7 @@ use Rattle.std.proofs.Common.{◌≡◌, ◌∙◌, length, arith, refl, rules, 
 use Rattle.std.specs.String.{string_bytes}
 use Rattle.std.proofs.lemmas.Result.{err_from_is_err_and}
 use Rattle.zvt_trace.proofs.TraceLemmas.{SoFar, closed, end_failed, failed, none_yet, one_more}
-use Rattle.zvt_trace.proofs.BlockLemmas.{behind_nothing}
+use Rattle.zvt_trace.proofs.BlockLemmas.{behind_nothing, extends_more, extends_none}
 use Rattle.zvt_trace.specs.Written.{behind}
 use Rattle.zvt_trace.proofs.traces.write_blocks.Goals as goal
 
@@ -15,6 +15,7 @@ lines-init g c =
       messages = omega (arith, c.none-tally.ensures.0);
       bad = omega (arith, c.none-tally.ensures.1);
       failures = refl;
+      extends = extends_none held;
     }
 
 pub returns-in_err-counted-clause-writes : goal.returns-in_err-counted-clause-writes
@@ -22,8 +23,8 @@ returns-in_err-counted-clause-writes g c =
     let p = err_from_is_err_and c.from_residual.result c.from_residual.ensures.1 in
     let so = c.lines.invariant.so_far in
     rw (p.1, p.2) (failed c.args.style c.args.trace.now c.lines.rest.now c.next_line.result.0.now c.next_line.result.1.now c.lines.number c.lines.streams c.add_line.new.streams c.in_err-counted.field-0.0
-    (g.W.Sink.written c.args.writer.now) (behind (g.W.Sink.written c.lines.writer) (string_bytes c.lines.block)) (behind (g.W.Sink.written c.add_line.new.writer) (string_bytes c.add_line.new.block)) c.lines.tally so c.next_line.ensures.lines
-    (c.in_err-counted.ensures.writes so.sides so.follow))
+    (g.W.Sink.written c.args.writer.now) (behind (g.W.Sink.written c.lines.writer) (string_bytes c.lines.block)) (g.W.Sink.written c.add_line.new.writer) (string_bytes c.add_line.new.block) c.lines.tally so c.next_line.ensures.lines
+    (c.in_err-counted.ensures.writes so.sides so.follow) (extends_more _ _ _ c.lines.invariant.extends c.in_err-counted.ensures.extends))
 
 pub lines-preserved : goal.lines-preserved
 lines-preserved g c =
@@ -35,16 +36,27 @@ lines-preserved g c =
       messages = omega (arith, c.in_ok-counted.ensures.few);
       bad = omega (arith, c.in_ok-counted.ensures.two);
       failures = c.in_ok-counted.ensures.count ∙ c.lines.invariant.failures;
+      extends = extends_more _ _ _ c.lines.invariant.extends c.in_ok-counted.ensures.extends;
     }
 
 pub returns-in_err-cut_off-clause-writes : goal.returns-in_err-cut_off-clause-writes
 returns-in_err-cut_off-clause-writes g c =
     let p = err_from_is_err_and c.from_residual-in_err-cut_off.result c.from_residual-in_err-cut_off.ensures.1 in
     let so = c.lines.invariant.so_far in
-    rw (p.1, p.2) (end_failed _ _ so.sides c.in_err-cut_off.field-0.0 (g.W.Sink.written c.args.writer.now) (behind (g.W.Sink.written c.lines.writer) (string_bytes c.lines.block)) (behind (g.W.Sink.written c.add_last.new.writer) (string_bytes c.add_last.new.block)) (c.in_err-cut_off.ensures.writes so.sides so.follow))
+    rw (p.1, p.2) (end_failed _ _ c.lines.rest.now _ c.lines.streams c.in_err-cut_off.field-0.0 (g.W.Sink.written c.args.writer.now) (behind (g.W.Sink.written c.lines.writer) (string_bytes c.lines.block)) (g.W.Sink.written c.add_last.new.writer) (string_bytes c.add_last.new.block) c.lines.tally so
+    (c.in_err-cut_off.ensures.writes so.sides so.follow) (extends_more _ _ _ c.lines.invariant.extends c.in_err-cut_off.ensures.extends))
 
 pub returns-clause-writes : goal.returns-clause-writes
 returns-clause-writes g c =
     let so = c.lines.invariant.so_far in
     let none : length c.lines.rest.now ≡ 0 = search rules in
     closed _ _ c.lines.rest.now _ c.lines.streams _ _ _ c.lines.tally c.in_ok-cut_off.cut_off _ none so (c.in_ok-cut_off.ensures.writes so.sides so.follow) (omega (arith, c.in_ok-cut_off.ensures.none)) refl
+
+pub returns-in_err-counted-clause-extends : goal.returns-in_err-counted-clause-extends
+returns-in_err-counted-clause-extends g c = extends_more _ _ _ c.lines.invariant.extends c.in_err-counted.ensures.extends
+
+pub returns-in_err-cut_off-clause-extends : goal.returns-in_err-cut_off-clause-extends
+returns-in_err-cut_off-clause-extends g c = extends_more _ _ _ c.lines.invariant.extends c.in_err-cut_off.ensures.extends
+
+pub returns-clause-extends : goal.returns-clause-extends
+returns-clause-extends g c = extends_more _ _ _ c.lines.invariant.extends c.in_ok-cut_off.ensures.extends

@@ -1,6 +1,6 @@
 use Rattle.std.proofs.Common.{◌≡◌, ◌+◌, ◌*◌, ◌≤◌, length}
 use Rattle.std.specs.String.{string_bytes}
-use Rattle.zvt_trace.specs.Written.{behind}
+use Rattle.zvt_trace.specs.Written.{Extends, behind}
 use Rattle.zvt_trace.proofs.TraceLemmas.{SoFar}
 use Rattle.zvt_trace.proofs.traces.write_blocks.Given as goal
 
@@ -11,6 +11,7 @@ invariant-lines g l = record {
   messages : l.tally.messages + length l.rest ≤ length l.trace;
   bad : l.tally.bad ≤ 2 * l.number;
   failures : g.W.Sink.failures l.writer ≡ g.W.Sink.failures l.initial.writer;
+  extends : Extends (g.W.Sink.written l.initial.writer) (g.W.Sink.written l.writer);
 }
 
 abbrev pub decreases-lines : goal.decreases-lines
