@@ -10,7 +10,7 @@ use Rattle.zvt_till.specs.declared.happenings.Happening.TheVariants.{Connected}
 use Rattle.zvt_trace.specs.Audit.{LinkEnds, LinkState, LineSays, new_link}
 use Rattle.zvt_trace.specs.Audited.{AnswersAudit, StandsFor, Takes, TakesLine, TakesLines}
 use Rattle.zvt_trace.specs.Booked.{books_text}
-use Rattle.zvt_trace.specs.Written.{limit}
+use Rattle.zvt_trace.specs.Written.{AppendsFront, limit}
 use Rattle.zvt_trace.specs.Walks.{Part, both, nothing}
 use Rattle.zvt_trace.specs.declared.fault.Tally.{Tally}
 use Rattle.zvt_trace.specs.declared.fault.ToolFault.{ToolFault}
@@ -74,6 +74,17 @@ failed trace rest content after number state next Write old now new tally so fir
 failed trace rest content after number state next (Line broken) old now new tally so first never = absurd never
 failed trace rest content after number state next (BadStep at) old now new tally so first never = absurd never
 failed trace rest content after number state next Net old now new tally so first never = absurd never
+
+-- the books of a trace, from the connection on, can't be written
+pub audit_failed : (left : Option (List ℕ)) (trace : List ℕ) (tally : Tally) (old new : Option (List ℕ)) (first connected taken : BooksSoFar) (found : Books) (text : List ℕ)
+    → IfSome left (λ bytes. trace ≡ bytes) → length trace ≤ limit → HasJudged [] first → Takes first connected (Connected ∷ []) → TakesLines (lines trace) connected taken (Ok tally)
+    → ((log : List Happening) → HasJudged log taken → found ≡ books log) → text ≡ books_text found → AppendsFront old new text
+    → IfSome left (λ bytes. AnswersAudit bytes old new (Err Write))
+audit_failed None trace tally old new first connected taken found text read few start connects takes closes says front = tt
+audit_failed (Some bytes) trace tally old new first connected taken found text read few start connects takes closes says front =
+    let judged = takes.2 (Connected ∷ []) (connects [] start) in
+    subst (λ (b : List ℕ). AnswersAudit b old new (Err Write)) read
+    (few, takes.0, takes.1, subst (λ (t : List ℕ). AppendsFront old new t) (says ∙ ap books_text (closes (Connected ∷ takes.0.items) judged)) front)
 
 -- the books of a trace, from the connection on, are written
 pub audited : (left : Option (List ℕ)) (trace : List ℕ) (tally : Tally) (old new : Option (List ℕ)) (first connected taken : BooksSoFar) (found : Books) (text : List ℕ)

@@ -14,7 +14,7 @@ use Rattle.zvt_trace.specs.Booked.{books_text}
 use Rattle.zvt_trace.specs.Meanings.{Meaning, meaning_of}
 use Rattle.zvt_trace.specs.Trace.{Arrives, Ending, Side, running, side_after, stopped}
 use Rattle.zvt_trace.specs.Walks.{Broken, Counts, Part}
-use Rattle.zvt_trace.specs.Written.{Follows, limit}
+use Rattle.zvt_trace.specs.Written.{AppendsFront, Follows, limit}
 use Rattle.zvt_trace.specs.declared.fault.Tally.{Tally}
 use Rattle.zvt_trace.specs.declared.fault.ToolFault.{ToolFault}
 use Rattle.zvt_trace.specs.declared.fault.ToolFault.TheVariants.{BadStep, Line, Memory, Net, Read, TooLong, Trace, Write}
@@ -104,14 +104,15 @@ pub record WritesBooks (trace : List ℕ) (tally : Tally) (old new : Option (Lis
   pub appended : Appends old new (books_text (books (Connected ∷ all.items)))
   pub counts : Counts tally all
 
--- What an audit answers for a trace of known bytes. Where it fails nothing is written, but by a device that failed.
+-- What an audit answers for a trace of known bytes. Where it fails nothing is written, but of a write that failed a front of the text.
 abbrev pub AnswersAudit : (trace : List ℕ) → (old new : Option (List ℕ)) → Result Tally ToolFault → Type 0
 AnswersAudit trace old new (Ok tally) = (length trace ≤ limit) × WritesBooks trace tally old new
 AnswersAudit trace old new (Err (Trace number what)) = (length trace ≤ limit) × (all : Part Happening) × Broken LineSays new_link (lines trace) number what all × Keeps old new
 AnswersAudit trace old new (Err TooLong) = (limit < length trace) × Keeps old new
 AnswersAudit trace old new (Err Read) = Keeps old new
 AnswersAudit trace old new (Err Memory) = Keeps old new
-AnswersAudit trace old new (Err Write) = Unit {0}
+AnswersAudit trace old new (Err Write) =
+    (length trace ≤ limit) × (all : Part Happening) × WholeAudit (lines trace) all × AppendsFront old new (books_text (books (Connected ∷ all.items)))
 AnswersAudit trace old new (Err (Line broken)) = ⊥
 AnswersAudit trace old new (Err (BadStep at)) = ⊥
 AnswersAudit trace old new (Err Net) = ⊥
