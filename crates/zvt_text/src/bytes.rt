@@ -2,15 +2,16 @@
 ghost use Rattle.std.specs.Prelude.{◌≡◌, ◌<◌, ◌≤◌, ◌*◌, ◌++◌, true, length, slice_index, OnOk};
 ghost use Rattle.hex.specs.Hex.{encode_upper, upper_digits};
 ghost use Rattle.std.specs.String.{string_bytes};
+ghost use Rattle.zvt_text.specs.Whole.{Adds, AddsFront};
 ghost use Rattle.zvt_text.specs.Bytes.{escaped, escaped_text, hex_of, hex_or_dash, is_plain, quoted};
 
 use std::alloc::AllocError;
 use std::str;
 
-/// Writes bytes in hexadecimal behind the text, as the crate `hex` does. Fails where no memory is left, and the text
-/// then ends anywhere.
+/// Writes bytes in hexadecimal behind the text, as the crate `hex` does. Where memory is refused a front of the digits
+/// stands there.
 pub fn hexadecimal(text: &mut String, bytes: &[u8]) -> Result<(), AllocError>
-    ensures { OnOk result (string_bytes text.new ≡ string_bytes text.old ++ encode_upper bytes.now) }
+    ensures { AddsFront result (string_bytes text.old) (string_bytes text.new) (encode_upper bytes.now) }
 {
     let mut rest = bytes;
     'chunks: while !rest.is_empty() {
@@ -27,7 +28,7 @@ const CHUNK: usize = 32;
 /// A chunk in hexadecimal.
 fn chunk_text(text: &mut String, chunk: &[u8]) -> Result<(), AllocError>
     requires { length chunk.now ≤ CHUNK }
-    ensures { OnOk result (string_bytes text.new ≡ string_bytes text.old ++ encode_upper chunk.now) }
+    ensures { Adds result (string_bytes text.old) (string_bytes text.new) (encode_upper chunk.now) }
 {
     let mut room = [0; 2 * CHUNK];
     let size = 2 * chunk.len();
@@ -87,14 +88,12 @@ pub(crate) fn quote(text: &mut String, bytes: &[u8]) -> Result<(), AllocError>
     ensures { OnOk result (string_bytes text.new ≡ string_bytes text.old ++ quoted bytes.now) }
 {
     text.push('"')?;
-    escaped(text, bytes)?;
+    escape_all(text, bytes)?;
     text.push('"')
 }
 
-/// Writes bytes behind the text. From 20 to 7E they stand as they are, but for the quotation mark and the
-/// backslash; every other byte is `\x` and two digits in hexadecimal. Fails where no memory is left, and the
-/// text then ends anywhere.
-pub fn escaped(text: &mut String, bytes: &[u8]) -> Result<(), AllocError>
+/// Bytes with escapes. Where memory is refused the text ends anywhere.
+pub(crate) fn escape_all(text: &mut String, bytes: &[u8]) -> Result<(), AllocError>
     ensures { OnOk result (string_bytes text.new ≡ string_bytes text.old ++ escaped_text bytes.now) }
 {
     for byte in bytes {

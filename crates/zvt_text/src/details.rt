@@ -6,7 +6,7 @@ ghost use Rattle.hex.specs.Hex.{encode_upper};
 ghost use Rattle.zvt_text.specs.Said.{config_text, data_text, four_digits, hex_part, named_currency, part_text, quoted_part, words_part};
 
 use crate::bytes::{byte, hexadecimal, quote};
-use crate::results::result_words;
+use crate::results::put_result;
 use std::alloc::AllocError;
 use zvt_bcd::Currency;
 
@@ -49,7 +49,7 @@ pub(crate) fn outcome(text: &mut String, code: Option<u8>) -> Result<(), AllocEr
         return Ok(());
     };
     text.push(' ')?;
-    result_words(text, code)
+    put_result(text, code)
 }
 
 /// A quoted line.

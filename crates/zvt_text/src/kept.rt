@@ -8,10 +8,12 @@ use std::alloc::AllocError;
 use std::fmt::Write;
 use zvt_bcd::Trace;
 
-/// Writes a trace number in six digits and a receipt number in hexadecimal behind the text, as
-/// `trace 000017 receipt 0005`; a payment without a receipt number has a dash. Fails where no memory is left, and the
-/// text then ends anywhere.
-pub fn numbers(text: &mut String, trace: Trace, receipt: Option<[u8; 2]>) -> Result<(), AllocError>
+/// A trace number and a receipt number. Where memory is refused the text ends anywhere.
+pub(crate) fn put_numbers(
+    text: &mut String,
+    trace: Trace,
+    receipt: Option<[u8; 2]>,
+) -> Result<(), AllocError>
     ensures { OnOk result (string_bytes text.new ≡ string_bytes text.old ++ numbers_text trace receipt) }
 {
     trace_number(text, trace)?;

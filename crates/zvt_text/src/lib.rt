@@ -10,9 +10,8 @@ mod lines;
 mod objects;
 mod results;
 mod said;
+mod scribe;
 mod values;
 
-pub use bytes::{escaped, hexadecimal};
-pub use kept::numbers;
-pub use results::result_words;
-pub use said::message;
+pub use bytes::hexadecimal;
+pub use scribe::Scribe;

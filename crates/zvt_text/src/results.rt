@@ -7,9 +7,8 @@ use crate::bytes::byte;
 use std::alloc::AllocError;
 use std::fmt::Write;
 
-/// Writes a result code and what it means behind the text, as `6F wrong currency`; a code without a meaning of
-/// its own is `code` and two digits in hexadecimal. Fails where no memory is left, and the text then ends anywhere.
-pub fn result_words(text: &mut String, code: u8) -> Result<(), AllocError>
+/// A result code and what it means. Where memory is refused the text ends anywhere.
+pub(crate) fn put_result(text: &mut String, code: u8) -> Result<(), AllocError>
     ensures { OnOk result (string_bytes text.new ≡ string_bytes text.old ++ result_words code) }
 {
     match meaning(code) {

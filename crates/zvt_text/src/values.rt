@@ -6,7 +6,7 @@ ghost use Rattle.zvt_field.specs.Views.{PlainBytes};
 ghost use Rattle.zvt_text.specs.Lines.{result_text, value_text};
 
 use crate::bytes::{bytes_or_dash, quote};
-use crate::results::result_words;
+use crate::results::put_result;
 use std::alloc::AllocError;
 use std::fmt::Write;
 use zvt_bcd::number;
@@ -43,7 +43,7 @@ fn outcome(text: &mut String, content: &[u8]) -> Result<(), AllocError>
     ensures { OnOk result (string_bytes text.new ≡ string_bytes text.old ++ result_text content.now) }
 {
     match content {
-        [code] => result_words(text, *code),
+        [code] => put_result(text, *code),
         _ => bytes_or_dash(text, content),
     }
 }

@@ -13,6 +13,7 @@ use crate::link::Link;
 use crate::traces::{next_line, put};
 use std::alloc::Global;
 use zvt_io::{Sink, Source};
+use zvt_text::Scribe;
 use zvt_till::Happening;
 use zvt_till::books::Bookkeeping;
 
@@ -41,7 +42,8 @@ pub fn audit<R: Source, W: Sink>(
     let tally = add_lines(alloc, &mut books, trace.as_slice())?;
     let found = books.close()?;
     let mut text = String::new(alloc);
-    booked::write(&mut text, &found)?;
+    let mut scribe = Scribe::new(alloc);
+    booked::write(&mut scribe, &mut text, &found)?;
     put(&text, writer)?;
     Ok(tally)
 }

@@ -7,15 +7,20 @@ ghost use Rattle.zvt_trace.specs.Booked.{booked_line, books_text, total, unclear
 use std::alloc::AllocError;
 use std::fmt::Write;
 use zvt_bcd::Amount;
+use zvt_text::Scribe;
 use zvt_till::{Booked, Books, Cause};
 
 /// A line for each payment that was completed, then one for each of which it is not known whether it happened, and the
 /// sum of the former.
-pub(crate) fn write(text: &mut String, books: &Books) -> Result<(), AllocError>
+pub(crate) fn write(
+    scribe: &mut Scribe,
+    text: &mut String,
+    books: &Books,
+) -> Result<(), AllocError>
     ensures { OnOk result (string_bytes text.new ≡ string_bytes text.old ++ books_text (books_value books.now)) }
 {
     for row in &books.booked {
-        booked_row(text, row)?;
+        booked_row(scribe, text, row)?;
     }
     for row in &books.unclear {
         unclear_row(text, row)?;
@@ -25,11 +30,11 @@ pub(crate) fn write(text: &mut String, books: &Books) -> Result<(), AllocError>
 }
 
 /// The line of a payment that was completed.
-fn booked_row(text: &mut String, row: &Booked) -> Result<(), AllocError>
+fn booked_row(scribe: &mut Scribe, text: &mut String, row: &Booked) -> Result<(), AllocError>
     ensures { OnOk result (string_bytes text.new ≡ string_bytes text.old ++ booked_line (row_value row.now)) }
 {
     write!(text, "booked {} ", row.amount.get())?;
-    zvt_text::numbers(text, row.trace, row.receipt)?;
+    scribe.numbers(text, row.trace, row.receipt)?;
     text.push('\n')
 }
 

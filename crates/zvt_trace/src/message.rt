@@ -9,9 +9,11 @@ ghost use Rattle.zvt_trace.specs.declared.style.Style.TheVariants.{Join};
 use crate::style::{Direction, Style};
 use std::alloc::AllocError;
 use zvt_apdu::{ApduView, view};
+use zvt_text::Scribe;
 
 /// A message, by its bytes, with its fields, as a line of a trace, or as a line of a receipt.
 pub(crate) fn write(
+    scribe: &mut Scribe,
     text: &mut String,
     style: Style,
     from: Direction,
@@ -21,19 +23,24 @@ pub(crate) fn write(
     ensures { (message : Message) → IsSpelling message bytes.now → OnOk result (AddsMessage style from message (string_bytes text.old) (string_bytes text.new)) }
 {
     match style {
-        Style::Show => show(text, from, &view(bytes)),
+        Style::Show => show(scribe, text, from, &view(bytes)),
         Style::Join => join(text, from, bytes),
-        Style::Receipts => receipt(text, from, &view(bytes)),
+        Style::Receipts => receipt(scribe, text, from, &view(bytes)),
     }
 }
 
 /// Its direction and what it says.
-fn show(text: &mut String, from: Direction, apdu: &ApduView<'_>) -> Result<(), AllocError>
+fn show(
+    scribe: &mut Scribe,
+    text: &mut String,
+    from: Direction,
+    apdu: &ApduView<'_>,
+) -> Result<(), AllocError>
     ensures { OnOk result (string_bytes text.new ≡ string_bytes text.old ++ shown from apdu.now) }
 {
     text.push_str(from.sign())?;
     text.push(' ')?;
-    zvt_text::message(text, apdu)
+    scribe.message(text, apdu)
 }
 
 /// Its direction and bytes.
@@ -47,7 +54,12 @@ fn join(text: &mut String, from: Direction, bytes: &[u8]) -> Result<(), AllocErr
 }
 
 /// The text of a print line of the terminal.
-fn receipt(text: &mut String, from: Direction, apdu: &ApduView<'_>) -> Result<(), AllocError>
+fn receipt(
+    scribe: &mut Scribe,
+    text: &mut String,
+    from: Direction,
+    apdu: &ApduView<'_>,
+) -> Result<(), AllocError>
     ensures { OnOk result (string_bytes text.new ≡ string_bytes text.old ++ receipt from apdu.now) }
 {
     if from == Direction::FromTill {
@@ -55,7 +67,7 @@ fn receipt(text: &mut String, from: Direction, apdu: &ApduView<'_>) -> Result<()
     }
     match apdu.text() {
         Some(line) => {
-            zvt_text::escaped(text, line)?;
+            scribe.escaped(text, line)?;
             text.push('\n')
         }
         None => Ok(()),

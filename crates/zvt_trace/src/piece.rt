@@ -9,9 +9,11 @@ use crate::style::{Direction, Style};
 use crate::{message, style};
 use std::alloc::AllocError;
 use zvt_stream::{FedView, FeedError, Stream};
+use zvt_text::Scribe;
 
 /// Writes what a piece brings: the messages that end in it, and whether its stream is refused.
 pub(crate) fn write(
+    scribe: &mut Scribe,
     text: &mut String,
     style: Style,
     from: Direction,
@@ -30,7 +32,7 @@ pub(crate) fn write(
                 let Some(spelled) = stream.lent_bytes() else {
                     unreachable!()
                 };
-                message::write(text, style, from, spelled)?;
+                message::write(scribe, text, style, from, spelled)?;
                 messages += 1;
                 let (_, after) = rest.split_at(taken);
                 // Most pieces end with a message.

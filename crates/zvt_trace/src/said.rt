@@ -12,11 +12,13 @@ use crate::style::{Direction, Style};
 use crate::{piece, style};
 use std::alloc::{AllocError, Global};
 use zvt_stream::{Stream, Truncated};
+use zvt_text::Scribe;
 
 /// Writes what the line says.
 #[inline(always)]
 pub(crate) fn write_said(
     alloc: Global,
+    scribe: &mut Scribe,
     text: &mut String,
     style: Style,
     streams: &mut Streams,
@@ -28,7 +30,7 @@ pub(crate) fn write_said(
 {
     match line {
         Line::Remark => Ok(Tally::none()),
-        Line::Piece { from, bytes } => write_piece(text, style, streams, *from, bytes),
+        Line::Piece { from, bytes } => write_piece(scribe, text, style, streams, *from, bytes),
         Line::Lost => {
             let tally = write_end(text, style, streams)?;
             style::lost(text, style)?;
@@ -41,6 +43,7 @@ pub(crate) fn write_said(
 /// Writes what a piece of that side brings.
 #[inline(always)]
 fn write_piece(
+    scribe: &mut Scribe,
     text: &mut String,
     style: Style,
     streams: &mut Streams,
@@ -52,8 +55,8 @@ fn write_piece(
     ensures one { IfOk result (λ tally. tally.bad ≤ 1) }
 {
     match from {
-        Direction::FromTill => piece::write(text, style, from, &mut streams.till, bytes),
-        Direction::FromTerminal => { piece::write(text, style, from, &mut streams.terminal, bytes) }
+        Direction::FromTill => piece::write(scribe, text, style, from, &mut streams.till, bytes),
+        Direction::FromTerminal => { piece::write(scribe, text, style, from, &mut streams.terminal, bytes) }
     }
 }
 

@@ -18,6 +18,7 @@ use crate::style::Style;
 use std::alloc::Global;
 use std::mem;
 use zvt_io::{Failed, Sink, Source};
+use zvt_text::Scribe;
 
 /// Writes each whole message of the trace as text: its direction and name, and a line for each
 /// field. A stream that is refused or cut off is said, and counts as bad.
@@ -103,6 +104,7 @@ fn write_blocks<W: Sink>(
     let mut tally = Tally::none();
     let mut streams = Streams::new(alloc);
     let mut buffer = Vec::new(alloc);
+    let mut scribe = Scribe::new(alloc);
     let mut text = String::new(alloc);
     let mut rest = trace;
     let mut number = 0;
@@ -112,6 +114,7 @@ fn write_blocks<W: Sink>(
         let counted = add_line(
             alloc,
             &mut buffer,
+            &mut scribe,
             &mut text,
             style,
             &mut streams,
@@ -134,6 +137,7 @@ fn write_blocks<W: Sink>(
 fn add_line<W: Sink>(
     alloc: Global,
     buffer: &mut Vec<u8>,
+    scribe: &mut Scribe,
     text: &mut String,
     style: Style,
     streams: &mut Streams,
@@ -156,7 +160,7 @@ fn add_line<W: Sink>(
         Err(BadLine::Memory) => return Err(ToolFault::Memory),
     };
     text.clear();
-    let tally = write_said(alloc, text, style, streams, &line)?;
+    let tally = write_said(alloc, scribe, text, style, streams, &line)?;
     move_in(text, block, writer)?;
     Ok(tally)
 }
