@@ -5,14 +5,14 @@ use std::alloc::Global;
 use std::process::Abort;
 use std::test::Fail;
 use zvt_bcd::Trace;
-use zvt_text::{escaped, message, numbers, result_words};
+use zvt_text::Scribe;
 
 /// The message that stands first, as text.
 fn said(rt: &impl Abort, alloc: Global, bytes: &[u8]) -> Result<String, Fail> {
     let apdu = viewed(rt, alloc, bytes)?;
     assert_eq!(rt; apdu.bytes().len(), bytes.len());
     let mut text = String::new(alloc);
-    message(&mut text, &apdu)?;
+    Scribe::new(alloc).message(&mut text, &apdu)?;
     Ok(text)
 }
 
@@ -160,7 +160,7 @@ fn words_of_results(rt: HostRuntime) -> Result<(), Fail> {
         (0x0A, "code 0A"),
     ] {
         let mut text = String::new(alloc);
-        result_words(&mut text, code)?;
+        Scribe::new(alloc).result_words(&mut text, code)?;
         assert_eq!(rt; text.as_str(), words);
     }
     Ok(())
@@ -171,7 +171,7 @@ fn escapes(rt: HostRuntime) -> Result<(), Fail> {
     let alloc = rt.alloc();
     let mut text = String::new(alloc);
     text.push_str("a")?;
-    escaped(&mut text, b"b \"\\~\x7F\n".as_slice())?;
+    Scribe::new(alloc).escaped(&mut text, b"b \"\\~\x7F\n".as_slice())?;
     assert_eq!(rt; text.as_str(), "ab \\x22\\x5C~\\x7F\\x0A");
     Ok(())
 }
@@ -183,9 +183,9 @@ fn numbers_of_a_payment(rt: HostRuntime) -> Result<(), Fail> {
         (0, Some([0xFF, 0xFF]), "trace 000000 receipt FFFF"),
         (999_999, None, "trace 999999 receipt -"),
     ] {
-        let mut text = String::new(rt.alloc());
+        let mut text = String::new(alloc);
         let trace = Trace::new(trace).ok_or("a trace number")?;
-        numbers(&mut text, trace, receipt)?;
+        Scribe::new(alloc).numbers(&mut text, trace, receipt)?;
         assert_eq!(rt; text.as_str(), expected);
     }
     Ok(())
