@@ -5,14 +5,15 @@ use std::net::TcpListener;
 use std::test::Fail;
 use zvt_bcd::Amount;
 use zvt_io::Over;
+use zvt_run::{
+    BothEnds, End, Ends, Step, StepLine, plan, result_code, run_loop, run_steps, run_terminal,
+    run_till, step_of,
+};
 use zvt_spelling::Why;
 use zvt_stream::{LineFault, Stream};
 use zvt_term::{Served, Terminal, Verdict};
 use zvt_till::{Cause, Outcome, RunFault, Till};
-use zvt_tool::{
-    End, Ends, NearLine, Step, StepLine, ToolFault, plan, result_code, run_loop, run_steps,
-    run_terminal, run_till, step_of,
-};
+use zvt_trace::ToolFault;
 
 const USUAL: &str = r#"register -> registered
 pay:1000 -> paid trace 000001 receipt 0001
@@ -209,7 +210,7 @@ impl Read for Again<'_> {
 #[test]
 fn ends_that_never_rest(rt: HostRuntime) {
     let alloc = rt.alloc();
-    let mut line = NearLine {
+    let mut line = BothEnds {
         till: End {
             reader: Over::new(Again([0x04, 0xFF, 0x01, 0x00].as_slice())),
             writer: Over::new(Vec::new(alloc)),

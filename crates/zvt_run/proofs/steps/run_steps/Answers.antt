@@ -1,0 +1,16 @@
+use Rattle.std.proofs.Common.{◌∙◌}
+use Rattle.zvt_run.specs.Runs.{standing}
+use Rattle.zvt_run.proofs.Runs.{broke, one_more}
+use Rattle.zvt_run.proofs.steps.run_steps.Goals as goal
+
+pub steps-preserved : goal.steps-preserved
+steps-preserved g c = record {
+  so_far = one_more g.L.StepLine.makes c.args.plan.now c.steps.planned-index c.planned-item.result c.in_ok-fault.field-0 (standing c.args.line.now c.args.till.now) (standing c.steps.line c.steps.till) (standing c.make_step.new.line c.make_step.new.till) _ _ _
+      c.steps-test.true c.planned-item.is c.in_default.is c.steps.invariant.so_far c.in_ok-fault.ensures.step;
+  failures = c.in_ok-fault.ensures.count ∙ c.steps.invariant.failures;
+}
+
+pub returns-in-Some-clause-run : goal.returns-in-Some-clause-run
+returns-in-Some-clause-run g c =
+    broke g.L.StepLine.makes c.args.plan.now c.steps.planned-index c.planned-item.result c.in_ok-fault.field-0 c.in-Some.fault (standing c.args.line.now c.args.till.now) (standing c.steps.line c.steps.till) (standing c.make_step.new.line c.make_step.new.till) _ _ _ _
+    c.steps-test.true c.planned-item.is c.in-Some.is c.steps.invariant.so_far c.in_ok-fault.ensures.step c.in_ok-write_total.ensures.text

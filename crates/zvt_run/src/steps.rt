@@ -1,0 +1,131 @@
+//! Steps made one after another on a line, and what is written of them.
+ghost use Rattle.std.specs.Prelude.{◌≡◌, ◌<◌, ◌++◌, Err, IfErr, IfOk, OnOk, Result};
+ghost use Rattle.std.specs.Io.KnownBytes.{Appends};
+ghost use Rattle.std.specs.String.{string_bytes};
+ghost use Rattle.zvt_io.specs.Devices.{CountsFailure};
+ghost use Rattle.zvt_till.specs.Line.{IsOver};
+ghost use Rattle.zvt_till.specs.Marks.{total};
+ghost use Rattle.zvt_till.specs.View.{TillValue};
+ghost use Rattle.zvt_till.specs.declared.line.RunFault.{RunFault};
+ghost use Rattle.zvt_till.specs.declared.outcomes.Outcome.{Outcome};
+ghost use Rattle.zvt_run.specs.declared.words.Step.{Step};
+ghost use Rattle.zvt_run.specs.Outcomes.{ending_text, total_text};
+ghost use Rattle.zvt_run.specs.Runs.{Answers, AnswersStep, AnswersText, fault_of, standing};
+
+use crate::outcomes::outcome_text;
+use crate::plans::Planned;
+use crate::words::Step;
+use std::alloc::{AllocError, Global};
+use std::fmt::Write;
+use zvt_io::{Failed, Sink};
+use zvt_stream::LineFault;
+use zvt_till::{Outcome, RunFault, Till};
+use zvt_trace::ToolFault;
+
+/// A line on which each step of a till is made from end to end.
+pub trait StepLine {
+    /// The step, made on the line by the till, came to this, and leads to this line and this till.
+    ghost makes: { Self → TillValue → Step → Result Outcome RunFault → Self → TillValue → Type 0 };
+
+    /// Gives the till the order of the step, and goes on with the line until no order runs. It answers what became of the
+    /// order. After `RunFault::Line` the till was told of it, its last outcome is what became of the order, and the line
+    /// is given up.
+    fn make(&mut self, alloc: Global, till: &mut Till, step: &Step) -> Result<Outcome, RunFault>
+        ensures made { makes self.old till.old step.now result self.new till.new }
+        ensures over { IfErr result (λ fault. IsOver fault till.new.state) };
+}
+
+/// Makes the steps one after another, and writes a line for each when it ends: its word and what became of it. The last
+/// line is the till's total. After a broken line no further step is made, and the fault is `Line`; an order that is not
+/// sent is no fault. The other faults are `Write` and `Memory`, after which the text ends anywhere.
+pub fn run_steps<L: StepLine, W: Sink>(
+    alloc: Global,
+    line: &mut L,
+    till: &mut Till,
+    plan: &[Planned],
+    writer: &mut W,
+) -> Result<(), ToolFault>
+    ensures run { Answers L.makes plan.now (standing line.old till.old) (standing line.new till.new) (W.written writer.old) (W.written writer.new) result }
+    ensures write { result ≡ Err ToolFault.Write → W.failures writer.old < W.failures writer.new }
+{
+    'steps: for planned in plan {
+        if let Some(fault) = make_step(alloc, line, till, planned, writer)? {
+            write_total(alloc, till, writer)?;
+            return Err(ToolFault::Line(fault));
+        }
+    }
+    write_total(alloc, till, writer)
+}
+
+/// Makes a step and writes its line. Answers how the line broke, if it did.
+fn make_step<L: StepLine, W: Sink>(
+    alloc: Global,
+    line: &mut L,
+    till: &mut Till,
+    planned: &Planned,
+    writer: &mut W,
+) -> Result<Option<LineFault>, ToolFault>
+    ensures step { AnswersStep L.makes planned.now (standing line.old till.old) (standing line.new till.new) (W.written writer.old) (W.written writer.new) result }
+    ensures write { result ≡ Err ToolFault.Write → W.failures writer.old < W.failures writer.new }
+    ensures count { IfOk result (λ _. W.failures writer.new ≡ W.failures writer.old) }
+{
+    let made = line.make(alloc, till, &planned.step);
+    let mut text = String::new(alloc);
+    text.push_str(planned.word.as_str())?;
+    text.push_str(" -> ")?;
+    say_ending(&mut text, &made, till.last_outcome())?;
+    text.push('\n')?;
+    put(&text, writer)?;
+    Ok(fault_of(&made))
+}
+
+/// Writes what became of a step, where the till says this of the order that ended last.
+fn say_ending(
+    text: &mut String,
+    made: &Result<Outcome, RunFault>,
+    last: Option<Outcome>,
+) -> Result<(), AllocError>
+    ensures { OnOk result (string_bytes text.new ≡ string_bytes text.old ++ ending_text made.now last) }
+{
+    match made {
+        Ok(outcome) => outcome_text(text, outcome),
+        Err(RunFault::Order(why)) => write!(text, "not sent: {why}"),
+        Err(RunFault::Line(_)) => match &last {
+            Some(outcome) => outcome_text(text, outcome),
+            None => Ok(()),
+        },
+    }
+}
+
+/// How the line broke, if it did.
+fn fault_of(made: &Result<Outcome, RunFault>) -> Option<LineFault>
+    ensures { result ≡ fault_of made.now }
+{
+    match made {
+        Ok(_) => None,
+        Err(RunFault::Order(_)) => None,
+        Err(RunFault::Line(fault)) => Some(*fault),
+    }
+}
+
+/// Writes the till's total.
+fn write_total<W: Sink>(alloc: Global, till: &Till, writer: &mut W) -> Result<(), ToolFault>
+    ensures text { AnswersText (total_text (total till.now.state.book)) (W.written writer.old) (W.written writer.new) result }
+    ensures write { result ≡ Err ToolFault.Write → W.failures writer.old < W.failures writer.new }
+{
+    let total = till.total();
+    let text = format!(in alloc; "total {total}\n")?;
+    put(&text, writer)
+}
+
+/// Writes the text to the device.
+fn put<W: Sink>(text: &String, writer: &mut W) -> Result<(), ToolFault>
+    ensures bytes { OnOk result (Appends (W.written writer.old) (W.written writer.new) (string_bytes text.now)) }
+    ensures fault { IfErr result (λ fault. fault ≡ ToolFault.Write) }
+    ensures failures { CountsFailure (W.failures writer.old) (W.failures writer.new) result }
+{
+    match writer.write_all(text.as_bytes()) {
+        Ok(()) => Ok(()),
+        Err(Failed) => Err(ToolFault::Write),
+    }
+}

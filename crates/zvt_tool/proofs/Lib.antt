@@ -1,5 +1,0 @@
-pub mod Numbers
-pub mod Runs
-pub mod NamedSteps
-pub mod Turns
-pub mod Said
