@@ -6,13 +6,12 @@ use std::test::Fail;
 use zvt_bcd::Amount;
 use zvt_io::Over;
 use zvt_run::{
-    BothEnds, End, Ends, Step, StepLine, plan, result_code, run_loop, run_steps, run_terminal,
-    run_till, step_of,
+    BothEnds, End, Ends, Step, plan, result_code, run_both_ends, run_loop, run_terminal, run_till,
+    run_till_end, serve, step_of,
 };
 use zvt_spelling::Why;
 use zvt_stream::{LineFault, Stream};
 use zvt_term::{Served, Terminal, Verdict};
-use zvt_till::{Cause, Outcome, RunFault, Till};
 use zvt_trace::ToolFault;
 
 const USUAL: &str = r#"register -> registered
@@ -138,10 +137,8 @@ fn registers_and_pays(
         writer: Over::new(Vec::new(alloc)),
         stream: Stream::new(alloc),
     };
-    let mut till = Till::with_defaults(alloc);
-    till.connected();
     let mut writer = Over::new(Vec::new(alloc));
-    let ended = run_steps(alloc, &mut line, &mut till, plan.as_slice(), &mut writer);
+    let ended = run_till_end(alloc, &mut line, plan.as_slice(), &mut writer);
     Ok((ended, writer.inner))
 }
 
@@ -208,8 +205,9 @@ impl Read for Again<'_> {
 }
 
 #[test]
-fn ends_that_never_rest(rt: HostRuntime) {
+fn ends_that_never_rest(rt: HostRuntime) -> Result<(), Fail> {
     let alloc = rt.alloc();
+    let plan = plan(alloc, Ends::Both, ["register"].as_slice())?;
     let mut line = BothEnds {
         till: End {
             reader: Over::new(Again([0x04, 0xFF, 0x01, 0x00].as_slice())),
@@ -222,17 +220,60 @@ fn ends_that_never_rest(rt: HostRuntime) {
             stream: Stream::new(alloc),
         },
         served: Served {
-            terminal: Terminal::new(alloc, 1),
+            terminal: Terminal::new(alloc, 12_345_678),
             verdict: Verdict::Approve,
         },
     };
-    let mut till = Till::with_defaults(alloc);
-    till.connected();
-    let made = line.make(alloc, &mut till, &Step::Register);
-    assert_eq!(rt; made, Err(RunFault::Line(LineFault::Turns)));
-    assert_eq!(rt; till.last_outcome(), Some(Outcome::Unclear(Cause::Line)));
+    let mut writer = Over::new(Vec::new(alloc));
+    let ended = run_both_ends(alloc, &mut line, plan.as_slice(), &mut writer);
+    assert!(rt; matches!(ended, Err(ToolFault::Line(LineFault::Turns))));
+    assert_eq!(rt;
+        writer.inner.as_slice(),
+        b"register -> unclear Line\ntotal 0\n".as_slice()
+    );
     assert_eq!(rt; line.till.writer.inner.len(), 9 + 3 * 1000);
     assert_eq!(rt; line.terminal.writer.inner.len(), 3 * 1000);
+    Ok(())
+}
+
+/// What a terminal of the number 87654321, which declines with 6C, writes where these bytes come, and how it ends.
+fn serves(alloc: Global, coming: &[u8]) -> (Result<(), ToolFault>, Vec<u8>) {
+    let mut end = End {
+        reader: Over::new(coming),
+        writer: Over::new(Vec::new(alloc)),
+        stream: Stream::new(alloc),
+    };
+    let mut served = Served {
+        terminal: Terminal::new(alloc, 87_654_321),
+        verdict: Verdict::Decline(0x6C),
+    };
+    let ended = serve(alloc, &mut end, &mut served);
+    (ended, end.writer.inner)
+}
+
+#[test]
+fn a_terminal_serves_its_line(rt: HostRuntime) -> Result<(), Fail> {
+    let dialogue = [
+        0x06, 0x00, 0x06, 0x00, 0x00, 0x00, 0xBE, 0x09, 0x78, 0x80, 0x00, 0x00, 0x06, 0x01, 0x0A,
+        0x04, 0x00, 0x00, 0x00, 0x00, 0x12, 0x34, 0x49, 0x09, 0x78, 0x80, 0x00, 0x00, 0x80, 0x00,
+        0x00,
+    ];
+    let answers = [
+        0x80, 0x00, 0x00, 0x06, 0x0F, 0x08, 0x29, 0x87, 0x65, 0x43, 0x21, 0x49, 0x09, 0x78, 0x80,
+        0x00, 0x00, 0x04, 0x0F, 0x02, 0x27, 0x6C, 0x06, 0x1E, 0x01, 0x6C,
+    ];
+    let (ended, written) = serves(rt.alloc(), dialogue.as_slice());
+    assert!(rt; ended.is_ok());
+    assert_eq!(rt; written.as_slice(), answers.as_slice());
+    let (ended, _) = serves(rt.alloc(), [0x06, 0x01, 0x0A, 0x04].as_slice());
+    assert!(rt; matches!(ended, Err(ToolFault::Line(LineFault::Ended { have: 4 }))));
+    let (ended, _) = serves(rt.alloc(), [0x06, 0x01, 0x02, 0xD0].as_slice());
+    let fault = LineFault::Malformed {
+        place: 3,
+        why: Why::UnknownField,
+    };
+    assert!(rt; matches!(&ended, Err(ToolFault::Line(found)) if *found == fault));
+    Ok(())
 }
 
 #[test]

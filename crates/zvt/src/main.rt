@@ -1,35 +1,22 @@
 //! Shows, joins and audits traces of the line between a till and its card terminal, and runs either end of it.
 #![tactic(auto)]
 
-ghost use Rattle.std.specs.Prelude.{◌≤◌, ℕ, Option, List};
+ghost use Rattle.std.specs.Prelude.{◌≡◌, ◌≤◌, ℕ, Option, List, IfOk};
 ghost use Rattle.clap.specs.Words.{Row, Text};
 ghost use Rattle.zvt_choice.specs.Chosen.{IsChoiceOf};
+ghost use Rattle.zvt.specs.Statuses.{status_of_run, status_of_tally};
 
+mod on_trace;
+mod statuses;
+
+use crate::on_trace::work_on_trace;
+use crate::statuses::{DEVICE, DONE, MEMORY, WORDS};
 use std::process::ExitCode;
 use std::{env, io};
 use zvt_io::Over;
-use zvt_stream::LineFault;
 use zvt_term::Verdict;
 use zvt_tool::words::choice;
 use zvt_tool::{Choice, ChoiceFault, Tally, ToolFault, result_code};
-
-/// All was done, or help was asked for.
-const DONE: u8 = 0;
-
-/// A stream of the trace was refused or cut off.
-const BAD: u8 = 1;
-
-/// The command line or a step is wrong.
-const WORDS: u8 = 2;
-
-/// The trace can't be read as one.
-const TRACE: u8 = 3;
-
-/// A device, the line or the connection failed.
-const DEVICE: u8 = 4;
-
-/// There was too little memory.
-const MEMORY: u8 = 5;
 
 fn main(rt: HostRuntime) -> ExitCode {
     match run(&rt) {
@@ -70,13 +57,12 @@ fn execute(rt: &HostRuntime, chosen: &Choice<'_>) -> io::Result<u8>
     requires { (reading : Option (Text × List Row)) × IsChoiceOf reading chosen.now }
 {
     let alloc = rt.alloc();
-    let mut reader = Over::new(rt.reader());
     let mut writer = Over::new(io::writer(rt));
     match chosen {
-        Choice::Show => finish_trace(rt, zvt_tool::show(alloc, &mut reader, &mut writer)),
-        Choice::Join => finish_trace(rt, zvt_tool::join(alloc, &mut reader, &mut writer)),
-        Choice::Audit => finish_trace(rt, zvt_tool::audit(alloc, &mut reader, &mut writer)),
-        Choice::Receipts => finish_trace(rt, zvt_tool::receipts(alloc, &mut reader, &mut writer)),
+        Choice::Show | Choice::Join | Choice::Audit | Choice::Receipts => {
+            let mut reader = Over::new(rt.reader());
+            finish_trace(rt, work_on_trace(alloc, chosen, &mut reader, &mut writer))
+        }
         Choice::Loop { steps } => {
             let steps = steps.as_slice();
             finish_run(rt, steps, zvt_tool::run_loop(rt, alloc, steps, &mut writer))
@@ -114,26 +100,28 @@ fn serve(rt: &HostRuntime, port: u16, tid: u32, decline: Option<&str>) -> io::Re
 }
 
 /// The exit status of a command on a trace. A fault is said.
-fn finish_trace(rt: &HostRuntime, answer: Result<Tally, ToolFault>) -> io::Result<u8> {
-    match answer {
-        Ok(tally) => Ok(status_of_tally(tally)),
-        Err(fault) => {
-            eprintln!(rt; "zvt: {fault}")?;
-            Ok(status_of_fault(&fault))
-        }
+fn finish_trace(rt: &HostRuntime, answer: Result<Tally, ToolFault>) -> io::Result<u8>
+    ensures { IfOk result (λ status. status ≡ status_of_tally answer) }
+{
+    let status = statuses::of_tally(&answer);
+    if let Err(fault) = &answer {
+        eprintln!(rt; "zvt: {fault}")?;
     }
+    Ok(status)
 }
 
 /// The exit status of a run of these steps. A fault is said, with the word that is no step.
-fn finish_run(rt: &HostRuntime, steps: &[&str], answer: Result<(), ToolFault>) -> io::Result<u8> {
-    let Err(fault) = answer else {
-        return Ok(DONE);
-    };
-    match word_of(&fault, steps) {
-        Some(word) => eprintln!(rt; "zvt: '{word}': {fault}")?,
-        None => eprintln!(rt; "zvt: {fault}")?,
+fn finish_run(rt: &HostRuntime, steps: &[&str], answer: Result<(), ToolFault>) -> io::Result<u8>
+    ensures { IfOk result (λ status. status ≡ status_of_run answer) }
+{
+    let status = statuses::of_run(&answer);
+    if let Err(fault) = &answer {
+        match word_of(fault, steps) {
+            Some(word) => eprintln!(rt; "zvt: '{word}': {fault}")?,
+            None => eprintln!(rt; "zvt: {fault}")?,
+        }
     }
-    Ok(status_of_fault(&fault))
+    Ok(status)
 }
 
 /// The word that the fault is about, if it is about one.
@@ -144,40 +132,57 @@ fn word_of<'a>(fault: &ToolFault, steps: &[&'a str]) -> Option<&'a str> {
     }
 }
 
-fn status_of_tally(tally: Tally) -> u8 {
-    if tally.bad == 0 { DONE } else { BAD }
-}
-
-fn status_of_fault(fault: &ToolFault) -> u8 {
-    match fault {
-        ToolFault::BadStep { .. } => WORDS,
-        ToolFault::Trace { .. } | ToolFault::TooLong => TRACE,
-        ToolFault::Read | ToolFault::Write | ToolFault::Net => DEVICE,
-        ToolFault::Line(LineFault::Memory) | ToolFault::Memory => MEMORY,
-        ToolFault::Line(_) => DEVICE,
-    }
-}
-
 #[cfg(test)]
 mod tests {
     use super::*;
-    use zvt_tool::What;
+    use std::test::Fail;
+    use zvt_io::Over;
+
+    /// A payment that was approved, whose receipt has a line, and a byte that no message of the terminal can go on with.
+    const PAYMENT: &str = "> 06 01 0A 04 00 00 00 00 12 34 49 09 78
+< 80 00 00 04 0F 10 27 00 04 00 00 00 00 12 34 0B 00 00 17 87 00 05
+< 06 D1 03 00 4F 4B 06 0F 00
+< 06 01 02 D0
+";
+
+    const SHOWN: &str = "> Authorisation
+  04 amount 1234
+  49 currency 0978
+< Ack
+< Status
+  27 result 00 success
+  04 amount 1234
+  0B trace 000017
+  87 receipt 0005
+< PrintLine 00 \"OK\"
+< Completion
+< refused at 3: UnknownField
+";
+
+    const JOINED: &str = "> 06010A04000000001234490978
+< 800000
+< 040F102700040000000012340B000017870005
+< 06D103004F4B
+< 060F00
+# < refused at 3: UnknownField
+";
 
     #[test]
-    fn each_end_has_its_status(rt: HostRuntime) {
-        let tally = |bad| Tally { messages: 2, bad };
-        assert_eq!(rt; status_of_tally(tally(0)), 0);
-        assert_eq!(rt; status_of_tally(tally(3)), 1);
-        let what = What::Hex;
-        assert_eq!(rt; status_of_fault(&ToolFault::BadStep { at: 1 }), 2);
-        assert_eq!(rt; status_of_fault(&ToolFault::Trace { line: 1, what }), 3);
-        assert_eq!(rt; status_of_fault(&ToolFault::TooLong), 3);
-        assert_eq!(rt; status_of_fault(&ToolFault::Read), 4);
-        assert_eq!(rt; status_of_fault(&ToolFault::Write), 4);
-        assert_eq!(rt; status_of_fault(&ToolFault::Net), 4);
-        assert_eq!(rt; status_of_fault(&ToolFault::Line(LineFault::Read)), 4);
-        assert_eq!(rt; status_of_fault(&ToolFault::Line(LineFault::Memory)), 5);
-        assert_eq!(rt; status_of_fault(&ToolFault::Memory), 5);
+    fn each_command_reads_a_trace(rt: HostRuntime) -> Result<(), Fail> {
+        let audited = "booked 1234 trace 000017 receipt 0005\ntotal 1234\n";
+        for (chosen, text) in [
+            (Choice::Show, SHOWN),
+            (Choice::Join, JOINED),
+            (Choice::Receipts, "OK\n"),
+            (Choice::Audit, audited),
+        ] {
+            let mut reader = Over::new(PAYMENT.as_bytes());
+            let mut writer = Over::new(Vec::new(rt.alloc()));
+            let answer = work_on_trace(rt.alloc(), &chosen, &mut reader, &mut writer);
+            assert_eq!(rt; statuses::of_tally(&answer), 1);
+            assert_eq!(rt; writer.inner.as_slice(), text.as_bytes());
+        }
+        Ok(())
     }
 
     #[test]

@@ -1,93 +1,143 @@
--- What a run says, without its line.
-use Rattle.std.proofs.Common.{◌≡◌, ℕ, List, [], ◌∷◌, Option, Some, None, Result, Ok, Err, refl, sym, subst}
+-- A run over TCP, by what contracts see of its line.
+use Rattle.std.proofs.Common.{◌≡◌, ℕ, List, [], ◌∷◌, Option, Some, None, Result, Ok, Err, refl, ap, sym, subst, inl, inr}
 use Rattle.std.specs.Io.KnownBytes.{Keeps}
-use Rattle.zvt_till.specs.Marks.{total}
-use Rattle.zvt_till.specs.View.{TillValue}
-use Rattle.zvt_till.specs.declared.line.RunFault.{RunFault}
-use Rattle.zvt_till.specs.declared.line.RunFault.TheVariants.{Line}
-use Rattle.zvt_till.specs.declared.outcomes.Outcome.{Outcome}
+use Rattle.zvt_stream.specs.declared.line.LineFault.{LineFault}
+use Rattle.zvt_till.specs.Events.{run_settings}
+use Rattle.zvt_till.specs.Till.{new_till, step}
+use Rattle.zvt_till.specs.declared.happenings.Happening.TheVariants.{Connected}
 use Rattle.zvt_trace.specs.declared.fault.ToolFault.{ToolFault}
 use Rattle.zvt_trace.specs.declared.fault.ToolFault.TheVariants.{BadStep, Line as LineBroke, Memory, Net, Read, TooLong, Trace, Write}
 use Rattle.zvt_run.specs.declared.plans.Planned.{Planned}
 use Rattle.zvt_run.specs.declared.words.Ends.{Ends}
-use Rattle.zvt_run.specs.declared.words.Step.{Step}
 use Rattle.zvt_run.specs.Plans.{Plans, PlansOrStops, words_of}
-use Rattle.zvt_run.specs.Runs.{Answers, MakesAll, Standing}
-use Rattle.zvt_run.specs.OverTcp.{AnswersRun, SaysAll}
-
-abbrev Law : Type 0 → Type 1
-Law L = L → TillValue → Step → Result Outcome RunFault → L → TillValue → Type 0
+use Rattle.zvt_run.specs.Runs.{Answers, EndsEarly, Law, MakesAll, MakesTo, Standing, standing}
+use Rattle.zvt_run.specs.OverTcp.{AnswersRun, Runs, RunsPlan}
 
 keeps : (held : Option (List ℕ)) → Keeps held held
 keeps None = tt
 keeps (Some bytes) = refl
 
-says_all : {L : Type 0} (makes : Law L) (plan : List Planned) (before after : Standing L) (text : List ℕ) → MakesAll makes plan before after text → SaysAll plan text
-says_all makes [] before after text all = all.1
-says_all makes (planned ∷ plan) before after text all = (
+-- ---- a line that contracts see as something else
+
+-- the law of a line, by what is seen of it
+abbrev pub by : {L S : Type 0} → (L → S) → Law S → Law L
+by seen law old till planned result new left = law (seen old) till planned result (seen new) left
+
+abbrev pub as_seen : {L S : Type 0} → (L → S) → Standing L → Standing S
+as_seen seen s = standing (seen s.line) s.till
+
+all_seen : {L S : Type 0} (seen : L → S) (law : Law S) (plan : List Planned) (before after : Standing L) (text : List ℕ)
+    → MakesAll (by seen law) plan before after text → MakesAll law plan (as_seen seen before) (as_seen seen after) text
+all_seen seen law [] before after text all = (ap (as_seen seen) all.0, all.1)
+all_seen seen law (planned ∷ plan) before after text all = (
+  all.0,
+  as_seen seen all.1,
   all.2,
   all.3,
-  record { result = all.0; last = all.1.till.state.last_outcome; ended = all.5; said = all.4.said },
-  says_all makes plan all.1 after all.3 all.6,
+  record { made = all.4.made; said = all.4.said },
+  all.5,
+  all_seen seen law plan all.1 after all.3 all.6,
   all.7,
 )
 
--- the steps ran
-all_ran : {L : Type 0} (makes : Law L) (ends : Ends) (words : List (List ℕ)) (plan : List Planned) (before after : Standing L) (old new : Option (List ℕ)) (result : Result Unit ToolFault)
-    → Plans ends (words_of ends words) plan → Answers makes plan before after old new result → AnswersRun ends words old new result
-all_ran makes ends words plan before after old new (Ok done) plans run = record {
-  plan = plan;
-  said = run.said;
-  total = total after.till.state.book;
-  plans = plans;
-  all = says_all makes plan before after run.said run.all;
-  appended = run.appended;
+to_seen : {L S : Type 0} (seen : L → S) (law : Law S) (plan : List Planned) (broken : Option LineFault) (before after : Standing L) (text : List ℕ)
+    → MakesTo (by seen law) plan broken before after text → MakesTo law plan broken (as_seen seen before) (as_seen seen after) text
+to_seen seen law plan None before after text all = all_seen seen law plan before after text all
+to_seen seen law plan (Some fault) before after text b = record {
+  done = b.done;
+  planned = b.planned;
+  later = b.later;
+  middle = as_seen seen b.middle;
+  said = b.said;
+  last = b.last;
+  cut = b.cut;
+  all = all_seen seen law b.done before b.middle b.said b.all;
+  breaks = record { made = b.breaks.made; said = b.breaks.said };
+  whole = b.whole;
 }
-all_ran makes ends words plan before after old new (Err (LineBroke fault)) plans run = record {
-  done = run.done;
-  planned = run.planned;
-  later = run.later;
-  said = run.said;
-  last = run.last;
-  total = total after.till.state.book;
-  plans = subst (λ (p : List Planned). Plans ends (words_of ends words) p) run.cut plans;
-  all = says_all makes run.done before run.middle run.said run.all;
-  breaks = record { result = Err (Line fault); last = after.till.state.last_outcome; ended = refl; said = run.breaks.said };
-  appended = run.appended;
-}
-all_ran makes ends words plan before after old new (Err Write) plans run = tt
-all_ran makes ends words plan before after old new (Err Memory) plans run = tt
-all_ran makes ends words plan before after old new (Err (BadStep at)) plans run = absurd run
-all_ran makes ends words plan before after old new (Err Net) plans run = absurd run
-all_ran makes ends words plan before after old new (Err (Trace line what)) plans run = absurd run
-all_ran makes ends words plan before after old new (Err TooLong) plans run = absurd run
-all_ran makes ends words plan before after old new (Err Read) plans run = absurd run
 
--- of these steps, which stand in a list
-pub ran : {L : Type 0} (makes : Law L) (ends : Ends) (words : List (List ℕ)) (items plan : List Planned) (before after : Standing L) (old new : Option (List ℕ)) (result : Result Unit ToolFault)
-    → plan ≡ items → Plans ends (words_of ends words) items → Answers makes plan before after old new result → AnswersRun ends words old new result
-ran makes ends words items plan before after old new result same plans =
-    all_ran makes ends words plan before after old new result (subst (λ (p : List Planned). Plans ends (words_of ends words) p) (sym same) plans)
+early_seen : {L S : Type 0} (seen : L → S) (law : Law S) (Part : List ℕ → List ℕ → Type 0) (plan : List Planned) (before after : Standing L) (old new : Option (List ℕ))
+    → EndsEarly (by seen law) Part plan before after old new → EndsEarly law Part plan (as_seen seen before) (as_seen seen after) old new
+early_seen seen law Part plan before after old new (inl s) = inl (record {
+  done = s.done;
+  planned = s.planned;
+  later = s.later;
+  middle = as_seen seen s.middle;
+  result = s.result;
+  said = s.said;
+  last = s.last;
+  between = s.between;
+  cut = s.cut;
+  all = all_seen seen law s.done before s.middle s.said s.all;
+  made = record { made = s.made.made; said = s.made.said };
+  appended = s.appended;
+  partly = s.partly;
+})
+early_seen seen law Part plan before after old new (inr t) = inr (record {
+  broken = t.broken;
+  said = t.said;
+  between = t.between;
+  made = to_seen seen law plan t.broken before after t.said t.made;
+  appended = t.appended;
+  partly = t.partly;
+})
+
+answers_seen : {L S : Type 0} (seen : L → S) (law : Law S) (plan : List Planned) (before after : Standing L) (old new : Option (List ℕ)) (result : Result Unit ToolFault)
+    → Answers (by seen law) plan before after old new result → Answers law plan (as_seen seen before) (as_seen seen after) old new result
+answers_seen seen law plan before after old new (Ok done) run = record { said = run.said; made = to_seen seen law plan None before after run.said run.made; appended = run.appended }
+answers_seen seen law plan before after old new (Err (LineBroke fault)) run = record { said = run.said; made = to_seen seen law plan (Some fault) before after run.said run.made; appended = run.appended }
+answers_seen seen law plan before after old new (Err Write) run = early_seen seen law _ plan before after old new run
+answers_seen seen law plan before after old new (Err Memory) run = early_seen seen law _ plan before after old new run
+answers_seen seen law plan before after old new (Err (BadStep at)) run = absurd run
+answers_seen seen law plan before after old new (Err Net) run = absurd run
+answers_seen seen law plan before after old new (Err (Trace line what)) run = absurd run
+answers_seen seen law plan before after old new (Err TooLong) run = absurd run
+answers_seen seen law plan before after old new (Err Read) run = absurd run
+
+-- ---- a run
+
+-- a new till that was connected made the steps
+pub ran : {L S : Type 0} (seen : L → S) (law : Law S) (begins : S → Type 0) (plan : List Planned) (before after : Standing L) (old new : Option (List ℕ)) (result : Result Unit ToolFault)
+    → begins (seen before.line) → before.till.state ≡ step (new_till run_settings) Connected
+    → Answers (by seen law) plan before after old new result → RunsPlan law begins plan old new result
+ran seen law begins plan before after old new result begun connected run = record {
+  before = as_seen seen before;
+  after = as_seen seen after;
+  begun = begun;
+  connected = connected;
+  answers = answers_seen seen law plan before after old new result run;
+}
+
+answered : {L : Type 0} (makes : Law L) (begins : L → Type 0) (ends : Ends) (words : List (List ℕ)) (plan : List Planned) (before after : Standing L) (old new : Option (List ℕ)) (result : Result Unit ToolFault)
+    → Answers makes plan before after old new result → Runs makes begins ends words old new result → AnswersRun makes begins ends words old new result
+answered makes begins ends words plan before after old new (Ok done) run runs = runs
+answered makes begins ends words plan before after old new (Err (LineBroke fault)) run runs = runs
+answered makes begins ends words plan before after old new (Err Write) run runs = runs
+answered makes begins ends words plan before after old new (Err Memory) run runs = inr runs
+answered makes begins ends words plan before after old new (Err (BadStep at)) run runs = absurd run
+answered makes begins ends words plan before after old new (Err Net) run runs = absurd run
+answered makes begins ends words plan before after old new (Err (Trace line what)) run runs = absurd run
+answered makes begins ends words plan before after old new (Err TooLong) run runs = absurd run
+answered makes begins ends words plan before after old new (Err Read) run runs = absurd run
+
+-- the steps are those that the words name, and stand in a list
+pub words_ran : {L : Type 0} (makes : Law L) (begins : L → Type 0) (ends : Ends) (words : List (List ℕ)) (items plan : List Planned) (old new : Option (List ℕ)) (result : Result Unit ToolFault)
+    → plan ≡ items → Plans ends (words_of ends words) items → RunsPlan makes begins plan old new result → AnswersRun makes begins ends words old new result
+words_ran makes begins ends words items plan old new result same plans runs =
+    answered makes begins ends words plan runs.before runs.after old new result runs.answers (record {
+      plan = plan;
+      plans = subst (λ (p : List Planned). Plans ends (words_of ends words) p) (sym same) plans;
+      runs = runs;
+    })
 
 -- a word names no step
-pub stopped : (ends : Ends) (words : List (List ℕ)) (held : Option (List ℕ)) (fault : ToolFault) → PlansOrStops ends (words_of ends words) (Err fault)
-    → AnswersRun ends words held held (Err fault)
-stopped ends words held (BadStep at) stops = (stops, keeps held)
-stopped ends words held Memory stops = tt
-stopped ends words held (LineBroke fault) stops = absurd stops
-stopped ends words held Net stops = absurd stops
-stopped ends words held Write stops = absurd stops
-stopped ends words held (Trace line what) stops = absurd stops
-stopped ends words held TooLong stops = absurd stops
-stopped ends words held Read stops = absurd stops
-
--- and that is no failed write
-pub not_written : {P : Type 0} (ends : Ends) (words : List (List ℕ)) (fault : ToolFault) → PlansOrStops ends words (Err fault) → fault ≡ Write → P
-not_written ends words (BadStep at) stops is = cc
-not_written ends words Memory stops is = cc
-not_written ends words (LineBroke fault) stops is = cc
-not_written ends words Net stops is = cc
-not_written ends words Write stops is = absurd stops
-not_written ends words (Trace line what) stops is = cc
-not_written ends words TooLong stops is = cc
-not_written ends words Read stops is = cc
+pub stopped : {L : Type 0} (makes : Law L) (begins : L → Type 0) (ends : Ends) (words : List (List ℕ)) (held : Option (List ℕ)) (fault : ToolFault) → PlansOrStops ends (words_of ends words) (Err fault)
+    → AnswersRun makes begins ends words held held (Err fault)
+stopped makes begins ends words held (BadStep at) stops = (stops, keeps held)
+stopped makes begins ends words held Memory stops = inl (keeps held)
+stopped makes begins ends words held (LineBroke fault) stops = absurd stops
+stopped makes begins ends words held Net stops = absurd stops
+stopped makes begins ends words held Write stops = absurd stops
+stopped makes begins ends words held (Trace line what) stops = absurd stops
+stopped makes begins ends words held TooLong stops = absurd stops
+stopped makes begins ends words held Read stops = absurd stops

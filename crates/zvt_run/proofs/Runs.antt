@@ -1,23 +1,23 @@
 -- Steps made one after another.
-use Rattle.std.proofs.Common.{◌≡◌, ℕ, ◌+◌, ◌<◌, List, [], ◌∷◌, ◌++◌, length, take, drop, Option, Some, None, Result, Ok, Err, refl, sym, ◌∙◌, ap, subst, append_assoc, append-nil, get_or, suc, add-one, drop-cons}
+use Rattle.std.proofs.Common.{◌≡◌, ℕ, ◌+◌, ◌<◌, List, [], ◌∷◌, ◌++◌, length, take, drop, Option, Some, None, Result, Ok, Err, refl, sym, ◌∙◌, ap, subst, append_assoc, append-nil, get_or, suc, add-one, drop-cons, inl, inr}
 use Rattle.std.proofs.Math.Seq.{take-suc}
 use Rattle.std.proofs.lemmas.List.{take-append-drop}
 use Rattle.std.proofs.lemmas.Option.{same_Some}
 use Rattle.std.specs.Io.KnownBytes.{Appends}
+use Rattle.std.specs.String.{string_bytes}
+use Rattle.zvt_io.specs.Devices.{IsFront}
+use Rattle.zvt_stream.proofs.HearingLemmas.{appends_none}
 use Rattle.std.proofs.KnownBytes.{Appends-trans}
 use Rattle.zvt_stream.specs.declared.line.LineFault.{LineFault}
 use Rattle.zvt_till.specs.Marks.{total}
-use Rattle.zvt_till.specs.View.{TillValue}
 use Rattle.zvt_till.specs.declared.line.RunFault.{RunFault}
 use Rattle.zvt_till.specs.declared.line.RunFault.TheVariants.{Order, Line}
 use Rattle.zvt_till.specs.declared.outcomes.Outcome.{Outcome}
+use Rattle.zvt_trace.specs.declared.fault.ToolFault.{ToolFault}
+use Rattle.zvt_trace.specs.declared.fault.ToolFault.TheVariants.{BadStep, Line as LineBroke, Memory, Net, Read, TooLong, Trace, Write}
 use Rattle.zvt_run.specs.declared.plans.Planned.{Planned}
-use Rattle.zvt_run.specs.declared.words.Step.{Step}
-use Rattle.zvt_run.specs.Outcomes.{total_text}
-use Rattle.zvt_run.specs.Runs.{AnswersStep, Broke, Makes, MakesAll, Standing, fault_of}
-
-abbrev Law : Type 0 → Type 1
-Law L = L → TillValue → Step → Result Outcome RunFault → L → TillValue → Type 0
+use Rattle.zvt_run.specs.Outcomes.{ending_text, step_text, total_text}
+use Rattle.zvt_run.specs.Runs.{Answers, AnswersStep, AnswersText, BreaksIn, EndsEarly, IsMissing, Law, Makes, MakesAll, MakesTo, PartlySaid, Ran, Said, Standing, WritesPart, fault_of}
 
 -- one step more
 makes_one_more : {L : Type 0} (makes : Law L) (plan : List Planned) (planned : Planned) (result : Result Outcome RunFault) (before middle after : Standing L) (text last : List ℕ)
@@ -61,9 +61,9 @@ pub one_more : {L : Type 0} (makes : Law L) (plan : List Planned) (i : ℕ) (pla
 one_more {L} makes plan i planned broken before middle after old now new below is none so step =
     let e : take (i + 1) plan ≡ take i plan ++ planned ∷ [] = taken plan i planned below is in
     rw e (record {
-      said = so.said ++ step.1;
-      all = makes_one_more makes (take i plan) planned step.0 before middle after so.said step.1 so.all step.2 (step.3 ∙ none);
-      appended = Appends-trans old now new so.said step.1 so.appended step.4;
+      said = so.said ++ step.text;
+      all = makes_one_more makes (take i plan) planned step.result before middle after so.said step.text so.all step.made (step.ended ∙ none);
+      appended = Appends-trans old now new so.said step.text so.appended step.appended;
     })
 
 broken_by : (result : Result Outcome RunFault) (fault : LineFault) → fault_of result ≡ Some fault → result ≡ Err (Line fault)
@@ -71,18 +71,98 @@ broken_by (Ok outcome) fault h = absurd (cc)
 broken_by (Err (Order why)) fault h = absurd (cc)
 broken_by (Err (Line broken)) fault h = ap (λ (f : LineFault). Err (Line f)) (same_Some broken fault h)
 
-pub broke : {L : Type 0} (makes : Law L) (plan : List Planned) (i : ℕ) (planned : Planned) (broken : Option LineFault) (fault : LineFault) (before middle after : Standing L) (old now next new : Option (List ℕ))
-    → i < length plan → planned ≡ get_or plan i planned → broken ≡ Some fault → SoFar makes (take i plan) before middle old now → AnswersStep makes planned middle after now next (Ok broken)
-    → Appends next new (total_text (total after.till.state.book)) → Broke makes plan fault before after old new
-broke {L} makes plan i planned broken fault before middle after old now next new below is some so step behind = record {
+-- the step in which the line broke
+breaks_in : {L : Type 0} (makes : Law L) (plan : List Planned) (i : ℕ) (planned : Planned) (broken : Option LineFault) (fault : LineFault) (before middle after : Standing L) (old now next : Option (List ℕ))
+    → i < length plan → planned ≡ get_or plan i planned → broken ≡ Some fault → (so : SoFar makes (take i plan) before middle old now) → (step : Said makes planned broken middle after now next)
+    → BreaksIn makes plan fault before after (so.said ++ step.text)
+breaks_in {L} makes plan i planned broken fault before middle after old now next below is some so step = record {
   done = take i plan;
   planned = planned;
   later = drop (i + 1) plan;
   middle = middle;
   said = so.said;
-  last = step.1;
+  last = step.text;
   cut = cut_at plan i planned below is;
   all = so.all;
-  breaks = subst (λ (r : Result Outcome RunFault). Makes makes planned r middle after step.1) (broken_by step.0 fault (step.3 ∙ some)) step.2;
-  appended = Appends-trans old next new (so.said ++ step.1) (total_text (total after.till.state.book)) (Appends-trans old now next so.said step.1 so.appended step.4) behind;
+  breaks = subst (λ (r : Result Outcome RunFault). Makes makes planned r middle after step.text) (broken_by step.result fault (step.ended ∙ some)) step.made;
+  whole = refl;
 }
+
+pub broke : {L : Type 0} (makes : Law L) (plan : List Planned) (i : ℕ) (planned : Planned) (broken : Option LineFault) (fault : LineFault) (before middle after : Standing L) (old now next new : Option (List ℕ))
+    → i < length plan → planned ≡ get_or plan i planned → broken ≡ Some fault → SoFar makes (take i plan) before middle old now → AnswersStep makes planned middle after now next (Ok broken)
+    → Appends next new (total_text (total after.till.state.book)) → Ran makes plan (Some fault) before after old new
+broke makes plan i planned broken fault before middle after old now next new below is some so step behind = record {
+  said = so.said ++ step.text;
+  made = breaks_in makes plan i planned broken fault before middle after old now next below is some so step;
+  appended = Appends-trans old next new (so.said ++ step.text) (total_text (total after.till.state.book)) (Appends-trans old now next so.said step.text so.appended step.appended) behind;
+}
+
+-- ---- where a text could not be written whole
+
+pub nothing_written : (text : List ℕ) (held : Option (List ℕ)) → WritesPart IsMissing text held held
+nothing_written text held = ([], refl, appends_none held)
+
+-- the line of the step that follows these
+stops_in_step : {L : Type 0} (makes : Law L) (Part : List ℕ → List ℕ → Type 0) (plan : List Planned) (i : ℕ) (planned : Planned) (before middle after : Standing L) (old now new : Option (List ℕ))
+    → i < length plan → planned ≡ get_or plan i planned → SoFar makes (take i plan) before middle old now → PartlySaid makes Part planned middle after now new → EndsEarly makes Part plan before after old new
+stops_in_step makes Part plan i planned before middle after old now new below is so step = inl (record {
+  done = take i plan;
+  planned = planned;
+  later = drop (i + 1) plan;
+  middle = middle;
+  result = step.result;
+  said = so.said;
+  last = step.text;
+  between = now;
+  cut = cut_at plan i planned below is;
+  all = so.all;
+  made = step.made;
+  appended = so.appended;
+  partly = step.partly;
+})
+
+pub step_stops : {L : Type 0} (makes : Law L) (plan : List Planned) (i : ℕ) (planned : Planned) (before middle after : Standing L) (old now new : Option (List ℕ)) (fault : ToolFault)
+    → i < length plan → planned ≡ get_or plan i planned → SoFar makes (take i plan) before middle old now → AnswersStep makes planned middle after now new (Err fault) → Answers makes plan before after old new (Err fault)
+step_stops makes plan i planned before middle after old now new Write below is so step = stops_in_step makes IsFront plan i planned before middle after old now new below is so step
+step_stops makes plan i planned before middle after old now new Memory below is so step = stops_in_step makes IsMissing plan i planned before middle after old now new below is so step
+step_stops makes plan i planned before middle after old now new (LineBroke fault) below is so step = absurd step
+step_stops makes plan i planned before middle after old now new (Trace line what) below is so step = absurd step
+step_stops makes plan i planned before middle after old now new TooLong below is so step = absurd step
+step_stops makes plan i planned before middle after old now new Read below is so step = absurd step
+step_stops makes plan i planned before middle after old now new (BadStep at) below is so step = absurd step
+step_stops makes plan i planned before middle after old now new Net below is so step = absurd step
+
+-- the total
+stops_in_total : {L : Type 0} (makes : Law L) (plan : List Planned) (broken : Option LineFault) (said : List ℕ) (before after : Standing L) (old now new : Option (List ℕ)) (fault : ToolFault)
+    → MakesTo makes plan broken before after said → Appends old now said → AnswersText (total_text (total after.till.state.book)) now new (Err fault) → Answers makes plan before after old new (Err fault)
+stops_in_total makes plan broken said before after old now new Write made appended text = inr (record { broken = broken; said = said; between = now; made = made; appended = appended; partly = text })
+stops_in_total makes plan broken said before after old now new Memory made appended text = inr (record { broken = broken; said = said; between = now; made = made; appended = appended; partly = text })
+stops_in_total makes plan broken said before after old now new (LineBroke fault) made appended text = absurd text
+stops_in_total makes plan broken said before after old now new (Trace line what) made appended text = absurd text
+stops_in_total makes plan broken said before after old now new TooLong made appended text = absurd text
+stops_in_total makes plan broken said before after old now new Read made appended text = absurd text
+stops_in_total makes plan broken said before after old now new (BadStep at) made appended text = absurd text
+stops_in_total makes plan broken said before after old now new Net made appended text = absurd text
+
+pub broken_total_stops : {L : Type 0} (makes : Law L) (plan : List Planned) (i : ℕ) (planned : Planned) (broken : Option LineFault) (fault : LineFault) (before middle after : Standing L) (old now next new : Option (List ℕ)) (stop : ToolFault)
+    → i < length plan → planned ≡ get_or plan i planned → broken ≡ Some fault → SoFar makes (take i plan) before middle old now → AnswersStep makes planned middle after now next (Ok broken)
+    → AnswersText (total_text (total after.till.state.book)) next new (Err stop) → Answers makes plan before after old new (Err stop)
+broken_total_stops makes plan i planned broken fault before middle after old now next new stop below is some so step text =
+    stops_in_total makes plan (Some fault) (so.said ++ step.text) before after old next new stop (breaks_in makes plan i planned broken fault before middle after old now next below is some so step)
+    (Appends-trans old now next so.said step.text so.appended step.appended) text
+
+-- what the total behind all steps answers is what the run answers
+pub ended : {L : Type 0} (makes : Law L) (plan : List Planned) (before after : Standing L) (old now new : Option (List ℕ)) (result : Result Unit ToolFault)
+    → SoFar makes plan before after old now → AnswersText (total_text (total after.till.state.book)) now new result → Answers makes plan before after old new result
+ended makes plan before after old now new (Ok done) so text = record {
+  said = so.said;
+  made = so.all;
+  appended = Appends-trans old now new so.said (total_text (total after.till.state.book)) so.appended text;
+}
+ended makes plan before after old now new (Err fault) so text = stops_in_total makes plan None so.said before after old now new fault so.all so.appended text
+
+-- the line of a step that was made could not be written whole
+pub partly_said : {L : Type 0} (makes : Law L) (planned : Planned) (result : Result Outcome RunFault) (before after : Standing L) (text : List ℕ) (old new : Option (List ℕ))
+    → makes before.line before.till planned.step result after.line after.till → text ≡ step_text (string_bytes planned.word) (ending_text result after.till.state.last_outcome) → WritesPart IsFront text old new
+    → AnswersStep makes planned before after old new (Err Write)
+partly_said makes planned result before after text old new made is partly = record { result = result; text = text; made = record { made = made; said = is }; partly = partly }

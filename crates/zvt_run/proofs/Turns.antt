@@ -1,6 +1,6 @@
 -- Both ends of a line, turn after turn.
 use Rattle.std.proofs.Common.{◌≡◌, ℕ, zero, suc, ◌+◌, ◌<◌, true, false, Option, Some, None, refl, subst, add-one, inl, inr, is_some, option_map}
-use Rattle.zvt_stream.specs.Turns.{LineState, Waited}
+use Rattle.zvt_stream.specs.Turns.{Ends, LineState, Waited, line_ends, line_state}
 use Rattle.zvt_stream.specs.declared.line.LineFault.{LineFault}
 use Rattle.zvt_stream.specs.declared.line.LineFault.TheVariants as faults
 use Rattle.zvt_stream.specs.declared.line.Until.TheVariants.{Sent}
@@ -13,22 +13,28 @@ use Rattle.zvt_till.specs.declared.statuses.Running.{Running}
 use Rattle.zvt_till.proofs.Accepted.{IsKnown, known-broken, known-heard, known-sent, rests-known, told-over}
 use Rattle.zvt_run.specs.declared.words.Step.{Step}
 use Rattle.zvt_run.specs.Steps.{order_of}
-use Rattle.zvt_run.specs.BothEnds.{Alternates, Begins, BreaksOff, Both, Comes, Fails, TillTurn, Underway}
+use Rattle.zvt_run.specs.BothEnds.{Alternates, Begins, BreaksOff, Both, Comes, Fails, Underway}
 
 -- ---- it stays known what became of the order
+
+-- the till's turn came to where it was to go
+abbrev TillEnds : Both → Both → Type 0
+TillEnds old new =
+    Ends till_hears till_rests Sent 1000 old.till_end.reads new.till_end.reads (line_state old.till_end.stream old.till old.till_end.coming old.till_end.written)
+    (line_ends new.till_end.stream new.till new.till_end.coming new.till_end.written)
 
 waited : (n : ℕ) (old new : LineState TillValue) → Waited till_hears till_rests Sent n old new → IsKnown old.machine.state → IsKnown new.machine.state
 waited zero old new w k = subst (λ (s : LineState TillValue). IsKnown s.machine.state) w k
 waited (suc n) old new w k = known-heard w.0.machine new.machine _ _ w.2.pumped.course.heard.heard (waited n old w.0 w.1 k)
 
-known_turn : (old new : Both) → TillTurn old new → IsKnown old.till.state → IsKnown new.till.state
+known_turn : (old new : Both) → TillEnds old new → IsKnown old.till.state → IsKnown new.till.state
 known_turn old new (inl at_once) k = absurd (cc)
 known_turn old new (inr turns) k =
     let a = turns.1.3 in
     known-heard a.middle.machine new.till _ _ a.last.pumped.course.heard.heard (waited a.before _ a.middle a.waited k)
 
 pub known_after : (old new : Both) → Alternates old new → IsKnown old.till.state → IsKnown new.till.state
-known_after old new a k = known_turn old new a.till k
+known_after old new a k = known_turn old new a.till.ends k
 
 pub known_begun : (step : Step) (old new : Both) → Begins step old new → IsKnown new.till.state
 known_begun step old new b = known-sent (order_of step) old.till new.till _ _ b.ordered.sends
@@ -40,7 +46,7 @@ pub over_broken : (fault : LineFault) (old new : Both) → BreaksOff fault old n
 over_broken fault old new (inl terminal) k = over_lost fault old.till new.till terminal.2 k
 over_broken fault old new (inr till) k =
     let b = till.1 in
-    told-over fault b.0 new.till b.3 (known-broken fault _ _ b.1.read b.1.written old.till b.0 b.1.breaks k)
+    told-over fault b.middle new.till b.told (known-broken fault _ _ b.broken.read b.broken.written old.till b.middle b.broken.breaks k)
 
 -- ---- a step
 

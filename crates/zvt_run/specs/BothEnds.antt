@@ -1,13 +1,15 @@
 -- Both ends of a line, which take turns.
 use Rattle.std.specs.Prelude.{◌≡◌, ◌⊎◌, ℕ, zero, suc, ◌<◌, Bool, true, false, Some, Result, Ok, Err}
+use Rattle.zvt_stream.specs.StreamState.{at_start}
 use Rattle.zvt_stream.specs.declared.line.LineFault.{LineFault}
 use Rattle.zvt_stream.specs.declared.line.LineFault.TheVariants.{Turns}
 use Rattle.zvt_till.specs.Line.{till_hears, till_loses, till_malforms, till_rests}
 use Rattle.zvt_till.specs.View.{TillValue}
 use Rattle.zvt_till.specs.declared.line.RunFault.{RunFault}
-use Rattle.zvt_till.specs.declared.line.RunFault.TheVariants.{Order as OrderFault, Line}
+use Rattle.zvt_till.specs.declared.line.RunFault.TheVariants.{Order as OrderFault, Line as LineBroke}
 use Rattle.zvt_till.specs.declared.outcomes.Outcome.{Outcome}
 use Rattle.zvt_term.specs.Served.{served_hears, served_loses}
+use Rattle.zvt_term.specs.Terminal.{new_terminal}
 use Rattle.zvt_term.specs.declared.served.Served.{Served}
 use Rattle.zvt_run.specs.declared.both_ends.BothEnds.{BothEnds}
 use Rattle.zvt_run.specs.declared.words.Step.{Step}
@@ -21,9 +23,22 @@ pub record Both : Type 0 where
   pub terminal_end : EndState
   pub served : Served
 
--- a line and its till, whose ends are seen so
+-- both ends without the till
+pub record Line : Type 0 where
+  pub till_end : EndState
+  pub terminal_end : EndState
+  pub served : Served
+
+abbrev pub with_till : Line → TillValue → Both
+with_till line till = record { till_end = line.till_end; till = till; terminal_end = line.terminal_end; served = line.served }
+
+-- a line whose ends are seen so
+abbrev pub line_of : {A B : Type 0} → (A → EndState) → (B → EndState) → BothEnds A B → Line
+line_of till_end terminal_end line = record { till_end = till_end line.till; terminal_end = terminal_end line.terminal; served = line.served }
+
+-- and its till
 abbrev pub here : {A B : Type 0} → (A → EndState) → (B → EndState) → BothEnds A B → TillValue → Both
-here till_end terminal_end line till = record { till_end = till_end line.till; till = till; terminal_end = terminal_end line.terminal; served = line.served }
+here till_end terminal_end line till = with_till (line_of till_end terminal_end line) till
 
 -- a terminal that serves its line
 abbrev pub never : Served → Bool
@@ -104,9 +119,18 @@ pub record GivenUp (step : Step) (fault : LineFault) (old new : Both) : Type 0 w
 
 abbrev pub Fails : Step → RunFault → Both → Both → Type 0
 Fails step (OrderFault why) old new = BeginsNot step (OrderFault why) old new
-Fails step (Line fault) old new = BeginsNot step (Line fault) old new ⊎ Breaks step fault old new ⊎ GivenUp step fault old new
+Fails step (LineBroke fault) old new = BeginsNot step (LineBroke fault) old new ⊎ Breaks step fault old new ⊎ GivenUp step fault old new
 
 -- What becomes of a step on a line both ends of which are here.
 abbrev pub MakesHere : Step → Result Outcome RunFault → Both → Both → Type 0
 MakesHere step (Ok outcome) old new = Comes step outcome old new
 MakesHere step (Err fault) old new = Fails step fault old new
+
+abbrev pub MakesHereBy : Line → TillValue → Step → Result Outcome RunFault → Line → TillValue → Type 0
+MakesHereBy before old step result after new = MakesHere step result (with_till before old) (with_till after new)
+
+-- both ends at their start, with a new terminal
+pub record BeginsHere (line : Line) : Type 0 where
+  pub till : line.till_end.stream ≡ at_start
+  pub terminal : line.terminal_end.stream ≡ at_start
+  pub served : line.served.terminal ≡ new_terminal 12345678

@@ -4,5 +4,7 @@ pub mod Outcomes
 pub mod Plans
 pub mod Runs
 pub mod LineEnd
+pub mod TillEnd
 pub mod BothEnds
+pub mod Service
 pub mod OverTcp

@@ -1,15 +1,19 @@
 //! Both ends of a line, which take turns.
-ghost use Rattle.std.specs.Prelude.{◌≡◌, MatchResult};
+ghost use Rattle.std.specs.Prelude.{◌≡◌, ◌<◌, Err, MatchResult};
 ghost use Rattle.zvt_till.specs.Line.{till_loses};
-ghost use Rattle.zvt_run.specs.BothEnds.{Alternates, BreaksOff, here};
+ghost use Rattle.zvt_run.specs.BothEnds.{Alternates, BeginsHere, BreaksOff, MakesHereBy, here, line_of};
+ghost use Rattle.zvt_run.specs.OverTcp.{RunsPlan};
 
 use crate::line_end::LineEnd;
-use crate::steps::StepLine;
+use crate::plans::Planned;
+use crate::steps::{StepLine, connected_till, run_steps};
 use crate::words::Step;
 use std::alloc::Global;
+use zvt_io::Sink;
 use zvt_stream::LineFault;
 use zvt_term::Served;
 use zvt_till::{Outcome, RunFault, Till};
+use zvt_trace::ToolFault;
 
 /// The turns of each end after which an order is given up.
 const ALTERNATIONS: u64 = 1_000;
@@ -57,6 +61,22 @@ impl<A: LineEnd, B: LineEnd> StepLine for BothEnds<A, B> {
         }
         Err(RunFault::Line(lose(till, LineFault::Turns)))
     }
+}
+
+/// Makes the steps one after another, with a new till on this line, which is at its start. Else see
+/// [`run_till_end`](crate::run_till_end).
+pub fn run_both_ends<A: LineEnd, B: LineEnd, T: Sink>(
+    alloc: Global,
+    line: &mut BothEnds<A, B>,
+    plan: &[Planned],
+    writer: &mut T,
+) -> Result<(), ToolFault>
+    requires { BeginsHere (line_of A.state B.state line.old) }
+    ensures run { RunsPlan MakesHereBy BeginsHere plan.now (T.written writer.old) (T.written writer.new) result }
+    ensures write { result ≡ Err ToolFault.Write → T.failures writer.old < T.failures writer.new }
+{
+    let mut till = connected_till(alloc);
+    run_steps(alloc, line, &mut till, plan, writer)
 }
 
 /// Tells the till that its line is lost, by this fault.

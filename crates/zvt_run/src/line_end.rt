@@ -14,7 +14,7 @@ const READS_OF_A_TURN: u64 = 1_000;
 
 /// One end of a line.
 pub trait LineEnd {
-    /// Its stream, what is to come, what was written, and the reads made.
+    /// Its stream, what is to come, what was written, the reads made, and how many reads and writes failed.
     ghost state: { Self → EndState };
 
     /// Gives the till an order, and writes its message. Where that fails the till has lost its line.
@@ -41,7 +41,7 @@ pub struct End<R, W> {
 impl<R: Source, W: Sink> LineEnd for End<R, W> {
     ghost use Rattle.zvt_run.specs.LineEnd.{end_state};
 
-    ghost state = { λ end. end_state end.stream (R.remaining end.reader) (W.written end.writer) (R.reads end.reader) };
+    ghost state = { λ end. end_state end.stream (R.remaining end.reader) (W.written end.writer) (R.reads end.reader) (R.failures end.reader) (W.failures end.writer) };
 
     fn order(&mut self, till: &mut Till, order: Order) -> Result<(), RunFault> {
         send_order(&mut self.writer, till, order)

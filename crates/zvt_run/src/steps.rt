@@ -1,11 +1,13 @@
 //! Steps made one after another on a line, and what is written of them.
 ghost use Rattle.std.specs.Prelude.{◌≡◌, ◌<◌, ◌++◌, Err, IfErr, IfOk, OnOk, Result};
-ghost use Rattle.std.specs.Io.KnownBytes.{Appends};
 ghost use Rattle.std.specs.String.{string_bytes};
-ghost use Rattle.zvt_io.specs.Devices.{CountsFailure};
+ghost use Rattle.zvt_io.specs.Devices.{CountsFailure, Writes};
+ghost use Rattle.zvt_till.specs.Events.{run_settings};
 ghost use Rattle.zvt_till.specs.Line.{IsOver};
 ghost use Rattle.zvt_till.specs.Marks.{total};
+ghost use Rattle.zvt_till.specs.Till.{new_till, step};
 ghost use Rattle.zvt_till.specs.View.{TillValue};
+ghost use Rattle.zvt_till.specs.declared.happenings.Happening.TheVariants.{Connected};
 ghost use Rattle.zvt_till.specs.declared.line.RunFault.{RunFault};
 ghost use Rattle.zvt_till.specs.declared.outcomes.Outcome.{Outcome};
 ghost use Rattle.zvt_run.specs.declared.words.Step.{Step};
@@ -23,7 +25,7 @@ use zvt_till::{Outcome, RunFault, Till};
 use zvt_trace::ToolFault;
 
 /// A line on which each step of a till is made from end to end.
-pub trait StepLine {
+pub(crate) trait StepLine {
     /// The step, made on the line by the till, came to this, and leads to this line and this till.
     ghost makes: { Self → TillValue → Step → Result Outcome RunFault → Self → TillValue → Type 0 };
 
@@ -37,8 +39,9 @@ pub trait StepLine {
 
 /// Makes the steps one after another, and writes a line for each when it ends: its word and what became of it. The last
 /// line is the till's total. After a broken line no further step is made, and the fault is `Line`; an order that is not
-/// sent is no fault. The other faults are `Write` and `Memory`, after which the text ends anywhere.
-pub fn run_steps<L: StepLine, W: Sink>(
+/// sent is no fault. The other faults are `Write` and `Memory`: no step is made again, nor one behind that whose line is
+/// missing. The lines of all steps before it were written, after `Write` a part of its own perhaps.
+pub(crate) fn run_steps<L: StepLine, W: Sink>(
     alloc: Global,
     line: &mut L,
     till: &mut Till,
@@ -55,6 +58,15 @@ pub fn run_steps<L: StepLine, W: Sink>(
         }
     }
     write_total(alloc, till, writer)
+}
+
+/// A new till of the program's settings, whose line is up.
+pub(crate) fn connected_till(alloc: Global) -> Till
+    ensures { result.state ≡ step (new_till run_settings) Connected }
+{
+    let mut till = Till::with_defaults(alloc);
+    till.connected();
+    till
 }
 
 /// Makes a step and writes its line. Answers how the line broke, if it did.
@@ -120,7 +132,7 @@ fn write_total<W: Sink>(alloc: Global, till: &Till, writer: &mut W) -> Result<()
 
 /// Writes the text to the device.
 fn put<W: Sink>(text: &String, writer: &mut W) -> Result<(), ToolFault>
-    ensures bytes { OnOk result (Appends (W.written writer.old) (W.written writer.new) (string_bytes text.now)) }
+    ensures bytes { Writes (W.written writer.old) (W.written writer.new) result (string_bytes text.now) }
     ensures fault { IfErr result (λ fault. fault ≡ ToolFault.Write) }
     ensures failures { CountsFailure (W.failures writer.old) (W.failures writer.new) result }
 {

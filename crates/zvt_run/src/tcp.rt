@@ -1,28 +1,28 @@
 //! Runs over TCP.
-ghost use Rattle.std.specs.Prelude.{◌≡◌, ◌<◌, ◌≤◌, Err, IfErr, map};
-ghost use Rattle.zvt_run.specs.OverTcp.{AnswersRun, EndsService};
+ghost use Rattle.std.specs.Prelude.{◌≡◌, ◌<◌, ◌≤◌, Err, map};
+ghost use Rattle.zvt_run.specs.BothEnds.{BeginsHere, MakesHereBy};
+ghost use Rattle.zvt_run.specs.OverTcp.{AnswersRun};
+ghost use Rattle.zvt_run.specs.Service.{AnswersService};
+ghost use Rattle.zvt_run.specs.TillEnd.{BeginsThere, MakesThere};
 
-use crate::both_ends::BothEnds;
+use crate::both_ends::{BothEnds, run_both_ends};
 use crate::line_end::End;
 use crate::plans::plan;
-use crate::steps::run_steps;
+use crate::service::serve;
+use crate::till_end::run_till_end;
 use crate::words::Ends;
 use std::alloc::Global;
 use std::io;
 use std::net::{Net, TcpListener, TcpStream, ToSocketAddrs};
 use std::time::Duration;
 use zvt_io::{Over, Sink};
-use zvt_stream::{LineFault, Stream, Until, pump};
+use zvt_stream::Stream;
 use zvt_term::{Served, Terminal, Verdict};
-use zvt_till::Till;
 use zvt_trace::ToolFault;
 
 /// For so many seconds a till waits: to be connected, for each read and for each write. A terminal that is silent for
 /// longer counts as a read that failed.
 const SILENCE_SECONDS: u64 = 60;
-
-/// The turns of one read each after which a terminal gives up its connection.
-const READS_OF_A_SERVICE: u64 = 1_000_000;
 
 /// The address of this machine to itself.
 const HERE: &str = "127.0.0.1";
@@ -34,7 +34,7 @@ const TID: u32 = 12_345_678;
 /// terminal take turns. The words name the steps, and no words the usual ones: `register pay:1000 decline:500:6C
 /// reverse:1 close`.
 ///
-/// `BadStep` comes before anything is opened, and `Net` before anything is written. Else see [`run_steps`].
+/// `BadStep` comes before anything is opened, and `Net` before anything is written. Else see [`run_both_ends`].
 pub fn run_loop<R, W>(
     rt: &R,
     alloc: Global,
@@ -44,7 +44,7 @@ pub fn run_loop<R, W>(
 where
     R: Net<Listener = TcpListener, Stream = TcpStream>,
     W: Sink,
-    ensures run { AnswersRun Ends.Both (map (λ step. step.now) steps.now) (W.written writer.old) (W.written writer.new) result }
+    ensures run { AnswersRun MakesHereBy BeginsHere Ends.Both (map (λ step. step.now) steps.now) (W.written writer.old) (W.written writer.new) result }
     ensures write { result ≡ Err ToolFault.Write → W.failures writer.old < W.failures writer.new }
 {
     let plan = plan(alloc, Ends::Both, steps)?;
@@ -67,15 +67,13 @@ where
             verdict: Verdict::Approve,
         },
     };
-    let mut till = Till::with_defaults(alloc);
-    till.connected();
-    run_steps(alloc, &mut line, &mut till, plan.as_slice(), writer)
+    run_both_ends(alloc, &mut line, plan.as_slice(), writer)
 }
 
 /// Connects a till to a terminal at this host and port, and runs the steps that the words name, by no words `register
 /// close`. Each order has 100,000 reads.
 ///
-/// `BadStep` comes before anything is opened, and `Net` before anything is written. Else see [`run_steps`].
+/// `BadStep` comes before anything is opened, and `Net` before anything is written. Else see [`run_till_end`].
 pub fn run_till<R, W>(
     rt: &R,
     alloc: Global,
@@ -87,7 +85,7 @@ pub fn run_till<R, W>(
 where
     R: Net<Listener = TcpListener, Stream = TcpStream>,
     W: Sink,
-    ensures run { AnswersRun Ends.Till (map (λ step. step.now) steps.now) (W.written writer.old) (W.written writer.new) result }
+    ensures run { AnswersRun MakesThere BeginsThere Ends.Till (map (λ step. step.now) steps.now) (W.written writer.old) (W.written writer.new) result }
     ensures write { result ≡ Err ToolFault.Write → W.failures writer.old < W.failures writer.new }
 {
     let plan = plan(alloc, Ends::Till, steps)?;
@@ -99,9 +97,7 @@ where
         writer: Over::new(&end),
         stream: Stream::new(alloc),
     };
-    let mut till = Till::with_defaults(alloc);
-    till.connected();
-    run_steps(alloc, &mut line, &mut till, plan.as_slice(), writer)
+    run_till_end(alloc, &mut line, plan.as_slice(), writer)
 }
 
 /// Listens at this port of 127.0.0.1, and serves the first connection to its end, with a terminal of this number and this
@@ -117,29 +113,21 @@ pub fn run_terminal<R>(
 where
     R: Net<Listener = TcpListener, Stream = TcpStream>,
     requires { tid ≤ 99999999 }
-    ensures { IfErr result EndsService }
+    ensures { AnswersService tid verdict result }
 {
-    let Ok(end) = accept(rt, port) else {
+    let Ok(connection) = accept(rt, port) else {
         return Err(ToolFault::Net);
     };
     let mut served = Served {
         terminal: Terminal::new(alloc, tid),
         verdict,
     };
-    let mut stream = Stream::new(alloc);
-    let ended = pump(
-        alloc,
-        &mut Over::new(&end),
-        &mut Over::new(&end),
-        &mut stream,
-        &mut served,
-        Until::Rest,
-        READS_OF_A_SERVICE,
-    );
-    match ended {
-        Ok(()) | Err(LineFault::Ended { have: 0 }) => Ok(()),
-        Err(fault) => Err(ToolFault::Line(fault)),
-    }
+    let mut end = End {
+        reader: Over::new(&connection),
+        writer: Over::new(&connection),
+        stream: Stream::new(alloc),
+    };
+    serve(alloc, &mut end, &mut served)
 }
 
 /// Both ends of a connection of this process to itself.

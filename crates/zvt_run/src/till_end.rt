@@ -1,23 +1,27 @@
 //! The till's end of a line to a terminal elsewhere.
+ghost use Rattle.std.specs.Prelude.{◌≡◌, ◌<◌, Err};
+ghost use Rattle.zvt_stream.specs.StreamState.{at_start};
+ghost use Rattle.zvt_run.specs.OverTcp.{RunsPlan};
+ghost use Rattle.zvt_run.specs.TillEnd.{BeginsThere, MakesThere};
+
 use crate::line_end::End;
-use crate::steps::StepLine;
+use crate::plans::Planned;
+use crate::steps::{StepLine, connected_till, run_steps};
 use crate::words::Step;
 use std::alloc::Global;
 use zvt_io::{Sink, Source};
 use zvt_till::{Outcome, RunFault, Till, run_order};
+use zvt_trace::ToolFault;
 
 /// The turns of one read each after which an order is given up.
 const READS_OF_AN_ORDER: u64 = 100_000;
 
 /// What the terminal elsewhere decides of a step is its own.
 impl<R: Source, W: Sink> StepLine for End<R, W> {
-    ghost use Rattle.std.specs.Prelude.{MatchResult};
-    ghost use Rattle.zvt_till.specs.Line.{Fails, Runs};
-    ghost use Rattle.zvt_run.specs.Steps.{order_of};
+    ghost use Rattle.zvt_run.specs.LineEnd.{end_state};
+    ghost use Rattle.zvt_run.specs.TillEnd.{MakesThere};
 
-    ghost makes = { λ old till step result new left. MatchResult result
-        (λ outcome. Runs (order_of step) outcome old.stream new.stream till left (R.remaining old.reader) (R.remaining new.reader) (W.written old.writer) (W.written new.writer) 100000 (R.reads old.reader) (R.reads new.reader))
-        (λ fault. Fails fault (order_of step) old.stream new.stream till left (R.remaining old.reader) (R.remaining new.reader) (W.written old.writer) (W.written new.writer) 100000 (R.reads old.reader) (R.reads new.reader)) };
+    ghost makes = { λ old till step result new left. MakesThere (end_state old.stream (R.remaining old.reader) (W.written old.writer) (R.reads old.reader) (R.failures old.reader) (W.failures old.writer)) till step result (end_state new.stream (R.remaining new.reader) (W.written new.writer) (R.reads new.reader) (R.failures new.reader) (W.failures new.writer)) left };
 
     fn make(&mut self, alloc: Global, till: &mut Till, step: &Step) -> Result<Outcome, RunFault> {
         run_order(
@@ -30,4 +34,23 @@ impl<R: Source, W: Sink> StepLine for End<R, W> {
             READS_OF_AN_ORDER,
         )
     }
+}
+
+/// Makes the steps one after another, with a new till at this end of a line, which is at its start.
+///
+/// A line is written for each step when it ends: its word and what became of it. The last line is the till's total.
+/// After a broken line no further step is made, and the fault is `Line`; an order that is not sent is no fault. The
+/// other faults are `Write` and `Memory`: no step is made again, and none behind the one whose line is missing.
+pub fn run_till_end<R: Source, W: Sink, T: Sink>(
+    alloc: Global,
+    end: &mut End<R, W>,
+    plan: &[Planned],
+    writer: &mut T,
+) -> Result<(), ToolFault>
+    requires { end.old.stream ≡ at_start }
+    ensures run { RunsPlan MakesThere BeginsThere plan.now (T.written writer.old) (T.written writer.new) result }
+    ensures write { result ≡ Err ToolFault.Write → T.failures writer.old < T.failures writer.new }
+{
+    let mut till = connected_till(alloc);
+    run_steps(alloc, end, &mut till, plan, writer)
 }

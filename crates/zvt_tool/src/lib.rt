@@ -3,7 +3,7 @@
 
 pub use zvt_choice::{Choice, ChoiceFault, words};
 pub use zvt_run::{
-    BothEnds, End, Ends, LineEnd, Planned, Step, StepLine, plan, result_code, run_loop, run_steps,
-    run_terminal, run_till, step_of,
+    BothEnds, End, Ends, LineEnd, Planned, Step, plan, result_code, run_both_ends, run_loop,
+    run_terminal, run_till, run_till_end, serve, step_of,
 };
 pub use zvt_trace::{Tally, ToolFault, What, audit, join, receipts, show};

@@ -1,0 +1,34 @@
+-- What the commands on a trace answer.
+use Rattle.std.specs.Prelude.{◌≡◌, ℕ, List, [], Option, None, Some, Result, codes}
+use Rattle.zvt_choice.specs.declared.chosen.Choice.{Choice}
+use Rattle.zvt_choice.specs.declared.chosen.Choice.TheVariants.{Audit, Join, Loop, Receipts, Show, Terminal, Till}
+use Rattle.zvt_trace.specs.Audited.{AnswersAudit}
+use Rattle.zvt_trace.specs.Lines.{mark_of}
+use Rattle.zvt_trace.specs.Written.{AnswersTrace}
+use Rattle.zvt_trace.specs.declared.fault.Tally.{Tally}
+use Rattle.zvt_trace.specs.declared.fault.ToolFault.{ToolFault}
+
+-- the command reads a trace
+abbrev pub IsOnTrace : Choice → Type 0
+IsOnTrace Show = Unit {0}
+IsOnTrace Join = Unit {0}
+IsOnTrace Audit = Unit {0}
+IsOnTrace Receipts = Unit {0}
+IsOnTrace (Loop steps) = ⊥
+IsOnTrace (Till port host steps) = ⊥
+IsOnTrace (Terminal port tid decline) = ⊥
+
+-- what is answered and written in the style that marks its faults so
+abbrev pub AnswersMarked : Option (List ℕ) → (trace : List ℕ) → (old new : Option (List ℕ)) → Result Tally ToolFault → Type 0
+AnswersMarked mark trace old new result = (style : _) × (mark_of style ≡ mark) × AnswersTrace style trace old new result
+
+-- What the command answers for a trace of known bytes. Of the three styles `show` writes its faults as they are, `join`
+-- as remarks, and `receipts` none.
+abbrev pub AnswersOnTrace : Choice → (trace : List ℕ) → (old new : Option (List ℕ)) → Result Tally ToolFault → Type 0
+AnswersOnTrace Show trace old new result = AnswersMarked (Some []) trace old new result
+AnswersOnTrace Join trace old new result = AnswersMarked (Some (codes "# ")) trace old new result
+AnswersOnTrace Receipts trace old new result = AnswersMarked None trace old new result
+AnswersOnTrace Audit trace old new result = AnswersAudit trace old new result
+AnswersOnTrace (Loop steps) trace old new result = ⊥
+AnswersOnTrace (Till port host steps) trace old new result = ⊥
+AnswersOnTrace (Terminal port tid decline) trace old new result = ⊥
