@@ -178,6 +178,7 @@ fn escapes(rt: HostRuntime) -> Result<(), Fail> {
 
 #[test]
 fn numbers_of_a_payment(rt: HostRuntime) -> Result<(), Fail> {
+    let alloc = rt.alloc();
     for (trace, receipt, expected) in [
         (17, Some([0x00, 0x05]), "trace 000017 receipt 0005"),
         (0, Some([0xFF, 0xFF]), "trace 000000 receipt FFFF"),

@@ -21,6 +21,7 @@ use std::alloc::{AllocError, Global};
 use std::fmt::Write;
 use zvt_io::{Failed, Sink};
 use zvt_stream::LineFault;
+use zvt_text::Scribe;
 use zvt_till::{Outcome, RunFault, Till};
 use zvt_trace::ToolFault;
 
@@ -85,7 +86,7 @@ fn make_step<L: StepLine, W: Sink>(
     let mut text = String::new(alloc);
     text.push_str(planned.word.as_str())?;
     text.push_str(" -> ")?;
-    say_ending(&mut text, &made, till.last_outcome())?;
+    say_ending(&mut Scribe::new(alloc), &mut text, &made, till.last_outcome())?;
     text.push('\n')?;
     put(&text, writer)?;
     Ok(fault_of(&made))
@@ -93,6 +94,7 @@ fn make_step<L: StepLine, W: Sink>(
 
 /// Writes what became of a step, where the till says this of the order that ended last.
 fn say_ending(
+    scribe: &mut Scribe,
     text: &mut String,
     made: &Result<Outcome, RunFault>,
     last: Option<Outcome>,
@@ -100,10 +102,10 @@ fn say_ending(
     ensures { OnOk result (string_bytes text.new ≡ string_bytes text.old ++ ending_text made.now last) }
 {
     match made {
-        Ok(outcome) => outcome_text(text, outcome),
+        Ok(outcome) => outcome_text(scribe, text, outcome),
         Err(RunFault::Order(why)) => write!(text, "not sent: {why}"),
         Err(RunFault::Line(_)) => match &last {
-            Some(outcome) => outcome_text(text, outcome),
+            Some(outcome) => outcome_text(scribe, text, outcome),
             None => Ok(()),
         },
     }
