@@ -160,9 +160,33 @@ fn tells_why_a_payment_is_unclear(rt: HostRuntime) -> Result<(), Fail> {
 #[test]
 fn causes_and_refusals_have_names(rt: HostRuntime) -> Result<(), Fail> {
     let alloc = rt.alloc();
-    assert_eq!(rt; Cause::AbortAfterApproval.name(), "AbortAfterApproval");
-    assert_eq!(rt; OrderRefusal::NothingToCancel.name(), "NothingToCancel");
-    let shown = format!(in alloc; "{}, {}", Cause::Unfinished, OrderRefusal::Offline)?;
-    assert_eq!(rt; shown.as_str(), "Unfinished, Offline");
+    for (cause, name) in [
+        (Cause::NoStatus, "NoStatus"),
+        (Cause::Conflict, "Conflict"),
+        (Cause::AmountDiffers, "AmountDiffers"),
+        (Cause::NoTrace, "NoTrace"),
+        (Cause::TraceUsed, "TraceUsed"),
+        (Cause::AbortAfterApproval, "AbortAfterApproval"),
+        (Cause::Line, "Line"),
+        (Cause::Malformed, "Malformed"),
+        (Cause::Unfinished, "Unfinished"),
+    ] {
+        let shown = format!(in alloc; "{cause}")?;
+        assert_eq!(rt; shown.as_str(), name);
+    }
+    for (refusal, name) in [
+        (OrderRefusal::Offline, "Offline"),
+        (OrderRefusal::NotRegistered, "NotRegistered"),
+        (OrderRefusal::Busy, "Busy"),
+        (OrderRefusal::NothingToCancel, "NothingToCancel"),
+        (OrderRefusal::BookFull, "BookFull"),
+        (OrderRefusal::UnknownEntry, "UnknownEntry"),
+        (OrderRefusal::AlreadyReversed, "AlreadyReversed"),
+        (OrderRefusal::NoReceipt, "NoReceipt"),
+        (OrderRefusal::Memory, "Memory"),
+    ] {
+        let shown = format!(in alloc; "{refusal}")?;
+        assert_eq!(rt; shown.as_str(), name);
+    }
     Ok(())
 }
