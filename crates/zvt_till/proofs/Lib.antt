@@ -18,5 +18,6 @@ pub mod Lines
 pub mod Accepted
 pub mod Pieces
 pub mod Carrying
+pub mod Ordering
 pub mod BooksLemmas
 mod Rows

@@ -1,21 +1,24 @@
 -- What orders on a line do to the log of the till that has it.
-use Rattle.std.specs.Prelude.{◌≡◌, ℕ, List, [], ◌∷◌, ◌++◌, Option, map}
+use Rattle.std.specs.Prelude.{◌≡◌, ◌⊎◌, ℕ, List, [], ◌∷◌, ◌++◌, Option, map, Result, Ok, Err, MatchResult}
 use Rattle.zvt_apdu.specs.Message.{Message}
 use Rattle.zvt_stream.specs.Apdus.{Spelled}
 use Rattle.zvt_stream.specs.StreamState.{StreamState}
 use Rattle.zvt_stream.specs.declared.line.LineFault.{LineFault}
 use Rattle.zvt_stream.specs.declared.line.LineFault.TheVariants as faults
 use Rattle.zvt_till.specs.declared.happenings.Happening.{Happening}
-use Rattle.zvt_till.specs.declared.happenings.Happening.TheVariants.{Sent as SentOut, Malformed, Lost}
+use Rattle.zvt_till.specs.declared.happenings.Happening.TheVariants.{Connected, Sent as SentOut, Heard as HeardIn, Malformed, Lost}
+use Rattle.zvt_till.specs.declared.happenings.Sent.{Sent}
+use Rattle.zvt_till.specs.declared.line.RunFault.{RunFault}
+use Rattle.zvt_till.specs.declared.line.RunFault.TheVariants.{Order as OrderFault, Line}
 use Rattle.zvt_till.specs.declared.orders.Order.{Order}
 use Rattle.zvt_till.specs.declared.outcomes.Outcome.{Outcome}
 use Rattle.zvt_till.specs.Refusals.{sent_as}
 use Rattle.zvt_till.specs.Sending.{Settings}
-use Rattle.zvt_till.specs.Till.{TillState, state_after}
+use Rattle.zvt_till.specs.Till.{TillState, state_after, step, facts_of}
 use Rattle.zvt_till.specs.View.{TillValue}
-use Rattle.zvt_till.specs.Log.{IsLog}
+use Rattle.zvt_till.specs.Log.{IsLog, facts_in}
 use Rattle.zvt_till.specs.Events.{hears}
-use Rattle.zvt_till.specs.Line.{Runs, BreaksOff}
+use Rattle.zvt_till.specs.Line.{NotSent, Runs, BreaksOff, Fails}
 
 -- a till that this log leads to
 abbrev pub Stands : Settings → List Happening → TillState → Type 0
@@ -47,3 +50,64 @@ FaultsAreLogged =
     → (breaks : BreaksOff fault order before after old new coming left first last turns reads_before reads_after)
     → (messages : List Message) × (rest : List ℕ) × Spelled (before.held ++ breaks.broken.read) messages rest
     × Stands settings (log ++ SentOut (sent_as order) ∷ (map hears messages ++ told_of fault ∷ [])) new.state
+
+-- an accepted order whose message could not be written stands in the log as sent, and then the line was lost
+abbrev pub UnsentAreLogged : Type 0
+UnsentAreLogged =
+    (settings : Settings) (log : List Happening) (fault : LineFault) (order : Order) (old new : TillValue) (first last : Option (List ℕ))
+    → Stands settings log old.state
+    → NotSent (Line fault) order old new first last
+    → Stands settings (log ++ SentOut (sent_as order) ∷ Lost ∷ []) new.state
+
+-- An order on a line, by what was answered.
+pub record Takes (order : Order) (answer : Result Outcome RunFault) (old new : TillValue) : Type 0 where
+  pub before : StreamState
+  pub after : StreamState
+  pub coming : Option (List ℕ)
+  pub left : Option (List ℕ)
+  pub first : Option (List ℕ)
+  pub last : Option (List ℕ)
+  pub turns : ℕ
+  pub reads_before : ℕ
+  pub reads_after : ℕ
+  pub went :
+      MatchResult answer
+      (λ outcome. Runs order outcome before after old new coming left first last turns reads_before reads_after)
+      (λ fault. Fails fault order before after old new coming left first last turns reads_before reads_after)
+
+-- a till keeps its line, or has a new one
+abbrev pub Readies : TillValue → TillValue → Type 0
+Readies old new = (new ≡ old) ⊎ (new.state ≡ step old.state Connected)
+
+-- orders one after another, each with its answer, on the line of the one before or on a new one
+abbrev pub TakesAll : TillValue → List (Order × Result Outcome RunFault) → TillValue → Type 0
+TakesAll old [] new = old ≡ new
+TakesAll old (taken ∷ more) new = (ready : TillValue) × (next : TillValue) × Readies old ready × Takes taken.0 taken.1 ready next × TakesAll next more new
+
+-- a refused order is not sent
+abbrev pub sent_by : Order → Result Outcome RunFault → List Sent
+sent_by order (Ok outcome) = sent_as order ∷ []
+sent_by order (Err (Line fault)) = sent_as order ∷ []
+sent_by order (Err (OrderFault why)) = []
+
+abbrev pub sent_by_all : List (Order × Result Outcome RunFault) → List Sent
+sent_by_all [] = []
+sent_by_all (taken ∷ more) = sent_by taken.0 taken.1 ++ sent_by_all more
+
+-- the orders of a log
+abbrev pub sent_in : List Happening → List Sent
+sent_in [] = []
+sent_in (Connected ∷ log) = sent_in log
+sent_in (SentOut order ∷ log) = order ∷ sent_in log
+sent_in (HeardIn m ∷ log) = sent_in log
+sent_in (Malformed ∷ log) = sent_in log
+sent_in (Lost ∷ log) = sent_in log
+
+-- However its orders went, a till that takes them one after another has the book, the marks and the unclear payments of
+-- a log that goes on from its own, and the orders of that log are those that were not refused.
+abbrev pub OrdersAreLogged : Type 0
+OrdersAreLogged =
+    (settings : Settings) (log : List Happening) (taken : List (Order × Result Outcome RunFault)) (old new : TillValue)
+    → Stands settings log old.state
+    → TakesAll old taken new
+    → (more : List Happening) × Stands settings (log ++ more) new.state × (facts_of new.state ≡ facts_in (log ++ more)) × (sent_in more ≡ sent_by_all taken)

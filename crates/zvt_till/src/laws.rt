@@ -1,6 +1,6 @@
 //! What holds of every till and every log, as functions whose contracts are these laws.
 ghost use Rattle.zvt_till.specs.Log.{StepsMeetLog};
-ghost use Rattle.zvt_till.specs.Carried.{RunsAreLogged, FaultsAreLogged};
+ghost use Rattle.zvt_till.specs.Carried.{RunsAreLogged, FaultsAreLogged, UnsentAreLogged, OrdersAreLogged};
 ghost use Rattle.zvt_till.specs.Cuttings.{LogsAreOne, CuttingsAgree};
 ghost use Rattle.zvt_till.specs.Laws.{NoApprovalDropped, TracesStayDistinct, EntriesStay};
 
@@ -44,4 +44,15 @@ pub fn runs_are_logged()
 /// An order whose line broke adds itself, messages at the front of the bytes that were read, and what the till was told.
 pub fn faults_are_logged()
     ensures { FaultsAreLogged }
+{}
+
+/// An accepted order whose message could not be written stands in the log as sent, and then the line was lost.
+pub fn unsent_are_logged()
+    ensures { UnsentAreLogged }
+{}
+
+/// However its orders went, a till that takes them one after another has the book of a log that goes on from its own,
+/// and the orders of that log are those that were not refused.
+pub fn orders_are_logged()
+    ensures { OrdersAreLogged }
 {}
