@@ -18,7 +18,8 @@ pub trait Source {
     ghost reads: { Self → ℕ };
 
     /// Reads into the front of the buffer, and answers how many bytes: 0 at the end, or where the
-    /// buffer is empty. A read that failed took no byte.
+    /// buffer is empty. A read that failed took no byte. What stands in the buffer behind the bytes
+    /// that were read may be anything, and after a read that failed all of it.
     fn read(&mut self, buffer: &mut [u8]) -> Result<usize, Failed>
         ensures bytes { Reads (remaining self.old) (remaining self.new) result buffer.new }
         ensures failures { CountsFailure (failures self.old) (failures self.new) result }

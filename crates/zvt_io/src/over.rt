@@ -1,5 +1,6 @@
 //! Devices made of std's readers and writers.
 ghost use Rattle.std.specs.Prelude.{◌≡◌};
+ghost use Rattle.zvt_io.specs.Counts.{reads_of, failures_of};
 ghost use Rattle.zvt_io.specs.Devices.{Reads, Writes, CountsFailure};
 
 use crate::count::GhostCount;
@@ -15,9 +16,11 @@ pub struct Over<T> {
 }
 
 impl<T> Over<T> {
-    /// A device over this reader or writer.
+    /// A device over this reader or writer. It has counted nothing yet.
     pub fn new(inner: T) -> Over<T>
-        ensures { result.inner ≡ inner }
+        ensures inner { result.inner ≡ inner }
+        ensures reads { reads_of result ≡ 0 }
+        ensures failures { failures_of result ≡ 0 }
     {
         Over {
             inner,
@@ -30,9 +33,9 @@ impl<T> Over<T> {
 impl<R: Read> Source for Over<R> {
     ghost remaining = { λ over. R.remaining over.inner };
 
-    ghost failures = { λ over. over.failed.count };
+    ghost failures = { λ over. failures_of over };
 
-    ghost reads = { λ over. over.calls.count };
+    ghost reads = { λ over. reads_of over };
 
     fn read(&mut self, buffer: &mut [u8]) -> Result<usize, Failed> {
         self.calls = self.calls.next();
@@ -49,7 +52,7 @@ impl<R: Read> Source for Over<R> {
 impl<W: Write> Sink for Over<W> {
     ghost written = { λ over. W.contents over.inner };
 
-    ghost failures = { λ over. over.failed.count };
+    ghost failures = { λ over. failures_of over };
 
     // std's `write_all` doesn't say what a failed write has written, so each write is made here.
     fn write_all(&mut self, bytes: &[u8]) -> Result<(), Failed> {
