@@ -1,5 +1,5 @@
 -- The messages that a till sends, by the few values that each is made of.
-use Rattle.std.specs.Prelude.{ℕ, zero, suc, ◌+◌, ◌*◌, ◌/◌, ◌%◌, ◌^◌, Some, List, [], ◌∷◌}
+use Rattle.std.specs.Prelude.{ℕ, zero, suc, ◌+◌, ◌*◌, ◌/◌, ◌%◌, ◌^◌, Some, List, [], ◌∷◌, codes}
 use Rattle.zvt_spelling.specs.Reading.{shortest}
 use Rattle.zvt_tlv.specs.Sizes.{Puts}
 use Rattle.zvt_field.specs.Grammar.{plain}
@@ -28,3 +28,13 @@ pub record PutsMessage (message : Message) (old new : List ℕ) (count : ℕ) : 
   pub bytes : List ℕ
   pub spelled : Spells shortest message bytes
   pub puts : Puts bytes old new count
+
+-- what is printed of it: the name of its kind, and neither a password nor anything else that it holds
+abbrev pub brief_name : Brief → List ℕ
+brief_name Ack = codes "Ack"
+brief_name (Nack code) = codes "Nack"
+brief_name (Register password config currency) = codes "Register"
+brief_name (Pay amount currency) = codes "Pay"
+brief_name (Reverse password receipt) = codes "Reverse"
+brief_name (CloseDay password) = codes "CloseDay"
+brief_name AbortOrder = codes "AbortOrder"

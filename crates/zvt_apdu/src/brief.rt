@@ -10,11 +10,12 @@ use crate::apdu::Apdu;
 use crate::reader::scan;
 use crate::writer::{bytes_size, currency_digits, password_size, put_behind, put_bytes};
 use std::alloc::{AllocError, Global};
+use std::fmt;
 use zvt_bcd::{Amount, Currency, put};
 use zvt_spelling::Scan;
 
 /// A message that a till sends, by the few values that it is made of. Its control bytes are given in hexadecimal.
-#[derive(Clone, Copy, Debug, PartialEq, Eq)]
+#[derive(Clone, Copy, PartialEq, Eq)]
 pub enum Brief {
     /// 80 00: the terminal's message was taken.
     Ack,
@@ -39,6 +40,26 @@ pub enum Brief {
     },
     /// 06 B0: the running order is given up.
     AbortOrder,
+}
+
+/// Writes the name of its kind alone, since some hold a password.
+impl fmt::Debug for Brief {
+    ghost use Rattle.std.specs.Prelude.{Some};
+    ghost use Rattle.zvt_apdu.specs.Briefs.{brief_name};
+
+    ghost debug_output = { λ brief. Some (brief_name brief) };
+
+    fn fmt<W: fmt::Write>(&self, f: &mut fmt::Formatter<W>) -> fmt::Result {
+        f.write_str(match self {
+            Brief::Ack => "Ack",
+            Brief::Nack(_) => "Nack",
+            Brief::Register { .. } => "Register",
+            Brief::Pay(..) => "Pay",
+            Brief::Reverse { .. } => "Reverse",
+            Brief::CloseDay { .. } => "CloseDay",
+            Brief::AbortOrder => "AbortOrder",
+        })
+    }
 }
 
 /// An amount's six bytes of digits.
