@@ -17,6 +17,7 @@ pub mod Positions
 pub mod BriefLemmas
 pub mod Exists
 pub mod OneAnswer
+pub mod Staying
 pub mod ViewLemmas
 pub mod PartLemmas
 pub mod OwnedLemmas

@@ -1,12 +1,14 @@
 -- Laws of the grammar.
-use Rattle.std.specs.Prelude.{◌≡◌, ◌↔◌, ℕ, ◌<◌, None, List, [], ◌∷◌, ◌++◌, length}
+use Rattle.std.specs.Prelude.{◌≡◌, ◌≢◌, ◌↔◌, ℕ, ◌<◌, None, List, [], ◌∷◌, ◌++◌, length}
 use Rattle.zvt_spelling.specs.declared.why.Why.{Why}
 use Rattle.zvt_spelling.specs.declared.answer.Scan.{Scan}
-use Rattle.zvt_spelling.specs.declared.answer.Scan.TheVariants.{Whole}
+use Rattle.zvt_spelling.specs.declared.answer.Scan.TheVariants.{Whole, More}
 use Rattle.zvt_spelling.specs.Reading.{Reading}
 use Rattle.zvt_tlv.specs.Judging.{Opener}
 use Rattle.zvt_spelling.specs.Beginnings.{Alive, Unfinished, Place}
+use Rattle.zvt_apdu.specs.declared.messages.BadValue.{BadValue}
 use Rattle.zvt_apdu.specs.Message.{Message}
+use Rattle.zvt_apdu.specs.Messages.{HasSpelling, HasFault}
 use Rattle.zvt_apdu.specs.Grammar.{Spells}
 use Rattle.zvt_apdu.specs.Judging.{Role, Position, WhyOf, fault, Answers}
 
@@ -39,3 +41,14 @@ RefusalsAreOne = (r : Reading) (j k : ℕ) (b : List ℕ) (v w : Why) → Place 
 -- Bytes have one answer.
 abbrev pub AnswersAreOne : Type 0
 AnswersAreOne = (r : Reading) (b : List ℕ) (p q : Scan (Message × ℕ)) → Answers r b p → Answers r b q → p ≡ q
+
+-- More bytes leave each answer but More as it is: nothing behind a whole, or behind the place of a refusal, counts.
+abbrev pub AnswersStay : Type 0
+AnswersStay = (r : Reading) (bytes more : List ℕ) (q : Scan (Message × ℕ)) → q ≢ More → Answers r bytes q → Answers r (bytes ++ more) q
+
+-- A message has one fault at most, and none where it has a spelling.
+abbrev pub FaultsAreOne : Type 0
+FaultsAreOne = (m : Message) (v w : BadValue) → HasFault m v → HasFault m w → v ≡ w
+
+abbrev pub SpelledIsFaultless : Type 0
+SpelledIsFaultless = (m : Message) (v : BadValue) → HasSpelling m → HasFault m v → ⊥

@@ -4,7 +4,7 @@ ghost use Rattle.std.specs.Prelude.{ℕ, List};
 ghost use Rattle.zvt_spelling.specs.Laws.{SpellingsAreOne, CutsAreOne, FrontsOfCut, Growth, FrontsAlive};
 ghost use Rattle.zvt_spelling.specs.Reading.{Reading, shortest};
 ghost use Rattle.zvt_apdu.specs.Grammar.{Spells};
-ghost use Rattle.zvt_apdu.specs.Laws.{AnswersAreOne, EachBeginningStands, MessagesEndThemselves, PositionsAreOne, RefusalsAreOne, SpellingsAreRead, TestsDecide};
+ghost use Rattle.zvt_apdu.specs.Laws.{AnswersAreOne, AnswersStay, EachBeginningStands, FaultsAreOne, MessagesEndThemselves, PositionsAreOne, RefusalsAreOne, SpelledIsFaultless, SpellingsAreRead, TestsDecide};
 
 /// No spelling begins another, and two messages share none.
 pub fn messages_end_themselves()
@@ -57,4 +57,15 @@ pub fn refusals_are_one()
 /// Bytes have one answer.
 pub fn answers_are_one()
     ensures { AnswersAreOne }
+{}
+
+/// Bytes that come later change no answer but more.
+pub fn answers_stay()
+    ensures { AnswersStay }
+{}
+
+/// A message has one fault, or a spelling.
+pub fn faults_are_one()
+    ensures faults { FaultsAreOne }
+    ensures faultless { SpelledIsFaultless }
 {}

@@ -1,17 +1,18 @@
 -- The laws of the grammar, put together.
-use Rattle.std.proofs.Common.{◌≡◌, ℕ, ◌+◌, ◌-◌, ◌≤◌, suc, Option, Some, None, List, [], ◌∷◌, ◌++◌, length, take, drop, refl, sym, ◌∙◌, ap, subst, arith}
-use Rattle.std.proofs.lemmas.List.{length-take-le, take-append-drop}
+use Rattle.std.proofs.Common.{◌≡◌, ℕ, ◌+◌, ◌-◌, ◌≤◌, suc, Option, Some, None, List, [], ◌∷◌, ◌++◌, length, take, drop, refl, sym, ◌∙◌, ap, subst, arith, length-append}
+use Rattle.std.proofs.lemmas.List.{length-take-le, take-append-drop, take-append-le}
 use Rattle.std.proofs.Math.Seq.{take-add}
 use Rattle.zvt_spelling.specs.Reading.{Reading}
 use Rattle.zvt_spelling.specs.declared.answer.Scan.TheVariants.{Whole, More, Refused}
+use Rattle.zvt_tlv.proofs.Places.{place_more, byte_more}
 use Rattle.zvt_field.specs.declared.shapes.Shape.{Shape}
 use Rattle.zvt_field.specs.declared.bodies.BadField.TheVariants.{Unknown, Size, NotDigit}
 use Rattle.zvt_field.specs.Shapes.{shape_of}
-use Rattle.zvt_field.specs.Grammar.{Field, FieldList}
+use Rattle.zvt_field.specs.Grammar.{Field, FieldList, Filled}
 use Rattle.zvt_field.specs.Bodies.{name_of, size_agrees}
 use Rattle.zvt_spelling.specs.declared.why.Why.{Why}
-use Rattle.zvt_field.specs.Judging.{AliveIn, PlaceIn, WhyIn, fault}
-use Rattle.zvt_field.specs.Laws.{EachSizeIsFilled, EachBeginningStands, PositionsAreOne, TestsDecide, RefusalsAreOne, FieldsEndThemselves, ListsAreOne, ListsHaveOne, AnswersAreOne, FaultsAreOne, SpelledIsFaultless}
+use Rattle.zvt_field.specs.Judging.{AliveIn, PlaceIn, WhyIn, Position, fault}
+use Rattle.zvt_field.specs.Laws.{EachSizeIsFilled, EachBeginningStands, PositionsAreOne, TestsDecide, RefusalsAreOne, FieldsEndThemselves, ListsAreOne, ListsHaveOne, AnswersAreOne, AnswersStay, FaultsAreOne, SpelledIsFaultless}
 use Rattle.zvt_field.proofs.FieldLists.{filler, filling, filling_size, filled, field_front, one_list}
 use Rattle.zvt_field.proofs.Counts.{fit, alive_front}
 use Rattle.zvt_field.proofs.Exists.{alive_stands}
@@ -78,6 +79,23 @@ one_answer r room b (Refused j v) (Refused k w) p q =
     let places : j ≡ k = one.0 in
     let whys : v ≡ w = one.1 in
     cc (places, whys)
+
+pub answers_stay : AnswersStay
+answers_stay r room bytes more (Whole fs) ne p =
+    (omega (arith, p.0, length-append bytes more), subst (FieldList r fs) (sym (take-append-le room bytes more p.0)) p.1)
+answers_stay r room bytes more More ne p = absurd (ne refl)
+answers_stay r room bytes more (Refused k w) ne p = (
+  (place_more (Filled r room) bytes more k p.0.0, p.0.1),
+  record {
+    openers = p.1.openers;
+    role = p.1.role;
+    left = p.1.left;
+    byte = p.1.byte;
+    stands = subst (λ (b : List ℕ). Position r room p.1.openers b p.1.role p.1.left) (sym (take-append-le k bytes more (omega (arith, p.0.0.present)))) p.1.stands;
+    is_byte = byte_more bytes more k p.1.byte p.1.is_byte;
+    fails = p.1.fails;
+  },
+)
 
 -- a field's faults
 same_shape : (o : Option Shape) (s t : Shape) → o ≡ Some s → o ≡ Some t → s ≡ t

@@ -6,6 +6,7 @@ use Rattle.zvt_spelling.specs.Laws.{EndThemselves, SpellingsAreOne}
 use Rattle.zvt_tlv.specs.Judging.{Opener}
 use Rattle.zvt_field.specs.Grammar.{Field, FieldOf, FieldList}
 use Rattle.zvt_spelling.specs.declared.answer.Scan.{Scan}
+use Rattle.zvt_spelling.specs.declared.answer.Scan.TheVariants.{More}
 use Rattle.zvt_field.specs.declared.bodies.BadField.{BadField}
 use Rattle.zvt_field.specs.Bodies.{name_of, HasSpelling, HasFault}
 use Rattle.zvt_field.specs.Answers.{Answers}
@@ -47,6 +48,10 @@ ListsHaveOne = SpellingsAreOne (FieldList shortest)
 -- A room of bytes has one answer.
 abbrev pub AnswersAreOne : Type 0
 AnswersAreOne = (r : Reading) (room : ℕ) (b : List ℕ) (p q : Scan (List Field)) → Answers r room b p → Answers r room b q → p ≡ q
+
+-- More bytes leave each answer but More as it is: nothing behind a whole, or behind the place of a refusal, counts.
+abbrev pub AnswersStay : Type 0
+AnswersStay = (r : Reading) (room : ℕ) (bytes more : List ℕ) (q : Scan (List Field)) → q ≢ More → Answers r room bytes q → Answers r room (bytes ++ more) q
 
 -- A field has one fault at most, and none where it has a spelling.
 abbrev pub FaultsAreOne : Type 0

@@ -1,6 +1,6 @@
 //! Laws of the grammar, each the contract of a function that does nothing.
 
-ghost use Rattle.zvt_field.specs.Laws.{EachSizeIsFilled, EachBeginningStands, PositionsAreOne, TestsDecide, RefusalsAreOne, FieldsEndThemselves, ListsAreOne, ListsHaveOne, AnswersAreOne, FaultsAreOne, SpelledIsFaultless};
+ghost use Rattle.zvt_field.specs.Laws.{EachSizeIsFilled, EachBeginningStands, PositionsAreOne, TestsDecide, RefusalsAreOne, FieldsEndThemselves, ListsAreOne, ListsHaveOne, AnswersAreOne, AnswersStay, FaultsAreOne, SpelledIsFaultless};
 
 /// Some fields have exactly that size, for each size but one byte.
 pub fn each_size_is_filled()
@@ -30,6 +30,11 @@ pub fn spellings_are_one()
 /// The reader's answers exclude each other, and each says all that it says.
 pub fn answers_are_one()
     ensures { AnswersAreOne }
+{}
+
+/// Bytes that come later change no answer but more.
+pub fn answers_stay()
+    ensures { AnswersStay }
 {}
 
 /// A field has one fault, or a spelling.

@@ -10,7 +10,7 @@ use Rattle.zvt_spelling.specs.Reading.{Reading}
 use Rattle.zvt_tlv.specs.Grammar.{Objects, none, primitive, constructed, IsTag, IsLength, Spells}
 use Rattle.zvt_tlv.specs.Judging.{Filled, AliveIn, PlaceIn, WhyIn, fault, Position}
 use Rattle.zvt_tlv.specs.Sized.{SizedIn, SizedFound, WhySized, PositionSized}
-use Rattle.zvt_tlv.specs.Laws.{EachSizeIsFilled, EachBeginningStands, PositionsAreOne, TestsDecide, EachSizedBeginningStands, SizedPositionsAreOne, SizedTestsDecide, AnswersAreOne, SizedAnswersAreOne, AnswersStay, SizedAnswersStay, IsOne, ObjectsEndThemselves, RoomsEndThemselves, SizedEndThemselves, SpellingsAreOne, SizedSpellingsAreOne}
+use Rattle.zvt_tlv.specs.Laws.{EachSizeIsFilled, EachBeginningStands, PositionsAreOne, TestsDecide, EachSizedBeginningStands, SizedPositionsAreOne, SizedTestsDecide, AnswersAreOne, SizedAnswersAreOne, AnswersStay, SizedAnswersStay, IsOne, ObjectsEndThemselves, RoomsEndThemselves, SizedEndThemselves, SpellingsAreOne, SizedSpellingsAreOne, FaultsAreOne, SpelledIsFaultless}
 use Rattle.zvt_tlv.proofs.Spelling.{filler, filling, filling_size, filled, one_tree, shared, length_front, same_front}
 use Rattle.zvt_tlv.proofs.Alive.{fit}
 use Rattle.zvt_tlv.proofs.Room.{Says}
@@ -19,6 +19,8 @@ use Rattle.zvt_tlv.proofs.Unique.{position_once, one_fault, why_once}
 use Rattle.zvt_tlv.proofs.Exists.{alive_stands, sized_stands}
 use Rattle.zvt_tlv.specs.Sizes.{length_bytes}
 use Rattle.zvt_tlv.proofs.Writing.{spelled, length_spelled}
+use Rattle.zvt_tlv.specs.declared.trees.BadForest.TheVariants.{Kind, TooDeep, TooLarge}
+use Rattle.zvt_tlv.proofs.CheckLemmas.{no_spelling}
 use Rattle.zvt_tlv.proofs.SizedLemmas.{openers_of, position_object, fit_sized}
 
 pub each_size_is_filled : EachSizeIsFilled
@@ -197,3 +199,17 @@ sized_answers_stay r room bytes more (Refused k w) ne p = (
     fails = p.2.fails;
   },
 )
+
+pub faults_are_one : FaultsAreOne
+faults_are_one f Kind Kind p q = refl
+faults_are_one f Kind TooDeep p q = absurd (cc (p, q.0))
+faults_are_one f Kind TooLarge p q = absurd (cc (p, q.0))
+faults_are_one f TooDeep Kind p q = absurd (cc (p.0, q))
+faults_are_one f TooDeep TooDeep p q = refl
+faults_are_one f TooDeep TooLarge p q = absurd (cc (p.1, q.1))
+faults_are_one f TooLarge Kind p q = absurd (cc (p.0, q))
+faults_are_one f TooLarge TooDeep p q = absurd (cc (p.1, q.1))
+faults_are_one f TooLarge TooLarge p q = refl
+
+pub faultless : SpelledIsFaultless
+faultless f v s h = no_spelling f v h s

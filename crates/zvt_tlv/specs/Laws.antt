@@ -6,7 +6,10 @@ use Rattle.zvt_spelling.specs.Laws as spelling
 use Rattle.zvt_spelling.specs.Reading.{Reading, shortest}
 use Rattle.zvt_spelling.specs.declared.answer.Scan.{Scan}
 use Rattle.zvt_spelling.specs.declared.answer.Scan.TheVariants.{More}
+use Rattle.zvt_tlv.specs.declared.trees.BadForest.{BadForest}
 use Rattle.zvt_tlv.specs.Answers.{AnswersForest}
+use Rattle.zvt_tlv.specs.Checks.{HasFault}
+use Rattle.zvt_tlv.specs.Spelled.{HasSpelling}
 use Rattle.zvt_tlv.specs.Grammar.{Objects, none, primitive, constructed, Spells}
 use Rattle.zvt_tlv.specs.Judging.{Filled, AliveIn, Role, Opener, Position, fault}
 use Rattle.zvt_tlv.specs.Sized.{Sized, SizedIn, PositionSized, AnswersSized}
@@ -95,3 +98,10 @@ SpellingsAreOne = (depth : ℕ) → spelling.SpellingsAreOne (Spells shortest de
 
 abbrev pub SizedSpellingsAreOne : Type 0
 SizedSpellingsAreOne = spelling.SpellingsAreOne (Sized shortest)
+
+-- Objects have one fault at most, and none where they have a spelling.
+abbrev pub FaultsAreOne : Type 0
+FaultsAreOne = (f : Objects) (v w : BadForest) → HasFault f v → HasFault f w → v ≡ w
+
+abbrev pub SpelledIsFaultless : Type 0
+SpelledIsFaultless = (f : Objects) (v : BadForest) → HasSpelling f → HasFault f v → ⊥

@@ -1,6 +1,6 @@
 //! Laws of the grammar, each the contract of a function that does nothing.
 
-ghost use Rattle.zvt_tlv.specs.Laws.{EachSizeIsFilled, EachBeginningStands, PositionsAreOne, TestsDecide, EachSizedBeginningStands, SizedPositionsAreOne, SizedTestsDecide, AnswersAreOne, SizedAnswersAreOne, AnswersStay, SizedAnswersStay, ObjectsEndThemselves, RoomsEndThemselves, SizedEndThemselves, SpellingsAreOne, SizedSpellingsAreOne};
+ghost use Rattle.zvt_tlv.specs.Laws.{EachSizeIsFilled, EachBeginningStands, PositionsAreOne, TestsDecide, EachSizedBeginningStands, SizedPositionsAreOne, SizedTestsDecide, AnswersAreOne, SizedAnswersAreOne, AnswersStay, SizedAnswersStay, ObjectsEndThemselves, RoomsEndThemselves, SizedEndThemselves, SpellingsAreOne, SizedSpellingsAreOne, FaultsAreOne, SpelledIsFaultless};
 
 /// Some objects have exactly that size, for each size but one byte.
 pub fn each_size_is_filled()
@@ -45,4 +45,10 @@ pub fn spellings_end_themselves()
 pub fn spellings_are_one()
     ensures objects { SpellingsAreOne }
     ensures sized { SizedSpellingsAreOne }
+{}
+
+/// Objects have one fault, or a spelling.
+pub fn faults_are_one()
+    ensures faults { FaultsAreOne }
+    ensures faultless { SpelledIsFaultless }
 {}
