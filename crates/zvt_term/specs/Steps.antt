@@ -11,7 +11,7 @@ use Rattle.zvt_term.specs.declared.terminal.Input.{Input}
 use Rattle.zvt_term.specs.declared.terminal.Input.TheVariants.{Message as MessageIn, View, Lost, Malformed}
 use Rattle.zvt_term.specs.Asking.{asked_as}
 use Rattle.zvt_term.specs.Reports.{message_of_report, IsWritable}
-use Rattle.zvt_term.specs.Terminal.{TerminalState, most_rows, next_number, lost_terminal, state_after, reports_to}
+use Rattle.zvt_term.specs.Terminal.{TerminalState, most_rows, next_number, lost_terminal, turn_of, state_after, reports_to}
 
 abbrev pub AreWritable : List Report → Type 0
 AreWritable [] = Unit {0}
@@ -54,8 +54,9 @@ Steps old (View apdu) verdict answers new = Hears verdict old apdu.now answers n
 Steps old Lost verdict answers new = Loses old answers new
 Steps old Malformed verdict answers new = Loses old answers new
 
-abbrev pub IsBroken : Input → Type 0
-IsBroken (MessageIn apdu) = ⊥
-IsBroken (View apdu) = ⊥
-IsBroken Lost = Unit {0}
-IsBroken Malformed = Unit {0}
+-- the row that is added to the ledger, if there is one
+abbrev pub row_added : TerminalState → Input → Verdict → Option Row
+row_added old (MessageIn apdu) verdict = (turn_of old (asked_as apdu.now) verdict).row
+row_added old (View apdu) verdict = (turn_of old (asked_as apdu.now) verdict).row
+row_added old Lost verdict = None
+row_added old Malformed verdict = None

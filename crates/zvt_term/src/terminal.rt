@@ -65,7 +65,7 @@ impl Model for Terminal {
 impl Terminal {
     ghost use Rattle.zvt_term.specs.Terminal.{most_rows, new_terminal, lost_terminal, has_room, next_number, is_idle, is_ready, stays, runs, writes, aborts, refuses, registers, decides, authorises, takes_back_row, reverses, closes, goes_on, turn_of, after};
     ghost use Rattle.zvt_term.specs.Inside.{IsSound};
-    ghost use Rattle.zvt_term.specs.Steps.{HearsAsked, IsNext, Steps, IsBroken};
+    ghost use Rattle.zvt_term.specs.Steps.{HearsAsked, IsNext, Steps, row_added};
 
     /// A terminal of this number, idle, with nobody registered and an empty ledger.
     pub fn new(alloc: Global, tid: u32) -> Terminal
@@ -293,6 +293,7 @@ impl Terminal {
     fn write_down(&mut self, row: &Option<Row>) -> Result<(), AllocError>
         requires { IsNext self.old row.now }
         ensures written { OnOk result (self.new ≡ record self.old { ledger = self.old.ledger ++ option_to_list row.now }) }
+        ensures frugal { row.now ≡ None → IsOk result }
         ensures err { OnErr result (self.new ≡ self.old) }
     {
         if let Some(row) = row {
@@ -306,6 +307,7 @@ impl Terminal {
         requires { IsNext self.old turn.now.row }
         ensures made { OnOk result (self.new ≡ after self.old turn.now) }
         ensures sound { OnOk result (IsSound self.new) }
+        ensures frugal { turn.now.row ≡ None → IsOk result }
         ensures err { OnErr result (self.new ≡ self.old) }
     {
         self.write_down(&turn.row)?;
@@ -317,6 +319,7 @@ impl Terminal {
     /// Takes what a message of the till asks, and answers it.
     fn hear(&mut self, asked: &Asked, verdict: Verdict) -> Result<Answers, AllocError>
         ensures heard { IfOk result (λ answers. HearsAsked verdict self.old asked.now answers self.new) }
+        ensures frugal { (turn_of self.old asked.now verdict).row ≡ None → IsOk result }
         ensures err { OnErr result (self.new ≡ self.old) }
     {
         let turn = self.turn_of(asked, verdict);
@@ -329,8 +332,8 @@ impl Terminal {
     pub fn step(&mut self, input: Input<'_>, verdict: Verdict) -> Result<Answers, AllocError>
         ensures stepped { IfOk result (λ answers. Steps self.old input.entry verdict answers self.new) }
         ensures err { OnErr result (self.new ≡ self.old) }
-        // A broken line always goes well.
-        ensures broken { IsBroken input.entry → IsOk result }
+        // Where no row is added it always goes well, as on a broken line.
+        ensures frugal { row_added self.old input.entry verdict ≡ None → IsOk result }
     {
         match input {
             Input::Message(apdu) => self.hear(&asked(apdu), verdict),
