@@ -10,6 +10,7 @@ use Rattle.zvt_spelling.specs.Reading.{Reading, least}
 use Rattle.zvt_spelling.specs.Tests.{check}
 use Rattle.zvt_tlv.specs.Judging.{Opener}
 use Rattle.zvt_spelling.specs.Beginnings.{NoneWhole, Unfinished, Place}
+use Rattle.zvt_field.specs.Answers as fields
 use Rattle.zvt_field.specs.Judging as field
 pub use Rattle.zvt_apdu.specs.declared.frame.Layout.{Layout}
 pub use Rattle.zvt_apdu.specs.declared.frame.Opening.{Opening}
@@ -154,6 +155,18 @@ pub record Headed (r : Reading) (bytes : List ℕ) (opening : Opening) (head : L
   pub is_layout : head ≡ layout_of opening.high opening.low opening.size
   pub there : head_size head ≤ length (drop opening.start bytes)
   pub are_digits : AreDigits (take head.digits (drop head.free (drop opening.start bytes)))
+
+-- What is kept behind the head: all of the free bytes, or fields of which some take memory.
+abbrev pub Keeps : Bool → Reading → (size : ℕ) → (head : Layout) → (content : List ℕ) → Type 0
+Keeps false r size head content = size ≤ length content
+Keeps true r size head content = fields.TakesMemory r (size - head_size head) (drop (head_size head) content)
+
+-- The head of a message stands first, and what is kept behind it takes memory.
+pub record TakesMemory (r : Reading) (bytes : List ℕ) : Type 0 where
+  pub opening : Opening
+  pub head : Layout
+  pub headed : Headed r bytes opening head
+  pub kept : Keeps head.fields r opening.size head (drop opening.start bytes)
 
 -- The first byte that is no pair of digits, of so many that stand behind others.
 pub record WrongDigit (before digits : ℕ) (bytes : List ℕ) (place : ℕ) : Type 0 where

@@ -1,8 +1,8 @@
 //! The reader of messages.
 
-ghost use Rattle.std.specs.Prelude.{◌≡◌, ◌≤◌, ◌+◌, false, length, true, IfOk};
+ghost use Rattle.std.specs.Prelude.{◌≡◌, ◌≤◌, ◌+◌, false, length, true, MatchResult};
 ghost use Rattle.zvt_spelling.specs.Reading.{shortest};
-ghost use Rattle.zvt_apdu.specs.Judging.{Answers, FindsDigit, Headed, head_size};
+ghost use Rattle.zvt_apdu.specs.Judging.{Answers, FindsDigit, Headed, TakesMemory, head_size};
 
 use crate::apdu::Apdu;
 use crate::frame::{Layout, Opening, layout_of, scan_opening};
@@ -12,10 +12,11 @@ use zvt_spelling::{Scan, Why};
 
 /// Reads the message that stands first: the message and its size. Bytes behind it are not looked at. It answers `More`
 /// where the bytes begin a message and hold none, as the empty slice does, and refuses with the first byte after which
-/// no message can follow.
+/// no message can follow. The only error is want of memory, and it comes only behind the message's head, where its free
+/// bytes are all there or some of its fields are kept (`TakesMemory`).
 #[inline(always)]
 pub fn scan(alloc: Global, bytes: &[u8]) -> Result<Scan<(Apdu, usize)>, AllocError>
-    ensures { IfOk result (Answers shortest bytes.now) }
+    ensures { MatchResult result (Answers shortest bytes.now) (λ _. TakesMemory shortest bytes.now) }
 {
     let opening = match scan_opening(bytes) {
         Scan::Whole(opening) => opening,
@@ -63,7 +64,7 @@ fn scan_bytes(
 ) -> Result<Scan<(Apdu, usize)>, AllocError>
     requires headed { Headed shortest bytes.now opening.now layout.now }
     requires kind { layout.now.fields ≡ false }
-    ensures { IfOk result (Answers shortest bytes.now) }
+    ensures { MatchResult result (Answers shortest bytes.now) (λ _. TakesMemory shortest bytes.now) }
 {
     let data = &bytes[opening.start..];
     if data.len() < opening.size {
@@ -84,7 +85,7 @@ fn scan_listed(
 ) -> Result<Scan<(Apdu, usize)>, AllocError>
     requires headed { Headed shortest bytes.now opening.now layout.now }
     requires kind { layout.now.fields ≡ true }
-    ensures { IfOk result (Answers shortest bytes.now) }
+    ensures { MatchResult result (Answers shortest bytes.now) (λ _. TakesMemory shortest bytes.now) }
 {
     let data = &bytes[opening.start..];
     let head = layout.free + layout.digits;

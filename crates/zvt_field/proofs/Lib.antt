@@ -7,6 +7,7 @@ pub mod Positions
 pub mod LawProofs
 pub mod ContainerMoves
 pub mod ListMoves
+pub mod Memory
 pub mod HeadMoves
 pub mod CountMoves
 pub mod ContentMoves

@@ -1,9 +1,10 @@
 -- What the reader answers, in the terms of the grammar.
-use Rattle.std.specs.Prelude.{◌≡◌, ◌≢◌, ℕ, ◌+◌, ◌*◌, ◌-◌, ◌<◌, ◌≤◌, Bool, true, false, Some, None, Result, Ok, Err, List, [], ◌∷◌, length, take, suc}
+use Rattle.std.specs.Prelude.{◌≡◌, ◌≢◌, ◌⊎◌, ℕ, ◌+◌, ◌*◌, ◌-◌, ◌<◌, ◌≤◌, Bool, Some, None, Result, Ok, Err, List, [], ◌∷◌, ◌++◌, length, take, suc}
 use Rattle.zvt_spelling.specs.declared.why.Why.{Why}
 use Rattle.zvt_spelling.specs.declared.answer.Scan.{Scan}
 use Rattle.zvt_spelling.specs.declared.answer.Scan.TheVariants.{Whole, More, Refused}
 use Rattle.zvt_spelling.specs.Reading.{Reading, shortest}
+use Rattle.zvt_tlv.specs.Sized.{SizedTakesMemory}
 use Rattle.zvt_field.specs.Grammar.{Field, FieldOf, FieldList, IsHead}
 use Rattle.zvt_field.specs.declared.shapes.Shape.{Shape}
 use Rattle.zvt_field.specs.declared.shapes.Shape.TheVariants.{Tree}
@@ -74,3 +75,17 @@ JudgesDigit more before left byte (Err why) = fault shortest (digit more before)
 abbrev pub JudgesContent : (digits : Bool) → (byte : ℕ) → Result Unit Why → Type 0
 JudgesContent digits byte (Ok _) = (left : ℕ) → fault shortest (in_content digits) left byte ≡ None
 JudgesContent digits byte (Err why) = (left : ℕ) → fault shortest (in_content digits) left byte ≡ Some why
+
+-- A whole field stands first; or a container's name does, and objects in it that take memory.
+abbrev pub HoldsField : Reading → List ℕ → Type 0
+HoldsField r bytes = (field : Field) × (front : List ℕ) × (rest : List ℕ) × (bytes ≡ front ++ rest) × FieldOf r field front
+
+abbrev pub HoldsObjects : Reading → List ℕ → Type 0
+HoldsObjects r bytes = (bmp : ℕ) × (inside : List ℕ) × (bytes ≡ bmp ∷ inside) × (shape_of bmp ≡ Some Tree) × SizedTakesMemory r inside
+
+abbrev pub HoldsSome : Reading → List ℕ → Type 0
+HoldsSome r bytes = HoldsField r bytes ⊎ HoldsObjects r bytes
+
+-- To keep what was read of a room takes memory.
+abbrev pub TakesMemory : Reading → (room : ℕ) → List ℕ → Type 0
+TakesMemory r room bytes = (0 < room) × HoldsSome r bytes

@@ -1,9 +1,9 @@
 //! The reader of a room of fields.
 
-ghost use Rattle.std.specs.Prelude.{◌≡◌, ◌≢◌, ◌≤◌, ◌<◌, ◌^◌, not, if◌then◌else◌, IfOk, position};
+ghost use Rattle.std.specs.Prelude.{◌≡◌, ◌≢◌, ◌≤◌, ◌<◌, ◌^◌, not, if◌then◌else◌, MatchResult, position};
 ghost use Rattle.zvt_spelling.specs.Reading.{shortest};
 ghost use Rattle.zvt_bcd.specs.Digits.{is_digit_pair};
-ghost use Rattle.zvt_field.specs.Answers.{Answers, AnswersOne, AnswersHead, InName, InContainer, HeadFound};
+ghost use Rattle.zvt_field.specs.Answers.{Answers, AnswersOne, AnswersHead, InName, InContainer, HeadFound, HoldsSome, TakesMemory};
 
 use crate::judging::{judge_digit, judge_name};
 use crate::{Field, FieldBody, Fields, Shape};
@@ -69,7 +69,7 @@ fn scan_content(
 ) -> Result<Scan<(Field, usize)>, AllocError>
     requires small { room < 2 ^ 16 }
     requires begun { HeadFound room bytes.now head }
-    ensures { IfOk result (AnswersOne shortest room bytes.now) }
+    ensures { MatchResult result (AnswersOne shortest room bytes.now) (λ _. HoldsSome shortest bytes.now) }
 {
     let end = (head.start + head.size).min(bytes.len());
     let content = &bytes[head.start..end];
@@ -98,7 +98,7 @@ fn scan_counted(
     requires few { digits ≤ 3 }
     requires small { room < 2 ^ 16 }
     requires begun { InName room bytes.now digits }
-    ensures { IfOk result (AnswersOne shortest room bytes.now) }
+    ensures { MatchResult result (AnswersOne shortest room bytes.now) (λ _. HoldsSome shortest bytes.now) }
 {
     match scan_count(bytes, room, digits) {
         Scan::Whole(head) => scan_content(alloc, bytes, room, head),
@@ -115,7 +115,7 @@ fn scan_container(
 ) -> Result<Scan<(Field, usize)>, AllocError>
     requires small { room < 2 ^ 16 }
     requires begun { InContainer room bytes.now }
-    ensures { IfOk result (AnswersOne shortest room bytes.now) }
+    ensures { MatchResult result (AnswersOne shortest room bytes.now) (λ _. HoldsSome shortest bytes.now) }
 {
     Ok(match scan_sized(alloc, &bytes[1..], room - 1)? {
         Scan::Whole((objects, size)) => Scan::Whole((
@@ -136,7 +136,7 @@ fn scan_field(alloc: Global, bytes: &[u8], room: usize) -> Result<Scan<(Field, u
     requires some { 0 < room }
     requires filled { room ≢ 1 }
     requires small { room < 2 ^ 16 }
-    ensures { IfOk result (AnswersOne shortest room bytes.now) }
+    ensures { MatchResult result (AnswersOne shortest room bytes.now) (λ _. HoldsSome shortest bytes.now) }
 {
     let Some(first) = bytes.first() else {
         return Ok(Scan::More);
@@ -171,12 +171,13 @@ fn scan_field(alloc: Global, bytes: &[u8], room: usize) -> Result<Scan<(Field, u
 
 /// Reads the fields whose bytes are exactly the first `room` bytes; bytes behind the room are not looked at.
 /// `More` where fewer are there and can be completed, `Refused` with the first byte after which no fields
-/// can fill the room, counted from 0. The only error is want of memory.
+/// can fill the room, counted from 0. The only error is want of memory, and it comes only where a whole field stands
+/// first, or a container of which objects are kept (`TakesMemory`).
 #[inline(always)]
 pub fn scan(alloc: Global, bytes: &[u8], room: usize) -> Result<Scan<Fields>, AllocError>
     requires small { room < 2 ^ 16 }
     requires filled { room ≢ 1 }
-    ensures { IfOk result (Answers shortest room bytes.now) }
+    ensures { MatchResult result (Answers shortest room bytes.now) (λ _. TakesMemory shortest room bytes.now) }
 {
     let mut list = Vec::new(alloc);
     let mut taken = 0;

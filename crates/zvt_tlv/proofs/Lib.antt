@@ -6,6 +6,7 @@ pub mod TreeLemmas
 pub mod Reading
 pub mod Levels
 pub mod Moves
+pub mod Memory
 pub mod Places
 pub mod Unique
 pub mod Exists

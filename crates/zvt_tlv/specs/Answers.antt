@@ -1,5 +1,5 @@
 -- What the calls answer, in the terms of the grammar.
-use Rattle.std.specs.Prelude.{◌≡◌, ℕ, ◌<◌, ◌≤◌, Bool, true, false, Some, None, Result, Ok, Err, List, ◌++◌, length, take}
+use Rattle.std.specs.Prelude.{◌≡◌, ◌⊎◌, ℕ, ◌<◌, ◌≤◌, Bool, true, false, Some, None, Result, Ok, Err, List, ◌++◌, length, take}
 use Rattle.zvt_spelling.specs.declared.why.Why.{Why}
 use Rattle.zvt_spelling.specs.declared.why.Why.TheVariants.{DoesNotFit}
 use Rattle.zvt_spelling.specs.declared.answer.Scan.{Scan}
@@ -16,7 +16,7 @@ use Rattle.zvt_tlv.specs.declared.heads.Head.{Head}
 use Rattle.zvt_tlv.specs.declared.trees.Tlv.{Tlv}
 use Rattle.zvt_tlv.specs.Trees.{before, objects_of}
 use Rattle.zvt_spelling.specs.Reading.{Reading}
-use Rattle.zvt_tlv.specs.Grammar.{Objects, none, Spells, IsLength}
+use Rattle.zvt_tlv.specs.Grammar.{Objects, none, Spells, IsTag, IsLength, is_constructed}
 use Rattle.zvt_tlv.specs.Judging.{AliveIn, PlaceIn, WhyIn, Role, first_tag, second_tag, third_tag, first_length, after_81, high_length, low_length, Next, byte, content, next, Tagged, fault, content_fits}
 
 -- The part that the next byte of a tag plays.
@@ -88,3 +88,16 @@ pub record ObjectFound (r : Reading) (depth room : ℕ) (bytes : List ℕ) (obje
 pub record ObjectsFound (r : Reading) (depth room : ℕ) (bytes : List ℕ) (objects : List Tlv) : Type 0 where
   pub present : room ≤ length bytes
   pub spelled : Spells r depth (objects_of objects) (take room bytes)
+
+-- The tag and the length of an object of the room stand first, and where it is primitive all of its content: to keep what
+-- was read takes memory.
+pub record TakesMemory (r : Reading) (room : ℕ) (bytes : List ℕ) : Type 0 where
+  pub some : 0 < room
+  pub tag : List ℕ
+  pub size : List ℕ
+  pub content : ℕ
+  pub behind : List ℕ
+  pub whole : bytes ≡ tag ++ (size ++ behind)
+  pub is_tag : IsTag tag
+  pub is_length : IsLength r content size
+  pub kept : (is_constructed tag ≡ true) ⊎ (content ≤ length behind)

@@ -6,6 +6,7 @@ use Rattle.zvt_spelling.specs.declared.answer.Scan.TheVariants.{Whole, More, Ref
 use Rattle.zvt_spelling.specs.Reading.{Reading}
 use Rattle.zvt_tlv.specs.Grammar.{Objects, IsLength, Spells}
 use Rattle.zvt_tlv.specs.Judging.{Role, Begins, Opener, Position, fault}
+use Rattle.zvt_tlv.specs.Answers.{TakesMemory}
 use Rattle.zvt_spelling.specs.Beginnings.{Alive, NoneWhole, Unfinished, Place}
 
 -- A length, then objects of that size at depth 1.
@@ -64,3 +65,12 @@ AnswersSize r room bytes (Whole found) = SizeFound r room bytes found.0 found.1
 AnswersSize r room bytes More = Unfinished (SizedIn r room) bytes
 AnswersSize r room bytes (Refused place why) =
     NoneWhole (SizedIn r room) bytes × Place (SizedIn r room) bytes place × WhySized r room bytes place why
+
+-- A length stands first, and objects that it counts take memory.
+pub record SizedTakesMemory (r : Reading) (bytes : List ℕ) : Type 0 where
+  pub size : List ℕ
+  pub content : ℕ
+  pub behind : List ℕ
+  pub whole : bytes ≡ size ++ behind
+  pub is_length : IsLength r content size
+  pub inside : TakesMemory r content behind

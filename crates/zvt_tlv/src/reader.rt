@@ -1,12 +1,13 @@
 //! The readers. Each looks at no byte behind its room, and takes nothing from the bytes: after `More` the caller comes
-//! again with more of them from the same start. `Err` is want of memory alone.
+//! again with more of them from the same start. `Err` is want of memory alone, and comes only where the bytes go on behind
+//! the tag and the length of the first object, and behind its content where that is bytes (`TakesMemory`).
 
-ghost use Rattle.std.specs.Prelude.{◌≢◌, [], ◌≤◌, ◌<◌, ◌^◌, IfOk};
+ghost use Rattle.std.specs.Prelude.{◌≢◌, [], ◌≤◌, ◌<◌, ◌^◌, MatchResult};
 ghost use Rattle.zvt_spelling.specs.Beginnings.{Alive};
 ghost use Rattle.zvt_spelling.specs.Reading.{shortest, padded};
-ghost use Rattle.zvt_tlv.specs.Answers.{Answers, AnswersForest, ObjectFound, ObjectsFound};
+ghost use Rattle.zvt_tlv.specs.Answers.{Answers, AnswersForest, ObjectFound, ObjectsFound, TakesMemory};
 ghost use Rattle.zvt_tlv.specs.Lengths.{reading_of};
-ghost use Rattle.zvt_tlv.specs.Sized.{SizedIn, AnswersSized};
+ghost use Rattle.zvt_tlv.specs.Sized.{SizedIn, AnswersSized, SizedTakesMemory};
 
 use crate::heads::{scan_head, scan_size};
 use crate::lengths::Lengths;
@@ -27,7 +28,7 @@ pub fn scan(
     requires filled { room ≢ 1 }
     requires least { 1 ≤ depth }
     requires deepest { depth ≤ 6 }
-    ensures { IfOk result (AnswersForest shortest depth room bytes.now) }
+    ensures { MatchResult result (AnswersForest shortest depth room bytes.now) (λ _. TakesMemory shortest room bytes.now) }
 {
     scan_forest(alloc, bytes, room, depth, Lengths::Shortest)
 }
@@ -43,7 +44,7 @@ pub fn scan_loose(
     requires filled { room ≢ 1 }
     requires least { 1 ≤ depth }
     requires deepest { depth ≤ 6 }
-    ensures { IfOk result (AnswersForest padded depth room bytes.now) }
+    ensures { MatchResult result (AnswersForest padded depth room bytes.now) (λ _. TakesMemory padded room bytes.now) }
 {
     scan_forest(alloc, bytes, room, depth, Lengths::Padded)
 }
@@ -59,7 +60,7 @@ pub fn scan_sized(
     requires some { room ≢ 0 }
     requires filled { room ≢ 2 }
     requires small { room < 2 ^ 16 }
-    ensures { IfOk result (AnswersSized shortest room bytes.now) }
+    ensures { MatchResult result (AnswersSized shortest room bytes.now) (λ _. SizedTakesMemory shortest bytes.now) }
 {
     scan_sized_forest(alloc, bytes, room, Lengths::Shortest)
 }
@@ -72,7 +73,7 @@ pub fn scan_sized_loose(
 ) -> Result<Scan<(Forest, usize)>, AllocError>
     requires some { room ≢ 0 }
     requires small { room < 2 ^ 16 }
-    ensures { IfOk result (AnswersSized padded room bytes.now) }
+    ensures { MatchResult result (AnswersSized padded room bytes.now) (λ _. SizedTakesMemory padded bytes.now) }
 {
     scan_sized_forest(alloc, bytes, room, Lengths::Padded)
 }
@@ -88,7 +89,7 @@ fn scan_forest(
     requires filled { room ≢ 1 }
     requires least { 1 ≤ depth }
     requires deepest { depth ≤ 6 }
-    ensures { IfOk result (AnswersForest (reading_of lengths) depth room bytes.now) }
+    ensures { MatchResult result (AnswersForest (reading_of lengths) depth room bytes.now) (λ _. TakesMemory (reading_of lengths) room bytes.now) }
 {
     Ok(match scan_objects(alloc, bytes, room, depth, lengths)? {
         Scan::Whole(objects) => Scan::Whole(Forest::of(objects)),
@@ -105,7 +106,7 @@ fn scan_sized_forest(
 ) -> Result<Scan<(Forest, usize)>, AllocError>
     requires small { room < 2 ^ 16 }
     requires begun { Alive (SizedIn (reading_of lengths) room) [] }
-    ensures { IfOk result (AnswersSized (reading_of lengths) room bytes.now) }
+    ensures { MatchResult result (AnswersSized (reading_of lengths) room bytes.now) (λ _. SizedTakesMemory (reading_of lengths) bytes.now) }
 {
     let (start, size) = match scan_size(bytes, room, lengths) {
         Scan::Whole(found) => found,
@@ -136,7 +137,7 @@ fn scan_objects(
     requires filled { room ≢ 1 }
     requires small { room < 2 ^ 16 }
     requires depth { depth ≤ 6 }
-    ensures { IfOk result (Answers (reading_of lengths) depth room bytes.now (λ objects. ObjectsFound (reading_of lengths) depth room bytes.now objects.items)) }
+    ensures { MatchResult result (Answers (reading_of lengths) depth room bytes.now (λ objects. ObjectsFound (reading_of lengths) depth room bytes.now objects.items)) (λ _. TakesMemory (reading_of lengths) room bytes.now) }
 {
     let mut objects = Vec::new(alloc);
     let mut taken = 0;
@@ -169,7 +170,7 @@ fn scan_object(
     requires filled { room ≢ 1 }
     requires small { room < 2 ^ 16 }
     requires depth { depth ≤ 6 }
-    ensures { IfOk result (Answers (reading_of lengths) depth room bytes.now (λ found. ObjectFound (reading_of lengths) depth room bytes.now found.0 found.1)) }
+    ensures { MatchResult result (Answers (reading_of lengths) depth room bytes.now (λ found. ObjectFound (reading_of lengths) depth room bytes.now found.0 found.1)) (λ _. TakesMemory (reading_of lengths) room bytes.now) }
 {
     let head = match scan_head(bytes, room, depth, lengths) {
         Scan::Whole(head) => head,

@@ -1,4 +1,6 @@
+use Rattle.std.proofs.lemmas.Result.{MatchResult-from_err}
 use Rattle.zvt_field.proofs.ListMoves.{next_field, next_more, next_refused, have_size}
+use Rattle.zvt_field.proofs.Memory.{next_takes, pushed_takes}
 use Rattle.zvt_field.proofs.reader.scan.Goals as goal
 
 pub loop-taken-preserved : goal.loop-taken-preserved
@@ -14,3 +16,13 @@ returns-in-Refused c =
 
 pub of-requires : goal.of-requires
 of-requires c = have_size c.args.room c.loop-taken.taken c.args.bytes.now c.loop-taken.list.items c.requires.small c.loop-taken.invariant c.loop-taken-test.false
+
+pub returns-in_err-field : goal.returns-in_err-field
+returns-in_err-field c =
+    MatchResult-from_err c.from_residual.result _ _ c.from_residual.ensures.0
+    (λ e. next_takes c.args.room c.args.bytes.now c.loop-taken.list.items c.loop-taken.taken c.loop-taken.invariant c.loop-taken-test.true c.in_err-field.ensures)
+
+pub returns-in_err-push-in-Whole : goal.returns-in_err-push-in-Whole
+returns-in_err-push-in-Whole c =
+    MatchResult-from_err c.from_residual-in_err-push-in-Whole.result _ _ c.from_residual-in_err-push-in-Whole.ensures.0
+    (λ e. pushed_takes c.args.room c.args.bytes.now c.loop-taken.list.items c.loop-taken.taken c.in-Whole.size c.in-Whole.field c.in_ok-field.field-0 c.loop-taken.invariant c.loop-taken-test.true c.in-Whole.is c.in_ok-field.ensures)

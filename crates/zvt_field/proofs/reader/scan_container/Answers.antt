@@ -1,5 +1,7 @@
 use Rattle.std.proofs.Common.{subst, sym, ap, ◌∙◌, ◌+◌}
+use Rattle.std.proofs.lemmas.Result.{MatchResult-from_err}
 use Rattle.zvt_spelling.specs.Reading.{shortest}
+use Rattle.zvt_field.proofs.Memory.{objects_take}
 use Rattle.zvt_spelling.specs.declared.answer.Scan.TheVariants.{Whole}
 use Rattle.zvt_field.specs.Grammar.{Field}
 use Rattle.zvt_field.specs.Answers.{AnswersOne}
@@ -22,3 +24,8 @@ returns c =
       | in-Refused w ↦ subst (AnswersOne shortest c.args.room c.args.bytes.now) (sym w.result-is)
           (one_refused c.args.room c.args.bytes.now c.requires.begun w.in-Refused.place w.in-Refused.why c.in_ok-objects.field-0 w.in-Refused.is c.in_ok-objects.ensures)
     ]
+
+pub returns-in_err-objects : goal.returns-in_err-objects
+returns-in_err-objects c =
+    MatchResult-from_err c.from_residual.result _ _ c.from_residual.ensures.0
+    (λ e. objects_take c.args.room c.args.bytes.now c.requires.begun c.in_err-objects.ensures)

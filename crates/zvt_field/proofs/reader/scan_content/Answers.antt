@@ -1,5 +1,7 @@
 use Rattle.std.proofs.Common.{ℕ, List, get_or, arith, subst, sym, ap, ◌∙◌}
+use Rattle.std.proofs.lemmas.Result.{MatchResult-from_err}
 use Rattle.zvt_spelling.specs.Reading.{shortest}
+use Rattle.zvt_field.proofs.Memory.{found_takes}
 use Rattle.zvt_field.specs.Grammar.{Field, plain}
 use Rattle.zvt_field.specs.Answers.{FieldFound}
 use Rattle.zvt_field.specs.Bodies.{HasSpelling}
@@ -28,3 +30,9 @@ pub returns : goal.returns
 returns c =
     subst (λ (f : Field). FieldFound shortest c.args.room c.args.bytes.now f c.min-end.result) (ap (plain (get_or c.args.bytes.now 0 0)) (sym c.in_ok-content.ensures.items) ∙ sym c.of.ensures)
     (content_whole c.args.room c.min-end.result c.args.bytes.now c.args.head c.requires.begun c.min-end.ensures (sym c.first_bad.ensures ∙ c.in_default.is) c.if-content-head.false (λ i. omega (arith, c.type_inv.bytes i)))
+
+pub returns-in_err-content : goal.returns-in_err-content
+returns-in_err-content c =
+    MatchResult-from_err c.from_residual.result _ _ c.from_residual.ensures.0
+    (λ e. found_takes c.args.room c.args.bytes.now _ c.min-end.result
+    (content_whole c.args.room c.min-end.result c.args.bytes.now c.args.head c.requires.begun c.min-end.ensures (sym c.first_bad.ensures ∙ c.in_default.is) c.if-content-head.false (λ i. omega (arith, c.type_inv.bytes i))))

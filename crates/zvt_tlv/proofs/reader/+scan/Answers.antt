@@ -1,4 +1,6 @@
 use Rattle.std.proofs.Common.{arith, ◌<◌}
+use Rattle.std.proofs.lemmas.Result.{MatchResult-from_err}
+use Rattle.zvt_tlv.proofs.Memory.{inside_takes, bytes_take, next_takes, pushed_takes}
 use Rattle.zvt_tlv.specs.Lengths.{reading_of}
 use Rattle.zvt_tlv.proofs.Moves.{inside_requires, inside_whole, inside_more, inside_refused, bytes_whole, bytes_more, next_object, next_more, next_refused}
 use Rattle.zvt_tlv.proofs.reader.+scan.Goals as goal
@@ -40,3 +42,23 @@ scan_objects-returns-in-More t c =
 pub scan_objects-returns-in-Refused : goal.scan_objects-returns-in-Refused
 scan_objects-returns-in-Refused t c =
     next_refused (reading_of c.args.lengths) c.args.depth c.args.room c.args.bytes.now c.loop-taken.objects.items c.loop-taken.taken c.in-Refused.place c.in-Refused.why c.in_ok-object.field-0 c.loop-taken.invariant c.in-Refused.is c.in_ok-object.ensures
+
+pub scan_object-returns-in_err-objects : goal.scan_object-returns-in_err-objects
+scan_object-returns-in_err-objects t c =
+    MatchResult-from_err c.from_residual.result _ _ c.from_residual.ensures.0
+    (λ e. inside_takes (reading_of c.args.lengths) c.args.depth c.args.room c.args.bytes.now c.in-Whole.head c.requires.some c.in-Whole.ensures c.if-head.true)
+
+pub scan_object-returns-in_err-bytes : goal.scan_object-returns-in_err-bytes
+scan_object-returns-in_err-bytes t c =
+    MatchResult-from_err c.from_residual-in_err-bytes.result _ _ c.from_residual-in_err-bytes.ensures.0
+    (λ e. bytes_take (reading_of c.args.lengths) c.args.depth c.args.room c.args.bytes.now c.in-Whole.head c.requires.some c.in-Whole.ensures c.if-content-head.false)
+
+pub scan_objects-returns-in_err-object : goal.scan_objects-returns-in_err-object
+scan_objects-returns-in_err-object t c =
+    MatchResult-from_err c.from_residual.result _ _ c.from_residual.ensures.0
+    (λ e. next_takes (reading_of c.args.lengths) c.args.depth c.args.room c.args.bytes.now c.loop-taken.objects.items c.loop-taken.taken c.loop-taken.invariant c.in_err-object.ensures)
+
+pub scan_objects-returns-in_err-push-in-Whole : goal.scan_objects-returns-in_err-push-in-Whole
+scan_objects-returns-in_err-push-in-Whole t c =
+    MatchResult-from_err c.from_residual-in_err-push-in-Whole.result _ _ c.from_residual-in_err-push-in-Whole.ensures.0
+    (λ e. pushed_takes (reading_of c.args.lengths) c.args.depth c.args.room c.args.bytes.now c.loop-taken.objects.items c.loop-taken.taken c.in-Whole.size c.in-Whole.object c.in_ok-object.field-0 c.loop-taken.invariant c.in-Whole.is c.in_ok-object.ensures)

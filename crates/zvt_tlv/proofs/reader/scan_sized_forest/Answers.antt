@@ -1,5 +1,7 @@
 use Rattle.std.proofs.Common.{◌+◌, arith, subst, sym}
+use Rattle.std.proofs.lemmas.Result.{MatchResult-from_err}
 use Rattle.zvt_tlv.specs.Lengths.{reading_of}
+use Rattle.zvt_tlv.proofs.Memory.{sized_takes}
 use Rattle.zvt_tlv.specs.Grammar.{Objects}
 use Rattle.zvt_tlv.specs.Sized.{AnswersSized, SizedFound}
 use Rattle.zvt_tlv.proofs.Spelling.{from}
@@ -25,3 +27,8 @@ returns c =
       | in-More-2 w ↦ subst (AnswersSized (reading_of c.args.lengths) c.args.room c.args.bytes.now) (sym w.result-is) (more_objects (reading_of c.args.lengths) c.args.room c.args.bytes.now c.in-Whole.found.0 c.in-Whole.found.1 c.in_ok-objects.field-0 c.in-Whole.ensures w.in-More-2.is c.in_ok-objects.ensures)
       | in-Refused-2 w ↦ subst (AnswersSized (reading_of c.args.lengths) c.args.room c.args.bytes.now) (sym w.result-is) (refused_objects (reading_of c.args.lengths) c.args.room c.args.bytes.now c.in-Whole.found.0 c.in-Whole.found.1 w.in-Refused-2.place w.in-Refused-2.why c.in_ok-objects.field-0 c.in-Whole.ensures w.in-Refused-2.is c.in_ok-objects.ensures (λ i. omega (arith, c.type_inv.bytes i)))
     ]
+
+pub returns-in_err-objects : goal.returns-in_err-objects
+returns-in_err-objects c =
+    MatchResult-from_err c.from_residual.result _ _ c.from_residual.ensures.0
+    (λ e. sized_takes (reading_of c.args.lengths) c.args.room c.args.bytes.now c.in-Whole.found.0 c.in-Whole.found.1 c.in-Whole.ensures c.in_err-objects.ensures)
