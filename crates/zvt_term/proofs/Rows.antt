@@ -1,10 +1,10 @@
 -- Worked worlds, computed.
-use Rattle.std.proofs.Common.{◌≡◌, List, [], ◌∷◌, true, false, refl, arith}
+use Rattle.std.proofs.Common.{◌≡◌, List, [], ◌∷◌, ◌++◌, true, false, refl, arith}
 use Rattle.zvt_till.specs.declared.orders.Order.TheVariants.{Register, Pay}
 use Rattle.zvt_till.specs.declared.outcomes.Cause.TheVariants.{Line}
 use Rattle.zvt_term.specs.declared.turns.Verdict.TheVariants.{Approve}
 use Rattle.zvt_term.specs.declared.world.Move.{Move}
-use Rattle.zvt_term.specs.declared.world.Move.TheVariants.{Connect, Order as Ordered, ToTerminal, ToTill, TillLost}
+use Rattle.zvt_term.specs.declared.world.Move.TheVariants.{Connect, Order as Ordered, ToTerminal, ToTill, TillLost, TerminalLost}
 use Rattle.zvt_term.specs.World.{world}
 use Rattle.zvt_term.specs.Orderly.{are_orderly, approvals, IsAccounted}
 
@@ -21,6 +21,19 @@ cut-orderly = refl
 cut-approved : approvals 1000 (world cut).terminal.ledger ≡ 1
 unfolding cut
 cut-approved = refl
+
+cut-unbooked : (world cut).till.book ≡ []
+unfolding cut
+cut-unbooked = refl
+
+-- a line is raised anew only where both ends have lost it
+raised_at_once : are_orderly (cut ++ Connect ∷ []) ≡ false
+unfolding cut
+raised_at_once = refl
+
+raised_anew : are_orderly (cut ++ TerminalLost ∷ Connect ∷ []) ≡ true
+unfolding cut
+raised_anew = refl
 
 cut-unclear : (world cut).till.unclear ≡ (1000, Line) ∷ []
 unfolding cut

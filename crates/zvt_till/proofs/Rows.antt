@@ -15,7 +15,8 @@ use Rattle.zvt_till.specs.Marks.{total, entries}
 use Rattle.zvt_till.specs.Sending.{Settings}
 use Rattle.zvt_till.specs.Till.{facts_of, state_after}
 use Rattle.zvt_till.specs.Refusals.{refusal}
-use Rattle.zvt_till.specs.Log.{facts_in}
+use Rattle.zvt_till.specs.Log.{IsLog, facts_in}
+use Rattle.zvt_till.specs.Carried.{sent_in}
 
 euro : Settings
 euro = record { password = 0 ∷ 0 ∷ 0 ∷ []; config = 190; currency = 978 }
@@ -40,6 +41,23 @@ one_entry = refl
 same_by_steps : facts_of (state_after euro paid_twice_over) ≡ facts_in paid_twice_over
 unfolding euro start approval paid_twice_over entry
 same_by_steps = refl
+
+-- a till can have that log, but none of an order on a line that was never raised
+allowed : IsLog paid_twice_over
+unfolding start approval paid_twice_over
+allowed = (tt, (refl, (refl, (refl, (refl, (refl, (refl, (refl, (refl, (refl, tt))))))))))
+
+not_raised : IsLog (SentOut (Pay 1234) ∷ []) → ⊥
+not_raised log = let refused : Some Offline ≡ None = log.0 in absurd cc
+
+orders : sent_in paid_twice_over ≡ Register ∷ Pay 1234 ∷ []
+unfolding start approval paid_twice_over
+orders = refl
+
+-- an order that could not be written
+unsent : (facts_in (start ++ (SentOut (Pay 1234) ∷ Lost ∷ []))).unclear ≡ (1234, LineCause) ∷ []
+unfolding start
+unsent = refl
 
 total_stands : total (entries paid_twice_over) ≡ 1234
 unfolding start approval paid_twice_over entry
