@@ -1,5 +1,6 @@
 //! Devices over memory, and over readers and writers that fail.
 use std::io::{self, Read, Write};
+use std::test::Fail;
 use zvt_io::{Failed, Over, Sink, Source};
 
 /// What one read answers, and the buffer of two bytes that it was given.
@@ -30,6 +31,18 @@ fn writes_one_after_another(rt: HostRuntime) {
         assert_eq!(rt; write(&mut sink, bytes), Ok(()));
     }
     assert_eq!(rt; sink.inner.as_slice(), [1, 2, 3].as_slice());
+}
+
+#[test]
+fn many_bytes_at_once(rt: HostRuntime) -> Result<(), Fail> {
+    let bytes = vec![in rt.alloc(); 0x41u8; 70_000]?;
+    let mut source = Over::new(bytes.as_slice());
+    let mut buffer = vec![in rt.alloc(); 0; 70_000]?;
+    assert_eq!(rt; source.read(&mut buffer), Ok(70_000));
+    let mut sink = Over::new(Vec::new(rt.alloc()));
+    assert_eq!(rt; write(&mut sink, &buffer), Ok(()));
+    assert_eq!(rt; sink.inner.as_slice(), bytes.as_slice());
+    Ok(())
 }
 
 /// A device that fails each time.

@@ -100,11 +100,11 @@ fn print_line(rt: &impl Abort, alloc: Global, first: &[u8], second: &[u8]) -> us
     }
 }
 
-/// The longest line to print, and three bytes behind it.
+/// The longest line to print, and 1,460 bytes behind it.
 fn longest(alloc: Global) -> Result<Vec<u8>, AllocError> {
     let mut line = Vec::new(alloc);
     line.extend_from_slice(&[0x06, 0xD1, 0xFF, 0xFF, 0xFF])?;
-    line.resize(65_543, 0x20)?;
+    line.resize(67_000, 0x20)?;
     Ok(line)
 }
 

@@ -8,7 +8,7 @@ use std::process::Abort;
 use std::test::Fail;
 use zvt_bcd::{Amount, Currency, Trace};
 use zvt_field::{
-    BadField, Field, FieldBody, Fields, PushRefusal, amount, count, currency, name, only, original,
+    BadField, Field, FieldBody, Fields, PushRefusal, amount, count, currency, only, original,
     receipt, result, scan, size, trace, write_into,
 };
 use zvt_spelling::Scan;
@@ -340,14 +340,12 @@ fn largest(rt: HostRuntime) -> Result<(), Fail> {
 }
 
 #[test]
-fn names(rt: HostRuntime) {
-    let rows = [
-        (0x04, Some("amount")),
-        (0x3A, Some("verification")),
-        (0x92, Some("field-92")),
-        (0x07, None),
-    ];
-    for (bmp, wanted) in rows {
-        assert_eq!(rt; name(bmp), wanted);
+fn a_list_of_many(rt: HostRuntime) -> Result<(), Fail> {
+    let mut fields = Fields::new(rt.alloc());
+    for _ in 0..1_000 {
+        let next = container(&rt, rt.alloc(), 0)?;
+        assert_eq!(rt; comes_back(&rt, &mut fields, next), None);
     }
+    assert_eq!(rt; size(&fields), 4_000);
+    Ok(())
 }

@@ -151,6 +151,28 @@ fn what_is_written_is_read_back(rt: HostRuntime) -> Result<(), Fail> {
     Ok(())
 }
 
+/// A forest of 65,535 bytes: an object of one byte, and 32,766 empty ones.
+fn largest(alloc: Global) -> Result<Vec<u8>, AllocError> {
+    let mut bytes = Vec::from_slice(alloc, &[0x07, 0x01, 0x41])?;
+    for _ in 0..32_766 {
+        bytes.extend_from_slice(&[0x07, 0x00])?;
+    }
+    Ok(bytes)
+}
+
+#[test]
+fn the_largest_forest_is_read_and_written(rt: HostRuntime) -> Result<(), Fail> {
+    let bytes = largest(rt.alloc())?;
+    let Scan::Whole(forest) = reader::scan(rt.alloc(), &bytes, 65_535, 1)? else {
+        panic!(rt; "objects fill the room");
+    };
+    let out = written(rt.alloc(), &forest);
+    assert_eq!(rt; size(&forest), 65_535);
+    drop(forest);
+    assert!(rt; out?.starts_with(&bytes));
+    Ok(())
+}
+
 /// An object of one byte in another, and an empty one behind it.
 fn pair(rt: &impl Abort, alloc: Global) -> Result<Forest, AllocError> {
     let first = constructed(rt, alloc, primitive(rt, alloc, 1)?)?;

@@ -3,6 +3,8 @@
 #![tactic(auto)]
 
 #[cfg(test)]
+mod bmps;
+#[cfg(test)]
 mod briefs;
 #[cfg(test)]
 mod devices;

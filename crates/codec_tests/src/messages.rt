@@ -41,7 +41,7 @@ pub fn is_read(rt: &impl Abort, alloc: Global, bytes: &[u8], wanted: usize) -> R
 pub type Refusal<'a> = (&'a [u8], usize, Why);
 
 /// Where and why the bytes are refused.
-fn refusal(alloc: Global, bytes: &[u8]) -> Result<Option<(usize, Why)>, AllocError> {
+pub fn refusal(alloc: Global, bytes: &[u8]) -> Result<Option<(usize, Why)>, AllocError> {
     Ok(match scan(alloc, bytes)? {
         Scan::Refused { place, why } => Some((place, why)),
         _ => None,

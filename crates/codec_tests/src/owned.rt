@@ -2,7 +2,7 @@
 
 use crate::message_views::viewed;
 use crate::messages::{is_read, spelling};
-use std::alloc::Global;
+use std::alloc::{AllocError, Global};
 use std::process::Abort;
 use std::test::Fail;
 use zvt_apdu::{encode, owned, view};
@@ -70,6 +70,39 @@ fn makes_each_message(rt: HostRuntime) -> Result<(), Fail> {
 }
 
 /// Of padded lengths the message is made all the same, and is written with the shortest ones.
+/// A status of 65,540 bytes: a receipt number, and 16,383 trace numbers.
+fn longest_list(alloc: Global) -> Result<Vec<u8>, AllocError> {
+    let mut bytes = Vec::from_slice(alloc, &[0x04, 0x0F, 0xFF, 0xFF, 0xFF, 0x87, 0x00, 0x05])?;
+    for _ in 0..16_383 {
+        bytes.extend_from_slice(&[0x0B, 0x00, 0x00, 0x17])?;
+    }
+    Ok(bytes)
+}
+
+/// A status of 65,540 bytes: a container of an object of one byte, and of 32,764 empty ones.
+fn largest_container(alloc: Global) -> Result<Vec<u8>, AllocError> {
+    let mut bytes = Vec::from_slice(
+        alloc,
+        &[
+            0x04, 0x0F, 0xFF, 0xFF, 0xFF, 0x06, 0x82, 0xFF, 0xFB, 0x07, 0x01, 0x41,
+        ],
+    )?;
+    for _ in 0..32_764 {
+        bytes.extend_from_slice(&[0x07, 0x00])?;
+    }
+    Ok(bytes)
+}
+
+#[test]
+fn makes_the_largest_messages(rt: HostRuntime) -> Result<(), Fail> {
+    let list = longest_list(rt.alloc())?;
+    assert_eq!(rt; list.len(), 65_540);
+    is_owned(&rt, rt.alloc(), &list)?;
+    let container = largest_container(rt.alloc())?;
+    assert_eq!(rt; container.len(), 65_540);
+    is_owned(&rt, rt.alloc(), &container)
+}
+
 #[test]
 fn makes_a_message_of_padded_lengths(rt: HostRuntime) -> Result<(), Fail> {
     let padded = [
