@@ -8,3 +8,4 @@ pub mod TillEnd
 pub mod BothEnds
 pub mod Service
 pub mod OverTcp
+pub mod Recording

@@ -1,0 +1,147 @@
+//! Devices that write what goes through them to a trace.
+ghost use Rattle.std.specs.Prelude.{◌≡◌, ◌++◌, ◌∷◌, [], codes, IfOk, false};
+ghost use Rattle.std.specs.String.{string_bytes};
+ghost use Rattle.zvt_io.specs.Devices.{CountsFailure, Reads, Writes};
+ghost use Rattle.zvt_run.specs.Recording.{RecordsRead, RecordsWrite, piece_text, sign_of};
+
+use std::alloc::{AllocError, Global};
+use zvt_io::{Failed, GhostCount, Sink, Source};
+
+/// The way that bytes go, as a trace marks it.
+#[derive(Clone, Copy, Debug, PartialEq, Eq)]
+pub enum Way {
+    /// `>`
+    FromTill,
+    /// `<`
+    FromTerminal,
+}
+
+impl Way {
+    /// What a line of the trace begins with.
+    fn sign(self) -> &'static str
+        ensures { result.now ≡ sign_of self }
+    {
+        match self {
+            Way::FromTill => ">",
+            Way::FromTerminal => "<",
+        }
+    }
+}
+
+/// A device, and the trace of what goes through it: each read that brings bytes, and each write, is a line of its own.
+/// What the device tells of its bytes is what it told without a trace. Once the trace can't be written, for want of
+/// memory too, it is broken, and each call fails: a write before it is made, a read from the next one on.
+#[derive(Drop)]
+pub struct Recorded<D, T> {
+    pub device: D,
+    pub trace: T,
+    pub way: Way,
+    pub broken: bool,
+    alloc: Global,
+    refused: GhostCount,
+}
+
+impl<D, T> Recorded<D, T> {
+    /// This device, whose bytes go this way, with its trace.
+    pub fn new(alloc: Global, way: Way, device: D, trace: T) -> Recorded<D, T>
+        ensures device { result.device ≡ device }
+        ensures trace { result.trace ≡ trace }
+        ensures way { result.way ≡ way }
+        ensures whole { result.broken ≡ false }
+    {
+        Recorded {
+            device,
+            trace,
+            way,
+            broken: false,
+            alloc,
+            refused: GhostCount::zero(),
+        }
+    }
+}
+
+impl<R: Source, T: Sink> Source for Recorded<R, T> {
+    ghost use Rattle.std.specs.Prelude.{◌+◌};
+
+    ghost remaining = { λ recorded. R.remaining recorded.device };
+
+    ghost failures = { λ recorded. R.failures recorded.device + recorded.refused.count };
+
+    ghost reads = { λ recorded. R.reads recorded.device + recorded.refused.count };
+
+    fn read(&mut self, buffer: &mut [u8]) -> Result<usize, Failed>
+        ensures bytes { Reads (R.remaining self.old.device) (R.remaining self.new.device) result buffer.new }
+        ensures failures { CountsFailure (R.failures self.old.device + self.old.refused.count) (R.failures self.new.device + self.new.refused.count) result }
+        ensures counted { R.reads self.new.device + self.new.refused.count ≡ R.reads self.old.device + self.old.refused.count + 1 }
+        ensures recorded { RecordsRead self.old.way self.old.broken self.new.broken (T.written self.old.trace) (T.written self.new.trace) result buffer.new }
+        ensures way { self.new.way ≡ self.old.way }
+    {
+        if self.broken {
+            self.refused = self.refused.next();
+            return Err(Failed);
+        }
+        let count = self.device.read(buffer)?;
+        if count > 0 {
+            let written = write_piece(self.alloc, self.way, &buffer[..count], &mut self.trace);
+            self.broken = written.is_err();
+        }
+        Ok(count)
+    }
+}
+
+impl<W: Sink, T: Sink> Sink for Recorded<W, T> {
+    ghost use Rattle.std.specs.Prelude.{◌+◌};
+
+    ghost written = { λ recorded. W.written recorded.device };
+
+    ghost failures = { λ recorded. W.failures recorded.device + recorded.refused.count };
+
+    fn write_all(&mut self, bytes: &[u8]) -> Result<(), Failed>
+        ensures bytes { Writes (W.written self.old.device) (W.written self.new.device) result bytes.now }
+        ensures failures { CountsFailure (W.failures self.old.device + self.old.refused.count) (W.failures self.new.device + self.new.refused.count) result }
+        ensures recorded { RecordsWrite self.old.way self.new.broken (T.written self.old.trace) (T.written self.new.trace) result bytes.now }
+        ensures way { self.new.way ≡ self.old.way }
+    {
+        if self.broken {
+            self.refused = self.refused.next();
+            return Err(Failed);
+        }
+        if write_piece(self.alloc, self.way, bytes, &mut self.trace).is_err() {
+            self.broken = true;
+            self.refused = self.refused.next();
+            return Err(Failed);
+        }
+        self.device.write_all(bytes)
+    }
+}
+
+/// Writes the line of a piece to the trace. Where it fails, some front of the line was written.
+fn write_piece<T: Sink>(alloc: Global, way: Way, bytes: &[u8], trace: &mut T) -> Result<(), Failed>
+    ensures { Writes (T.written trace.old) (T.written trace.new) result (piece_text way bytes.now) }
+{
+    match piece(alloc, way, bytes) {
+        Ok(text) => trace.write_all(text.as_bytes()),
+        Err(_) => Err(Failed),
+    }
+}
+
+/// The line of a piece.
+fn piece(alloc: Global, way: Way, bytes: &[u8]) -> Result<String, AllocError>
+    ensures { IfOk result (λ text. string_bytes text ≡ piece_text way bytes.now) }
+{
+    let digits = hex::encode_upper(alloc, bytes)?;
+    let mut text = String::new(alloc);
+    text.push_str(way.sign())?;
+    text.push_str(" ")?;
+    text.push_str(digits.as_str())?;
+    text.push('\n')?;
+    Ok(text)
+}
+
+/// Writes to the trace that the connection has ended.
+pub fn end_trace<T: Sink>(trace: &mut T) -> Result<(), Failed>
+    ensures bytes { Writes (T.written trace.old) (T.written trace.new) result (codes "!" ++ 10 ∷ []) }
+    ensures failures { CountsFailure (T.failures trace.old) (T.failures trace.new) result }
+{
+    trace.write_all(b"!\n")
+}
