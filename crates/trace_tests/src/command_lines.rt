@@ -44,26 +44,30 @@ fn commands_and_their_options(rt: HostRuntime) -> Result<(), Fail> {
         ("zvt join", "Join"),
         ("zvt audit", "Audit"),
         ("zvt receipts", "Receipts"),
-        ("zvt loop", "Loop { steps: [] }"),
+        ("zvt loop", "Loop { trace: None, steps: [] }"),
         (
             "zvt loop register decline:500:6C",
-            r#"Loop { steps: ["register", "decline:500:6C"] }"#,
+            r#"Loop { trace: None, steps: ["register", "decline:500:6C"] }"#,
         ),
         (
             "zvt till --port 4711 register --host ::1 close",
-            r#"Till { port: 4711, host: "::1", steps: ["register", "close"] }"#,
+            r#"Till { port: 4711, host: "::1", password: None, config: None, currency: None, trace: None, steps: ["register", "close"] }"#,
         ),
         (
             "zvt till --port=65535",
-            r#"Till { port: 65535, host: "127.0.0.1", steps: [] }"#,
+            r#"Till { port: 65535, host: "127.0.0.1", password: None, config: None, currency: None, trace: None, steps: [] }"#,
         ),
         (
-            "zvt terminal --port=1 --decline 6c --tid=99999999",
-            r#"Terminal { port: 1, tid: 99999999, decline: Some("6c") }"#,
+            "zvt till --port 1 --password 12 --config 8A --currency 0752 --trace t.trace",
+            r#"Till { port: 1, host: "127.0.0.1", password: Some("12"), config: Some("8A"), currency: Some("0752"), trace: Some("t.trace"), steps: [] }"#,
+        ),
+        (
+            "zvt terminal --port=1 --decline 6c --tid=99999999 --host ::1 --trace t",
+            r#"Terminal { port: 1, host: "::1", tid: 99999999, decline: Some("6c"), trace: Some("t") }"#,
         ),
         (
             "zvt terminal --port 4711",
-            "Terminal { port: 4711, tid: 12345678, decline: None }",
+            r#"Terminal { port: 4711, host: "127.0.0.1", tid: 12345678, decline: None, trace: None }"#,
         ),
     ];
     for (line, choice) in cases {

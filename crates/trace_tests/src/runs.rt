@@ -3,11 +3,10 @@ use std::alloc::Global;
 use std::io::{self, Read, Write};
 use std::net::TcpListener;
 use std::test::Fail;
-use zvt_bcd::Amount;
-use zvt_io::Over;
+use zvt_io::{Over, Sink, Source};
 use zvt_run::{
-    BothEnds, End, Ends, Step, plan, result_code, run_both_ends, run_loop, run_terminal, run_till,
-    run_till_end, serve, step_of,
+    BothEnds, End, Ends, Recorded, TillSettings, Way, config_of, currency_of, password_of, plan,
+    run_both_ends, run_loop, run_terminal, run_till, run_till_end, serve,
 };
 use zvt_spelling::Why;
 use zvt_stream::{LineFault, Stream};
@@ -52,76 +51,8 @@ fn both_ends_run(rt: HostRuntime) -> Result<(), Fail> {
         (declined.as_slice(), DECLINED_ONCE),
     ] {
         let mut writer = Over::new(Vec::new(rt.alloc()));
-        run_loop(&rt, rt.alloc(), words, &mut writer)?;
+        run_loop(&rt, rt.alloc(), words, None, &mut writer)?;
         assert_eq!(rt; writer.inner.as_slice(), text.as_bytes());
-    }
-    Ok(())
-}
-
-#[test]
-fn words_that_name_no_step(rt: HostRuntime) {
-    for word in [
-        "",
-        "Register",
-        "register ",
-        "pay",
-        "pay:",
-        "pay:0",
-        "pay:0000",
-        "pay:1234567890123",
-        "pay:+1",
-        "pay: 1",
-        "pay:1a",
-        "reverse:0",
-        "reverse:-1",
-        "decline:1:00",
-        "decline:1:6",
-        "decline:1:6G",
-        "decline:1:6C0",
-        "decline:0:6C",
-        "decline:1 6C",
-        "decline::6C",
-        "decline:6C",
-        "closed",
-    ] {
-        assert_eq!(rt; step_of(Ends::Both, word), None, "{word}");
-    }
-    assert_eq!(rt; step_of(Ends::Till, "decline:1:6C"), None);
-}
-
-#[test]
-fn words_that_name_steps(rt: HostRuntime) -> Result<(), Fail> {
-    let one = Amount::new(1).ok_or("an amount")?;
-    let most = Amount::new(999_999_999_999).ok_or("an amount")?;
-    for (word, step) in [
-        ("register", Step::Register),
-        ("pay:1", Step::Pay(one)),
-        ("pay:000000000001", Step::Pay(one)),
-        ("pay:999999999999", Step::Pay(most)),
-        ("reverse:1", Step::Reverse(0)),
-        ("reverse:10001", Step::Reverse(10_000)),
-        ("close", Step::CloseDay),
-    ] {
-        let named = Some(step);
-        assert_eq!(rt; step_of(Ends::Till, word), named, "{word}");
-        assert_eq!(rt; step_of(Ends::Both, word), named, "{word}");
-    }
-    let declined = Some(Step::Decline {
-        amount: one,
-        code: 0xB5,
-    });
-    for word in ["decline:1:B5", "decline:01:b5", "decline:0001:b5"] {
-        assert_eq!(rt; step_of(Ends::Both, word), declined, "{word}");
-    }
-    for (word, code) in [
-        ("6C", Some(0x6C)),
-        ("fF", Some(0xFF)),
-        ("00", None),
-        ("6", None),
-        ("06C", None),
-        ("6G", None),
-    ] {
-        assert_eq!(rt; result_code(word), code, "{word}");
     }
     Ok(())
 }
@@ -138,7 +69,13 @@ fn registers_and_pays(
         stream: Stream::new(alloc),
     };
     let mut writer = Over::new(Vec::new(alloc));
-    let ended = run_till_end(alloc, &mut line, plan.as_slice(), &mut writer);
+    let ended = run_till_end(
+        alloc,
+        &mut line,
+        &TillSettings::usual(),
+        plan.as_slice(),
+        &mut writer,
+    );
     Ok((ended, writer.inner))
 }
 
@@ -188,7 +125,8 @@ impl Write for Full {
 
 #[test]
 fn a_text_that_cannot_be_written(rt: HostRuntime) -> Result<(), Fail> {
-    let ended = run_loop(&rt, rt.alloc(), ["close"].as_slice(), &mut Over::new(Full));
+    let mut writer = Over::new(Full);
+    let ended = run_loop(&rt, rt.alloc(), ["close"].as_slice(), None, &mut writer);
     assert!(rt; matches!(ended, Err(ToolFault::Write)));
     Ok(())
 }
@@ -225,7 +163,13 @@ fn ends_that_never_rest(rt: HostRuntime) -> Result<(), Fail> {
         },
     };
     let mut writer = Over::new(Vec::new(alloc));
-    let ended = run_both_ends(alloc, &mut line, plan.as_slice(), &mut writer);
+    let ended = run_both_ends(
+        alloc,
+        &mut line,
+        &TillSettings::usual(),
+        plan.as_slice(),
+        &mut writer,
+    );
     assert!(rt; matches!(ended, Err(ToolFault::Line(LineFault::Turns))));
     assert_eq!(rt;
         writer.inner.as_slice(),
@@ -280,8 +224,12 @@ fn a_terminal_serves_its_line(rt: HostRuntime) -> Result<(), Fail> {
 fn no_till_connects(rt: HostRuntime) -> Result<(), Fail> {
     let listener = TcpListener::bind(&rt, "127.0.0.1:0")?;
     let port = listener.local_addr()?.port();
-    let ended = run_terminal(&rt, rt.alloc(), port, 1, Verdict::Approve);
+    let mut tell = Over::new(Vec::new(rt.alloc()));
+    let host = "127.0.0.1";
+    let verdict = Verdict::Approve;
+    let ended = run_terminal(&rt, rt.alloc(), host, port, 1, verdict, None, &mut tell);
     assert!(rt; matches!(ended, Err(ToolFault::Net)));
+    assert!(rt; tell.inner.is_empty());
     Ok(())
 }
 
@@ -291,11 +239,31 @@ fn closed_port(rt: &HostRuntime) -> Result<u16, Fail> {
     Ok(listener.local_addr()?.port())
 }
 
+/// A run of a till against this port, which writes here.
+fn till_at(
+    rt: &HostRuntime,
+    port: u16,
+    steps: &[&str],
+    writer: &mut Over<Vec<u8>>,
+) -> Result<(), ToolFault> {
+    let settings = TillSettings::usual();
+    run_till(
+        rt,
+        rt.alloc(),
+        "127.0.0.1",
+        port,
+        &settings,
+        steps,
+        None,
+        writer,
+    )
+}
+
 #[test]
 fn no_terminal_listens(rt: HostRuntime) -> Result<(), Fail> {
     let port = closed_port(&rt)?;
     let mut writer = Over::new(Vec::new(rt.alloc()));
-    let ended = run_till(&rt, rt.alloc(), "127.0.0.1", port, &[], &mut writer);
+    let ended = till_at(&rt, port, &[], &mut writer);
     assert!(rt; matches!(ended, Err(ToolFault::Net)));
     assert!(rt; writer.inner.is_empty());
     Ok(())
@@ -306,10 +274,65 @@ fn wrong_words_are_told_first(rt: HostRuntime) -> Result<(), Fail> {
     let port = closed_port(&rt)?;
     let mut writer = Over::new(Vec::new(rt.alloc()));
     let words = ["register", "decline:1:6C"];
-    let ended = run_till(&rt, rt.alloc(), "127.0.0.1", port, &words, &mut writer);
+    let ended = till_at(&rt, port, &words, &mut writer);
     assert!(rt; matches!(ended, Err(ToolFault::BadStep { at: 1 })));
-    let ended = run_loop(&rt, rt.alloc(), &["pay:0"], &mut writer);
+    let ended = run_loop(&rt, rt.alloc(), &["pay:0"], None, &mut writer);
     assert!(rt; matches!(ended, Err(ToolFault::BadStep { at: 0 })));
     assert!(rt; writer.inner.is_empty());
+    Ok(())
+}
+
+/// What a till with these devices sends of `register` where these bytes come, its trace, and how it ends.
+fn registers_recorded(
+    alloc: Global,
+    settings: &TillSettings,
+    coming: &[u8],
+) -> Result<(Result<(), ToolFault>, Vec<u8>, Vec<u8>), ToolFault> {
+    let plan = plan(alloc, Ends::Till, ["register"].as_slice())?;
+    let sent = Over::new(Vec::new(alloc));
+    let reads = Over::new(Vec::new(alloc));
+    let mut line = End {
+        reader: Recorded::new(alloc, Way::FromTerminal, Over::new(coming), reads),
+        writer: Recorded::new(alloc, Way::FromTill, sent, Over::new(Vec::new(alloc))),
+        stream: Stream::new(alloc),
+    };
+    let mut writer = Over::new(Vec::new(alloc));
+    let ended = run_till_end(alloc, &mut line, settings, plan.as_slice(), &mut writer);
+    let mut trace = line.writer.trace.inner;
+    trace.extend_from_slice(line.reader.trace.inner.as_slice())?;
+    Ok((ended, line.writer.device.inner, trace))
+}
+
+#[test]
+fn a_line_is_recorded(rt: HostRuntime) -> Result<(), Fail> {
+    let completed = [0x80, 0x00, 0x00, 0x06, 0x0F, 0x00];
+    let settings = TillSettings {
+        password: password_of("123456").ok_or("a password")?,
+        config: config_of("8a").ok_or("a byte")?,
+        currency: currency_of("0752").ok_or("a currency")?,
+    };
+    let (ended, sent, trace) = registers_recorded(rt.alloc(), &settings, &completed)?;
+    assert!(rt; ended.is_ok());
+    let registration = [
+        0x06, 0x00, 0x06, 0x12, 0x34, 0x56, 0x8A, 0x07, 0x52, 0x80, 0x00, 0x00,
+    ];
+    assert_eq!(rt; sent.as_slice(), registration.as_slice());
+    let written = "> 0600061234568A0752\n> 800000\n< 800000060F00\n";
+    assert_eq!(rt; trace.as_slice(), written.as_bytes());
+    Ok(())
+}
+
+#[test]
+fn a_trace_that_cannot_be_written(rt: HostRuntime) -> Result<(), Fail> {
+    let alloc = rt.alloc();
+    let sent = Over::new(Vec::new(alloc));
+    let mut writer = Recorded::new(alloc, Way::FromTill, sent, Over::new(Full));
+    assert!(rt; writer.write_all([1].as_slice()).is_err());
+    assert!(rt; writer.device.inner.is_empty());
+    let coming = Over::new([1, 2].as_slice());
+    let mut reader = Recorded::new(alloc, Way::FromTerminal, coming, Over::new(Full));
+    let mut buffer = [0];
+    assert_eq!(rt; Source::read(&mut reader, &mut buffer), Ok(1));
+    assert!(rt; Source::read(&mut reader, &mut buffer).is_err());
     Ok(())
 }

@@ -14,9 +14,9 @@ IsOnTrace Show = Unit {0}
 IsOnTrace Join = Unit {0}
 IsOnTrace Audit = Unit {0}
 IsOnTrace Receipts = Unit {0}
-IsOnTrace (Loop steps) = ⊥
-IsOnTrace (Till port host steps) = ⊥
-IsOnTrace (Terminal port tid decline) = ⊥
+IsOnTrace (Loop trace steps) = ⊥
+IsOnTrace (Till port host password config currency trace steps) = ⊥
+IsOnTrace (Terminal port host tid decline trace) = ⊥
 
 -- what is answered and written in the style that marks its faults so
 abbrev pub AnswersMarked : Option (List ℕ) → (trace : List ℕ) → (old new : Option (List ℕ)) → Result Tally ToolFault → Type 0
@@ -29,6 +29,6 @@ AnswersOnTrace Show trace old new result = AnswersMarked (Some []) trace old new
 AnswersOnTrace Join trace old new result = AnswersMarked (Some (codes "# ")) trace old new result
 AnswersOnTrace Receipts trace old new result = AnswersMarked None trace old new result
 AnswersOnTrace Audit trace old new result = AnswersAudit trace old new result
-AnswersOnTrace (Loop steps) trace old new result = ⊥
-AnswersOnTrace (Till port host steps) trace old new result = ⊥
-AnswersOnTrace (Terminal port tid decline) trace old new result = ⊥
+AnswersOnTrace (Loop file steps) trace old new result = ⊥
+AnswersOnTrace (Till port host password config currency file steps) trace old new result = ⊥
+AnswersOnTrace (Terminal port host tid decline file) trace old new result = ⊥

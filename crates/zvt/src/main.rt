@@ -6,17 +6,18 @@ ghost use Rattle.clap.specs.Words.{Row, Text};
 ghost use Rattle.zvt_choice.specs.Chosen.{IsChoiceOf};
 ghost use Rattle.zvt.specs.Statuses.{status_of_run, status_of_tally};
 
+mod ends;
 mod on_trace;
 mod statuses;
 
+use crate::ends::SettingWords;
 use crate::on_trace::work_on_trace;
 use crate::statuses::{DEVICE, DONE, MEMORY, WORDS};
 use std::process::ExitCode;
 use std::{env, io};
 use zvt_io::Over;
-use zvt_term::Verdict;
 use zvt_tool::words::choice;
-use zvt_tool::{Choice, ChoiceFault, Tally, ToolFault, result_code};
+use zvt_tool::{Choice, ChoiceFault, Tally, ToolFault};
 
 fn main(rt: HostRuntime) -> ExitCode {
     match run(&rt) {
@@ -56,47 +57,38 @@ fn run(rt: &HostRuntime) -> io::Result<u8> {
 fn execute(rt: &HostRuntime, chosen: &Choice<'_>) -> io::Result<u8>
     requires { (reading : Option (Text × List Row)) × IsChoiceOf reading chosen.now }
 {
-    let alloc = rt.alloc();
-    let mut writer = Over::new(io::writer(rt));
     match chosen {
         Choice::Show | Choice::Join | Choice::Audit | Choice::Receipts => {
             let mut reader = Over::new(rt.reader());
-            finish_trace(rt, work_on_trace(alloc, chosen, &mut reader, &mut writer))
+            let mut writer = Over::new(io::writer(rt));
+            let answer = work_on_trace(rt.alloc(), chosen, &mut reader, &mut writer);
+            finish_trace(rt, answer)
         }
-        Choice::Loop { steps } => {
-            let steps = steps.as_slice();
-            finish_run(rt, steps, zvt_tool::run_loop(rt, alloc, steps, &mut writer))
+        Choice::Loop { trace, steps } => ends::both_ends(rt, *trace, steps.as_slice()),
+        Choice::Till {
+            port,
+            host,
+            password,
+            config,
+            currency,
+            trace,
+            steps,
+        } => {
+            let words = SettingWords {
+                password: *password,
+                config: *config,
+                currency: *currency,
+            };
+            ends::till(rt, host, *port, &words, *trace, steps.as_slice())
         }
-        Choice::Till { port, host, steps } => {
-            let steps = steps.as_slice();
-            let answer = zvt_tool::run_till(rt, alloc, host, *port, steps, &mut writer);
-            finish_run(rt, steps, answer)
-        }
-        Choice::Terminal { port, tid, decline } => serve(rt, *port, *tid, *decline),
+        Choice::Terminal {
+            port,
+            host,
+            tid,
+            decline,
+            trace,
+        } => ends::terminal(rt, host, *port, *tid, *decline, *trace),
     }
-}
-
-/// Serves one till as a terminal.
-fn serve(rt: &HostRuntime, port: u16, tid: u32, decline: Option<&str>) -> io::Result<u8>
-    requires { tid ≤ 99999999 }
-{
-    let verdict = match decline {
-        None => Verdict::Approve,
-        Some(word) => match result_code(word) {
-            Some(code) => Verdict::Decline(code),
-            None => {
-                eprintln!(rt;
-                    "zvt: '{word}' is no code to decline with: two hexadecimal digits, not 00, as 6C"
-                )?;
-                return Ok(WORDS);
-            }
-        },
-    };
-    finish_run(
-        rt,
-        &[],
-        zvt_tool::run_terminal(rt, rt.alloc(), port, tid, verdict),
-    )
 }
 
 /// The exit status of a command on a trace. A fault is said.

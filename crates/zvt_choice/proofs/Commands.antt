@@ -6,7 +6,7 @@ use Rattle.clap.specs.Walk.{Rule, rule_of}
 use Rattle.clap.specs.declared.builder.arg.Arg.{Arg}
 use Rattle.clap.specs.declared.builder.command.Command.{Command}
 use Rattle.clap.specs.declared.builder.command.Command.TheViews.{out-Command as fields_of}
-use Rattle.zvt_choice.specs.Commands.{program_app, with_command}
+use Rattle.zvt_choice.specs.Commands.{IsLocalAppOf, program_app, with_command}
 
 pub added : {E : Type 0} (p : Result Command E) (r program : Command) (a b : App) → app_of program ≡ a → IfOk p (λ command. app_of command ≡ b)
     → IsOkAnd p (λ command. app_of r ≡ with_command (app_of program) (app_of command)) → app_of r ≡ with_command a b
@@ -29,12 +29,8 @@ pub versioned : (p q r : Command) (version name : Bor (List ℕ)) → app_of p �
 versioned p q r version name is e f =
     ap app_of_fields f ∙ (ap app_of_fields e ∙ ap (on_top (λ top. record top { has_version = true })) is)
 
--- a command of this line, whose options are its own
-abbrev pub Has : Command → App → Type 0
-Has c app = (app_of c ≡ app) × ((fields_of c).has_globals ≡ false)
-
-pub with_option : (old new : Command) (a : Arg) (app : App) (rule : Rule) → AddsArg old a new → rule_of a ≡ rule → a.global ≡ false → Has old app
-    → Has new (with_rule app rule)
+pub with_option : (old new : Command) (a : Arg) (app : App) (rule : Rule) → AddsArg old a new → rule_of a ≡ rule → a.global ≡ false → IsLocalAppOf app old
+    → IsLocalAppOf (with_rule app rule) new
 with_option old new a app rule adds is own has =
     (adds.shape own ∙ ap₂ with_rule has.0 is, adds.globals ∙ ap₂ (λ x y. x || y) has.1 own)
 

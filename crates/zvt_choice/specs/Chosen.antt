@@ -1,5 +1,6 @@
 -- What the words of a command line choose.
 use Rattle.std.specs.Prelude.{◌≡◌, ◌≢◌, ◌≤◌, ◌⊎◌, ⊤, ℕ, List, [], Option, Some, None, codes, map, option_map, unwrap_or}
+use Rattle.std.specs.Borrow.{Bor}
 use Rattle.std.specs.Str.Parse.{IsNumeral, digits_value, without_leading_plus}
 use Rattle.clap.specs.Words.{IsAmong, Kinds, Row, Text, all_of, fault_of, first_of, kind_of, one_of, subcommand_of}
 use Rattle.clap.specs.declared.error.Error.{Error}
@@ -33,22 +34,33 @@ IsNumberOf id rows most None = (n : ℕ) → GivesNumber id rows most n → ⊥
 abbrev pub steps_of : List Row → List Text
 steps_of rows = unwrap_or (all_of (codes "step") rows) []
 
+-- the option's text, or that it has none
+abbrev pub IsTextOf : Text → List Row → Option (Bor Text) → Type 0
+IsTextOf id rows text = first_of id rows ≡ option_map (λ text. text.now) text
+
 -- the command of this name, given these, is the choice
 abbrev pub IsCommandOf : Text → List Row → Choice → Type 0
 IsCommandOf name rows Show = name ≡ codes "show"
 IsCommandOf name rows Join = name ≡ codes "join"
 IsCommandOf name rows Audit = name ≡ codes "audit"
 IsCommandOf name rows Receipts = name ≡ codes "receipts"
-IsCommandOf name rows (Loop steps) =
-    (name ≡ codes "loop") × (map (λ step. step.now) steps.items ≡ steps_of rows)
-IsCommandOf name rows (Till port host steps) =
+IsCommandOf name rows (Loop trace steps) =
+    (name ≡ codes "loop") × IsTextOf (codes "trace") rows trace
+    × (map (λ step. step.now) steps.items ≡ steps_of rows)
+IsCommandOf name rows (Till port host password config currency trace steps) =
     (name ≡ codes "till") × GivesNumber (codes "port") rows 65535 port
     × (first_of (codes "host") rows ≡ Some host.now)
+    × IsTextOf (codes "password") rows password
+    × IsTextOf (codes "config") rows config
+    × IsTextOf (codes "currency") rows currency
+    × IsTextOf (codes "trace") rows trace
     × (map (λ step. step.now) steps.items ≡ steps_of rows)
-IsCommandOf name rows (Terminal port tid decline) =
+IsCommandOf name rows (Terminal port host tid decline trace) =
     (name ≡ codes "terminal") × GivesNumber (codes "port") rows 65535 port
+    × (first_of (codes "host") rows ≡ Some host.now)
     × GivesNumber (codes "tid") rows 99999999 tid
-    × (first_of (codes "decline") rows ≡ option_map (λ text. text.now) decline)
+    × IsTextOf (codes "decline") rows decline
+    × IsTextOf (codes "trace") rows trace
 
 -- no command is `show`
 abbrev pub IsChoiceOf : Option (Text × List Row) → Choice → Type 0

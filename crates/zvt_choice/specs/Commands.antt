@@ -1,7 +1,9 @@
 -- The commands of the program and their options, as `clap` sees them.
-use Rattle.std.specs.Prelude.{[], ◌∷◌, Some, codes, true, pos}
+use Rattle.std.specs.Prelude.{◌≡◌, [], ◌∷◌, Some, codes, true, false, pos}
 use Rattle.clap.specs.Simple.{on_top}
-use Rattle.clap.specs.Words.{App, Rule, Text, new_app, new_rule, with_rule, with_subcommand}
+use Rattle.clap.specs.Words.{App, Rule, Text, app_of, new_app, new_rule, with_rule, with_subcommand}
+use Rattle.clap.specs.declared.builder.command.Command.{Command}
+use Rattle.clap.specs.declared.builder.command.Command.TheViews.{out-Command as fields_of}
 use Rattle.clap.specs.declared.builder.action.ArgAction.TheVariants.{Append}
 use Rattle.clap.specs.declared.builder.value_parser.ValueParser.TheVariants as parser
 
@@ -28,18 +30,28 @@ tid_rule = record (option_rule (codes "tid")) {
   defaults = codes "12345678" ∷ [];
 }
 
-abbrev pub decline_rule : Rule
-decline_rule = option_rule (codes "decline")
+-- options that have no default
+abbrev pub plain_option : App → Text → App
+plain_option app name = with_rule app (option_rule name)
 
 abbrev pub loop_app : App
-loop_app = with_rule (new_app (codes "loop")) step_rule
+loop_app = with_rule (plain_option (new_app (codes "loop")) (codes "trace")) step_rule
 
 abbrev pub till_app : App
-till_app = with_rule (with_rule (with_rule (new_app (codes "till")) port_rule) host_rule) step_rule
+till_app =
+    with_rule (plain_option (plain_option (plain_option
+    (plain_option (with_rule (with_rule (new_app (codes "till")) port_rule) host_rule) (codes "password"))
+    (codes "config")) (codes "currency")) (codes "trace")) step_rule
 
 abbrev pub terminal_app : App
 terminal_app =
-    with_rule (with_rule (with_rule (new_app (codes "terminal")) port_rule) tid_rule) decline_rule
+    plain_option (plain_option
+    (with_rule (with_rule (with_rule (new_app (codes "terminal")) port_rule) host_rule) tid_rule)
+    (codes "decline")) (codes "trace")
+
+-- a command of this line, whose options are its own
+abbrev pub IsLocalAppOf : App → Command → Type 0
+IsLocalAppOf app c = (app_of c ≡ app) × ((fields_of c).has_globals ≡ false)
 
 -- the program, which has a version, without its commands
 abbrev pub program_app : App

@@ -7,8 +7,8 @@ use thiserror::Error;
 
 /// A command of the program, with what was given to it.
 ///
-/// Steps, the host and the code are the words as they were given: whoever uses them checks their
-/// form.
+/// Steps, hosts, codes, settings and the file of a trace are the words as they were given: whoever uses them checks
+/// their form.
 #[derive(Debug, Drop)]
 pub enum Choice<'a> {
     /// Also where no command is given.
@@ -17,19 +17,27 @@ pub enum Choice<'a> {
     Audit,
     Receipts,
     Loop {
+        trace: Option<&'a str>,
         steps: Vec<&'a str>,
     },
     /// The host is 127.0.0.1 unless one is given.
     Till {
         port: u16,
         host: &'a str,
+        password: Option<&'a str>,
+        config: Option<&'a str>,
+        currency: Option<&'a str>,
+        trace: Option<&'a str>,
         steps: Vec<&'a str>,
     },
-    /// The terminal's number `tid` is at most 99,999,999, and 12345678 unless one is given.
+    /// The host is 127.0.0.1 unless one is given. The terminal's number `tid` is at most 99,999,999, and 12345678
+    /// unless one is given.
     Terminal {
         port: u16,
+        host: &'a str,
         tid: u32,
         decline: Option<&'a str>,
+        trace: Option<&'a str>,
     },
 }
 

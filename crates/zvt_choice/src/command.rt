@@ -1,11 +1,11 @@
 //! The program's commands.
 ghost use Rattle.std.specs.Prelude.{◌≡◌, IfOk, IsOkAnd, false};
-ghost use Rattle.clap.specs.Words.{app_of, new_app};
+ghost use Rattle.clap.specs.Words.{App, Rule, app_of, new_app, rule_of, with_rule};
 ghost use Rattle.clap.specs.declared.builder.command.Command.TheViews.{out-Command as fields_of};
-ghost use Rattle.zvt_choice.specs.Commands.{loop_app, program_app, terminal_app, till_app, trace_app, with_command, zvt_app};
+ghost use Rattle.zvt_choice.specs.Commands.{IsLocalAppOf, loop_app, program_app, terminal_app, till_app, trace_app, with_command, zvt_app};
 
 use crate::{help, options};
-use clap::Command;
+use clap::{Arg, Command};
 use std::alloc::{AllocError, Global};
 
 const VERSION: &str = "0.1.0";
@@ -58,29 +58,57 @@ fn plain<'a>(alloc: Global, name: &'a str, about: &'a str, more: &'a str) -> Com
     Command::new(alloc, name).about(about).after_help(more)
 }
 
+/// The command with one more option, if the command is there.
+fn and<'a>(
+    command: Result<Command<'a>, AllocError>,
+    option: Arg<'a>,
+) -> Result<Command<'a>, AllocError>
+    requires { option.global ≡ false }
+    ensures { (app : App) (rule : Rule) → rule_of option.entry ≡ rule → IfOk command.entry (IsLocalAppOf app) → IfOk result (IsLocalAppOf (with_rule app rule)) }
+{
+    command?.arg(option)
+}
+
 fn looping<'a>(alloc: Global) -> Result<Command<'a>, AllocError>
     ensures app { IfOk result (λ r. app_of r ≡ loop_app) }
     ensures local { IfOk result (λ r. (fields_of r).has_globals ≡ false) }
 {
-    plain(alloc, "loop", help::LOOP, help::LOOP_EXAMPLE).arg(options::step(alloc, help::LOOP_STEP))
+    let named = Ok(plain(alloc, "loop", help::LOOP, help::LOOP_EXAMPLE));
+    let traced = and(named, options::text(alloc, "trace", "FILE", help::TRACE));
+    and(traced, options::step(alloc, help::LOOP_STEP))
 }
 
 fn till<'a>(alloc: Global) -> Result<Command<'a>, AllocError>
     ensures app { IfOk result (λ r. app_of r ≡ till_app) }
     ensures local { IfOk result (λ r. (fields_of r).has_globals ≡ false) }
 {
-    plain(alloc, "till", help::TILL, help::TILL_EXAMPLE)
-        .arg(options::port(alloc, help::TILL_PORT))?
-        .arg(options::host(alloc))?
-        .arg(options::step(alloc, help::TILL_STEP))
+    let named = Ok(plain(alloc, "till", help::TILL, help::TILL_EXAMPLE));
+    let at_port = and(named, options::port(alloc, help::TILL_PORT));
+    let at_host = and(at_port, options::host(alloc, help::TILL_HOST));
+    let known = and(
+        at_host,
+        options::text(alloc, "password", "NNNNNN", help::PASSWORD),
+    );
+    let configured = and(known, options::text(alloc, "config", "XX", help::CONFIG));
+    let paying = and(
+        configured,
+        options::text(alloc, "currency", "NNNN", help::CURRENCY),
+    );
+    let traced = and(paying, options::text(alloc, "trace", "FILE", help::TRACE));
+    and(traced, options::step(alloc, help::TILL_STEP))
 }
 
 fn terminal<'a>(alloc: Global) -> Result<Command<'a>, AllocError>
     ensures app { IfOk result (λ r. app_of r ≡ terminal_app) }
     ensures local { IfOk result (λ r. (fields_of r).has_globals ≡ false) }
 {
-    plain(alloc, "terminal", help::TERMINAL, help::TERMINAL_EXAMPLE)
-        .arg(options::port(alloc, help::TERMINAL_PORT))?
-        .arg(options::tid(alloc))?
-        .arg(options::decline(alloc))
+    let named = Ok(plain(alloc, "terminal", help::TERMINAL, help::TERMINAL_EXAMPLE));
+    let at_port = and(named, options::port(alloc, help::TERMINAL_PORT));
+    let at_host = and(at_port, options::host(alloc, help::TERMINAL_HOST));
+    let numbered = and(at_host, options::tid(alloc));
+    let decided = and(
+        numbered,
+        options::text(alloc, "decline", "XX", help::DECLINE),
+    );
+    and(decided, options::text(alloc, "trace", "FILE", help::TRACE))
 }

@@ -18,8 +18,7 @@ pub const LOOP: &str = "Runs steps between a till and a terminal that are both i
 
 pub const TILL: &str = "Connects to a terminal and runs steps as its till";
 
-pub const TERMINAL: &str =
-    "Listens on 127.0.0.1 as a simulated terminal and serves one connection to its end";
+pub const TERMINAL: &str = "Listens as a simulated terminal and serves one connection to its end";
 
 /// The names of the commands, as a usage line shows them.
 pub const NAMES: &str = "show|join|audit|receipts|loop|till|terminal";
@@ -84,9 +83,20 @@ pub const TILL_STEP: &str = "register, pay:N, reverse:N or close (see zvt --help
 
 pub const TILL_PORT: &str = "The TCP port of the terminal";
 
-pub const TERMINAL_PORT: &str = "The TCP port to listen on";
+pub const TERMINAL_PORT: &str = "The TCP port to listen on; 0 takes a free one and says which";
 
-pub const HOST: &str = "The name or address of the terminal's host";
+pub const TILL_HOST: &str = "The name or address of the terminal's host";
+
+pub const TERMINAL_HOST: &str = "The address to listen on";
+
+pub const PASSWORD: &str = "The password, six digits; without it 000000";
+
+pub const CONFIG: &str = "The configuration byte, two hexadecimal digits; without it BE";
+
+pub const CURRENCY: &str = "The currency's number, four digits; without it 0978";
+
+pub const TRACE: &str =
+    "Writes a trace of the line to this file while it runs, as the till sees it; what the file had is lost";
 
 pub const TID: &str = "The terminal's number, at most 99999999";
 

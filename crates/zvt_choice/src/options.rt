@@ -1,7 +1,7 @@
 //! The options and steps of the commands.
 ghost use Rattle.std.specs.Prelude.{◌≡◌, false};
 ghost use Rattle.clap.specs.Words.{rule_of};
-ghost use Rattle.zvt_choice.specs.Commands.{decline_rule, host_rule, port_rule, step_rule, tid_rule};
+ghost use Rattle.zvt_choice.specs.Commands.{host_rule, option_rule, port_rule, step_rule, tid_rule};
 
 use crate::help;
 use clap::{Arg, ArgAction, value_parser};
@@ -29,7 +29,7 @@ pub fn port<'a>(alloc: Global, text: &'a str) -> Arg<'a>
         .help(text)
 }
 
-pub fn host<'a>(alloc: Global) -> Arg<'a>
+pub fn host<'a>(alloc: Global, text: &'a str) -> Arg<'a>
     ensures rule { rule_of result ≡ host_rule }
     ensures local { result.global ≡ false }
 {
@@ -37,7 +37,7 @@ pub fn host<'a>(alloc: Global) -> Arg<'a>
         .long("host")
         .default_value("127.0.0.1")
         .value_name("HOST")
-        .help(help::HOST)
+        .help(text)
 }
 
 pub fn tid<'a>(alloc: Global) -> Arg<'a>
@@ -52,12 +52,13 @@ pub fn tid<'a>(alloc: Global) -> Arg<'a>
         .help(help::TID)
 }
 
-pub fn decline<'a>(alloc: Global) -> Arg<'a>
-    ensures rule { rule_of result ≡ decline_rule }
+/// An option that has one value of this name, and no default.
+pub fn text<'a>(alloc: Global, name: &'a str, value: &'a str, text: &'a str) -> Arg<'a>
+    ensures rule { rule_of result ≡ option_rule name.entry.now }
     ensures local { result.global ≡ false }
 {
-    Arg::new(alloc, "decline")
-        .long("decline")
-        .value_name("XX")
-        .help(help::DECLINE)
+    Arg::new(alloc, name)
+        .long(name)
+        .value_name(value)
+        .help(text)
 }

@@ -84,6 +84,7 @@ fn chosen<'a>(
         "audit" => Some(Choice::Audit),
         "receipts" => Some(Choice::Receipts),
         "loop" => Some(Choice::Loop {
+            trace: text(inner, "trace"),
             steps: steps(alloc, inner)?,
         }),
         "till" => till(alloc, inner)?,
@@ -102,16 +103,30 @@ fn till<'a>(alloc: Global, inner: &ArgMatches<'a>) -> Result<Option<Choice<'a>>,
         return Ok(None);
     };
     let steps = steps(alloc, inner)?;
-    Ok(Some(Choice::Till { port, host, steps }))
+    Ok(Some(Choice::Till {
+        port,
+        host,
+        password: text(inner, "password"),
+        config: text(inner, "config"),
+        currency: text(inner, "currency"),
+        trace: text(inner, "trace"),
+        steps,
+    }))
 }
 
 fn terminal<'a>(inner: &ArgMatches<'a>) -> Option<Choice<'a>>
     ensures { MayBeChoiceOf (Some (codes "terminal", rows_of (found_of inner.now))) result }
 {
     let port = port(inner)?;
+    let host = text(inner, "host")?;
     let tid = tid(inner)?;
-    let decline = text(inner, "decline");
-    Some(Choice::Terminal { port, tid, decline })
+    Some(Choice::Terminal {
+        port,
+        host,
+        tid,
+        decline: text(inner, "decline"),
+        trace: text(inner, "trace"),
+    })
 }
 
 fn port(inner: &ArgMatches<'_>) -> Option<u16>

@@ -1,21 +1,14 @@
 -- A run over TCP, by what contracts see of its line.
-use Rattle.std.proofs.Common.{◌≡◌, ℕ, List, [], ◌∷◌, Option, Some, None, Result, Ok, Err, refl, ap, sym, subst, inl, inr}
-use Rattle.std.specs.Io.KnownBytes.{Keeps}
+use Rattle.std.proofs.Common.{◌≡◌, ℕ, List, [], ◌∷◌, Option, Some, None, Result, Ok, Err, ap, inl, inr}
 use Rattle.zvt_stream.specs.declared.line.LineFault.{LineFault}
-use Rattle.zvt_till.specs.Events.{run_settings}
+use Rattle.zvt_till.specs.Sending.{Settings}
 use Rattle.zvt_till.specs.Till.{new_till, step}
 use Rattle.zvt_till.specs.declared.happenings.Happening.TheVariants.{Connected}
 use Rattle.zvt_trace.specs.declared.fault.ToolFault.{ToolFault}
 use Rattle.zvt_trace.specs.declared.fault.ToolFault.TheVariants.{BadStep, Line as LineBroke, Memory, Net, Read, TooLong, Trace, Write}
 use Rattle.zvt_run.specs.declared.plans.Planned.{Planned}
-use Rattle.zvt_run.specs.declared.words.Ends.{Ends}
-use Rattle.zvt_run.specs.Plans.{Plans, PlansOrStops, words_of}
 use Rattle.zvt_run.specs.Runs.{Answers, EndsEarly, Law, MakesAll, MakesTo, Standing, standing}
-use Rattle.zvt_run.specs.OverTcp.{AnswersRun, Runs, RunsPlan}
-
-keeps : (held : Option (List ℕ)) → Keeps held held
-keeps None = tt
-keeps (Some bytes) = refl
+use Rattle.zvt_run.specs.OverTcp.{RunsPlan}
 
 -- ---- a line that contracts see as something else
 
@@ -97,47 +90,13 @@ answers_seen seen law plan before after old new (Err Read) run = absurd run
 -- ---- a run
 
 -- a new till that was connected made the steps
-pub ran : {L S : Type 0} (seen : L → S) (law : Law S) (begins : S → Type 0) (plan : List Planned) (before after : Standing L) (old new : Option (List ℕ)) (result : Result Unit ToolFault)
-    → begins (seen before.line) → before.till.state ≡ step (new_till run_settings) Connected
-    → Answers (by seen law) plan before after old new result → RunsPlan law begins plan old new result
-ran seen law begins plan before after old new result begun connected run = record {
+pub ran : {L S : Type 0} (seen : L → S) (law : Law S) (begins : S → Type 0) (settings : Settings) (plan : List Planned) (before after : Standing L) (old new : Option (List ℕ)) (result : Result Unit ToolFault)
+    → begins (seen before.line) → before.till.state ≡ step (new_till settings) Connected
+    → Answers (by seen law) plan before after old new result → RunsPlan law begins settings plan old new result
+ran seen law begins settings plan before after old new result begun connected run = record {
   before = as_seen seen before;
   after = as_seen seen after;
   begun = begun;
   connected = connected;
   answers = answers_seen seen law plan before after old new result run;
 }
-
-answered : {L : Type 0} (makes : Law L) (begins : L → Type 0) (ends : Ends) (words : List (List ℕ)) (plan : List Planned) (before after : Standing L) (old new : Option (List ℕ)) (result : Result Unit ToolFault)
-    → Answers makes plan before after old new result → Runs makes begins ends words old new result → AnswersRun makes begins ends words old new result
-answered makes begins ends words plan before after old new (Ok done) run runs = runs
-answered makes begins ends words plan before after old new (Err (LineBroke fault)) run runs = runs
-answered makes begins ends words plan before after old new (Err Write) run runs = runs
-answered makes begins ends words plan before after old new (Err Memory) run runs = inr runs
-answered makes begins ends words plan before after old new (Err (BadStep at)) run runs = absurd run
-answered makes begins ends words plan before after old new (Err Net) run runs = absurd run
-answered makes begins ends words plan before after old new (Err (Trace line what)) run runs = absurd run
-answered makes begins ends words plan before after old new (Err TooLong) run runs = absurd run
-answered makes begins ends words plan before after old new (Err Read) run runs = absurd run
-
--- the steps are those that the words name, and stand in a list
-pub words_ran : {L : Type 0} (makes : Law L) (begins : L → Type 0) (ends : Ends) (words : List (List ℕ)) (items plan : List Planned) (old new : Option (List ℕ)) (result : Result Unit ToolFault)
-    → plan ≡ items → Plans ends (words_of ends words) items → RunsPlan makes begins plan old new result → AnswersRun makes begins ends words old new result
-words_ran makes begins ends words items plan old new result same plans runs =
-    answered makes begins ends words plan runs.before runs.after old new result runs.answers (record {
-      plan = plan;
-      plans = subst (λ (p : List Planned). Plans ends (words_of ends words) p) (sym same) plans;
-      runs = runs;
-    })
-
--- a word names no step
-pub stopped : {L : Type 0} (makes : Law L) (begins : L → Type 0) (ends : Ends) (words : List (List ℕ)) (held : Option (List ℕ)) (fault : ToolFault) → PlansOrStops ends (words_of ends words) (Err fault)
-    → AnswersRun makes begins ends words held held (Err fault)
-stopped makes begins ends words held (BadStep at) stops = (stops, keeps held)
-stopped makes begins ends words held Memory stops = inl (keeps held)
-stopped makes begins ends words held (LineBroke fault) stops = absurd stops
-stopped makes begins ends words held Net stops = absurd stops
-stopped makes begins ends words held Write stops = absurd stops
-stopped makes begins ends words held (Trace line what) stops = absurd stops
-stopped makes begins ends words held TooLong stops = absurd stops
-stopped makes begins ends words held Read stops = absurd stops

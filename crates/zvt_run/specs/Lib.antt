@@ -7,5 +7,6 @@ pub mod LineEnd
 pub mod TillEnd
 pub mod BothEnds
 pub mod Service
+pub mod Settings
 pub mod OverTcp
 pub mod Recording

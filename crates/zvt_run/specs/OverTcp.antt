@@ -1,7 +1,7 @@
 -- What a run over TCP answers.
 use Rattle.std.specs.Prelude.{◌≡◌, ◌⊎◌, ℕ, List, Option, Result, Ok, Err}
 use Rattle.std.specs.Io.KnownBytes.{Keeps}
-use Rattle.zvt_till.specs.Events.{run_settings}
+use Rattle.zvt_till.specs.Sending.{Settings}
 use Rattle.zvt_till.specs.Till.{new_till, step}
 use Rattle.zvt_till.specs.declared.happenings.Happening.TheVariants.{Connected}
 use Rattle.zvt_trace.specs.declared.fault.ToolFault.{ToolFault}
@@ -11,28 +11,28 @@ use Rattle.zvt_run.specs.Runs.{Answers, Law, Standing}
 use Rattle.zvt_run.specs.declared.plans.Planned.{Planned}
 use Rattle.zvt_run.specs.declared.words.Ends.{Ends}
 
--- A new till of the program's settings, connected to a line at its start, ran these steps.
-pub record RunsPlan {L : Type 0} (makes : Law L) (begins : L → Type 0) (plan : List Planned) (old new : Option (List ℕ)) (result : Result Unit ToolFault) : Type 0 where
+-- A new till of these settings, connected to a line at its start, ran these steps.
+pub record RunsPlan {L : Type 0} (makes : Law L) (begins : L → Type 0) (settings : Settings) (plan : List Planned) (old new : Option (List ℕ)) (result : Result Unit ToolFault) : Type 0 where
   pub before : Standing L
   pub after : Standing L
   pub begun : begins before.line
-  pub connected : before.till.state ≡ step (new_till run_settings) Connected
+  pub connected : before.till.state ≡ step (new_till settings) Connected
   pub answers : Answers makes plan before after old new result
 
 -- Each word names a step, and these were run.
-pub record Runs {L : Type 0} (makes : Law L) (begins : L → Type 0) (ends : Ends) (words : List (List ℕ)) (old new : Option (List ℕ)) (result : Result Unit ToolFault) : Type 0 where
+pub record Runs {L : Type 0} (makes : Law L) (begins : L → Type 0) (settings : Settings) (ends : Ends) (words : List (List ℕ)) (old new : Option (List ℕ)) (result : Result Unit ToolFault) : Type 0 where
   pub plan : List Planned
   pub plans : Plans ends (words_of ends words) plan
-  pub runs : RunsPlan makes begins plan old new result
+  pub runs : RunsPlan makes begins settings plan old new result
 
 -- What a run of these words answers. Where a word names no step or there is no connection nothing is written.
-abbrev pub AnswersRun : {L : Type 0} → Law L → (L → Type 0) → Ends → List (List ℕ) → (old new : Option (List ℕ)) → Result Unit ToolFault → Type 0
-AnswersRun makes begins ends words old new (Ok done) = Runs makes begins ends words old new (Ok done)
-AnswersRun makes begins ends words old new (Err (LineBroke fault)) = Runs makes begins ends words old new (Err (LineBroke fault))
-AnswersRun makes begins ends words old new (Err Write) = Runs makes begins ends words old new (Err Write)
-AnswersRun makes begins ends words old new (Err Memory) = Keeps old new ⊎ Runs makes begins ends words old new (Err Memory)
-AnswersRun makes begins ends words old new (Err (BadStep at)) = StopsAt ends (words_of ends words) at × Keeps old new
-AnswersRun makes begins ends words old new (Err Net) = Keeps old new
-AnswersRun makes begins ends words old new (Err (Trace line what)) = ⊥
-AnswersRun makes begins ends words old new (Err TooLong) = ⊥
-AnswersRun makes begins ends words old new (Err Read) = ⊥
+abbrev pub AnswersRun : {L : Type 0} → Law L → (L → Type 0) → Settings → Ends → List (List ℕ) → (old new : Option (List ℕ)) → Result Unit ToolFault → Type 0
+AnswersRun makes begins settings ends words old new (Ok done) = Runs makes begins settings ends words old new (Ok done)
+AnswersRun makes begins settings ends words old new (Err (LineBroke fault)) = Runs makes begins settings ends words old new (Err (LineBroke fault))
+AnswersRun makes begins settings ends words old new (Err Write) = Runs makes begins settings ends words old new (Err Write)
+AnswersRun makes begins settings ends words old new (Err Memory) = Keeps old new ⊎ Runs makes begins settings ends words old new (Err Memory)
+AnswersRun makes begins settings ends words old new (Err (BadStep at)) = StopsAt ends (words_of ends words) at × Keeps old new
+AnswersRun makes begins settings ends words old new (Err Net) = Keeps old new
+AnswersRun makes begins settings ends words old new (Err (Trace line what)) = ⊥
+AnswersRun makes begins settings ends words old new (Err TooLong) = ⊥
+AnswersRun makes begins settings ends words old new (Err Read) = ⊥

@@ -3,9 +3,11 @@ ghost use Rattle.std.specs.Prelude.{◌≡◌, ◌<◌, Err, MatchResult};
 ghost use Rattle.zvt_till.specs.Line.{till_loses};
 ghost use Rattle.zvt_run.specs.BothEnds.{Alternates, BeginsHere, BreaksOff, MakesHereBy, here, line_of};
 ghost use Rattle.zvt_run.specs.OverTcp.{RunsPlan};
+ghost use Rattle.zvt_run.specs.Settings.{settings_of};
 
 use crate::line_end::LineEnd;
 use crate::plans::Planned;
+use crate::settings::TillSettings;
 use crate::steps::{StepLine, connected_till, run_steps};
 use crate::words::Step;
 use std::alloc::Global;
@@ -63,19 +65,20 @@ impl<A: LineEnd, B: LineEnd> StepLine for BothEnds<A, B> {
     }
 }
 
-/// Makes the steps one after another, with a new till on this line, which is at its start. Else see
+/// Makes the steps one after another, with a new till of these settings on this line, which is at its start. Else see
 /// [`run_till_end`](crate::run_till_end).
 pub fn run_both_ends<A: LineEnd, B: LineEnd, T: Sink>(
     alloc: Global,
     line: &mut BothEnds<A, B>,
+    settings: &TillSettings,
     plan: &[Planned],
     writer: &mut T,
 ) -> Result<(), ToolFault>
     requires { BeginsHere (line_of A.state B.state line.old) }
-    ensures run { RunsPlan MakesHereBy BeginsHere plan.now (T.written writer.old) (T.written writer.new) result }
+    ensures run { RunsPlan MakesHereBy BeginsHere (settings_of settings.now) plan.now (T.written writer.old) (T.written writer.new) result }
     ensures write { result ≡ Err ToolFault.Write → T.failures writer.old < T.failures writer.new }
 {
-    let mut till = connected_till(alloc);
+    let mut till = connected_till(alloc, settings);
     run_steps(alloc, line, &mut till, plan, writer)
 }
 

@@ -2,7 +2,6 @@
 ghost use Rattle.std.specs.Prelude.{◌≡◌, ◌<◌, ◌++◌, Err, IfErr, IfOk, OnOk, Result};
 ghost use Rattle.std.specs.String.{string_bytes};
 ghost use Rattle.zvt_io.specs.Devices.{CountsFailure, Writes};
-ghost use Rattle.zvt_till.specs.Events.{run_settings};
 ghost use Rattle.zvt_till.specs.Line.{IsOver};
 ghost use Rattle.zvt_till.specs.Marks.{total};
 ghost use Rattle.zvt_till.specs.Till.{new_till, step};
@@ -12,10 +11,12 @@ ghost use Rattle.zvt_till.specs.declared.line.RunFault.{RunFault};
 ghost use Rattle.zvt_till.specs.declared.outcomes.Outcome.{Outcome};
 ghost use Rattle.zvt_run.specs.declared.words.Step.{Step};
 ghost use Rattle.zvt_run.specs.Outcomes.{ending_text, total_text};
+ghost use Rattle.zvt_run.specs.Settings.{settings_of};
 ghost use Rattle.zvt_run.specs.Runs.{Answers, AnswersStep, AnswersText, fault_of, standing};
 
 use crate::outcomes::outcome_text;
 use crate::plans::Planned;
+use crate::settings::TillSettings;
 use crate::words::Step;
 use std::alloc::{AllocError, Global};
 use std::fmt::Write;
@@ -61,11 +62,11 @@ pub(crate) fn run_steps<L: StepLine, W: Sink>(
     write_total(alloc, till, writer)
 }
 
-/// A new till of the program's settings, whose line is up.
-pub(crate) fn connected_till(alloc: Global) -> Till
-    ensures { result.state ≡ step (new_till run_settings) Connected }
+/// A new till of these settings, whose line is up.
+pub(crate) fn connected_till(alloc: Global, settings: &TillSettings) -> Till
+    ensures { result.state ≡ step (new_till (settings_of settings.now)) Connected }
 {
-    let mut till = Till::with_defaults(alloc);
+    let mut till = Till::new(alloc, settings.password, settings.config, settings.currency);
     till.connected();
     till
 }

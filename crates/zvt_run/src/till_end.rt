@@ -2,10 +2,12 @@
 ghost use Rattle.std.specs.Prelude.{◌≡◌, ◌<◌, Err};
 ghost use Rattle.zvt_stream.specs.StreamState.{at_start};
 ghost use Rattle.zvt_run.specs.OverTcp.{RunsPlan};
+ghost use Rattle.zvt_run.specs.Settings.{settings_of};
 ghost use Rattle.zvt_run.specs.TillEnd.{BeginsThere, MakesThere};
 
 use crate::line_end::End;
 use crate::plans::Planned;
+use crate::settings::TillSettings;
 use crate::steps::{StepLine, connected_till, run_steps};
 use crate::words::Step;
 use std::alloc::Global;
@@ -36,7 +38,7 @@ impl<R: Source, W: Sink> StepLine for End<R, W> {
     }
 }
 
-/// Makes the steps one after another, with a new till at this end of a line, which is at its start.
+/// Makes the steps one after another, with a new till of these settings at this end of a line, which is at its start.
 ///
 /// A line is written for each step when it ends: its word and what became of it. The last line is the till's total.
 /// After a broken line no further step is made, and the fault is `Line`; an order that is not sent is no fault. The
@@ -44,13 +46,14 @@ impl<R: Source, W: Sink> StepLine for End<R, W> {
 pub fn run_till_end<R: Source, W: Sink, T: Sink>(
     alloc: Global,
     end: &mut End<R, W>,
+    settings: &TillSettings,
     plan: &[Planned],
     writer: &mut T,
 ) -> Result<(), ToolFault>
     requires { end.old.stream ≡ at_start }
-    ensures run { RunsPlan MakesThere BeginsThere plan.now (T.written writer.old) (T.written writer.new) result }
+    ensures run { RunsPlan MakesThere BeginsThere (settings_of settings.now) plan.now (T.written writer.old) (T.written writer.new) result }
     ensures write { result ≡ Err ToolFault.Write → T.failures writer.old < T.failures writer.new }
 {
-    let mut till = connected_till(alloc);
+    let mut till = connected_till(alloc, settings);
     run_steps(alloc, end, &mut till, plan, writer)
 }

@@ -134,7 +134,7 @@ fn entry(digits: &[u8]) -> Option<usize>
 }
 
 /// The value of a hexadecimal digit, in capital or in small letters.
-fn digit(byte: u8) -> Option<u8>
+pub(crate) fn digit(byte: u8) -> Option<u8>
     ensures { result ≡ (if is_ascii_hexdigit byte then Some (digit_value byte) else None) }
 {
     match byte {

@@ -1,16 +1,14 @@
-use Rattle.std.proofs.Common.{codes}
+use Rattle.std.proofs.Common.{codes, IfOk}
 use Rattle.std.proofs.lemmas.Result.{IfOk-weaker}
-use Rattle.clap.specs.Built.{AddsArg}
-use Rattle.clap.specs.Simple.{new_app}
-use Rattle.clap.specs.declared.builder.command.Command.{Command}
-use Rattle.zvt_choice.specs.Commands.{step_rule}
-use Rattle.zvt_choice.proofs.Commands.{with_option}
+use Rattle.clap.specs.Simple.{new_app, with_rule}
+use Rattle.zvt_choice.specs.Commands.{IsLocalAppOf, option_rule, step_rule}
 use Rattle.zvt_choice.proofs.command.looping.Goals as goal
 
 pub returns : goal.returns
 returns c =
-    let added = λ (r : Command) (adds : AddsArg c.plain.result c.step.result r). with_option c.plain.result r c.step.result (new_app (codes "loop")) step_rule adds c.step.ensures.rule c.step.ensures.local (c.plain.ensures.app, c.plain.ensures.local) in
+    let has_1 : IfOk c.and-traced.result (IsLocalAppOf (with_rule (new_app (codes "loop")) (option_rule (codes "trace")))) = c.and-traced.ensures (new_app (codes "loop")) (option_rule (codes "trace")) c.text.ensures.rule (c.plain.ensures.app, c.plain.ensures.local) in
+    let has : IfOk c.and.result (IsLocalAppOf (with_rule (with_rule (new_app (codes "loop")) (option_rule (codes "trace"))) step_rule)) = c.and.ensures (with_rule (new_app (codes "loop")) (option_rule (codes "trace"))) step_rule c.step.ensures.rule has_1 in
     record {
-      app = IfOk-weaker c.arg.result _ _ (λ r adds. (added r adds).0) c.arg.ensures;
-      local = IfOk-weaker c.arg.result _ _ (λ r adds. (added r adds).1) c.arg.ensures;
+      app = IfOk-weaker c.and.result _ _ (λ r h. h.0) has;
+      local = IfOk-weaker c.and.result _ _ (λ r h. h.1) has;
     }

@@ -1,30 +1,17 @@
-use Rattle.std.proofs.Common.{codes}
-use Rattle.std.proofs.lemmas.Result.{IfOk-from_err, IfOk-weaker}
-use Rattle.clap.specs.Built.{AddsArg}
+use Rattle.std.proofs.Common.{codes, IfOk}
+use Rattle.std.proofs.lemmas.Result.{IfOk-weaker}
 use Rattle.clap.specs.Simple.{new_app, with_rule}
-use Rattle.clap.specs.declared.builder.command.Command.{Command}
-use Rattle.zvt_choice.specs.Commands.{port_rule, tid_rule, decline_rule}
-use Rattle.zvt_choice.proofs.Commands.{with_option}
+use Rattle.zvt_choice.specs.Commands.{IsLocalAppOf, host_rule, option_rule, port_rule, tid_rule}
 use Rattle.zvt_choice.proofs.command.terminal.Goals as goal
-
-pub returns-in_err-arg : goal.returns-in_err-arg
-returns-in_err-arg c = record {
-  app = IfOk-from_err c.from_residual.result _ c.from_residual.ensures.0;
-  local = IfOk-from_err c.from_residual.result _ c.from_residual.ensures.0;
-}
-
-pub returns-in_err-arg-2 : goal.returns-in_err-arg-2
-returns-in_err-arg-2 c = record {
-  app = IfOk-from_err c.from_residual-in_err-arg-2.result _ c.from_residual-in_err-arg-2.ensures.0;
-  local = IfOk-from_err c.from_residual-in_err-arg-2.result _ c.from_residual-in_err-arg-2.ensures.0;
-}
 
 pub returns : goal.returns
 returns c =
-    let first = with_option c.plain.result c.in_ok-arg.field-0 c.port.result (new_app (codes "terminal")) port_rule c.in_ok-arg.ensures c.port.ensures.rule c.port.ensures.local (c.plain.ensures.app, c.plain.ensures.local) in
-    let second = with_option c.in_ok-arg.field-0 c.in_ok-arg-2.field-0 c.tid.result (with_rule (new_app (codes "terminal")) port_rule) tid_rule c.in_ok-arg-2.ensures c.tid.ensures.rule c.tid.ensures.local first in
-    let third = λ (r : Command) (adds : AddsArg c.in_ok-arg-2.field-0 c.decline.result r). with_option c.in_ok-arg-2.field-0 r c.decline.result (with_rule (with_rule (new_app (codes "terminal")) port_rule) tid_rule) decline_rule adds c.decline.ensures.rule c.decline.ensures.local second in
+    let has_1 : IfOk c.and-at_port.result (IsLocalAppOf (with_rule (new_app (codes "terminal")) port_rule)) = c.and-at_port.ensures (new_app (codes "terminal")) port_rule c.port.ensures.rule (c.plain.ensures.app, c.plain.ensures.local) in
+    let has_2 : IfOk c.and-at_host.result (IsLocalAppOf (with_rule (with_rule (new_app (codes "terminal")) port_rule) host_rule)) = c.and-at_host.ensures (with_rule (new_app (codes "terminal")) port_rule) host_rule c.host.ensures.rule has_1 in
+    let has_3 : IfOk c.and-numbered.result (IsLocalAppOf (with_rule (with_rule (with_rule (new_app (codes "terminal")) port_rule) host_rule) tid_rule)) = c.and-numbered.ensures (with_rule (with_rule (new_app (codes "terminal")) port_rule) host_rule) tid_rule c.tid.ensures.rule has_2 in
+    let has_4 : IfOk c.and-decided.result (IsLocalAppOf (with_rule (with_rule (with_rule (with_rule (new_app (codes "terminal")) port_rule) host_rule) tid_rule) (option_rule (codes "decline")))) = c.and-decided.ensures (with_rule (with_rule (with_rule (new_app (codes "terminal")) port_rule) host_rule) tid_rule) (option_rule (codes "decline")) c.text.ensures.rule has_3 in
+    let has : IfOk c.and.result (IsLocalAppOf (with_rule (with_rule (with_rule (with_rule (with_rule (new_app (codes "terminal")) port_rule) host_rule) tid_rule) (option_rule (codes "decline"))) (option_rule (codes "trace")))) = c.and.ensures (with_rule (with_rule (with_rule (with_rule (new_app (codes "terminal")) port_rule) host_rule) tid_rule) (option_rule (codes "decline"))) (option_rule (codes "trace")) c.text-2.ensures.rule has_4 in
     record {
-      app = IfOk-weaker c.arg-3.result _ _ (λ r adds. (third r adds).0) c.arg-3.ensures;
-      local = IfOk-weaker c.arg-3.result _ _ (λ r adds. (third r adds).1) c.arg-3.ensures;
+      app = IfOk-weaker c.and.result _ _ (λ r h. h.0) has;
+      local = IfOk-weaker c.and.result _ _ (λ r h. h.1) has;
     }

@@ -1,0 +1,154 @@
+//! The runs of either end of a line, as the command line asks for them.
+ghost use Rattle.std.specs.Prelude.{◌≤◌};
+
+use crate::finish_run;
+use crate::statuses::{DEVICE, WORDS};
+use std::fs::File;
+use std::io;
+use zvt_io::Over;
+use zvt_term::Verdict;
+use zvt_tool::{
+    Ends, TillSettings, config_of, currency_of, password_of, plan, result_code, run_loop,
+    run_terminal, run_till,
+};
+
+/// The words that a till's settings were given by.
+#[derive(Clone, Copy)]
+pub struct SettingWords<'a> {
+    pub password: Option<&'a str>,
+    pub config: Option<&'a str>,
+    pub currency: Option<&'a str>,
+}
+
+/// Runs both ends in this process, and answers the exit status.
+pub fn both_ends(rt: &HostRuntime, trace: Option<&str>, steps: &[&str]) -> io::Result<u8> {
+    let file = match trace_file(rt, Ends::Both, trace, steps)? {
+        Ok(file) => file,
+        Err(status) => return Ok(status),
+    };
+    let mut writer = Over::new(io::writer(rt));
+    let answer = run_loop(rt, rt.alloc(), steps, file.as_ref(), &mut writer);
+    finish_run(rt, steps, answer)
+}
+
+/// Runs a till, and answers the exit status.
+pub fn till(
+    rt: &HostRuntime,
+    host: &str,
+    port: u16,
+    words: &SettingWords<'_>,
+    trace: Option<&str>,
+    steps: &[&str],
+) -> io::Result<u8> {
+    let Some(settings) = settings(rt, words)? else {
+        return Ok(WORDS);
+    };
+    if port == 0 {
+        eprintln!(rt; "zvt: no terminal listens at port 0: give the port that it says")?;
+        return Ok(WORDS);
+    }
+    let file = match trace_file(rt, Ends::Till, trace, steps)? {
+        Ok(file) => file,
+        Err(status) => return Ok(status),
+    };
+    let file = file.as_ref();
+    let mut writer = Over::new(io::writer(rt));
+    let answer = run_till(
+        rt,
+        rt.alloc(),
+        host,
+        port,
+        &settings,
+        steps,
+        file,
+        &mut writer,
+    );
+    finish_run(rt, steps, answer)
+}
+
+/// Serves one till as a terminal, and answers the exit status.
+pub fn terminal(
+    rt: &HostRuntime,
+    host: &str,
+    port: u16,
+    tid: u32,
+    decline: Option<&str>,
+    trace: Option<&str>,
+) -> io::Result<u8>
+    requires { tid ≤ 99999999 }
+{
+    let verdict = match decline {
+        None => Verdict::Approve,
+        Some(word) => match result_code(word) {
+            Some(code) => Verdict::Decline(code),
+            None => {
+                eprintln!(rt;
+                    "zvt: '{word}' is no code to decline with: two hexadecimal digits, not 00, as 6C"
+                )?;
+                return Ok(WORDS);
+            }
+        },
+    };
+    let file = match opened(rt, trace)? {
+        Ok(file) => file,
+        Err(status) => return Ok(status),
+    };
+    let mut tell = Over::new(rt.stderr());
+    let file = file.as_ref();
+    let answer = run_terminal(rt, rt.alloc(), host, port, tid, verdict, file, &mut tell);
+    finish_run(rt, &[], answer)
+}
+
+/// The settings that the words name, and the usual ones for those that are not given. A wrong word is said.
+fn settings(rt: &HostRuntime, words: &SettingWords<'_>) -> io::Result<Option<TillSettings>> {
+    let mut settings = TillSettings::usual();
+    if let Some(word) = words.password {
+        let Some(password) = password_of(word) else {
+            eprintln!(rt; "zvt: '{word}' is no password: six decimal digits, as 000000")?;
+            return Ok(None);
+        };
+        settings.password = password;
+    }
+    if let Some(word) = words.config {
+        let Some(config) = config_of(word) else {
+            eprintln!(rt; "zvt: '{word}' is no configuration byte: two hexadecimal digits, as BE")?;
+            return Ok(None);
+        };
+        settings.config = config;
+    }
+    if let Some(word) = words.currency {
+        let Some(currency) = currency_of(word) else {
+            eprintln!(rt; "zvt: '{word}' is no currency: four decimal digits, as 0978")?;
+            return Ok(None);
+        };
+        settings.currency = currency;
+    }
+    Ok(Some(settings))
+}
+
+/// The file that a run's trace goes to, if one is asked for. It is left as it was where a step is wrong.
+fn trace_file(
+    rt: &HostRuntime,
+    ends: Ends,
+    trace: Option<&str>,
+    steps: &[&str],
+) -> io::Result<Result<Option<File>, u8>> {
+    match plan(rt.alloc(), ends, steps) {
+        Ok(_) => opened(rt, trace),
+        Err(fault) => Ok(Err(finish_run(rt, steps, Err(fault))?)),
+    }
+}
+
+/// The file of a trace, empty. Where it can't be made this is said, and the exit status is answered.
+fn opened(rt: &HostRuntime, trace: Option<&str>) -> io::Result<Result<Option<File>, u8>> {
+    let Some(path) = trace else {
+        return Ok(Ok(None));
+    };
+    match File::create(rt, path) {
+        Ok(file) => Ok(Ok(Some(file))),
+        Err(error) => {
+            eprintln!(rt; "zvt: the trace '{path}' can't be written: {error}")?;
+            Ok(Err(DEVICE))
+        }
+    }
+}
