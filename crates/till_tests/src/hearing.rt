@@ -95,3 +95,15 @@ fn sends_what_its_brief_says(rt: HostRuntime) -> Result<(), Fail> {
     assert_eq!(rt; heard(&apdu), Heard::Negative(0x83));
     Ok(())
 }
+
+#[test]
+fn prints_no_password(rt: HostRuntime) -> Result<(), Fail> {
+    let closes = Outgoing {
+        brief: Brief::CloseDay {
+            password: [0x12, 0x34, 0x56],
+        },
+    };
+    let printed = format!(in rt.alloc(); "{closes:?}")?;
+    assert_eq!(rt; printed.as_str(), "Outgoing { brief: CloseDay }");
+    Ok(())
+}
