@@ -1,6 +1,6 @@
 //! Messages of their own from views.
 
-ghost use Rattle.std.specs.Prelude.{◌≡◌, Some, None, IfOk};
+ghost use Rattle.std.specs.Prelude.{◌≡◌, ◌≢◌, [], Some, None, MatchResult};
 ghost use Rattle.zvt_apdu.specs.Messages.{message_of, HasSpelling};
 ghost use Rattle.zvt_apdu.specs.Views.{fields_in, payload_in};
 
@@ -11,9 +11,10 @@ use crate::views::ApduView;
 use std::alloc::{AllocError, Global};
 use zvt_field::Fields;
 
-/// The message that a view shows, in memory of its own. The only error is want of memory.
+/// The message that a view shows, in memory of its own. The only error is want of memory, and one whose list of fields is
+/// empty wants none.
 pub fn owned(alloc: Global, apdu: &ApduView<'_>) -> Result<Apdu, AllocError>
-    ensures { IfOk result (λ made. made ≡ apdu.now) }
+    ensures { MatchResult result (λ made. made ≡ apdu.now) (λ _. fields_in apdu.now ≢ Some []) }
 {
     note_spelling(apdu);
     let message = owned_message(alloc, apdu)?;
@@ -33,7 +34,7 @@ fn note_spelling(apdu: &ApduView<'_>)
 /// The message that the view shows, by its parts.
 fn owned_message(alloc: Global, apdu: &ApduView<'_>) -> Result<Message, AllocError>
     requires { ∥ HasSpelling apdu.now ∥₁ }
-    ensures { IfOk result (λ made. message_of made ≡ apdu.now) }
+    ensures { MatchResult result (λ made. message_of made ≡ apdu.now) (λ _. fields_in apdu.now ≢ Some []) }
 {
     match apdu.fields() {
         Some(fields) => Ok(with_fields(apdu, zvt_field::owned(alloc, fields)?)),
@@ -74,7 +75,7 @@ fn with_fields(apdu: &ApduView<'_>, fields: Fields) -> Message
 /// The message that the view shows, which has no fields.
 fn without_fields(alloc: Global, apdu: &ApduView<'_>) -> Result<Message, AllocError>
     requires { None ≡ fields_in apdu.now }
-    ensures { IfOk result (λ made. message_of made ≡ apdu.now) }
+    ensures { MatchResult result (λ made. message_of made ≡ apdu.now) (λ _. fields_in apdu.now ≢ Some []) }
 {
     if let Some(payload) = apdu.payload() {
         return Ok(with_payload(apdu, Vec::from_slice(alloc, payload)?));

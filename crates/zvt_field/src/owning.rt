@@ -1,6 +1,6 @@
 //! Values of their own from views.
 
-ghost use Rattle.std.specs.Prelude.{◌≡◌, IfOk};
+ghost use Rattle.std.specs.Prelude.{◌≡◌, ◌≢◌, [], IfOk, MatchResult};
 ghost use Rattle.zvt_field.specs.Bodies.{field_of, HasSpelling, HaveSpelling};
 ghost use Rattle.zvt_field.specs.Lent.{shown};
 
@@ -33,11 +33,11 @@ pub fn owned_field(alloc: Global, field: &FieldView<'_>) -> Result<Field, AllocE
     Ok(made)
 }
 
-/// The fields of a view, in memory of their own. The only error is want of memory. The shortest spelling of the fields
-/// has to fit 65,535 bytes; that of the view may be longer.
+/// The fields of a view, in memory of their own. The only error is want of memory, and no fields want none. The shortest
+/// spelling of the fields has to fit 65,535 bytes; that of the view may be longer.
 pub fn owned(alloc: Global, fields: FieldsView<'_>) -> Result<Fields, AllocError>
     requires { ∥ HaveSpelling fields ∥₁ }
-    ensures { IfOk result (λ made. made ≡ fields.entry) }
+    ensures { MatchResult result (λ made. made ≡ fields.entry) (λ _. fields.entry ≢ []) }
 {
     let mut made = Fields::new(alloc);
     for field in fields {

@@ -1,7 +1,8 @@
 //! Values of their own from views.
 
-ghost use Rattle.std.specs.Prelude.{◌≡◌, IfOk};
+ghost use Rattle.std.specs.Prelude.{◌≡◌, ◌≢◌, MatchResult};
 ghost use Rattle.zvt_tlv.specs.Checks.{AllParts};
+ghost use Rattle.zvt_tlv.specs.Grammar.{none};
 ghost use Rattle.zvt_tlv.specs.Spelled.{HasSpelling};
 ghost use Rattle.zvt_tlv.specs.Trees.{objects_of};
 
@@ -10,11 +11,11 @@ use crate::trees::{Body, Forest, Tlv};
 use crate::views::ForestView;
 use std::alloc::{AllocError, Global};
 
-/// The objects of a view, in memory of their own. The only error is want of memory. The shortest spelling of the objects
+/// The objects of a view, in memory of their own. The only error is want of memory, and no objects want none. The shortest spelling of the objects
 /// has to fit 65,535 bytes; that of the view may be longer.
 pub fn owned(alloc: Global, objects: ForestView<'_>) -> Result<Forest, AllocError>
     requires { ∥ HasSpelling objects ∥₁ }
-    ensures { IfOk result (λ made. made ≡ objects.entry) }
+    ensures { MatchResult result (λ made. made ≡ objects.entry) (λ _. objects.entry ≢ none) }
 {
     let made = owned_objects(alloc, objects)?;
     let Ok(forest) = Forest::checked(made) else {
@@ -26,7 +27,7 @@ pub fn owned(alloc: Global, objects: ForestView<'_>) -> Result<Forest, AllocErro
 /// The objects of a view, one after another.
 fn owned_objects(alloc: Global, objects: ForestView<'_>) -> Result<Vec<Tlv>, AllocError>
     requires { ∥ AllParts objects ∥₁ }
-    ensures { IfOk result (λ made. objects_of made.items ≡ objects.entry) }
+    ensures { MatchResult result (λ made. objects_of made.items ≡ objects.entry) (λ _. objects.entry ≢ none) }
 {
     let mut made = Vec::new(alloc);
     for object in objects {
