@@ -298,9 +298,10 @@ fn registers_recorded(
     };
     let mut writer = Over::new(Vec::new(alloc));
     let ended = run_till_end(alloc, &mut line, settings, plan.as_slice(), &mut writer);
-    let mut trace = line.writer.trace.inner;
+    let sent = Vec::from_slice(alloc, line.writer.device.inner.as_slice())?;
+    let mut trace = Vec::from_slice(alloc, line.writer.trace.inner.as_slice())?;
     trace.extend_from_slice(line.reader.trace.inner.as_slice())?;
-    Ok((ended, line.writer.device.inner, trace))
+    Ok((ended, sent, trace))
 }
 
 #[test]
