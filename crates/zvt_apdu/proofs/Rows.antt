@@ -1,13 +1,13 @@
 -- Rows worked by hand.
-use Rattle.std.proofs.Common.{◌≡◌, None, Some, [], ◌∷◌, refl, arith, false}
+use Rattle.std.proofs.Common.{◌≡◌, ℕ, None, Some, List, [], ◌∷◌, ◌++◌, length, refl, ap, arith, false}
 use Rattle.zvt_spelling.specs.declared.why.Why.TheVariants.{NotShortest, DoesNotFit, UnknownField}
 use Rattle.zvt_spelling.specs.Reading.{shortest}
 use Rattle.zvt_field.specs.Shapes.{shape_of}
 use Rattle.zvt_field.specs.Grammar.{plain}
 use Rattle.zvt_field.specs.Judging.{name}
 use Rattle.zvt_apdu.specs.Message.{authorisation}
-use Rattle.zvt_apdu.specs.Grammar.{form_of, Spells}
-use Rattle.zvt_apdu.specs.Judging.{first_size, high_size, in_fields, fault, WhyOf}
+use Rattle.zvt_apdu.specs.Grammar.{form_of, IsFrameLength, Spells}
+use Rattle.zvt_apdu.specs.Judging.{first_size, high_size, in_fields, fault, WhyOf, TakesMemory}
 
 -- 06 01 04 22 F0 F1 55
 pub one_pan : Spells shortest (authorisation (plain 0x22 (0x55 ∷ []) ∷ [])) (0x06 ∷ 0x01 ∷ 0x04 ∷ 0x22 ∷ 0xF0 ∷ 0xF1 ∷ 0x55 ∷ [])
@@ -71,3 +71,11 @@ unknown = record {
   is_byte = refl;
   fails = refl;
 }
+
+-- of control bytes alone nothing is kept
+nothing_kept : TakesMemory shortest (0x06 ∷ 0x0F ∷ []) → ⊥
+nothing_kept t = no_size t.headed.opens.size t.headed.opens.inside t.opening.size t.opening.high t.opening.low t.headed.opens.is_size t.headed.opens.whole
+  where
+    no_size : (size inside : List ℕ) (n high low : ℕ) → IsFrameLength shortest n size → 0x06 ∷ 0x0F ∷ [] ≡ high ∷ low ∷ (size ++ inside) → ⊥
+    no_size [] inside n high low i e = i
+    no_size (x ∷ size) inside n high low i e = omega (arith, ap length e)

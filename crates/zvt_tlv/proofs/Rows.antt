@@ -1,8 +1,9 @@
 -- Worked rows of the definitions: in a room, the tests of each byte on both sides of each border, and small spellings.
-use Rattle.std.proofs.Common.{◌≡◌, Some, None, [], ◌∷◌, true, false, refl, arith}
+use Rattle.std.proofs.Common.{◌≡◌, ℕ, Some, None, List, [], ◌∷◌, ◌++◌, true, false, refl, arith, inr}
 use Rattle.zvt_spelling.specs.declared.why.Why.TheVariants.{NotShortest, DoesNotFit, LengthForm, TooDeep, TagTooLong}
 use Rattle.zvt_spelling.specs.Reading.{shortest, padded}
-use Rattle.zvt_tlv.specs.Grammar.{Objects, none, primitive, constructed, Spells}
+use Rattle.zvt_tlv.specs.Grammar.{Objects, none, primitive, constructed, IsTag, Spells}
+use Rattle.zvt_tlv.specs.Answers.{TakesMemory}
 use Rattle.zvt_tlv.specs.Judging.{first_tag, second_tag, third_tag, first_length, after_81, high_length, low_length, fault}
 use Rattle.zvt_tlv.specs.Sizes.{size_of, spelling}
 
@@ -142,3 +143,24 @@ padded_spelled = record {
   inside = (refl, (omega arith, tt));
   others = refl;
 }
+
+-- an object of one byte is kept, and of no bytes nothing is
+kept : TakesMemory shortest 3 (0x07 ∷ 0x01 ∷ 0x41 ∷ [])
+kept = record {
+  some = omega arith;
+  tag = 0x07 ∷ [];
+  size = 0x01 ∷ [];
+  content = 1;
+  behind = 0x41 ∷ [];
+  whole = refl;
+  is_tag = (omega arith, refl);
+  is_length = (omega arith, refl);
+  kept = inr (omega arith);
+}
+
+nothing_kept : (room : ℕ) → TakesMemory shortest room [] → ⊥
+nothing_kept room t = no_tag t.tag (t.size ++ t.behind) t.is_tag t.whole
+  where
+    no_tag : (tag rest : List ℕ) → IsTag tag → [] ≡ tag ++ rest → ⊥
+    no_tag [] rest i e = i
+    no_tag (x ∷ tag) rest i e = absurd cc
