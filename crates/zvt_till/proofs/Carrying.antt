@@ -29,7 +29,7 @@ use Rattle.zvt_till.proofs.Lines.{up-heard}
 pub stands-more : (settings : Settings) (log : List Happening) (s : TillState) (h : Happening) → Stands settings log s → CanFollow (facts_in log) h → Stands settings (log ++ h ∷ []) (step s h)
 stands-more settings log s h t c = (is_log-snoc [] log h t.0 c, ap (λ x. step x h) t.1 ∙ sym (fold-snoc step (new_till settings) log h))
 
-pub offline : (up : Bool) (next asked : Option OrderRefusal) → or_else (cond up next (Some Offline)) asked ≡ None → up ≡ true
+offline : (up : Bool) (next asked : Option OrderRefusal) → or_else (cond up next (Some Offline)) asked ≡ None → up ≡ true
 offline true next asked e = refl
 offline false next asked e = absurd cc
 
