@@ -9,6 +9,8 @@ ghost use Rattle.zvt.specs.Statuses.{status_of_run, status_of_tally};
 mod ends;
 mod on_trace;
 mod statuses;
+#[cfg(test)]
+mod tests;
 
 use crate::ends::SettingWords;
 use crate::on_trace::work_on_trace;
@@ -121,67 +123,5 @@ fn word_of<'a>(fault: &ToolFault, steps: &[&'a str]) -> Option<&'a str> {
     match fault {
         ToolFault::BadStep { at } => steps.get(*at).copied(),
         _ => None,
-    }
-}
-
-#[cfg(test)]
-mod tests {
-    use super::*;
-    use std::test::Fail;
-    use zvt_io::Over;
-
-    /// A payment that was approved, whose receipt has a line, and a byte that no message of the terminal can go on with.
-    const PAYMENT: &str = "> 06 01 0A 04 00 00 00 00 12 34 49 09 78
-< 80 00 00 04 0F 10 27 00 04 00 00 00 00 12 34 0B 00 00 17 87 00 05
-< 06 D1 03 00 4F 4B 06 0F 00
-< 06 01 02 D0
-";
-
-    const SHOWN: &str = "> Authorisation
-  04 amount 1234
-  49 currency 0978
-< Ack
-< Status
-  27 result 00 success
-  04 amount 1234
-  0B trace 000017
-  87 receipt 0005
-< PrintLine 00 \"OK\"
-< Completion
-< refused at 3: UnknownField
-";
-
-    const JOINED: &str = "> 06010A04000000001234490978
-< 800000
-< 040F102700040000000012340B000017870005
-< 06D103004F4B
-< 060F00
-# < refused at 3: UnknownField
-";
-
-    #[test]
-    fn each_command_reads_a_trace(rt: HostRuntime) -> Result<(), Fail> {
-        let audited = "booked 1234 trace 000017 receipt 0005\ntotal 1234\n";
-        for (chosen, text) in [
-            (Choice::Show, SHOWN),
-            (Choice::Join, JOINED),
-            (Choice::Receipts, "OK\n"),
-            (Choice::Audit, audited),
-        ] {
-            let mut reader = Over::new(PAYMENT.as_bytes());
-            let mut writer = Over::new(Vec::new(rt.alloc()));
-            let answer = work_on_trace(rt.alloc(), &chosen, &mut reader, &mut writer);
-            assert_eq!(rt; statuses::of_tally(&answer), 1);
-            assert_eq!(rt; writer.inner.as_slice(), text.as_bytes());
-        }
-        Ok(())
-    }
-
-    #[test]
-    fn a_wrong_step_is_named(rt: HostRuntime) {
-        let steps = ["register", "pay:0"];
-        let fault = ToolFault::BadStep { at: 1 };
-        assert_eq!(rt; word_of(&fault, steps.as_slice()), Some("pay:0"));
-        assert_eq!(rt; word_of(&ToolFault::Net, steps.as_slice()), None);
     }
 }
