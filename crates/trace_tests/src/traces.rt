@@ -241,14 +241,38 @@ fn faults_say_where_and_what_to_do(rt: HostRuntime) -> Result<(), Fail> {
         what: What::Hex,
     };
     let rows = [
-        (&form, "line 1 of the trace: a line begins with '>' or '<' and goes on in hexadecimal, or is '!' alone, or begins with '#'"),
-        (&hex, "line 2 of the trace: after '>' or '<' stand two hexadecimal digits for each byte, and spaces"),
-        (&ToolFault::TooLong, "the trace has more than 16777216 bytes: cut it at a line, and give the parts one by one"),
-        (&ToolFault::Read, "the trace can't be read to its end: see where standard input comes from"),
-        (&ToolFault::Write, "the text can't be written: see where standard output goes, and whether there is room"),
-        (&ToolFault::Memory, "there is too little memory: cut a trace at a line, and give the parts one by one"),
-        (&ToolFault::BadStep { at: 3 }, "word 3, counted from 0, is no step: the steps are 'register', 'pay:N', 'reverse:N', 'close' and, where both ends run, 'decline:N:XX'"),
-        (&ToolFault::Net, "there is no connection: see whether the other end listens at that host and port, and whether the port is free where one is to be opened"),
+        (
+            &form,
+            "line 1 of the trace: a line begins with '>' or '<' and goes on in hexadecimal, or is '!' alone, or begins with '#'",
+        ),
+        (
+            &hex,
+            "line 2 of the trace: after '>' or '<' stand two hexadecimal digits for each byte, and spaces",
+        ),
+        (
+            &ToolFault::TooLong,
+            "the trace has more than 16777216 bytes: cut it at a line, and give the parts one by one",
+        ),
+        (
+            &ToolFault::Read,
+            "the trace can't be read to its end: see where standard input comes from",
+        ),
+        (
+            &ToolFault::Write,
+            "the text can't be written: see where standard output goes, and whether there is room",
+        ),
+        (
+            &ToolFault::Memory,
+            "there is too little memory: cut a trace at a line, and give the parts one by one",
+        ),
+        (
+            &ToolFault::BadStep { at: 3 },
+            "word 3, counted from 0, is no step: the steps are 'register', 'pay:N', 'reverse:N', 'close' and, where both ends run, 'decline:N:XX'",
+        ),
+        (
+            &ToolFault::Net,
+            "there is no connection: see whether the other end listens at that host and port, and whether the port is free where one is to be opened",
+        ),
     ];
     for (fault, wanted) in rows {
         says(&rt, rt.alloc(), fault, wanted)?;
@@ -263,13 +287,31 @@ fn broken_lines_say_how_they_broke(rt: HostRuntime) -> Result<(), Fail> {
         why: Why::DoesNotFit,
     };
     let rows = [
-        (LineFault::Read, "the line broke: a read failed, or nothing came in time"),
+        (
+            LineFault::Read,
+            "the line broke: a read failed, or nothing came in time",
+        ),
         (LineFault::Write, "the line broke: a write failed"),
-        (LineFault::Ended { have: 4 }, "the line broke: the other end closed it, 4 bytes into a message"),
-        (LineFault::Turns, "the line broke: the other end goes on without an end"),
-        (malformed, "the line broke: the other end sent bytes that begin no message, refused at 3: DoesNotFit"),
-        (LineFault::Memory, "the line broke: there was too little memory"),
-        (LineFault::Stopped, "the line broke: it had brought bytes before that begin no message"),
+        (
+            LineFault::Ended { have: 4 },
+            "the line broke: the other end closed it, 4 bytes into a message",
+        ),
+        (
+            LineFault::Turns,
+            "the line broke: the other end goes on without an end",
+        ),
+        (
+            malformed,
+            "the line broke: the other end sent bytes that begin no message, refused at 3: DoesNotFit",
+        ),
+        (
+            LineFault::Memory,
+            "the line broke: there was too little memory",
+        ),
+        (
+            LineFault::Stopped,
+            "the line broke: it had brought bytes before that begin no message",
+        ),
     ];
     for (fault, wanted) in rows {
         says(&rt, rt.alloc(), &ToolFault::Line(fault), wanted)?;

@@ -87,7 +87,12 @@ fn make_step<L: StepLine, W: Sink>(
     let mut text = String::new(alloc);
     text.push_str(planned.word.as_str())?;
     text.push_str(" -> ")?;
-    say_ending(&mut Scribe::new(alloc), &mut text, &made, till.last_outcome())?;
+    say_ending(
+        &mut Scribe::new(alloc),
+        &mut text,
+        &made,
+        till.last_outcome(),
+    )?;
     text.push('\n')?;
     put(&text, writer)?;
     Ok(fault_of(&made))

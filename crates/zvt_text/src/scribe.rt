@@ -32,11 +32,7 @@ impl Scribe {
     /// Writes a message: the name of its kind and what it says, then a line for each field, each line with its end. The
     /// password of a message is never written, and of the fields 22, 23, 24, 2D, 3A and 3D (card number, tracks,
     /// verification value, password) the size alone.
-    pub fn message(
-        &mut self,
-        text: &mut String,
-        message: &ApduView<'_>,
-    ) -> Result<(), AllocError>
+    pub fn message(&mut self, text: &mut String, message: &ApduView<'_>) -> Result<(), AllocError>
         ensures { Adds result (string_bytes text.old) (string_bytes text.new) (said message.now) }
     {
         self.room.clear();

@@ -94,9 +94,12 @@ pub audited : (left : Option (List ℕ)) (trace : List ℕ) (tally : Tally) (old
 audited None trace tally old new first connected taken found text read few start connects takes closes says appended = tt
 audited (Some bytes) trace tally old new first connected taken found text read few start connects takes closes says appended =
     let judged = takes.2 (Connected ∷ []) (connects [] start) in
-    subst (λ (b : List ℕ). AnswersAudit b old new (Ok tally)) read (few, record {
-      all = takes.0;
-      whole = takes.1;
-      appended = subst (λ (t : List ℕ). Appends old new t) (says ∙ ap books_text (closes (Connected ∷ takes.0.items) judged)) appended;
-      counts = takes.3;
-    })
+    subst (λ (b : List ℕ). AnswersAudit b old new (Ok tally)) read (
+      few,
+      record {
+        all = takes.0;
+        whole = takes.1;
+        appended = subst (λ (t : List ℕ). Appends old new t) (says ∙ ap books_text (closes (Connected ∷ takes.0.items) judged)) appended;
+        counts = takes.3;
+      },
+    )

@@ -12,11 +12,7 @@ use zvt_till::{Booked, Books, Cause};
 
 /// A line for each payment that was completed, then one for each of which it is not known whether it happened, and the
 /// sum of the former.
-pub(crate) fn write(
-    scribe: &mut Scribe,
-    text: &mut String,
-    books: &Books,
-) -> Result<(), AllocError>
+pub(crate) fn write(scribe: &mut Scribe, text: &mut String, books: &Books) -> Result<(), AllocError>
     ensures { OnOk result (string_bytes text.new ≡ string_bytes text.old ++ books_text (books_value books.now)) }
 {
     for row in &books.booked {

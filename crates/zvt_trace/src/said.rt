@@ -56,7 +56,9 @@ fn write_piece(
 {
     match from {
         Direction::FromTill => piece::write(scribe, text, style, from, &mut streams.till, bytes),
-        Direction::FromTerminal => { piece::write(scribe, text, style, from, &mut streams.terminal, bytes) }
+        Direction::FromTerminal => {
+            piece::write(scribe, text, style, from, &mut streams.terminal, bytes)
+        }
     }
 }
 

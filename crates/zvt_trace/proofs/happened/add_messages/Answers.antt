@@ -38,5 +38,5 @@ returns-then-is_empty-clause-adds c = λ before follows.
     let lends = fed_as c.messages.stream c.feed_view.new.self c.messages.rest.now c.in-Ok-Message.field-0 (fed.Message c.in-Ok-Message.taken) c.in-Ok-Message.field-0-is c.in-Ok-Message.ensures.fed in
     let feeds = feeds_shown c.messages.stream c.feed_view.new.self _ c.in-Ok-Message.taken c.lent.result c.in-Some.apdu lends c.lent.ensures c.in-Some.is in
     let so_far = one_more _ _ c.messages.rest.now _ _ c.messages.stream c.feed_view.new.self _ _ _ _ c.in-Ok-Message.taken c.in-Some.apdu c.messages.invariant.so_far
-        (going _ _ _ c.in-Ok-Message.is c.feed_view.ensures.stopped) feeds.2 feeds.3 c.split_at.ensures.back c.in_ok-add_message-in-Ok-Message.ensures in
+    (going _ _ _ c.in-Ok-Message.is c.feed_view.ensures.stopped) feeds.2 feeds.3 c.split_at.ensures.back c.in_ok-add_message-in-Ok-Message.ensures in
     ends_whole _ before _ c.split_at.result.1.now _ c.feed_view.new.self _ _ _ _ so_far feeds.3 (search rules) refl refl follows

@@ -45,5 +45,5 @@ returns-then-is_empty-clause-adds c = λ side follows.
     let feeds = lends.1 in
     let spells = lent_spelling (λ b. b.now) c.lent_bytes.result c.in-Some.spelled _ lends.0 lends.2 c.lent_bytes.ensures.some c.in-Some.is in
     let so_far = one_more _ _ _ c.messages.rest.now _ _ c.messages.stream c.feed_view.new.self _ _ _ _ c.in-Ok-Message.taken lends.0 c.messages.invariant.so_far
-        (going _ _ _ c.in-Ok-Message.is c.feed_view.ensures.stopped) feeds.2 feeds.3 c.split_at.ensures.back (c.in_ok-write-in-Ok-Message.ensures lends.0 spells) in
+    (going _ _ _ c.in-Ok-Message.is c.feed_view.ensures.stopped) feeds.2 feeds.3 c.split_at.ensures.back (c.in_ok-write-in-Ok-Message.ensures lends.0 spells) in
     ends_whole _ _ side _ c.split_at.result.1.now _ c.feed_view.new.self _ _ _ _ so_far feeds.3 (search rules) refl refl follows

@@ -1,4 +1,3 @@
-use Rattle.std.proofs.Common.{◌≡◌, Err}
 use Rattle.std.proofs.lemmas.Result.{err_from_is_err_and}
 use Rattle.zvt_trace.proofs.BlockLemmas.{answered_failed}
 use Rattle.zvt_trace.proofs.traces.write_lines.Goals as goal
