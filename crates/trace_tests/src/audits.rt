@@ -3,10 +3,10 @@ use std::alloc::Global;
 use std::process::Abort;
 use std::test::Fail;
 use zvt_io::{Failed, GhostCount, Over, Sink, Source};
-use zvt_trace::{Tally, ToolFault, What, audit};
+use zvt_trace::{Tally, TraceFault, What, audit};
 
 /// What `audit` writes of a trace.
-fn audited(alloc: Global, trace: &str) -> (Result<Tally, ToolFault>, Vec<u8>) {
+fn audited(alloc: Global, trace: &str) -> (Result<Tally, TraceFault>, Vec<u8>) {
     let mut reader = Over::new(trace.as_bytes());
     let mut writer = Over::new(Vec::new(alloc));
     let answer = audit(alloc, &mut reader, &mut writer);
@@ -16,7 +16,7 @@ fn audited(alloc: Global, trace: &str) -> (Result<Tally, ToolFault>, Vec<u8>) {
 /// The answer and the text that are found of a trace are these.
 fn agrees(
     rt: &impl Abort,
-    found: (Result<Tally, ToolFault>, Vec<u8>),
+    found: (Result<Tally, TraceFault>, Vec<u8>),
     text: &str,
     tally: Tally,
 ) -> Result<(), Fail> {
@@ -113,7 +113,7 @@ const PAY: &str = "> 06 01 07 04 00 00 00 00 12 34\n";
 const DONE: &str = "< 04 0F 10 27 00 04 00 00 00 00 12 34 0B 00 00 17 87 00 05\n< 06 0F 00\n";
 
 /// What `audit` writes of a payment with these lines between its order and its approval.
-fn paid(alloc: Global, between: &str) -> Result<(Result<Tally, ToolFault>, Vec<u8>), Fail> {
+fn paid(alloc: Global, between: &str) -> Result<(Result<Tally, TraceFault>, Vec<u8>), Fail> {
     let trace = format!(in alloc; "{PAY}{between}{DONE}")?;
     Ok(audited(alloc, trace.as_str()))
 }
@@ -190,7 +190,7 @@ fn nothing_is_written_of_a_trace_with_a_fault(rt: HostRuntime) {
     for (trace, at, wrong) in cases {
         let (answer, written) = audited(rt.alloc(), trace);
         assert_eq!(rt; written.len(), 0, "{trace}");
-        let Err(ToolFault::Trace { line, what }) = answer else {
+        let Err(TraceFault::Trace { line, what }) = answer else {
             assert!(rt; false, "{trace}");
             return;
         };
@@ -255,7 +255,7 @@ fn a_read_that_fails_is_told(rt: HostRuntime) {
     };
     let mut writer = Over::new(Vec::new(rt.alloc()));
     let answer = audit(rt.alloc(), &mut mute, &mut writer);
-    assert!(rt; matches!(answer, Err(ToolFault::Read)));
+    assert!(rt; matches!(answer, Err(TraceFault::Read)));
     assert_eq!(rt; writer.inner.len(), 0);
 }
 
@@ -269,7 +269,7 @@ fn the_books_are_written_once(rt: HostRuntime) {
             failures: GhostCount::zero(),
         };
         let answer = audit(rt.alloc(), &mut reader, &mut writer);
-        assert_eq!(rt; matches!(answer, Err(ToolFault::Write)), full);
+        assert_eq!(rt; matches!(answer, Err(TraceFault::Write)), full);
         assert_eq!(rt; answer.is_ok(), !full);
         assert_eq!(rt; writer.writes, 1, "{full}");
     }

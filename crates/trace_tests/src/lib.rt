@@ -8,6 +8,8 @@ mod command_lines;
 #[cfg(test)]
 mod example;
 #[cfg(test)]
+mod run_faults;
+#[cfg(test)]
 mod run_words;
 #[cfg(test)]
 mod runs;

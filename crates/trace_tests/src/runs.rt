@@ -5,13 +5,12 @@ use std::net::TcpListener;
 use std::test::Fail;
 use zvt_io::{Over, Sink, Source};
 use zvt_run::{
-    BothEnds, End, Ends, Recorded, TillSettings, Way, config_of, currency_of, password_of, plan,
+    BothEnds, End, EndFault, Ends, Recorded, TillSettings, Way, config_of, currency_of, password_of, plan,
     run_both_ends, run_loop, run_terminal, run_till, run_till_end, serve,
 };
 use zvt_spelling::Why;
 use zvt_stream::{LineFault, Stream};
 use zvt_term::{Served, Terminal, Verdict};
-use zvt_trace::ToolFault;
 
 const USUAL: &str = r#"register -> registered
 pay:1000 -> paid trace 000001 receipt 0001
@@ -61,7 +60,7 @@ fn both_ends_run(rt: HostRuntime) -> Result<(), Fail> {
 fn registers_and_pays(
     alloc: Global,
     coming: &[u8],
-) -> Result<(Result<(), ToolFault>, Vec<u8>), ToolFault> {
+) -> Result<(Result<(), EndFault>, Vec<u8>), EndFault> {
     let plan = plan(alloc, Ends::Till, ["register", "pay:1000"].as_slice())?;
     let mut line = End {
         reader: Over::new(coming),
@@ -103,7 +102,7 @@ fn terminals_that_break_the_line(rt: HostRuntime) -> Result<(), Fail> {
         ),
     ] {
         let (ended, written) = registers_and_pays(rt.alloc(), coming)?;
-        assert!(rt; matches!(&ended, Err(ToolFault::Line(found)) if *found == fault));
+        assert!(rt; matches!(&ended, Err(EndFault::Line(found)) if *found == fault));
         assert_eq!(rt; written.as_slice(), text.as_bytes());
     }
     Ok(())
@@ -127,7 +126,7 @@ impl Write for Full {
 fn a_text_that_cannot_be_written(rt: HostRuntime) -> Result<(), Fail> {
     let mut writer = Over::new(Full);
     let ended = run_loop(&rt, rt.alloc(), ["close"].as_slice(), None, &mut writer);
-    assert!(rt; matches!(ended, Err(ToolFault::Write)));
+    assert!(rt; matches!(ended, Err(EndFault::Write)));
     Ok(())
 }
 
@@ -170,7 +169,7 @@ fn ends_that_never_rest(rt: HostRuntime) -> Result<(), Fail> {
         plan.as_slice(),
         &mut writer,
     );
-    assert!(rt; matches!(ended, Err(ToolFault::Line(LineFault::Turns))));
+    assert!(rt; matches!(ended, Err(EndFault::Line(LineFault::Turns))));
     assert_eq!(rt;
         writer.inner.as_slice(),
         b"register -> unclear Line\ntotal 0\n".as_slice()
@@ -181,7 +180,7 @@ fn ends_that_never_rest(rt: HostRuntime) -> Result<(), Fail> {
 }
 
 /// What a terminal of the number 87654321, which declines with 6C, writes where these bytes come, and how it ends.
-fn serves(alloc: Global, coming: &[u8]) -> (Result<(), ToolFault>, Vec<u8>) {
+fn serves(alloc: Global, coming: &[u8]) -> (Result<(), EndFault>, Vec<u8>) {
     let mut end = End {
         reader: Over::new(coming),
         writer: Over::new(Vec::new(alloc)),
@@ -210,13 +209,13 @@ fn a_terminal_serves_its_line(rt: HostRuntime) -> Result<(), Fail> {
     assert!(rt; ended.is_ok());
     assert_eq!(rt; written.as_slice(), answers.as_slice());
     let (ended, _) = serves(rt.alloc(), [0x06, 0x01, 0x0A, 0x04].as_slice());
-    assert!(rt; matches!(ended, Err(ToolFault::Line(LineFault::Ended { have: 4 }))));
+    assert!(rt; matches!(ended, Err(EndFault::Line(LineFault::Ended { have: 4 }))));
     let (ended, _) = serves(rt.alloc(), [0x06, 0x01, 0x02, 0xD0].as_slice());
     let fault = LineFault::Malformed {
         place: 3,
         why: Why::UnknownField,
     };
-    assert!(rt; matches!(&ended, Err(ToolFault::Line(found)) if *found == fault));
+    assert!(rt; matches!(&ended, Err(EndFault::Line(found)) if *found == fault));
     Ok(())
 }
 
@@ -228,7 +227,7 @@ fn no_till_connects(rt: HostRuntime) -> Result<(), Fail> {
     let host = "127.0.0.1";
     let verdict = Verdict::Approve;
     let ended = run_terminal(&rt, rt.alloc(), host, port, 1, verdict, None, &mut tell);
-    assert!(rt; matches!(ended, Err(ToolFault::Net)));
+    assert!(rt; matches!(ended, Err(EndFault::Net)));
     assert!(rt; tell.inner.is_empty());
     Ok(())
 }
@@ -245,7 +244,7 @@ fn till_at(
     port: u16,
     steps: &[&str],
     writer: &mut Over<Vec<u8>>,
-) -> Result<(), ToolFault> {
+) -> Result<(), EndFault> {
     let settings = TillSettings::usual();
     run_till(
         rt,
@@ -264,7 +263,7 @@ fn no_terminal_listens(rt: HostRuntime) -> Result<(), Fail> {
     let port = closed_port(&rt)?;
     let mut writer = Over::new(Vec::new(rt.alloc()));
     let ended = till_at(&rt, port, &[], &mut writer);
-    assert!(rt; matches!(ended, Err(ToolFault::Net)));
+    assert!(rt; matches!(ended, Err(EndFault::Net)));
     assert!(rt; writer.inner.is_empty());
     Ok(())
 }
@@ -275,9 +274,9 @@ fn wrong_words_are_told_first(rt: HostRuntime) -> Result<(), Fail> {
     let mut writer = Over::new(Vec::new(rt.alloc()));
     let words = ["register", "decline:1:6C"];
     let ended = till_at(&rt, port, &words, &mut writer);
-    assert!(rt; matches!(ended, Err(ToolFault::BadStep { at: 1 })));
+    assert!(rt; matches!(ended, Err(EndFault::BadStep { at: 1 })));
     let ended = run_loop(&rt, rt.alloc(), &["pay:0"], None, &mut writer);
-    assert!(rt; matches!(ended, Err(ToolFault::BadStep { at: 0 })));
+    assert!(rt; matches!(ended, Err(EndFault::BadStep { at: 0 })));
     assert!(rt; writer.inner.is_empty());
     Ok(())
 }
@@ -287,7 +286,7 @@ fn registers_recorded(
     alloc: Global,
     settings: &TillSettings,
     coming: &[u8],
-) -> Result<(Result<(), ToolFault>, Vec<u8>, Vec<u8>), ToolFault> {
+) -> Result<(Result<(), EndFault>, Vec<u8>, Vec<u8>), EndFault> {
     let plan = plan(alloc, Ends::Till, ["register"].as_slice())?;
     let sent = Over::new(Vec::new(alloc));
     let reads = Over::new(Vec::new(alloc));

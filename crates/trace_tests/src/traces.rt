@@ -3,15 +3,13 @@ use std::alloc::Global;
 use std::process::Abort;
 use std::test::Fail;
 use zvt_io::{Failed, GhostCount, Over, Sink, Source};
-use zvt_spelling::Why;
-use zvt_stream::LineFault;
-use zvt_trace::{Tally, ToolFault, What, join, receipts, show};
+use zvt_trace::{Tally, TraceFault, What, join, receipts, show};
 
 /// A trace, what is written of it, how many messages it has, and how many bad streams.
 type Case<'a> = (&'a str, &'a str, u64, u64);
 
 /// What `show` writes of a trace.
-fn shown(alloc: Global, trace: &str) -> (Result<Tally, ToolFault>, Vec<u8>) {
+fn shown(alloc: Global, trace: &str) -> (Result<Tally, TraceFault>, Vec<u8>) {
     let mut reader = Over::new(trace.as_bytes());
     let mut writer = Over::new(Vec::new(alloc));
     let answer = show(alloc, &mut reader, &mut writer);
@@ -19,7 +17,7 @@ fn shown(alloc: Global, trace: &str) -> (Result<Tally, ToolFault>, Vec<u8>) {
 }
 
 /// What `join` writes of a trace.
-fn joined(alloc: Global, trace: &str) -> (Result<Tally, ToolFault>, Vec<u8>) {
+fn joined(alloc: Global, trace: &str) -> (Result<Tally, TraceFault>, Vec<u8>) {
     let mut reader = Over::new(trace.as_bytes());
     let mut writer = Over::new(Vec::new(alloc));
     let answer = join(alloc, &mut reader, &mut writer);
@@ -27,7 +25,7 @@ fn joined(alloc: Global, trace: &str) -> (Result<Tally, ToolFault>, Vec<u8>) {
 }
 
 /// What `receipts` writes of a trace.
-fn printed(alloc: Global, trace: &str) -> (Result<Tally, ToolFault>, Vec<u8>) {
+fn printed(alloc: Global, trace: &str) -> (Result<Tally, TraceFault>, Vec<u8>) {
     let mut reader = Over::new(trace.as_bytes());
     let mut writer = Over::new(Vec::new(alloc));
     let answer = receipts(alloc, &mut reader, &mut writer);
@@ -37,7 +35,7 @@ fn printed(alloc: Global, trace: &str) -> (Result<Tally, ToolFault>, Vec<u8>) {
 /// The answer and the text are those of the case.
 fn agrees(
     rt: &impl Abort,
-    found: (Result<Tally, ToolFault>, Vec<u8>),
+    found: (Result<Tally, TraceFault>, Vec<u8>),
     case: Case,
 ) -> Result<(), Fail> {
     let (answer, written) = found;
@@ -214,7 +212,7 @@ fn faults_name_their_line(rt: HostRuntime) {
     for (trace, at, wrong, text) in cases {
         let (answer, written) = shown(rt.alloc(), trace);
         assert_eq!(rt; written.as_slice(), text.as_bytes(), "{trace}");
-        let Err(ToolFault::Trace { line, what }) = answer else {
+        let Err(TraceFault::Trace { line, what }) = answer else {
             assert!(rt; false, "{trace}");
             return;
         };
@@ -224,7 +222,7 @@ fn faults_name_their_line(rt: HostRuntime) {
 }
 
 /// The fault has the text beside it.
-fn says(rt: &impl Abort, alloc: Global, fault: &ToolFault, wanted: &str) -> Result<(), Fail> {
+fn says(rt: &impl Abort, alloc: Global, fault: &TraceFault, wanted: &str) -> Result<(), Fail> {
     let text = fault.to_string(alloc)?;
     assert_eq!(rt; text.as_str(), wanted);
     Ok(())
@@ -232,11 +230,11 @@ fn says(rt: &impl Abort, alloc: Global, fault: &ToolFault, wanted: &str) -> Resu
 
 #[test]
 fn faults_say_where_and_what_to_do(rt: HostRuntime) -> Result<(), Fail> {
-    let form = ToolFault::Trace {
+    let form = TraceFault::Trace {
         line: 1,
         what: What::Form,
     };
-    let hex = ToolFault::Trace {
+    let hex = TraceFault::Trace {
         line: 2,
         what: What::Hex,
     };
@@ -250,71 +248,24 @@ fn faults_say_where_and_what_to_do(rt: HostRuntime) -> Result<(), Fail> {
             "line 2 of the trace: after '>' or '<' stand two hexadecimal digits for each byte, and spaces",
         ),
         (
-            &ToolFault::TooLong,
+            &TraceFault::TooLong,
             "the trace has more than 16777216 bytes: cut it at a line, and give the parts one by one",
         ),
         (
-            &ToolFault::Read,
+            &TraceFault::Read,
             "the trace can't be read to its end: see where standard input comes from",
         ),
         (
-            &ToolFault::Write,
+            &TraceFault::Write,
             "the text can't be written: see where standard output goes, and whether there is room",
         ),
         (
-            &ToolFault::Memory,
+            &TraceFault::Memory,
             "there is too little memory: cut a trace at a line, and give the parts one by one",
-        ),
-        (
-            &ToolFault::BadStep { at: 3 },
-            "word 3, counted from 0, is no step: the steps are 'register', 'pay:N', 'reverse:N', 'close' and, where both ends run, 'decline:N:XX'",
-        ),
-        (
-            &ToolFault::Net,
-            "there is no connection: see whether the other end listens at that host and port, and whether the port is free where one is to be opened",
         ),
     ];
     for (fault, wanted) in rows {
         says(&rt, rt.alloc(), fault, wanted)?;
-    }
-    Ok(())
-}
-
-#[test]
-fn broken_lines_say_how_they_broke(rt: HostRuntime) -> Result<(), Fail> {
-    let malformed = LineFault::Malformed {
-        place: 3,
-        why: Why::DoesNotFit,
-    };
-    let rows = [
-        (
-            LineFault::Read,
-            "the line broke: a read failed, or nothing came in time",
-        ),
-        (LineFault::Write, "the line broke: a write failed"),
-        (
-            LineFault::Ended { have: 4 },
-            "the line broke: the other end closed it, 4 bytes into a message",
-        ),
-        (
-            LineFault::Turns,
-            "the line broke: the other end goes on without an end",
-        ),
-        (
-            malformed,
-            "the line broke: the other end sent bytes that begin no message, refused at 3: DoesNotFit",
-        ),
-        (
-            LineFault::Memory,
-            "the line broke: there was too little memory",
-        ),
-        (
-            LineFault::Stopped,
-            "the line broke: it had brought bytes before that begin no message",
-        ),
-    ];
-    for (fault, wanted) in rows {
-        says(&rt, rt.alloc(), &ToolFault::Line(fault), wanted)?;
     }
     Ok(())
 }
@@ -351,7 +302,7 @@ impl Source for Remark {
 }
 
 /// What a remark of so many bytes comes to, and how much is written.
-fn remarked(alloc: Global, bytes_left: usize, breaks: bool) -> (Option<ToolFault>, usize) {
+fn remarked(alloc: Global, bytes_left: usize, breaks: bool) -> (Option<TraceFault>, usize) {
     let mut reader = Remark {
         bytes_left,
         breaks,
@@ -368,13 +319,13 @@ fn traces_have_a_limit(rt: HostRuntime) {
     let longest = remarked(rt.alloc(), 16_777_216, false);
     assert!(rt; matches!(longest, (None, 0)));
     let longer = remarked(rt.alloc(), 16_777_217, false);
-    assert!(rt; matches!(longer, (Some(ToolFault::TooLong), 0)));
+    assert!(rt; matches!(longer, (Some(TraceFault::TooLong), 0)));
 }
 
 #[test]
 fn a_read_that_fails_is_told(rt: HostRuntime) {
     let broken = remarked(rt.alloc(), 5, true);
-    assert!(rt; matches!(broken, (Some(ToolFault::Read), 0)));
+    assert!(rt; matches!(broken, (Some(TraceFault::Read), 0)));
 }
 
 /// Takes so many writes, and then fails.
@@ -414,7 +365,7 @@ fn a_write_that_fails_is_told(rt: HostRuntime) -> Result<(), Fail> {
             failures: GhostCount::zero(),
         };
         let answer = show(rt.alloc(), &mut reader, &mut writer);
-        assert!(rt; matches!(answer, Err(ToolFault::Write)), "{writes_left}");
+        assert!(rt; matches!(answer, Err(TraceFault::Write)), "{writes_left}");
     }
     Ok(())
 }

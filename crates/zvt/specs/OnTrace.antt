@@ -6,7 +6,7 @@ use Rattle.zvt_trace.specs.Audited.{AnswersAudit}
 use Rattle.zvt_trace.specs.Lines.{mark_of}
 use Rattle.zvt_trace.specs.Written.{AnswersTrace}
 use Rattle.zvt_trace.specs.declared.fault.Tally.{Tally}
-use Rattle.zvt_trace.specs.declared.fault.ToolFault.{ToolFault}
+use Rattle.zvt_trace.specs.declared.fault.TraceFault.{TraceFault}
 
 -- the command reads a trace
 abbrev pub IsOnTrace : Choice → Type 0
@@ -19,12 +19,12 @@ IsOnTrace (Till port host password config currency trace steps) = ⊥
 IsOnTrace (Terminal port host tid decline trace) = ⊥
 
 -- what is answered and written in the style that marks its faults so
-abbrev pub AnswersMarked : Option (List ℕ) → (trace : List ℕ) → (old new : Option (List ℕ)) → Result Tally ToolFault → Type 0
+abbrev pub AnswersMarked : Option (List ℕ) → (trace : List ℕ) → (old new : Option (List ℕ)) → Result Tally TraceFault → Type 0
 AnswersMarked mark trace old new result = (style : _) × (mark_of style ≡ mark) × AnswersTrace style trace old new result
 
 -- What the command answers for a trace of known bytes. Of the three styles `show` writes its faults as they are, `join`
 -- as remarks, and `receipts` none.
-abbrev pub AnswersOnTrace : Choice → (trace : List ℕ) → (old new : Option (List ℕ)) → Result Tally ToolFault → Type 0
+abbrev pub AnswersOnTrace : Choice → (trace : List ℕ) → (old new : Option (List ℕ)) → Result Tally TraceFault → Type 0
 AnswersOnTrace Show trace old new result = AnswersMarked (Some []) trace old new result
 AnswersOnTrace Join trace old new result = AnswersMarked (Some (codes "# ")) trace old new result
 AnswersOnTrace Receipts trace old new result = AnswersMarked None trace old new result

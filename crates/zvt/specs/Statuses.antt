@@ -3,8 +3,10 @@ use Rattle.std.specs.Prelude.{ℕ, zero, suc, Result, Ok, Err}
 use Rattle.zvt_stream.specs.declared.line.LineFault.{LineFault}
 use Rattle.zvt_stream.specs.declared.line.LineFault.TheVariants.{Read as ReadBroke, Write as WriteBroke, Ended, Turns, Malformed, Memory as NoMemory, Stopped}
 use Rattle.zvt_trace.specs.declared.fault.Tally.{Tally}
-use Rattle.zvt_trace.specs.declared.fault.ToolFault.{ToolFault}
-use Rattle.zvt_trace.specs.declared.fault.ToolFault.TheVariants.{BadStep, Line, Memory, Net, Read, TooLong, Trace, Write}
+use Rattle.zvt_trace.specs.declared.fault.TraceFault.{TraceFault}
+use Rattle.zvt_trace.specs.declared.fault.TraceFault.TheVariants as on_trace
+use Rattle.zvt_run.specs.declared.fault.EndFault.{EndFault}
+use Rattle.zvt_run.specs.declared.fault.EndFault.TheVariants as at_end
 
 -- 1 where a stream of the trace was refused or cut off
 abbrev pub status_of_bad : ℕ → ℕ
@@ -21,23 +23,28 @@ status_of_line Turns = 4
 status_of_line (Malformed place why) = 4
 status_of_line Stopped = 4
 
--- a wrong word is 2, what is no trace 3, a device, a line or a connection that failed 4, want of memory 5
-abbrev pub status_of_fault : ToolFault → ℕ
-status_of_fault (BadStep at) = 2
-status_of_fault (Trace line what) = 3
-status_of_fault TooLong = 3
-status_of_fault Read = 4
-status_of_fault Write = 4
-status_of_fault Net = 4
-status_of_fault (Line fault) = status_of_line fault
-status_of_fault Memory = 5
+-- what is no trace is 3, a device that failed 4, want of memory 5
+abbrev pub status_of_trace_fault : TraceFault → ℕ
+status_of_trace_fault (on_trace.Trace line what) = 3
+status_of_trace_fault on_trace.TooLong = 3
+status_of_trace_fault on_trace.Read = 4
+status_of_trace_fault on_trace.Write = 4
+status_of_trace_fault on_trace.Memory = 5
+
+-- a wrong word is 2, a device, a line or a connection that failed 4, want of memory 5
+abbrev pub status_of_end_fault : EndFault → ℕ
+status_of_end_fault (at_end.BadStep at) = 2
+status_of_end_fault at_end.Net = 4
+status_of_end_fault (at_end.Line fault) = status_of_line fault
+status_of_end_fault at_end.Write = 4
+status_of_end_fault at_end.Memory = 5
 
 -- of a command on a trace
-abbrev pub status_of_tally : Result Tally ToolFault → ℕ
+abbrev pub status_of_tally : Result Tally TraceFault → ℕ
 status_of_tally (Ok tally) = status_of_bad tally.bad
-status_of_tally (Err fault) = status_of_fault fault
+status_of_tally (Err fault) = status_of_trace_fault fault
 
 -- of a run
-abbrev pub status_of_run : Result Unit ToolFault → ℕ
+abbrev pub status_of_run : Result Unit EndFault → ℕ
 status_of_run (Ok done) = 0
-status_of_run (Err fault) = status_of_fault fault
+status_of_run (Err fault) = status_of_end_fault fault

@@ -19,7 +19,7 @@ use std::process::ExitCode;
 use std::{env, io};
 use zvt_io::Over;
 use zvt_tool::words::choice;
-use zvt_tool::{Choice, ChoiceFault, Tally, ToolFault};
+use zvt_tool::{Choice, ChoiceFault, EndFault, Tally, ToolFault, TraceFault};
 
 fn main(rt: HostRuntime) -> ExitCode {
     match run(&rt) {
@@ -94,34 +94,40 @@ fn execute(rt: &HostRuntime, chosen: &Choice<'_>) -> io::Result<u8>
 }
 
 /// The exit status of a command on a trace. A fault is said.
-fn finish_trace(rt: &HostRuntime, answer: Result<Tally, ToolFault>) -> io::Result<u8>
+fn finish_trace(rt: &HostRuntime, answer: Result<Tally, TraceFault>) -> io::Result<u8>
     ensures { IfOk result (λ status. status ≡ status_of_tally answer) }
 {
     let status = statuses::of_tally(&answer);
-    if let Err(fault) = &answer {
-        eprintln!(rt; "zvt: {fault}")?;
+    if let Err(fault) = answer {
+        say(rt, None, &ToolFault::from(fault))?;
     }
     Ok(status)
 }
 
 /// The exit status of a run of these steps. A fault is said, with the word that is no step.
-fn finish_run(rt: &HostRuntime, steps: &[&str], answer: Result<(), ToolFault>) -> io::Result<u8>
+fn finish_run(rt: &HostRuntime, steps: &[&str], answer: Result<(), EndFault>) -> io::Result<u8>
     ensures { IfOk result (λ status. status ≡ status_of_run answer) }
 {
     let status = statuses::of_run(&answer);
-    if let Err(fault) = &answer {
-        match word_of(fault, steps) {
-            Some(word) => eprintln!(rt; "zvt: '{word}': {fault}")?,
-            None => eprintln!(rt; "zvt: {fault}")?,
-        }
+    if let Err(fault) = answer {
+        let word = word_of(&fault, steps);
+        say(rt, word, &ToolFault::from(fault))?;
     }
     Ok(status)
 }
 
+/// Says the fault, and the word that it is about.
+fn say(rt: &HostRuntime, word: Option<&str>, fault: &ToolFault) -> io::Result<()> {
+    match word {
+        Some(word) => eprintln!(rt; "zvt: '{word}': {fault}"),
+        None => eprintln!(rt; "zvt: {fault}"),
+    }
+}
+
 /// The word that the fault is about, if it is about one.
-fn word_of<'a>(fault: &ToolFault, steps: &[&'a str]) -> Option<&'a str> {
+fn word_of<'a>(fault: &EndFault, steps: &[&'a str]) -> Option<&'a str> {
     match fault {
-        ToolFault::BadStep { at } => steps.get(*at).copied(),
+        EndFault::BadStep { at } => steps.get(*at).copied(),
         _ => None,
     }
 }

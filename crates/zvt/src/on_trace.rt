@@ -4,7 +4,7 @@ ghost use Rattle.zvt.specs.OnTrace.{AnswersOnTrace, IsOnTrace};
 
 use std::alloc::Global;
 use zvt_io::{Sink, Source};
-use zvt_tool::{Choice, Tally, ToolFault};
+use zvt_tool::{Choice, Tally, TraceFault};
 
 /// Does what was chosen with the trace that the reader brings, and writes what comes of it.
 pub fn work_on_trace<R: Source, W: Sink>(
@@ -12,11 +12,11 @@ pub fn work_on_trace<R: Source, W: Sink>(
     chosen: &Choice<'_>,
     reader: &mut R,
     writer: &mut W,
-) -> Result<Tally, ToolFault>
+) -> Result<Tally, TraceFault>
     requires { IsOnTrace chosen.now }
     ensures writes { IfSome (R.remaining reader.old) (λ trace. AnswersOnTrace chosen.now trace (W.written writer.old) (W.written writer.new) result) }
-    ensures read { result ≡ Err ToolFault.Read → R.failures reader.old < R.failures reader.new }
-    ensures write { result ≡ Err ToolFault.Write → W.failures writer.old < W.failures writer.new }
+    ensures read { result ≡ Err TraceFault.Read → R.failures reader.old < R.failures reader.new }
+    ensures write { result ≡ Err TraceFault.Write → W.failures writer.old < W.failures writer.new }
 {
     match chosen {
         Choice::Show => zvt_tool::show(alloc, reader, writer),

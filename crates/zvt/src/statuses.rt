@@ -1,9 +1,9 @@
 //! The exit statuses.
 ghost use Rattle.std.specs.Prelude.{◌≡◌};
-ghost use Rattle.zvt.specs.Statuses.{status_of_bad, status_of_fault, status_of_run, status_of_tally};
+ghost use Rattle.zvt.specs.Statuses.{status_of_bad, status_of_end_fault, status_of_run, status_of_tally, status_of_trace_fault};
 
 use zvt_stream::LineFault;
-use zvt_tool::{Tally, ToolFault};
+use zvt_tool::{EndFault, Tally, TraceFault};
 
 /// All was done, or help was asked for.
 pub const DONE: u8 = 0;
@@ -24,22 +24,22 @@ pub const DEVICE: u8 = 4;
 pub const MEMORY: u8 = 5;
 
 /// The status of a command on a trace.
-pub fn of_tally(answer: &Result<Tally, ToolFault>) -> u8
+pub fn of_tally(answer: &Result<Tally, TraceFault>) -> u8
     ensures { result ≡ status_of_tally answer.now }
 {
     match answer {
         Ok(tally) => of_bad(tally.bad),
-        Err(fault) => of_fault(fault),
+        Err(fault) => of_trace_fault(fault),
     }
 }
 
 /// The status of a run.
-pub fn of_run(answer: &Result<(), ToolFault>) -> u8
+pub fn of_run(answer: &Result<(), EndFault>) -> u8
     ensures { result ≡ status_of_run answer.now }
 {
     match answer {
         Ok(()) => DONE,
-        Err(fault) => of_fault(fault),
+        Err(fault) => of_end_fault(fault),
     }
 }
 
@@ -50,15 +50,25 @@ fn of_bad(bad: u64) -> u8
     if bad == 0 { DONE } else { BAD }
 }
 
-/// The status of a fault.
-fn of_fault(fault: &ToolFault) -> u8
-    ensures { result ≡ status_of_fault fault.now }
+/// The status of a command on a trace that ended early.
+fn of_trace_fault(fault: &TraceFault) -> u8
+    ensures { result ≡ status_of_trace_fault fault.now }
 {
     match fault {
-        ToolFault::BadStep { .. } => WORDS,
-        ToolFault::Trace { .. } | ToolFault::TooLong => TRACE,
-        ToolFault::Read | ToolFault::Write | ToolFault::Net => DEVICE,
-        ToolFault::Line(LineFault::Memory) | ToolFault::Memory => MEMORY,
-        ToolFault::Line(_) => DEVICE,
+        TraceFault::Trace { .. } | TraceFault::TooLong => TRACE,
+        TraceFault::Read | TraceFault::Write => DEVICE,
+        TraceFault::Memory => MEMORY,
+    }
+}
+
+/// The status of a run that ended early.
+fn of_end_fault(fault: &EndFault) -> u8
+    ensures { result ≡ status_of_end_fault fault.now }
+{
+    match fault {
+        EndFault::BadStep { .. } => WORDS,
+        EndFault::Net | EndFault::Write => DEVICE,
+        EndFault::Line(LineFault::Memory) | EndFault::Memory => MEMORY,
+        EndFault::Line(_) => DEVICE,
     }
 }

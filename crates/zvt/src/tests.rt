@@ -5,7 +5,7 @@ use crate::on_trace::work_on_trace;
 use crate::{statuses, word_of};
 use std::alloc::Global;
 use zvt_io::Over;
-use zvt_tool::{Choice, ToolFault};
+use zvt_tool::{Choice, EndFault};
 
 /// A payment that was approved, whose receipt has a line, and a byte that no message of the terminal can go on with.
 const PAYMENT: &str = "> 06 01 0A 04 00 00 00 00 12 34 49 09 78
@@ -66,7 +66,7 @@ fn each_command_reads_a_trace(rt: HostRuntime) {
 #[test]
 fn a_wrong_step_is_named(rt: HostRuntime) {
     let steps = ["register", "pay:0"];
-    let fault = ToolFault::BadStep { at: 1 };
+    let fault = EndFault::BadStep { at: 1 };
     assert_eq!(rt; word_of(&fault, steps.as_slice()), Some("pay:0"));
-    assert_eq!(rt; word_of(&ToolFault::Net, steps.as_slice()), None);
+    assert_eq!(rt; word_of(&EndFault::Net, steps.as_slice()), None);
 }

@@ -4,8 +4,8 @@ use Rattle.zvt_stream.specs.declared.line.LineFault.{LineFault}
 use Rattle.zvt_till.specs.Sending.{Settings}
 use Rattle.zvt_till.specs.Till.{new_till, step}
 use Rattle.zvt_till.specs.declared.happenings.Happening.TheVariants.{Connected}
-use Rattle.zvt_trace.specs.declared.fault.ToolFault.{ToolFault}
-use Rattle.zvt_trace.specs.declared.fault.ToolFault.TheVariants.{BadStep, Line as LineBroke, Memory, Net, Read, TooLong, Trace, Write}
+use Rattle.zvt_run.specs.declared.fault.EndFault.{EndFault}
+use Rattle.zvt_run.specs.declared.fault.EndFault.TheVariants.{BadStep, Line as LineBroke, Memory, Net, Write}
 use Rattle.zvt_run.specs.declared.plans.Planned.{Planned}
 use Rattle.zvt_run.specs.Runs.{Answers, EndsEarly, Law, MakesAll, MakesTo, Standing, standing}
 use Rattle.zvt_run.specs.OverTcp.{RunsPlan}
@@ -75,7 +75,7 @@ early_seen seen law Part plan before after old new (inr t) = inr (record {
   partly = t.partly;
 })
 
-answers_seen : {L S : Type 0} (seen : L → S) (law : Law S) (plan : List Planned) (before after : Standing L) (old new : Option (List ℕ)) (result : Result Unit ToolFault)
+answers_seen : {L S : Type 0} (seen : L → S) (law : Law S) (plan : List Planned) (before after : Standing L) (old new : Option (List ℕ)) (result : Result Unit EndFault)
     → Answers (by seen law) plan before after old new result → Answers law plan (as_seen seen before) (as_seen seen after) old new result
 answers_seen seen law plan before after old new (Ok done) run = record { said = run.said; made = to_seen seen law plan None before after run.said run.made; appended = run.appended }
 answers_seen seen law plan before after old new (Err (LineBroke fault)) run = record { said = run.said; made = to_seen seen law plan (Some fault) before after run.said run.made; appended = run.appended }
@@ -83,14 +83,11 @@ answers_seen seen law plan before after old new (Err Write) run = early_seen see
 answers_seen seen law plan before after old new (Err Memory) run = early_seen seen law _ plan before after old new run
 answers_seen seen law plan before after old new (Err (BadStep at)) run = absurd run
 answers_seen seen law plan before after old new (Err Net) run = absurd run
-answers_seen seen law plan before after old new (Err (Trace line what)) run = absurd run
-answers_seen seen law plan before after old new (Err TooLong) run = absurd run
-answers_seen seen law plan before after old new (Err Read) run = absurd run
 
 -- ---- a run
 
 -- a new till that was connected made the steps
-pub ran : {L S : Type 0} (seen : L → S) (law : Law S) (begins : S → Type 0) (settings : Settings) (plan : List Planned) (before after : Standing L) (old new : Option (List ℕ)) (result : Result Unit ToolFault)
+pub ran : {L S : Type 0} (seen : L → S) (law : Law S) (begins : S → Type 0) (settings : Settings) (plan : List Planned) (before after : Standing L) (old new : Option (List ℕ)) (result : Result Unit EndFault)
     → begins (seen before.line) → before.till.state ≡ step (new_till settings) Connected
     → Answers (by seen law) plan before after old new result → RunsPlan law begins settings plan old new result
 ran seen law begins settings plan before after old new result begun connected run = record {

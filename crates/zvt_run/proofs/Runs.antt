@@ -13,8 +13,8 @@ use Rattle.zvt_till.specs.Marks.{total}
 use Rattle.zvt_till.specs.declared.line.RunFault.{RunFault}
 use Rattle.zvt_till.specs.declared.line.RunFault.TheVariants.{Order, Line}
 use Rattle.zvt_till.specs.declared.outcomes.Outcome.{Outcome}
-use Rattle.zvt_trace.specs.declared.fault.ToolFault.{ToolFault}
-use Rattle.zvt_trace.specs.declared.fault.ToolFault.TheVariants.{BadStep, Line as LineBroke, Memory, Net, Read, TooLong, Trace, Write}
+use Rattle.zvt_run.specs.declared.fault.EndFault.{EndFault}
+use Rattle.zvt_run.specs.declared.fault.EndFault.TheVariants.{BadStep, Line as LineBroke, Memory, Net, Write}
 use Rattle.zvt_run.specs.declared.plans.Planned.{Planned}
 use Rattle.zvt_run.specs.Outcomes.{ending_text, step_text, total_text}
 use Rattle.zvt_run.specs.Runs.{Answers, AnswersStep, AnswersText, BreaksIn, EndsEarly, IsMissing, Law, Makes, MakesAll, MakesTo, PartlySaid, Ran, Said, Standing, WritesPart, fault_of}
@@ -121,30 +121,24 @@ stops_in_step makes Part plan i planned before middle after old now new below is
   partly = step.partly;
 })
 
-pub step_stops : {L : Type 0} (makes : Law L) (plan : List Planned) (i : ℕ) (planned : Planned) (before middle after : Standing L) (old now new : Option (List ℕ)) (fault : ToolFault)
+pub step_stops : {L : Type 0} (makes : Law L) (plan : List Planned) (i : ℕ) (planned : Planned) (before middle after : Standing L) (old now new : Option (List ℕ)) (fault : EndFault)
     → i < length plan → planned ≡ get_or plan i planned → SoFar makes (take i plan) before middle old now → AnswersStep makes planned middle after now new (Err fault) → Answers makes plan before after old new (Err fault)
 step_stops makes plan i planned before middle after old now new Write below is so step = stops_in_step makes IsFront plan i planned before middle after old now new below is so step
 step_stops makes plan i planned before middle after old now new Memory below is so step = stops_in_step makes IsMissing plan i planned before middle after old now new below is so step
 step_stops makes plan i planned before middle after old now new (LineBroke fault) below is so step = absurd step
-step_stops makes plan i planned before middle after old now new (Trace line what) below is so step = absurd step
-step_stops makes plan i planned before middle after old now new TooLong below is so step = absurd step
-step_stops makes plan i planned before middle after old now new Read below is so step = absurd step
 step_stops makes plan i planned before middle after old now new (BadStep at) below is so step = absurd step
 step_stops makes plan i planned before middle after old now new Net below is so step = absurd step
 
 -- the total
-stops_in_total : {L : Type 0} (makes : Law L) (plan : List Planned) (broken : Option LineFault) (said : List ℕ) (before after : Standing L) (old now new : Option (List ℕ)) (fault : ToolFault)
+stops_in_total : {L : Type 0} (makes : Law L) (plan : List Planned) (broken : Option LineFault) (said : List ℕ) (before after : Standing L) (old now new : Option (List ℕ)) (fault : EndFault)
     → MakesTo makes plan broken before after said → Appends old now said → AnswersText (total_text (total after.till.state.book)) now new (Err fault) → Answers makes plan before after old new (Err fault)
 stops_in_total makes plan broken said before after old now new Write made appended text = inr (record { broken = broken; said = said; between = now; made = made; appended = appended; partly = text })
 stops_in_total makes plan broken said before after old now new Memory made appended text = inr (record { broken = broken; said = said; between = now; made = made; appended = appended; partly = text })
 stops_in_total makes plan broken said before after old now new (LineBroke fault) made appended text = absurd text
-stops_in_total makes plan broken said before after old now new (Trace line what) made appended text = absurd text
-stops_in_total makes plan broken said before after old now new TooLong made appended text = absurd text
-stops_in_total makes plan broken said before after old now new Read made appended text = absurd text
 stops_in_total makes plan broken said before after old now new (BadStep at) made appended text = absurd text
 stops_in_total makes plan broken said before after old now new Net made appended text = absurd text
 
-pub broken_total_stops : {L : Type 0} (makes : Law L) (plan : List Planned) (i : ℕ) (planned : Planned) (broken : Option LineFault) (fault : LineFault) (before middle after : Standing L) (old now next new : Option (List ℕ)) (stop : ToolFault)
+pub broken_total_stops : {L : Type 0} (makes : Law L) (plan : List Planned) (i : ℕ) (planned : Planned) (broken : Option LineFault) (fault : LineFault) (before middle after : Standing L) (old now next new : Option (List ℕ)) (stop : EndFault)
     → i < length plan → planned ≡ get_or plan i planned → broken ≡ Some fault → SoFar makes (take i plan) before middle old now → AnswersStep makes planned middle after now next (Ok broken)
     → AnswersText (total_text (total after.till.state.book)) next new (Err stop) → Answers makes plan before after old new (Err stop)
 broken_total_stops makes plan i planned broken fault before middle after old now next new stop below is some so step text =
@@ -152,7 +146,7 @@ broken_total_stops makes plan i planned broken fault before middle after old now
     (Appends-trans old now next so.said step.text so.appended step.appended) text
 
 -- what the total behind all steps answers is what the run answers
-pub ended : {L : Type 0} (makes : Law L) (plan : List Planned) (before after : Standing L) (old now new : Option (List ℕ)) (result : Result Unit ToolFault)
+pub ended : {L : Type 0} (makes : Law L) (plan : List Planned) (before after : Standing L) (old now new : Option (List ℕ)) (result : Result Unit EndFault)
     → SoFar makes plan before after old now → AnswersText (total_text (total after.till.state.book)) now new result → Answers makes plan before after old new result
 ended makes plan before after old now new (Ok done) so text = record {
   said = so.said;

@@ -2,8 +2,8 @@
 use Rattle.std.specs.Prelude.{◌≡◌, ℕ, List, [], ◌∷◌, ◌++◌, codes, map, take, Some, None, Result, Ok, Err, slice_get, Vec}
 use Rattle.std.specs.String.{string_bytes}
 use Rattle.std.specs.Global.{Global}
-use Rattle.zvt_trace.specs.declared.fault.ToolFault.{ToolFault}
-use Rattle.zvt_trace.specs.declared.fault.ToolFault.TheVariants.{BadStep, Line, Memory, Net, Read, TooLong, Trace, Write}
+use Rattle.zvt_run.specs.declared.fault.EndFault.{EndFault}
+use Rattle.zvt_run.specs.declared.fault.EndFault.TheVariants.{BadStep, Line, Memory, Net, Write}
 use Rattle.zvt_run.specs.declared.plans.Planned.{Planned}
 use Rattle.zvt_run.specs.declared.words.Ends.{Ends}
 use Rattle.zvt_run.specs.declared.words.Ends.TheVariants.{Both, Till}
@@ -39,13 +39,10 @@ pub record StopsAt (ends : Ends) (words : List (List ℕ)) (at : ℕ) : Type 0 w
   pub there : slice_get words at ≡ Some word
   pub no_step : step_of ends word ≡ None
 
-abbrev pub PlansOrStops : Ends → List (List ℕ) → Result (Vec Planned Global) ToolFault → Type 0
+abbrev pub PlansOrStops : Ends → List (List ℕ) → Result (Vec Planned Global) EndFault → Type 0
 PlansOrStops ends words (Ok plan) = Plans ends words plan.items
 PlansOrStops ends words (Err (BadStep at)) = StopsAt ends words at
 PlansOrStops ends words (Err Memory) = Unit {0}
-PlansOrStops ends words (Err (Trace line what)) = ⊥
-PlansOrStops ends words (Err TooLong) = ⊥
-PlansOrStops ends words (Err Read) = ⊥
 PlansOrStops ends words (Err Write) = ⊥
 PlansOrStops ends words (Err (Line broken)) = ⊥
 PlansOrStops ends words (Err Net) = ⊥

@@ -9,8 +9,8 @@ use Rattle.zvt_till.specs.View.{TillValue}
 use Rattle.zvt_till.specs.declared.line.RunFault.{RunFault}
 use Rattle.zvt_till.specs.declared.line.RunFault.TheVariants.{Order, Line}
 use Rattle.zvt_till.specs.declared.outcomes.Outcome.{Outcome}
-use Rattle.zvt_trace.specs.declared.fault.ToolFault.{ToolFault}
-use Rattle.zvt_trace.specs.declared.fault.ToolFault.TheVariants.{BadStep, Line as LineBroke, Memory, Net, Read, TooLong, Trace, Write}
+use Rattle.zvt_run.specs.declared.fault.EndFault.{EndFault}
+use Rattle.zvt_run.specs.declared.fault.EndFault.TheVariants.{BadStep, Line as LineBroke, Memory, Net, Write}
 use Rattle.zvt_run.specs.declared.plans.Planned.{Planned}
 use Rattle.zvt_run.specs.declared.words.Step.{Step}
 use Rattle.zvt_run.specs.Outcomes.{ending_text, step_text, total_text}
@@ -111,14 +111,11 @@ EndsEarly makes Part plan before after old new = EndsInStep makes Part plan befo
 -- ---- what functions answer
 
 -- What a run answers.
-abbrev pub Answers : {L : Type 0} → Law L → List Planned → Standing L → Standing L → Option (List ℕ) → Option (List ℕ) → Result Unit ToolFault → Type 0
+abbrev pub Answers : {L : Type 0} → Law L → List Planned → Standing L → Standing L → Option (List ℕ) → Option (List ℕ) → Result Unit EndFault → Type 0
 Answers makes plan before after old new (Ok done) = Ran makes plan None before after old new
 Answers makes plan before after old new (Err (LineBroke fault)) = Ran makes plan (Some fault) before after old new
 Answers makes plan before after old new (Err Write) = EndsEarly makes IsFront plan before after old new
 Answers makes plan before after old new (Err Memory) = EndsEarly makes IsMissing plan before after old new
-Answers makes plan before after old new (Err (Trace line what)) = ⊥
-Answers makes plan before after old new (Err TooLong) = ⊥
-Answers makes plan before after old new (Err Read) = ⊥
 Answers makes plan before after old new (Err (BadStep at)) = ⊥
 Answers makes plan before after old new (Err Net) = ⊥
 
@@ -138,25 +135,19 @@ pub record PartlySaid {L : Type 0} (makes : Law L) (Part : List ℕ → List ℕ
   pub partly : WritesPart Part text old new
 
 -- What one step answers: how the line broke, if it did.
-abbrev pub AnswersStep : {L : Type 0} → Law L → Planned → Standing L → Standing L → Option (List ℕ) → Option (List ℕ) → Result (Option LineFault) ToolFault → Type 0
+abbrev pub AnswersStep : {L : Type 0} → Law L → Planned → Standing L → Standing L → Option (List ℕ) → Option (List ℕ) → Result (Option LineFault) EndFault → Type 0
 AnswersStep makes planned before after old new (Ok broken) = Said makes planned broken before after old new
 AnswersStep makes planned before after old new (Err Write) = PartlySaid makes IsFront planned before after old new
 AnswersStep makes planned before after old new (Err Memory) = PartlySaid makes IsMissing planned before after old new
 AnswersStep makes planned before after old new (Err (LineBroke fault)) = ⊥
-AnswersStep makes planned before after old new (Err (Trace line what)) = ⊥
-AnswersStep makes planned before after old new (Err TooLong) = ⊥
-AnswersStep makes planned before after old new (Err Read) = ⊥
 AnswersStep makes planned before after old new (Err (BadStep at)) = ⊥
 AnswersStep makes planned before after old new (Err Net) = ⊥
 
 -- What writing a text answers.
-abbrev pub AnswersText : List ℕ → Option (List ℕ) → Option (List ℕ) → Result Unit ToolFault → Type 0
+abbrev pub AnswersText : List ℕ → Option (List ℕ) → Option (List ℕ) → Result Unit EndFault → Type 0
 AnswersText text old new (Ok done) = Appends old new text
 AnswersText text old new (Err Write) = WritesPart IsFront text old new
 AnswersText text old new (Err Memory) = WritesPart IsMissing text old new
 AnswersText text old new (Err (LineBroke fault)) = ⊥
-AnswersText text old new (Err (Trace line what)) = ⊥
-AnswersText text old new (Err TooLong) = ⊥
-AnswersText text old new (Err Read) = ⊥
 AnswersText text old new (Err (BadStep at)) = ⊥
 AnswersText text old new (Err Net) = ⊥

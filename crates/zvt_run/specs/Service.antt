@@ -8,8 +8,8 @@ use Rattle.zvt_term.specs.Served.{served_hears, served_loses}
 use Rattle.zvt_term.specs.Terminal.{new_terminal}
 use Rattle.zvt_term.specs.declared.served.Served.{Served}
 use Rattle.zvt_term.specs.declared.turns.Verdict.{Verdict}
-use Rattle.zvt_trace.specs.declared.fault.ToolFault.{ToolFault}
-use Rattle.zvt_trace.specs.declared.fault.ToolFault.TheVariants.{BadStep, Line as LineBroke, Memory, Net, Read, TooLong, Trace, Write}
+use Rattle.zvt_run.specs.declared.fault.EndFault.{EndFault}
+use Rattle.zvt_run.specs.declared.fault.EndFault.TheVariants.{BadStep, Line as LineBroke, Memory, Net, Write}
 use Rattle.zvt_run.specs.BothEnds.{never}
 use Rattle.zvt_run.specs.LineEnd.{Breaks, EndState}
 
@@ -18,19 +18,16 @@ abbrev pub ServesUntil : LineFault → EndState → Served → EndState → Serv
 ServesUntil fault before old after new = Breaks served_hears never served_loses served_loses Rest 1000000 fault before old after new
 
 -- What a service answers: an end of the line between two messages is no fault, and each other is.
-abbrev pub Serves : EndState → Served → EndState → Served → Result Unit ToolFault → Type 0
+abbrev pub Serves : EndState → Served → EndState → Served → Result Unit EndFault → Type 0
 Serves before old after new (Ok done) = ServesUntil (Ended 0) before old after new
 Serves before old after new (Err (LineBroke fault)) = (fault ≢ Ended 0) × ServesUntil fault before old after new
 Serves before old after new (Err (BadStep at)) = ⊥
 Serves before old after new (Err Net) = ⊥
 Serves before old after new (Err Write) = ⊥
 Serves before old after new (Err Memory) = ⊥
-Serves before old after new (Err (Trace line what)) = ⊥
-Serves before old after new (Err TooLong) = ⊥
-Serves before old after new (Err Read) = ⊥
 
 -- a new terminal of this number and verdict served a line from its start
-pub record ServesOne (tid : ℕ) (verdict : Verdict) (result : Result Unit ToolFault) : Type 0 where
+pub record ServesOne (tid : ℕ) (verdict : Verdict) (result : Result Unit EndFault) : Type 0 where
   pub before : EndState
   pub after : EndState
   pub new : Served
@@ -38,13 +35,10 @@ pub record ServesOne (tid : ℕ) (verdict : Verdict) (result : Result Unit ToolF
   pub serves : Serves before (record { terminal = new_terminal tid; verdict = verdict }) after new result
 
 -- What a terminal answers: it had no connection, or served one.
-abbrev pub AnswersService : ℕ → Verdict → Result Unit ToolFault → Type 0
+abbrev pub AnswersService : ℕ → Verdict → Result Unit EndFault → Type 0
 AnswersService tid verdict (Ok done) = ServesOne tid verdict (Ok done)
 AnswersService tid verdict (Err (LineBroke fault)) = ServesOne tid verdict (Err (LineBroke fault))
 AnswersService tid verdict (Err Net) = Unit {0}
 AnswersService tid verdict (Err (BadStep at)) = ⊥
 AnswersService tid verdict (Err Write) = ⊥
 AnswersService tid verdict (Err Memory) = ⊥
-AnswersService tid verdict (Err (Trace line what)) = ⊥
-AnswersService tid verdict (Err TooLong) = ⊥
-AnswersService tid verdict (Err Read) = ⊥

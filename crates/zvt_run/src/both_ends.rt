@@ -5,6 +5,7 @@ ghost use Rattle.zvt_run.specs.BothEnds.{Alternates, BeginsHere, BreaksOff, Make
 ghost use Rattle.zvt_run.specs.OverTcp.{RunsPlan};
 ghost use Rattle.zvt_run.specs.Settings.{settings_of};
 
+use crate::fault::EndFault;
 use crate::line_end::LineEnd;
 use crate::plans::Planned;
 use crate::settings::TillSettings;
@@ -15,7 +16,6 @@ use zvt_io::Sink;
 use zvt_stream::LineFault;
 use zvt_term::Served;
 use zvt_till::{Outcome, RunFault, Till};
-use zvt_trace::ToolFault;
 
 /// The turns of each end after which an order is given up.
 const ALTERNATIONS: u64 = 1_000;
@@ -73,10 +73,10 @@ pub fn run_both_ends<A: LineEnd, B: LineEnd, T: Sink>(
     settings: &TillSettings,
     plan: &[Planned],
     writer: &mut T,
-) -> Result<(), ToolFault>
+) -> Result<(), EndFault>
     requires { BeginsHere (line_of A.state B.state line.old) }
     ensures run { RunsPlan MakesHereBy BeginsHere (settings_of settings.now) plan.now (T.written writer.old) (T.written writer.new) result }
-    ensures write { result ≡ Err ToolFault.Write → T.failures writer.old < T.failures writer.new }
+    ensures write { result ≡ Err EndFault.Write → T.failures writer.old < T.failures writer.new }
 {
     let mut till = connected_till(alloc, settings);
     run_steps(alloc, line, &mut till, plan, writer)

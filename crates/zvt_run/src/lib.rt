@@ -6,6 +6,7 @@
 #![tactic(auto)]
 
 mod both_ends;
+mod fault;
 mod line_end;
 mod outcomes;
 mod plans;
@@ -18,6 +19,7 @@ mod till_end;
 mod words;
 
 pub use both_ends::{BothEnds, run_both_ends};
+pub use fault::EndFault;
 pub use line_end::{End, LineEnd};
 pub use plans::{Planned, plan};
 pub use recording::{Recorded, Way, end_trace};

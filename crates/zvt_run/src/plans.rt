@@ -3,9 +3,9 @@ ghost use Rattle.std.specs.Prelude.{◌≡◌, ◌++◌, ◌∷◌, [], OnOk, ma
 ghost use Rattle.std.specs.String.{string_bytes};
 ghost use Rattle.zvt_run.specs.Plans.{AddsStep, PlansOrStops, words_of};
 
+use crate::fault::EndFault;
 use crate::words::{Ends, Step, step_of};
 use std::alloc::{AllocError, Global};
-use zvt_trace::ToolFault;
 
 /// A step, and the word that names it.
 #[derive(Debug, Drop, PartialEq, Eq)]
@@ -28,7 +28,7 @@ const TILL_ALONE: [&str; 2] = ["register", "close"];
 
 /// The steps that the words name; where there are no words, the usual ones of these ends. The first word that names no
 /// step is `BadStep`; the other fault is `Memory`.
-pub fn plan(alloc: Global, ends: Ends, words: &[&str]) -> Result<Vec<Planned>, ToolFault>
+pub fn plan(alloc: Global, ends: Ends, words: &[&str]) -> Result<Vec<Planned>, EndFault>
     ensures { PlansOrStops ends (words_of ends (map (λ word. word.now) words.now)) result }
 {
     if !words.is_empty() {
@@ -41,13 +41,13 @@ pub fn plan(alloc: Global, ends: Ends, words: &[&str]) -> Result<Vec<Planned>, T
 }
 
 /// The steps that these words name.
-fn plan_words(alloc: Global, ends: Ends, words: &[&str]) -> Result<Vec<Planned>, ToolFault>
+fn plan_words(alloc: Global, ends: Ends, words: &[&str]) -> Result<Vec<Planned>, EndFault>
     ensures { PlansOrStops ends (map (λ word. word.now) words.now) result }
 {
     let mut plan = Vec::new(alloc);
     'words: for (at, word) in words.iter().enumerate() {
         let Some(step) = step_of(ends, word) else {
-            return Err(ToolFault::BadStep { at });
+            return Err(EndFault::BadStep { at });
         };
         add(alloc, &mut plan, word, step)?;
     }

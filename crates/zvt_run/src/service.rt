@@ -2,12 +2,12 @@
 ghost use Rattle.zvt_run.specs.LineEnd.{end_state};
 ghost use Rattle.zvt_run.specs.Service.{Serves};
 
+use crate::fault::EndFault;
 use crate::line_end::End;
 use std::alloc::Global;
 use zvt_io::{Sink, Source};
 use zvt_stream::{LineFault, Until, pump};
 use zvt_term::Served;
-use zvt_trace::ToolFault;
 
 /// The reads after which a terminal gives up its connection.
 const READS_OF_A_SERVICE: u64 = 1_000_000;
@@ -18,7 +18,7 @@ pub fn serve<R: Source, W: Sink>(
     alloc: Global,
     end: &mut End<R, W>,
     served: &mut Served,
-) -> Result<(), ToolFault>
+) -> Result<(), EndFault>
     ensures { Serves
         (end_state end.old.stream (R.remaining end.old.reader) (W.written end.old.writer) (R.reads end.old.reader) (R.failures end.old.reader) (W.failures end.old.writer)) served.old
         (end_state end.new.stream (R.remaining end.new.reader) (W.written end.new.writer) (R.reads end.new.reader) (R.failures end.new.reader) (W.failures end.new.writer)) served.new
@@ -35,6 +35,6 @@ pub fn serve<R: Source, W: Sink>(
     );
     match ended {
         Ok(()) | Err(LineFault::Ended { have: 0 }) => Ok(()),
-        Err(fault) => Err(ToolFault::Line(fault)),
+        Err(fault) => Err(EndFault::Line(fault)),
     }
 }

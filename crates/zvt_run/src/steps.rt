@@ -14,6 +14,7 @@ ghost use Rattle.zvt_run.specs.Outcomes.{ending_text, total_text};
 ghost use Rattle.zvt_run.specs.Settings.{settings_of};
 ghost use Rattle.zvt_run.specs.Runs.{Answers, AnswersStep, AnswersText, fault_of, standing};
 
+use crate::fault::EndFault;
 use crate::outcomes::outcome_text;
 use crate::plans::Planned;
 use crate::settings::TillSettings;
@@ -24,7 +25,6 @@ use zvt_io::{Failed, Sink};
 use zvt_stream::LineFault;
 use zvt_text::Scribe;
 use zvt_till::{Outcome, RunFault, Till};
-use zvt_trace::ToolFault;
 
 /// A line on which each step of a till is made from end to end.
 pub(crate) trait StepLine {
@@ -49,14 +49,14 @@ pub(crate) fn run_steps<L: StepLine, W: Sink>(
     till: &mut Till,
     plan: &[Planned],
     writer: &mut W,
-) -> Result<(), ToolFault>
+) -> Result<(), EndFault>
     ensures run { Answers L.makes plan.now (standing line.old till.old) (standing line.new till.new) (W.written writer.old) (W.written writer.new) result }
-    ensures write { result ≡ Err ToolFault.Write → W.failures writer.old < W.failures writer.new }
+    ensures write { result ≡ Err EndFault.Write → W.failures writer.old < W.failures writer.new }
 {
     'steps: for planned in plan {
         if let Some(fault) = make_step(alloc, line, till, planned, writer)? {
             write_total(alloc, till, writer)?;
-            return Err(ToolFault::Line(fault));
+            return Err(EndFault::Line(fault));
         }
     }
     write_total(alloc, till, writer)
@@ -78,9 +78,9 @@ fn make_step<L: StepLine, W: Sink>(
     till: &mut Till,
     planned: &Planned,
     writer: &mut W,
-) -> Result<Option<LineFault>, ToolFault>
+) -> Result<Option<LineFault>, EndFault>
     ensures step { AnswersStep L.makes planned.now (standing line.old till.old) (standing line.new till.new) (W.written writer.old) (W.written writer.new) result }
-    ensures write { result ≡ Err ToolFault.Write → W.failures writer.old < W.failures writer.new }
+    ensures write { result ≡ Err EndFault.Write → W.failures writer.old < W.failures writer.new }
     ensures count { IfOk result (λ _. W.failures writer.new ≡ W.failures writer.old) }
 {
     let made = line.make(alloc, till, &planned.step);
@@ -129,9 +129,9 @@ fn fault_of(made: &Result<Outcome, RunFault>) -> Option<LineFault>
 }
 
 /// Writes the till's total.
-fn write_total<W: Sink>(alloc: Global, till: &Till, writer: &mut W) -> Result<(), ToolFault>
+fn write_total<W: Sink>(alloc: Global, till: &Till, writer: &mut W) -> Result<(), EndFault>
     ensures text { AnswersText (total_text (total till.now.state.book)) (W.written writer.old) (W.written writer.new) result }
-    ensures write { result ≡ Err ToolFault.Write → W.failures writer.old < W.failures writer.new }
+    ensures write { result ≡ Err EndFault.Write → W.failures writer.old < W.failures writer.new }
 {
     let total = till.total();
     let text = format!(in alloc; "total {total}\n")?;
@@ -139,13 +139,13 @@ fn write_total<W: Sink>(alloc: Global, till: &Till, writer: &mut W) -> Result<()
 }
 
 /// Writes the text to the device.
-fn put<W: Sink>(text: &String, writer: &mut W) -> Result<(), ToolFault>
+fn put<W: Sink>(text: &String, writer: &mut W) -> Result<(), EndFault>
     ensures bytes { Writes (W.written writer.old) (W.written writer.new) result (string_bytes text.now) }
-    ensures fault { IfErr result (λ fault. fault ≡ ToolFault.Write) }
+    ensures fault { IfErr result (λ fault. fault ≡ EndFault.Write) }
     ensures failures { CountsFailure (W.failures writer.old) (W.failures writer.new) result }
 {
     match writer.write_all(text.as_bytes()) {
         Ok(()) => Ok(()),
-        Err(Failed) => Err(ToolFault::Write),
+        Err(Failed) => Err(EndFault::Write),
     }
 }

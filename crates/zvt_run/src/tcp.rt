@@ -9,6 +9,7 @@ ghost use Rattle.zvt_run.specs.Service.{AnswersService};
 ghost use Rattle.zvt_run.specs.TillEnd.{BeginsThere, MakesThere};
 
 use crate::both_ends::{BothEnds, run_both_ends};
+use crate::fault::EndFault;
 use crate::line_end::End;
 use crate::plans::{Planned, plan};
 use crate::recording::{Recorded, Way, end_trace};
@@ -24,7 +25,6 @@ use std::time::Duration;
 use zvt_io::{Over, Sink, Source};
 use zvt_stream::Stream;
 use zvt_term::{Served, Terminal, Verdict};
-use zvt_trace::ToolFault;
 
 /// For so many seconds a till waits: to be connected, for each read and for each write. A terminal that is silent for
 /// longer counts as a read that failed.
@@ -47,16 +47,16 @@ pub fn run_loop<R, W>(
     steps: &[&str],
     trace: Option<&File>,
     writer: &mut W,
-) -> Result<(), ToolFault>
+) -> Result<(), EndFault>
 where
     R: Net<Listener = TcpListener, Stream = TcpStream>,
     W: Sink,
     ensures run { AnswersRun MakesHereBy BeginsHere run_settings Ends.Both (map (λ step. step.now) steps.now) (W.written writer.old) (W.written writer.new) result }
-    ensures write { result ≡ Err ToolFault.Write → W.failures writer.old < W.failures writer.new }
+    ensures write { result ≡ Err EndFault.Write → W.failures writer.old < W.failures writer.new }
 {
     let plan = plan(alloc, Ends::Both, steps)?;
     let Ok((till_end, terminal_end)) = both_ends(rt) else {
-        return Err(ToolFault::Net);
+        return Err(EndFault::Net);
     };
     match trace {
         None => {
@@ -79,10 +79,10 @@ fn loop_over<R: Source + Drop, W: Sink + Drop, T: Sink>(
     terminal_end: &TcpStream,
     plan: &[Planned],
     writer: &mut T,
-) -> Result<(), ToolFault>
+) -> Result<(), EndFault>
     requires { till.stream ≡ at_start }
     ensures run { RunsPlan MakesHereBy BeginsHere run_settings plan.now (T.written writer.old) (T.written writer.new) result }
-    ensures write { result ≡ Err ToolFault.Write → T.failures writer.old < T.failures writer.new }
+    ensures write { result ≡ Err EndFault.Write → T.failures writer.old < T.failures writer.new }
 {
     let mut line = BothEnds {
         till,
@@ -109,16 +109,16 @@ pub fn run_till<R, W>(
     steps: &[&str],
     trace: Option<&File>,
     writer: &mut W,
-) -> Result<(), ToolFault>
+) -> Result<(), EndFault>
 where
     R: Net<Listener = TcpListener, Stream = TcpStream>,
     W: Sink,
     ensures run { AnswersRun MakesThere BeginsThere (settings_of settings.now) Ends.Till (map (λ step. step.now) steps.now) (W.written writer.old) (W.written writer.new) result }
-    ensures write { result ≡ Err ToolFault.Write → W.failures writer.old < W.failures writer.new }
+    ensures write { result ≡ Err EndFault.Write → W.failures writer.old < W.failures writer.new }
 {
     let plan = plan(alloc, Ends::Till, steps)?;
     let Ok(end) = connect(rt, host, port) else {
-        return Err(ToolFault::Net);
+        return Err(EndFault::Net);
     };
     match trace {
         None => {
@@ -148,7 +148,7 @@ pub fn run_terminal<R, W>(
     verdict: Verdict,
     trace: Option<&File>,
     tell: &mut W,
-) -> Result<(), ToolFault>
+) -> Result<(), EndFault>
 where
     R: Net<Listener = TcpListener, Stream = TcpStream>,
     W: Sink,
@@ -156,7 +156,7 @@ where
     ensures { AnswersService tid verdict result }
 {
     let Ok(connection) = accept(rt, alloc, host, port, tell) else {
-        return Err(ToolFault::Net);
+        return Err(EndFault::Net);
     };
     let mut served = Served {
         terminal: Terminal::new(alloc, tid),
@@ -212,17 +212,17 @@ fn recorded_end<'a>(
 }
 
 /// Tells how many approvals the terminal's ledger has.
-fn tell_ledger<W: Sink>(alloc: Global, terminal: &Terminal, tell: &mut W) -> Result<(), ToolFault> {
+fn tell_ledger<W: Sink>(alloc: Global, terminal: &Terminal, tell: &mut W) -> Result<(), EndFault> {
     let rows = terminal.ledger().iter();
     let approvals = rows.filter(|row| row.reverses.is_none()).count();
     let text = format!(in alloc; "zvt: the till has gone; approvals in the ledger: {approvals}\n")?;
     tell_text(&text, tell)
 }
 
-fn tell_text<W: Sink>(text: &String, tell: &mut W) -> Result<(), ToolFault> {
+fn tell_text<W: Sink>(text: &String, tell: &mut W) -> Result<(), EndFault> {
     match tell.write_all(text.as_bytes()) {
         Ok(()) => Ok(()),
-        Err(_) => Err(ToolFault::Write),
+        Err(_) => Err(EndFault::Write),
     }
 }
 

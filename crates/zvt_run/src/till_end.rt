@@ -5,6 +5,7 @@ ghost use Rattle.zvt_run.specs.OverTcp.{RunsPlan};
 ghost use Rattle.zvt_run.specs.Settings.{settings_of};
 ghost use Rattle.zvt_run.specs.TillEnd.{BeginsThere, MakesThere};
 
+use crate::fault::EndFault;
 use crate::line_end::End;
 use crate::plans::Planned;
 use crate::settings::TillSettings;
@@ -13,7 +14,6 @@ use crate::words::Step;
 use std::alloc::Global;
 use zvt_io::{Sink, Source};
 use zvt_till::{Outcome, RunFault, Till, run_order};
-use zvt_trace::ToolFault;
 
 /// The turns of one read each after which an order is given up.
 const READS_OF_AN_ORDER: u64 = 100_000;
@@ -49,10 +49,10 @@ pub fn run_till_end<R: Source, W: Sink, T: Sink>(
     settings: &TillSettings,
     plan: &[Planned],
     writer: &mut T,
-) -> Result<(), ToolFault>
+) -> Result<(), EndFault>
     requires { end.old.stream ≡ at_start }
     ensures run { RunsPlan MakesThere BeginsThere (settings_of settings.now) plan.now (T.written writer.old) (T.written writer.new) result }
-    ensures write { result ≡ Err ToolFault.Write → T.failures writer.old < T.failures writer.new }
+    ensures write { result ≡ Err EndFault.Write → T.failures writer.old < T.failures writer.new }
 {
     let mut till = connected_till(alloc, settings);
     run_steps(alloc, end, &mut till, plan, writer)

@@ -13,8 +13,8 @@ use Rattle.zvt_trace.specs.Booked.{books_text}
 use Rattle.zvt_trace.specs.Written.{AppendsFront, limit}
 use Rattle.zvt_trace.specs.Walks.{Part, both, nothing}
 use Rattle.zvt_trace.specs.declared.fault.Tally.{Tally}
-use Rattle.zvt_trace.specs.declared.fault.ToolFault.{ToolFault}
-use Rattle.zvt_trace.specs.declared.fault.ToolFault.TheVariants.{BadStep, Line, Memory, Net, Read, TooLong, Trace, Write}
+use Rattle.zvt_trace.specs.declared.fault.TraceFault.{TraceFault}
+use Rattle.zvt_trace.specs.declared.fault.TraceFault.TheVariants.{Memory, Read, TooLong, Trace, Write}
 use Rattle.zvt_trace.specs.declared.link.Link.{Link}
 use Rattle.zvt_trace.proofs.HeardLemmas.{takes_more, takes_none}
 use Rattle.zvt_trace.proofs.WalkLemmas.{Walked, walked_all, walked_broken, walked_more, walked_none}
@@ -62,7 +62,7 @@ closed trace rest number count state old now tally grown none so ends messages b
     )
 
 -- a line can't be read
-pub failed : (trace rest content after : List ℕ) (number : ℕ) (state next : Link) (fault : ToolFault) (old now new : BooksSoFar) (tally : Tally)
+pub failed : (trace rest content after : List ℕ) (number : ℕ) (state next : Link) (fault : TraceFault) (old now new : BooksSoFar) (tally : Tally)
     → (so : SoFar trace rest number state old now tally) → lines rest ≡ content ∷ lines after → TakesLine so.link (number + 1) content next now new (Err fault)
     → TakesLines (lines trace) old new (Err fault)
 failed trace rest content after number state next (Trace at what) old now new tally so first wrong =
@@ -71,9 +71,6 @@ failed trace rest content after number state next Memory old now new tally so fi
 failed trace rest content after number state next TooLong old now new tally so first never = absurd never
 failed trace rest content after number state next Read old now new tally so first never = absurd never
 failed trace rest content after number state next Write old now new tally so first never = absurd never
-failed trace rest content after number state next (Line broken) old now new tally so first never = absurd never
-failed trace rest content after number state next (BadStep at) old now new tally so first never = absurd never
-failed trace rest content after number state next Net old now new tally so first never = absurd never
 
 -- the books of a trace, from the connection on, can't be written
 pub audit_failed : (left : Option (List ℕ)) (trace : List ℕ) (tally : Tally) (old new : Option (List ℕ)) (first connected taken : BooksSoFar) (found : Books) (text : List ℕ)

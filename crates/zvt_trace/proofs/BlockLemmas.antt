@@ -11,8 +11,8 @@ use Rattle.zvt_trace.specs.Walks.{nothing}
 use Rattle.zvt_trace.proofs.WalkLemmas.{broken_leading, leading_none}
 use Rattle.zvt_trace.specs.Written.{AnswersLines, AnswersTrace, AppendsFront, Extends, IsShortOf, ReadsTrace, behind}
 use Rattle.zvt_trace.specs.declared.fault.Tally.{Tally}
-use Rattle.zvt_trace.specs.declared.fault.ToolFault.{ToolFault}
-use Rattle.zvt_trace.specs.declared.fault.ToolFault.TheVariants.{BadStep, Line, Memory, Net, Read, TooLong, Trace, Write}
+use Rattle.zvt_trace.specs.declared.fault.TraceFault.{TraceFault}
+use Rattle.zvt_trace.specs.declared.fault.TraceFault.TheVariants.{Memory, Read, TooLong, Trace, Write}
 use Rattle.zvt_trace.specs.declared.style.Style.{Style}
 
 -- an empty block
@@ -87,7 +87,7 @@ pub last_written : (first held next : Option (List ℕ)) (block all : List ℕ) 
 last_written first held next block all so written = (so.0, so.1, all_written first held next block so.0 so.2 written)
 
 -- what was answered for the lines holds once the last block is written
-pub answered : (style : Style) (lines : List (List ℕ)) (first held next : Option (List ℕ)) (block : List ℕ) (answer : Result Tally ToolFault)
+pub answered : (style : Style) (lines : List (List ℕ)) (first held next : Option (List ℕ)) (block : List ℕ) (answer : Result Tally TraceFault)
     → AnswersLines style lines first (behind held block) answer → Appends held next block → AnswersLines style lines first next answer
 answered style lines first held next block (Ok tally) so written = (so.0, so.1, all_written first held next block so.0.items so.2 written, so.3)
 answered style lines first held next block (Err (Trace number what)) so written = (so.0, so.1, all_written first held next block so.0.items so.2 written)
@@ -95,12 +95,9 @@ answered style lines first held next block (Err TooLong) never written = absurd 
 answered style lines first held next block (Err Read) never written = absurd never
 answered style lines first held next block (Err Write) so written = (so.0, so.1, last_written first held next block so.0.items so.2 written)
 answered style lines first held next block (Err Memory) so written = (so.0, so.1, all_written first held next block so.0.items so.2 written)
-answered style lines first held next block (Err (Line broken)) never written = absurd never
-answered style lines first held next block (Err (BadStep at)) never written = absurd never
-answered style lines first held next block (Err Net) never written = absurd never
 
 -- and where it can't be written, a front of the text stands there
-pub answered_failed : (style : Style) (lines : List (List ℕ)) (first held next : Option (List ℕ)) (block : List ℕ) (answer : Result Tally ToolFault)
+pub answered_failed : (style : Style) (lines : List (List ℕ)) (first held next : Option (List ℕ)) (block : List ℕ) (answer : Result Tally TraceFault)
     → AnswersLines style lines first (behind held block) answer → Extends first held → AppendsFront held next block → AnswersLines style lines first next (Err Write)
 answered_failed style lines first held next block (Ok tally) so kept wrote = (so.0, inr so.1, last_failed first held next block so.0.items kept (whole_front first (behind held block) so.0.items so.2) wrote)
 answered_failed style lines first held next block (Err (Trace number what)) so kept wrote =
@@ -109,9 +106,6 @@ answered_failed style lines first held next block (Err TooLong) never kept wrote
 answered_failed style lines first held next block (Err Read) never kept wrote = absurd never
 answered_failed style lines first held next block (Err Write) so kept wrote = (so.0, so.1, last_failed first held next block so.0.items kept so.2 wrote)
 answered_failed style lines first held next block (Err Memory) so kept wrote = (so.0, inl so.1, last_failed first held next block so.0.items kept (whole_front first (behind held block) so.0.items so.2) wrote)
-answered_failed style lines first held next block (Err (Line broken)) never kept wrote = absurd never
-answered_failed style lines first held next block (Err (BadStep at)) never kept wrote = absurd never
-answered_failed style lines first held next block (Err Net) never kept wrote = absurd never
 
 -- nothing was read, and nothing written
 pub unread : (style : Style) (lines : List (List ℕ)) (held : Option (List ℕ)) → AnswersLines style lines held held (Err Memory)
@@ -122,13 +116,10 @@ keeps_same None = tt
 keeps_same (Some bytes) = refl
 
 -- the trace could not be read
-pub read_failed : (style : Style) (left held : Option (List ℕ)) (fault : ToolFault) → ReadsTrace left (Err fault) → IfSome left (λ trace. AnswersTrace style trace held held (Err fault))
+pub read_failed : (style : Style) (left held : Option (List ℕ)) (fault : TraceFault) → ReadsTrace left (Err fault) → IfSome left (λ trace. AnswersTrace style trace held held (Err fault))
 read_failed style None held fault reads = tt
 read_failed style (Some trace) held TooLong reads = (reads, keeps_same held)
 read_failed style (Some trace) held Read reads = keeps_same held
 read_failed style (Some trace) held Memory reads = unread style (lines trace) held
 read_failed style (Some trace) held Write never = absurd never
 read_failed style (Some trace) held (Trace number what) never = absurd never
-read_failed style (Some trace) held (Line broken) never = absurd never
-read_failed style (Some trace) held (BadStep at) never = absurd never
-read_failed style (Some trace) held Net never = absurd never

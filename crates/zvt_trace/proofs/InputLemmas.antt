@@ -3,8 +3,8 @@ use Rattle.std.proofs.Common.{◌≡◌, ℕ, ◌+◌, ◌<◌, ◌≤◌, List,
 use Rattle.std.specs.Prelude.{IfSome}
 use Rattle.std.specs.Io.KnownBytes.{Consumes, IsAtEnd, Keeps}
 use Rattle.zvt_trace.specs.Written.{ReadsPiece}
-use Rattle.zvt_trace.specs.declared.fault.ToolFault.{ToolFault}
-use Rattle.zvt_trace.specs.declared.fault.ToolFault.TheVariants.{BadStep, Line, Memory, Net, Read, TooLong, Trace, Write}
+use Rattle.zvt_trace.specs.declared.fault.TraceFault.{TraceFault}
+use Rattle.zvt_trace.specs.declared.fault.TraceFault.TheVariants.{Memory, Read, TooLong, Trace, Write}
 
 consumes_more : (a b c : Option (List ℕ)) (x y : List ℕ) → Consumes a b x → Consumes b c y → Consumes a c (x ++ y)
 consumes_more None b c x y p q = tt
@@ -30,7 +30,7 @@ one_more room count start before after old new so r = record {
 }
 
 -- a read that failed, after so many bytes
-pub broken : (room most : ℕ) (fault : ToolFault) (start before after : Option (List ℕ)) (old new : List ℕ) → Consumes start before old
+pub broken : (room most : ℕ) (fault : TraceFault) (start before after : Option (List ℕ)) (old new : List ℕ) → Consumes start before old
     → ReadsPiece room before after old new (Err fault) → length old + room ≤ most → (taken : List ℕ) × (length taken ≤ most) × Consumes start after taken
 broken room most Read start before after old new so k h =
     (old ++ [], omega (arith, length-append old []), consumes_more start before after old [] so (consumes_none before after k))
@@ -39,9 +39,6 @@ broken room most Memory start before after old new so m h =
 broken room most TooLong start before after old new so m h = absurd m
 broken room most Write start before after old new so m h = absurd m
 broken room most (Trace line what) start before after old new so m h = absurd m
-broken room most (Line fault) start before after old new so m h = absurd m
-broken room most (BadStep at) start before after old new so m h = absurd m
-broken room most Net start before after old new so m h = absurd m
 
 -- no more than there is
 pub at_least : (limit : ℕ) (start after : Option (List ℕ)) (taken : List ℕ) → Consumes start after taken → limit < length taken → IfSome start (λ bytes. limit < length bytes)

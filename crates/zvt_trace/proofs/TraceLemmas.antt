@@ -9,8 +9,8 @@ use Rattle.zvt_trace.specs.Written.{AnswersLines, AppendsEnd, AppendsLine, Exten
 use Rattle.zvt_trace.proofs.WalkLemmas.{Walked, walked_all, walked_broken, walked_leading, walked_more, walked_none}
 use Rattle.zvt_trace.proofs.BlockLemmas.{appends_none, short_of}
 use Rattle.zvt_trace.specs.declared.fault.Tally.{Tally}
-use Rattle.zvt_trace.specs.declared.fault.ToolFault.{ToolFault}
-use Rattle.zvt_trace.specs.declared.fault.ToolFault.TheVariants.{BadStep, Line, Memory, Net, Read, TooLong, Trace, Write}
+use Rattle.zvt_trace.specs.declared.fault.TraceFault.{TraceFault}
+use Rattle.zvt_trace.specs.declared.fault.TraceFault.TheVariants.{Memory, Read, TooLong, Trace, Write}
 use Rattle.zvt_trace.specs.declared.streams.Streams.{Streams}
 use Rattle.zvt_trace.specs.declared.style.Style.{Style}
 
@@ -65,7 +65,7 @@ closed style trace rest number streams old now new tally counted grown none so l
     )
 
 -- a line has no text
-pub failed : (style : Style) (trace rest content after : List ℕ) (number : ℕ) (streams next : Streams) (fault : ToolFault) (old now device : Option (List ℕ)) (block : List ℕ) (tally : Tally)
+pub failed : (style : Style) (trace rest content after : List ℕ) (number : ℕ) (streams next : Streams) (fault : TraceFault) (old now device : Option (List ℕ)) (block : List ℕ) (tally : Tally)
     → (so : SoFar style trace rest number streams old now tally) → lines rest ≡ content ∷ lines after → WritesLine style so.sides (number + 1) content next now (behind device block) (Err fault)
     → Extends old device → AnswersLines style (lines trace) old (behind device block) (Err fault)
 failed style trace rest content after number streams next (Trace at what) old now device block tally so first wrong kept = (
@@ -85,12 +85,9 @@ failed style trace rest content after number streams next Memory old now device 
   walked_leading (LineText style) new_line so.sides trace rest number tally so.all so.walked,
   Appends-kept old now (behind device block) so.all.items so.appended same,
 )
-failed style trace rest content after number streams next (Line broken) old now device block tally so first never kept = absurd never
-failed style trace rest content after number streams next (BadStep at) old now device block tally so first never kept = absurd never
-failed style trace rest content after number streams next Net old now device block tally so first never kept = absurd never
 
 -- the end has no text
-pub end_failed : (style : Style) (trace rest : List ℕ) (number : ℕ) (streams : Streams) (fault : ToolFault) (old now device : Option (List ℕ)) (block : List ℕ) (tally : Tally)
+pub end_failed : (style : Style) (trace rest : List ℕ) (number : ℕ) (streams : Streams) (fault : TraceFault) (old now device : Option (List ℕ)) (block : List ℕ) (tally : Tally)
     → (so : SoFar style trace rest number streams old now tally) → WritesEnd style so.sides now (behind device block) (Err fault)
     → Extends old device → AnswersLines style (lines trace) old (behind device block) (Err fault)
 end_failed style trace rest number streams (Trace at what) old now device block tally so never kept = absurd never
@@ -106,6 +103,3 @@ end_failed style trace rest number streams Memory old now device block tally so 
   walked_leading (LineText style) new_line so.sides trace rest number tally so.all so.walked,
   Appends-kept old now (behind device block) so.all.items so.appended same,
 )
-end_failed style trace rest number streams (Line broken) old now device block tally so never kept = absurd never
-end_failed style trace rest number streams (BadStep at) old now device block tally so never kept = absurd never
-end_failed style trace rest number streams Net old now device block tally so never kept = absurd never

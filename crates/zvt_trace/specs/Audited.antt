@@ -16,8 +16,8 @@ use Rattle.zvt_trace.specs.Trace.{Arrives, Ending, Side, running, side_after, st
 use Rattle.zvt_trace.specs.Walks.{Broken, Counts, Part}
 use Rattle.zvt_trace.specs.Written.{AppendsFront, Follows, limit}
 use Rattle.zvt_trace.specs.declared.fault.Tally.{Tally}
-use Rattle.zvt_trace.specs.declared.fault.ToolFault.{ToolFault}
-use Rattle.zvt_trace.specs.declared.fault.ToolFault.TheVariants.{BadStep, Line, Memory, Net, Read, TooLong, Trace, Write}
+use Rattle.zvt_trace.specs.declared.fault.TraceFault.{TraceFault}
+use Rattle.zvt_trace.specs.declared.fault.TraceFault.TheVariants.{Memory, Read, TooLong, Trace, Write}
 use Rattle.zvt_trace.specs.declared.happened.Brought.{Brought}
 use Rattle.zvt_trace.specs.declared.happened.Hearing.{Hearing}
 use Rattle.zvt_trace.specs.declared.link.Link.{Link}
@@ -72,28 +72,22 @@ pub record AddsLine (link : LinkState) (meaning : Meaning) (state : Link) (tally
   pub counts : Counts tally part
 
 -- the line of that number can be read, and the books took what it comes to; or it can't be read
-abbrev pub TakesLine : LinkState → (number : ℕ) → (line : List ℕ) → Link → (old new : BooksSoFar) → Result Tally ToolFault → Type 0
+abbrev pub TakesLine : LinkState → (number : ℕ) → (line : List ℕ) → Link → (old new : BooksSoFar) → Result Tally TraceFault → Type 0
 TakesLine link number line state old new (Ok tally) = (meaning : Meaning) × (meaning_of line ≡ Ok meaning) × AddsLine link meaning state tally old new
 TakesLine link number line state old new (Err (Trace at what)) = (at ≡ number) × (meaning_of line ≡ Err what)
 TakesLine link number line state old new (Err Memory) = Unit {0}
 TakesLine link number line state old new (Err TooLong) = ⊥
 TakesLine link number line state old new (Err Read) = ⊥
 TakesLine link number line state old new (Err Write) = ⊥
-TakesLine link number line state old new (Err (Line broken)) = ⊥
-TakesLine link number line state old new (Err (BadStep at)) = ⊥
-TakesLine link number line state old new (Err Net) = ⊥
 
 -- all lines can be read, and the books took what they come to; or one is the first that can't be read
-abbrev pub TakesLines : List (List ℕ) → (old new : BooksSoFar) → Result Tally ToolFault → Type 0
+abbrev pub TakesLines : List (List ℕ) → (old new : BooksSoFar) → Result Tally TraceFault → Type 0
 TakesLines lines old new (Ok tally) = (all : Part Happening) × WholeAudit lines all × Takes old new all.items × Counts tally all
 TakesLines lines old new (Err (Trace number what)) = (all : Part Happening) × Broken LineSays new_link lines number what all
 TakesLines lines old new (Err Memory) = Unit {0}
 TakesLines lines old new (Err TooLong) = ⊥
 TakesLines lines old new (Err Read) = ⊥
 TakesLines lines old new (Err Write) = ⊥
-TakesLines lines old new (Err (Line broken)) = ⊥
-TakesLines lines old new (Err (BadStep at)) = ⊥
-TakesLines lines old new (Err Net) = ⊥
 
 -- ---- what the command answers
 
@@ -105,7 +99,7 @@ pub record WritesBooks (trace : List ℕ) (tally : Tally) (old new : Option (Lis
   pub counts : Counts tally all
 
 -- What an audit answers for a trace of known bytes. Where it fails nothing is written, but of a write that failed a front of the text.
-abbrev pub AnswersAudit : (trace : List ℕ) → (old new : Option (List ℕ)) → Result Tally ToolFault → Type 0
+abbrev pub AnswersAudit : (trace : List ℕ) → (old new : Option (List ℕ)) → Result Tally TraceFault → Type 0
 AnswersAudit trace old new (Ok tally) = (length trace ≤ limit) × WritesBooks trace tally old new
 AnswersAudit trace old new (Err (Trace number what)) = (length trace ≤ limit) × (all : Part Happening) × Broken LineSays new_link (lines trace) number what all × Keeps old new
 AnswersAudit trace old new (Err TooLong) = (limit < length trace) × Keeps old new
@@ -113,6 +107,3 @@ AnswersAudit trace old new (Err Read) = Keeps old new
 AnswersAudit trace old new (Err Memory) = Keeps old new
 AnswersAudit trace old new (Err Write) =
     (length trace ≤ limit) × (all : Part Happening) × WholeAudit (lines trace) all × AppendsFront old new (books_text (books (Connected ∷ all.items)))
-AnswersAudit trace old new (Err (Line broken)) = ⊥
-AnswersAudit trace old new (Err (BadStep at)) = ⊥
-AnswersAudit trace old new (Err Net) = ⊥

@@ -13,8 +13,8 @@ use Rattle.zvt_trace.specs.Meanings.{Meaning, meaning_of}
 use Rattle.zvt_trace.specs.Trace.{LineEnds, LineText, MessageText, PieceText, Side, SideEnds, Sides, WholeText, new_line, running, stopped}
 use Rattle.zvt_trace.specs.Walks.{Broken, Counts, Leading, Part}
 use Rattle.zvt_trace.specs.declared.fault.Tally.{Tally}
-use Rattle.zvt_trace.specs.declared.fault.ToolFault.{ToolFault}
-use Rattle.zvt_trace.specs.declared.fault.ToolFault.TheVariants.{BadStep, Line, Memory, Net, Read, TooLong, Trace, Write}
+use Rattle.zvt_trace.specs.declared.fault.TraceFault.{TraceFault}
+use Rattle.zvt_trace.specs.declared.fault.TraceFault.TheVariants.{Memory, Read, TooLong, Trace, Write}
 use Rattle.zvt_trace.specs.declared.streams.Streams.{Streams}
 use Rattle.zvt_trace.specs.declared.style.Direction.{Direction}
 use Rattle.zvt_trace.specs.declared.style.Style.{Style}
@@ -108,16 +108,13 @@ pub record AppendsLine (style : Style) (sides : Sides) (line : List ℕ) (stream
   pub counts : Counts tally part
 
 -- What writing the line of that number answers.
-abbrev pub WritesLine : Style → Sides → (number : ℕ) → (line : List ℕ) → Streams → (old new : Option (List ℕ)) → Result Tally ToolFault → Type 0
+abbrev pub WritesLine : Style → Sides → (number : ℕ) → (line : List ℕ) → Streams → (old new : Option (List ℕ)) → Result Tally TraceFault → Type 0
 WritesLine style sides number line streams old new (Ok tally) = AppendsLine style sides line streams tally old new
 WritesLine style sides number line streams old new (Err (Trace at what)) = (at ≡ number) × (meaning_of line ≡ Err what) × Keeps old new
 WritesLine style sides number line streams old new (Err TooLong) = ⊥
 WritesLine style sides number line streams old new (Err Read) = ⊥
 WritesLine style sides number line streams old new (Err Write) = IsShortOf old new
 WritesLine style sides number line streams old new (Err Memory) = Keeps old new
-WritesLine style sides number line streams old new (Err (Line broken)) = ⊥
-WritesLine style sides number line streams old new (Err (BadStep at)) = ⊥
-WritesLine style sides number line streams old new (Err Net) = ⊥
 
 -- the device has besides what the end of the line comes to
 pub record AppendsEnd (style : Style) (sides : Sides) (tally : Tally) (old new : Option (List ℕ)) : Type 0 where
@@ -127,16 +124,13 @@ pub record AppendsEnd (style : Style) (sides : Sides) (tally : Tally) (old new :
   pub counts : Counts tally part
 
 -- What writing the end of the line answers.
-abbrev pub WritesEnd : Style → Sides → (old new : Option (List ℕ)) → Result Tally ToolFault → Type 0
+abbrev pub WritesEnd : Style → Sides → (old new : Option (List ℕ)) → Result Tally TraceFault → Type 0
 WritesEnd style sides old new (Ok tally) = AppendsEnd style sides tally old new
 WritesEnd style sides old new (Err (Trace number what)) = ⊥
 WritesEnd style sides old new (Err TooLong) = ⊥
 WritesEnd style sides old new (Err Read) = ⊥
 WritesEnd style sides old new (Err Write) = IsShortOf old new
 WritesEnd style sides old new (Err Memory) = Keeps old new
-WritesEnd style sides old new (Err (Line broken)) = ⊥
-WritesEnd style sides old new (Err (BadStep at)) = ⊥
-WritesEnd style sides old new (Err Net) = ⊥
 
 -- ---- blocks
 
@@ -153,35 +147,29 @@ TextSoFar style lines all = Leading (LineText style) new_line lines all ⊎ Whol
 
 -- What a command answers for the lines of a trace. Where memory is refused, the text of the lines before is written; of a
 -- write that failed, some front of the text.
-abbrev pub AnswersLines : Style → List (List ℕ) → (old new : Option (List ℕ)) → Result Tally ToolFault → Type 0
+abbrev pub AnswersLines : Style → List (List ℕ) → (old new : Option (List ℕ)) → Result Tally TraceFault → Type 0
 AnswersLines style lines old new (Ok tally) = (all : Part ℕ) × WholeText style lines all × Appends old new all.items × Counts tally all
 AnswersLines style lines old new (Err (Trace number what)) = (all : Part ℕ) × Broken (LineText style) new_line lines number what all × Appends old new all.items
 AnswersLines style lines old new (Err TooLong) = ⊥
 AnswersLines style lines old new (Err Read) = ⊥
 AnswersLines style lines old new (Err Write) = (all : Part ℕ) × TextSoFar style lines all × AppendsFront old new all.items
 AnswersLines style lines old new (Err Memory) = (all : Part ℕ) × Leading (LineText style) new_line lines all × Appends old new all.items
-AnswersLines style lines old new (Err (Line broken)) = ⊥
-AnswersLines style lines old new (Err (BadStep at)) = ⊥
-AnswersLines style lines old new (Err Net) = ⊥
 
 -- The most bytes of a trace.
 abbrev pub limit : ℕ
 limit = 16777216
 
 -- What a command answers for a trace of known bytes.
-abbrev pub AnswersTrace : Style → (trace : List ℕ) → (old new : Option (List ℕ)) → Result Tally ToolFault → Type 0
+abbrev pub AnswersTrace : Style → (trace : List ℕ) → (old new : Option (List ℕ)) → Result Tally TraceFault → Type 0
 AnswersTrace style trace old new (Ok tally) = (length trace ≤ limit) × AnswersLines style (lines trace) old new (Ok tally)
 AnswersTrace style trace old new (Err (Trace line what)) = (length trace ≤ limit) × AnswersLines style (lines trace) old new (Err (Trace line what))
 AnswersTrace style trace old new (Err TooLong) = (limit < length trace) × Keeps old new
 AnswersTrace style trace old new (Err Read) = Keeps old new
 AnswersTrace style trace old new (Err Write) = (length trace ≤ limit) × AnswersLines style (lines trace) old new (Err Write)
 AnswersTrace style trace old new (Err Memory) = AnswersLines style (lines trace) old new (Err Memory)
-AnswersTrace style trace old new (Err (Line broken)) = ⊥
-AnswersTrace style trace old new (Err (BadStep at)) = ⊥
-AnswersTrace style trace old new (Err Net) = ⊥
 
 -- What one read of a trace answers: how many bytes came, none at the end alone.
-abbrev pub ReadsPiece : (room : ℕ) → (left rest : Option (List ℕ)) → (old new : List ℕ) → Result ℕ ToolFault → Type 0
+abbrev pub ReadsPiece : (room : ℕ) → (left rest : Option (List ℕ)) → (old new : List ℕ) → Result ℕ TraceFault → Type 0
 ReadsPiece room left rest old new (Ok count) =
     (taken : List ℕ) × Consumes left rest taken × (new ≡ old ++ taken) × (length taken ≡ count) × (count ≤ room) × (count ≡ 0 → IsAtEnd rest)
 ReadsPiece room left rest old new (Err Read) = Keeps left rest
@@ -189,18 +177,12 @@ ReadsPiece room left rest old new (Err Memory) = (taken : List ℕ) × Consumes 
 ReadsPiece room left rest old new (Err TooLong) = ⊥
 ReadsPiece room left rest old new (Err Write) = ⊥
 ReadsPiece room left rest old new (Err (Trace line what)) = ⊥
-ReadsPiece room left rest old new (Err (Line broken)) = ⊥
-ReadsPiece room left rest old new (Err (BadStep at)) = ⊥
-ReadsPiece room left rest old new (Err Net) = ⊥
 
 -- What reading a trace answers, where the bytes to come are known.
-abbrev pub ReadsTrace : (left : Option (List ℕ)) → Result (Vec ℕ Global) ToolFault → Type 0
+abbrev pub ReadsTrace : (left : Option (List ℕ)) → Result (Vec ℕ Global) TraceFault → Type 0
 ReadsTrace left (Ok trace) = IfSome left (λ bytes. trace.items ≡ bytes)
 ReadsTrace left (Err TooLong) = IfSome left (λ bytes. limit < length bytes)
 ReadsTrace left (Err Read) = Unit {0}
 ReadsTrace left (Err Memory) = Unit {0}
 ReadsTrace left (Err (Trace line what)) = ⊥
 ReadsTrace left (Err Write) = ⊥
-ReadsTrace left (Err (Line broken)) = ⊥
-ReadsTrace left (Err (BadStep at)) = ⊥
-ReadsTrace left (Err Net) = ⊥

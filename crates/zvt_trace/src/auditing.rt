@@ -6,7 +6,7 @@ ghost use Rattle.zvt_trace.specs.Audit.{LinkState};
 ghost use Rattle.zvt_trace.specs.Audited.{AnswersAudit, StandsFor, TakesLine, TakesLines};
 
 use crate::booked;
-use crate::fault::{Tally, ToolFault};
+use crate::fault::{Tally, TraceFault};
 use crate::input::read_trace;
 use crate::line::{BadLine, read_line};
 use crate::link::Link;
@@ -31,10 +31,10 @@ pub fn audit<R: Source, W: Sink>(
     alloc: Global,
     reader: &mut R,
     writer: &mut W,
-) -> Result<Tally, ToolFault>
+) -> Result<Tally, TraceFault>
     ensures writes { IfSome (R.remaining reader.old) (λ trace. AnswersAudit trace (W.written writer.old) (W.written writer.new) result) }
-    ensures read { result ≡ Err ToolFault.Read → R.failures reader.old < R.failures reader.new }
-    ensures write { result ≡ Err ToolFault.Write → W.failures writer.old < W.failures writer.new }
+    ensures read { result ≡ Err TraceFault.Read → R.failures reader.old < R.failures reader.new }
+    ensures write { result ≡ Err TraceFault.Write → W.failures writer.old < W.failures writer.new }
 {
     let trace = read_trace(alloc, reader)?;
     let mut books = Bookkeeping::new(alloc);
@@ -49,7 +49,7 @@ pub fn audit<R: Source, W: Sink>(
 }
 
 /// Takes what happened by the lines of a trace.
-fn add_lines(alloc: Global, books: &mut Bookkeeping, trace: &[u8]) -> Result<Tally, ToolFault>
+fn add_lines(alloc: Global, books: &mut Bookkeeping, trace: &[u8]) -> Result<Tally, TraceFault>
     requires { length trace.now ≤ limit }
     ensures { TakesLines (lines trace.now) books.old books.new result }
 {
@@ -78,15 +78,15 @@ fn add_line(
     buffer: &mut Vec<u8>,
     number: u64,
     content: &[u8],
-) -> Result<Tally, ToolFault>
+) -> Result<Tally, TraceFault>
     ensures takes { (state : LinkState) → StandsFor link.old state → TakesLine state number content.now link.new books.old books.new result }
     ensures few { IfOk result (λ tally. tally.messages ≤ length content.now) }
     ensures two { IfOk result (λ tally. tally.bad ≤ 2) }
 {
     let line = match read_line(buffer, content) {
         Ok(line) => line,
-        Err(BadLine::Wrong(what)) => return Err(ToolFault::Trace { line: number, what }),
-        Err(BadLine::Memory) => return Err(ToolFault::Memory),
+        Err(BadLine::Wrong(what)) => return Err(TraceFault::Trace { line: number, what }),
+        Err(BadLine::Memory) => return Err(TraceFault::Memory),
     };
     Ok(link.take(alloc, books, &line)?)
 }

@@ -1,11 +1,10 @@
-//! What a command answers.
+//! What a command on a trace answers.
 ghost use Rattle.std.specs.Prelude.{◌≡◌};
-ghost use Rattle.zvt_trace.specs.declared.fault.ToolFault.TheVariants.{Memory};
+ghost use Rattle.zvt_trace.specs.declared.fault.TraceFault.TheVariants.{Memory};
 
 use std::alloc::{AllocError, AllocFailed};
 use std::fmt;
 use thiserror::Error;
-use zvt_stream::LineFault;
 
 /// How many whole messages were read, and how many streams were refused or cut off.
 #[derive(Clone, Copy, Debug, PartialEq, Eq)]
@@ -50,9 +49,9 @@ impl fmt::Display for What {
     }
 }
 
-/// Why a command ended early. What earlier lines of the trace caused to be written stays written.
+/// Why a command on a trace ended early. What earlier lines of the trace caused to be written stays written.
 #[derive(Debug, Drop, Error)]
-pub enum ToolFault {
+pub enum TraceFault {
     /// A line of the trace, counted from 1, can't be read.
     #[error("line {line} of the trace: {what}")]
     Trace { line: u64, what: What },
@@ -65,25 +64,15 @@ pub enum ToolFault {
     /// Some front of the text was written.
     #[error("the text can't be written: see where standard output goes, and whether there is room")]
     Write,
-    /// The text of the lines before the one that was being read, or of the steps before the one that ran, was written.
+    /// The text of the lines before the one that was being read was written.
     #[error("there is too little memory: cut a trace at a line, and give the parts one by one")]
     Memory,
-    /// The line between till and terminal broke. What became of the order that ran was written, and no further step was
-    /// made.
-    #[error("the line broke: {0}")]
-    Line(LineFault),
-    /// The word at this place, counted from 0, is no step. Nothing was sent, and nothing written.
-    #[error("word {at}, counted from 0, is no step: the steps are 'register', 'pay:N', 'reverse:N', 'close' and, where both ends run, 'decline:N:XX'")]
-    BadStep { at: usize },
-    /// There was no connection. Nothing was written.
-    #[error("there is no connection: see whether the other end listens at that host and port, and whether the port is free where one is to be opened")]
-    Net,
 }
 
-impl From<AllocError> for ToolFault {
+impl From<AllocError> for TraceFault {
     ghost from_gives = { λ _ fault. fault ≡ Memory };
 
-    fn from(_refused: AllocError) -> ToolFault {
-        ToolFault::Memory
+    fn from(_refused: AllocError) -> TraceFault {
+        TraceFault::Memory
     }
 }

@@ -3,7 +3,7 @@ ghost use Rattle.std.specs.Prelude.{◌≡◌, ◌<◌, ◌≤◌, ◌+◌, ℕ,
 ghost use Rattle.std.specs.Io.KnownBytes.{Consumes};
 ghost use Rattle.zvt_trace.specs.Written.{limit, ReadsPiece, ReadsTrace};
 
-use crate::fault::ToolFault;
+use crate::fault::TraceFault;
 use std::alloc::Global;
 use zvt_io::{Failed, Source};
 
@@ -11,10 +11,10 @@ use zvt_io::{Failed, Source};
 pub(crate) const LIMIT: usize = 16_777_216;
 
 /// All that the reader gives, which is read to its end or to the first byte past the limit.
-pub(crate) fn read_trace<R: Source>(alloc: Global, reader: &mut R) -> Result<Vec<u8>, ToolFault>
+pub(crate) fn read_trace<R: Source>(alloc: Global, reader: &mut R) -> Result<Vec<u8>, TraceFault>
     ensures trace { ReadsTrace (R.remaining reader.old) result }
     ensures taken { (taken : List ℕ) × (length taken ≤ limit + 1) × Consumes (R.remaining reader.old) (R.remaining reader.new) taken }
-    ensures failed { result ≡ Err ToolFault.Read → R.failures reader.old < R.failures reader.new }
+    ensures failed { result ≡ Err TraceFault.Read → R.failures reader.old < R.failures reader.new }
     ensures bound { IfOk result (λ trace. vec_len trace ≤ limit) }
 {
     let mut trace = Vec::new(alloc);
@@ -26,10 +26,10 @@ pub(crate) fn read_trace<R: Source>(alloc: Global, reader: &mut R) -> Result<Vec
             return Ok(trace);
         }
         if trace.len() > LIMIT {
-            return Err(ToolFault::TooLong);
+            return Err(TraceFault::TooLong);
         }
     }
-    Err(ToolFault::TooLong)
+    Err(TraceFault::TooLong)
 }
 
 /// Reads once and adds what came to the trace: how many bytes, 0 at the end.
@@ -37,15 +37,15 @@ fn read_piece<R: Source>(
     reader: &mut R,
     buffer: &mut [u8],
     trace: &mut Vec<u8>,
-) -> Result<usize, ToolFault>
+) -> Result<usize, TraceFault>
     requires { 0 < length buffer.old }
     ensures piece { ReadsPiece (length buffer.old) (R.remaining reader.old) (R.remaining reader.new) trace.old.items trace.new.items result }
-    ensures failed { result ≡ Err ToolFault.Read → R.failures reader.old < R.failures reader.new }
+    ensures failed { result ≡ Err TraceFault.Read → R.failures reader.old < R.failures reader.new }
     ensures counted { IfOk result (λ _. R.failures reader.new ≡ R.failures reader.old) }
 {
     let taken = match reader.read(buffer) {
         Ok(taken) => taken,
-        Err(Failed) => return Err(ToolFault::Read),
+        Err(Failed) => return Err(TraceFault::Read),
     };
     trace.extend_from_slice(&buffer[..taken])?;
     Ok(taken)

@@ -20,5 +20,5 @@ mod style;
 mod traces;
 
 pub use auditing::audit;
-pub use fault::{Tally, ToolFault, What};
+pub use fault::{Tally, TraceFault, What};
 pub use traces::{join, receipts, show};

@@ -9,7 +9,7 @@ ghost use Rattle.zvt_trace.specs.Trace.{Sides};
 ghost use Rattle.zvt_trace.specs.Written.{AnswersLines, AnswersTrace, AppendsFront, Extends, Follow, IsShortOf, WritesEnd, WritesLine, behind, limit};
 ghost use Rattle.zvt_trace.specs.declared.style.Style.TheVariants.{Join, Receipts, Show};
 
-use crate::fault::{Tally, ToolFault};
+use crate::fault::{Tally, TraceFault};
 use crate::input::read_trace;
 use crate::line::{BadLine, read_line};
 use crate::said::{write_end, write_said};
@@ -26,10 +26,10 @@ pub fn show<R: Source, W: Sink>(
     alloc: Global,
     reader: &mut R,
     writer: &mut W,
-) -> Result<Tally, ToolFault>
+) -> Result<Tally, TraceFault>
     ensures writes { IfSome (R.remaining reader.old) (λ trace. AnswersTrace Show trace (W.written writer.old) (W.written writer.new) result) }
-    ensures read { result ≡ Err ToolFault.Read → R.failures reader.old < R.failures reader.new }
-    ensures write { result ≡ Err ToolFault.Write → W.failures writer.old < W.failures writer.new }
+    ensures read { result ≡ Err TraceFault.Read → R.failures reader.old < R.failures reader.new }
+    ensures write { result ≡ Err TraceFault.Write → W.failures writer.old < W.failures writer.new }
 {
     let trace = read_trace(alloc, reader)?;
     write_lines(alloc, Style::Show, trace.as_slice(), writer)
@@ -40,10 +40,10 @@ pub fn join<R: Source, W: Sink>(
     alloc: Global,
     reader: &mut R,
     writer: &mut W,
-) -> Result<Tally, ToolFault>
+) -> Result<Tally, TraceFault>
     ensures writes { IfSome (R.remaining reader.old) (λ trace. AnswersTrace Join trace (W.written writer.old) (W.written writer.new) result) }
-    ensures read { result ≡ Err ToolFault.Read → R.failures reader.old < R.failures reader.new }
-    ensures write { result ≡ Err ToolFault.Write → W.failures writer.old < W.failures writer.new }
+    ensures read { result ≡ Err TraceFault.Read → R.failures reader.old < R.failures reader.new }
+    ensures write { result ≡ Err TraceFault.Write → W.failures writer.old < W.failures writer.new }
 {
     let trace = read_trace(alloc, reader)?;
     write_lines(alloc, Style::Join, trace.as_slice(), writer)
@@ -55,10 +55,10 @@ pub fn receipts<R: Source, W: Sink>(
     alloc: Global,
     reader: &mut R,
     writer: &mut W,
-) -> Result<Tally, ToolFault>
+) -> Result<Tally, TraceFault>
     ensures writes { IfSome (R.remaining reader.old) (λ trace. AnswersTrace Receipts trace (W.written writer.old) (W.written writer.new) result) }
-    ensures read { result ≡ Err ToolFault.Read → R.failures reader.old < R.failures reader.new }
-    ensures write { result ≡ Err ToolFault.Write → W.failures writer.old < W.failures writer.new }
+    ensures read { result ≡ Err TraceFault.Read → R.failures reader.old < R.failures reader.new }
+    ensures write { result ≡ Err TraceFault.Write → W.failures writer.old < W.failures writer.new }
 {
     let trace = read_trace(alloc, reader)?;
     write_lines(alloc, Style::Receipts, trace.as_slice(), writer)
@@ -74,10 +74,10 @@ fn write_lines<W: Sink>(
     style: Style,
     trace: &[u8],
     writer: &mut W,
-) -> Result<Tally, ToolFault>
+) -> Result<Tally, TraceFault>
     requires { length trace.now ≤ limit }
     ensures writes { AnswersLines style (lines trace.now) (W.written writer.old) (W.written writer.new) result }
-    ensures write { result ≡ Err ToolFault.Write → W.failures writer.old < W.failures writer.new }
+    ensures write { result ≡ Err TraceFault.Write → W.failures writer.old < W.failures writer.new }
 {
     let mut block = String::new(alloc);
     let answer = write_blocks(alloc, style, trace, &mut block, writer);
@@ -93,11 +93,11 @@ fn write_blocks<W: Sink>(
     trace: &[u8],
     block: &mut String,
     writer: &mut W,
-) -> Result<Tally, ToolFault>
+) -> Result<Tally, TraceFault>
     requires bound { length trace.now ≤ limit }
     requires empty { string_bytes block.old ≡ [] }
     ensures writes { AnswersLines style (lines trace.now) (W.written writer.old) (behind (W.written writer.new) (string_bytes block.new)) result }
-    ensures write { result ≡ Err ToolFault.Write → W.failures writer.old < W.failures writer.new }
+    ensures write { result ≡ Err TraceFault.Write → W.failures writer.old < W.failures writer.new }
     ensures least { W.failures writer.old ≤ W.failures writer.new }
     ensures extends { Extends (W.written writer.old) (W.written writer.new) }
 {
@@ -145,19 +145,19 @@ fn add_line<W: Sink>(
     content: &[u8],
     block: &mut String,
     writer: &mut W,
-) -> Result<Tally, ToolFault>
+) -> Result<Tally, TraceFault>
     ensures writes { (sides : Sides) → Follow streams.old sides → WritesLine style sides number content.now streams.new (behind (W.written writer.old) (string_bytes block.old)) (behind (W.written writer.new) (string_bytes block.new)) result }
     ensures few { IfOk result (λ tally. tally.messages ≤ length content.now) }
     ensures two { IfOk result (λ tally. tally.bad ≤ 2) }
-    ensures write { result ≡ Err ToolFault.Write → W.failures writer.old < W.failures writer.new }
+    ensures write { result ≡ Err TraceFault.Write → W.failures writer.old < W.failures writer.new }
     ensures least { W.failures writer.old ≤ W.failures writer.new }
     ensures count { IfOk result (λ _. W.failures writer.new ≡ W.failures writer.old) }
     ensures extends { Extends (W.written writer.old) (W.written writer.new) }
 {
     let line = match read_line(buffer, content) {
         Ok(line) => line,
-        Err(BadLine::Wrong(what)) => return Err(ToolFault::Trace { line: number, what }),
-        Err(BadLine::Memory) => return Err(ToolFault::Memory),
+        Err(BadLine::Wrong(what)) => return Err(TraceFault::Trace { line: number, what }),
+        Err(BadLine::Memory) => return Err(TraceFault::Memory),
     };
     text.clear();
     let tally = write_said(alloc, scribe, text, style, streams, &line)?;
@@ -172,11 +172,11 @@ fn add_last<W: Sink>(
     streams: &Streams,
     block: &mut String,
     writer: &mut W,
-) -> Result<Tally, ToolFault>
+) -> Result<Tally, TraceFault>
     ensures writes { (sides : Sides) → Follow streams.now sides → WritesEnd style sides (behind (W.written writer.old) (string_bytes block.old)) (behind (W.written writer.new) (string_bytes block.new)) result }
     ensures none { IfOk result (λ tally. tally.messages ≡ 0) }
     ensures two { IfOk result (λ tally. tally.bad ≤ 2) }
-    ensures write { result ≡ Err ToolFault.Write → W.failures writer.old < W.failures writer.new }
+    ensures write { result ≡ Err TraceFault.Write → W.failures writer.old < W.failures writer.new }
     ensures least { W.failures writer.old ≤ W.failures writer.new }
     ensures extends { Extends (W.written writer.old) (W.written writer.new) }
 {
@@ -189,14 +189,14 @@ fn add_last<W: Sink>(
 /// Puts the text behind the block. Where either is full, the block is written first, and the text becomes the block
 /// without a copy.
 #[inline(always)]
-fn move_in<W: Sink>(text: &mut String, block: &mut String, writer: &mut W) -> Result<(), ToolFault>
+fn move_in<W: Sink>(text: &mut String, block: &mut String, writer: &mut W) -> Result<(), TraceFault>
     ensures moved { OnOk result (Appends (behind (W.written writer.old) (string_bytes block.old)) (behind (W.written writer.new) (string_bytes block.new)) (string_bytes text.old)) }
-    ensures fault { IfErr result (λ fault. (fault ≡ ToolFault.Write) ⊎ (fault ≡ ToolFault.Memory)) }
-    ensures write { result ≡ Err ToolFault.Write → W.failures writer.old < W.failures writer.new }
+    ensures fault { IfErr result (λ fault. (fault ≡ TraceFault.Write) ⊎ (fault ≡ TraceFault.Memory)) }
+    ensures write { result ≡ Err TraceFault.Write → W.failures writer.old < W.failures writer.new }
     ensures least { W.failures writer.old ≤ W.failures writer.new }
     ensures count { OnOk result (W.failures writer.new ≡ W.failures writer.old) }
-    ensures memory { result ≡ Err ToolFault.Memory → Keeps (behind (W.written writer.old) (string_bytes block.old)) (behind (W.written writer.new) (string_bytes block.new)) }
-    ensures short { result ≡ Err ToolFault.Write → IsShortOf (behind (W.written writer.old) (string_bytes block.old)) (behind (W.written writer.new) (string_bytes block.new)) }
+    ensures memory { result ≡ Err TraceFault.Memory → Keeps (behind (W.written writer.old) (string_bytes block.old)) (behind (W.written writer.new) (string_bytes block.new)) }
+    ensures short { result ≡ Err TraceFault.Write → IsShortOf (behind (W.written writer.old) (string_bytes block.old)) (behind (W.written writer.new) (string_bytes block.new)) }
     ensures extends { Extends (W.written writer.old) (W.written writer.new) }
 {
     // Most pieces end no message.
@@ -213,9 +213,9 @@ fn move_in<W: Sink>(text: &mut String, block: &mut String, writer: &mut W) -> Re
 }
 
 /// Writes the block to the device and empties it, also where the write fails.
-fn flush<W: Sink>(block: &mut String, writer: &mut W) -> Result<(), ToolFault>
+fn flush<W: Sink>(block: &mut String, writer: &mut W) -> Result<(), TraceFault>
     ensures bytes { OnOk result (Appends (W.written writer.old) (W.written writer.new) (string_bytes block.old)) }
-    ensures fault { IfErr result (λ fault. fault ≡ ToolFault.Write) }
+    ensures fault { IfErr result (λ fault. fault ≡ TraceFault.Write) }
     ensures failures { CountsFailure (W.failures writer.old) (W.failures writer.new) result }
     ensures empty { string_bytes block.new ≡ [] }
     ensures front { OnErr result (AppendsFront (W.written writer.old) (W.written writer.new) (string_bytes block.old)) }
@@ -226,15 +226,15 @@ fn flush<W: Sink>(block: &mut String, writer: &mut W) -> Result<(), ToolFault>
 }
 
 /// Writes the text to the device.
-pub(crate) fn put<W: Sink>(text: &String, writer: &mut W) -> Result<(), ToolFault>
+pub(crate) fn put<W: Sink>(text: &String, writer: &mut W) -> Result<(), TraceFault>
     ensures bytes { OnOk result (Appends (W.written writer.old) (W.written writer.new) (string_bytes text.now)) }
-    ensures fault { IfErr result (λ fault. fault ≡ ToolFault.Write) }
+    ensures fault { IfErr result (λ fault. fault ≡ TraceFault.Write) }
     ensures failures { CountsFailure (W.failures writer.old) (W.failures writer.new) result }
     ensures front { OnErr result (AppendsFront (W.written writer.old) (W.written writer.new) (string_bytes text.now)) }
 {
     match writer.write_all(text.as_bytes()) {
         Ok(()) => Ok(()),
-        Err(Failed) => Err(ToolFault::Write),
+        Err(Failed) => Err(TraceFault::Write),
     }
 }
 
