@@ -1,6 +1,8 @@
 -- Bytes without tests, taken at once.
-use Rattle.std.proofs.Common.{◌≡◌, ◌≢◌, ℕ, ◌+◌, ◌-◌, ◌<◌, ◌≤◌, Bool, true, false, Option, Some, None, IfSome, Ok, List, [], ◌∷◌, ◌++◌, length, take, get_or, refl, sym, ap, subst, append_assoc, arith}
-use Rattle.std.proofs.lemmas.List.{append-nil, length-take-le, take-take}
+use Rattle.std.proofs.Common.{◌≡◌, ◌≢◌, ℕ, ◌+◌, ◌-◌, ◌<◌, ◌≤◌, Bool, true, false, Option, Some, None, IfSome, Ok, List, [], ◌∷◌, ◌++◌, length, take, drop, get_or, length-drop, refl, sym, ◌∙◌, ap, subst, append_assoc, arith, suc}
+use Rattle.std.proofs.lemmas.List.{append-nil, length-take-le, take-take, take_rest}
+use Rattle.std.proofs.Math.Seq.{take-add}
+use Rattle.zvt_tlv.proofs.Spelling.{from}
 use Rattle.std.proofs.lemmas.List.Elements.{All-head, All-tail}
 use Rattle.zvt_spelling.specs.Reading.{AreBytes}
 use Rattle.zvt_spelling.specs.declared.why.Why.TheVariants.{NotDigit}
@@ -18,9 +20,9 @@ use Rattle.zvt_stream.specs.Moves as one
 use Rattle.zvt_stream.specs.Judge.{StandsFor, Passes, PassesOver}
 use Rattle.zvt_stream.proofs.FrameMoves.{payload_within}
 use Rattle.zvt_stream.proofs.FieldMoves as field
-use Rattle.zvt_stream.proofs.FieldMoves.{content_within}
+use Rattle.zvt_stream.proofs.FieldMoves.{content_ends, content_within}
 use Rattle.zvt_stream.proofs.ContentMoves.{object_within}
-use Rattle.zvt_stream.proofs.JudgeLemmas.{passes, unfinished}
+use Rattle.zvt_stream.proofs.JudgeLemmas.{goes_on_fields, passes, unfinished}
 
 -- a byte that stays in its level
 one_more : (at to : At) (left less x : ℕ) (outer b : List ℕ) → x < 256 → StandsFor (record { at = at; left = left; outer = outer }) b → one.Moves at left outer b x (Ok (Within to less)) → StandsFor (record { at = to; left = less; outer = outer }) (b ++ x ∷ [])
@@ -110,3 +112,67 @@ two_first (x ∷ y ∷ s) le = refl
 pub control_front : (left : ℕ) (bytes : List ℕ) → 2 ≤ length bytes → ((i : ℕ) → get_or bytes i 0 < 256) → Passes stage.FirstControl left (stage.FirstSize (get_or bytes 0 0) (get_or bytes 1 0)) left (take 2 bytes)
 control_front left bytes le are =
     subst (Passes stage.FirstControl left (stage.FirstSize (get_or bytes 0 0) (get_or bytes 1 0)) left) (sym (two_first bytes le)) (control_passed left (get_or bytes 0 0) (get_or bytes 1 0) (are 0) (are 1))
+
+-- the last byte of a content, and another field behind it
+content_over : (digits : Bool) (x left : ℕ) (outer b : List ℕ) → (x < 256) × field.Passes digits x → 0 < left - 1 → Stands (stage.Content digits 1) left outer b → Stands stage.Name (left - 1) outer (b ++ x ∷ [])
+content_over digits x left outer b t some h =
+    let q = content_ends digits 1 left (depth_of outer) x t.0 t.1 refl outer b refl h.stands in
+    let goes = goes_on_fields (left - 1) outer (b ++ x ∷ []) q.1 some (ap (λ (l : List ℕ). length l) h.stands.0) in
+    record { unfinished = unfinished stage.Name (left - 1) outer (b ++ x ∷ []) (passes (stage.Content digits 1) left x outer b t.0 h.unfinished.alive h.stands q.0) goes; stands = goes }
+
+content_all : (digits : Bool) (s : List ℕ) (more left less : ℕ) (outer b : List ℕ) → IsContent digits s → 0 < more → more ≡ length s → left ≡ length s + less → 0 < less
+    → Stands (stage.Content digits more) left outer b → Stands stage.Name less outer (b ++ s)
+content_all digits [] more left less outer b are some m e behind h = absurd (omega (arith, some, m))
+content_all digits (x ∷ []) more left less outer b are some m e behind h =
+    let t = tests digits x [] are in
+    let one : more ≡ 1 = omega (arith, m) in
+    let same : left - 1 ≡ less = omega (arith, e) in
+    subst (λ (n : ℕ). Stands stage.Name n outer (b ++ x ∷ [])) same (content_over digits x left outer b (t.0, t.1) (omega (arith, e, behind)) (subst (λ (n : ℕ). Stands (stage.Content digits n) left outer b) one h))
+content_all digits (x ∷ y ∷ s) more left less outer b are some m e behind h =
+    let t = tests digits x (y ∷ s) are in
+    let ne : more ≢ 1 = λ one. omega (arith, one, m) in
+    let next = one_more (stage.Content digits more) (stage.Content digits (more - 1)) left (left - 1) x outer b t.0 h (content_within digits more left (depth_of outer) x t.0 t.1 ne outer b refl h.stands) in
+    subst (λ (t : List ℕ). Stands stage.Name less outer t) (append_assoc b (x ∷ []) (y ∷ s)) (content_all digits (y ∷ s) (more - 1) (left - 1) less outer (b ++ x ∷ []) t.2 (omega (arith, m)) (omega (arith, m)) (omega (arith, e)) behind next)
+
+-- a whole field, and another one behind it
+pub field_passed : (digits : Bool) (more left within name : ℕ) (content : List ℕ) → name < 256 → IsContent digits content → length content ≡ more → 0 < within - more
+    → ((depth : ℕ) → one.Judges stage.Name left depth name (Ok (Within (stage.Content digits more) within)))
+    → Passes stage.Name left stage.Name (within - more) (name ∷ content)
+field_passed digits more left within name content lt are sized behind judged outer b h =
+    let first = one_more stage.Name (stage.Content digits more) left within name outer b lt h (judged (depth_of outer) outer b refl h.stands) in
+    let room = first.stands.1 in
+    subst (λ (t : List ℕ). Stands stage.Name (within - more) outer t) (append_assoc b (name ∷ []) content)
+    (content_all digits content more within (within - more) outer (b ++ name ∷ []) are room.0 (sym sized) (omega (arith, behind, sized)) behind first)
+
+-- a field at the front
+first_and_more : (more : ℕ) (bytes : List ℕ) → more < length bytes → take (1 + more) bytes ≡ get_or bytes 0 0 ∷ take more (drop 1 bytes)
+first_and_more more [] le = absurd (omega (arith, le))
+first_and_more more (x ∷ bytes) le =
+    let next : 1 + more ≡ suc more = omega arith in
+    ap (λ (n : ℕ). take n (x ∷ bytes)) next
+
+pub field_front : (digits : Bool) (more left within : ℕ) (bytes : List ℕ) → more < length bytes → ((i : ℕ) → get_or bytes i 0 < 256) → IsContent digits (take more (drop 1 bytes)) → 0 < within - more
+    → ((depth : ℕ) → one.Judges stage.Name left depth (get_or bytes 0 0) (Ok (Within (stage.Content digits more) within)))
+    → Passes stage.Name left stage.Name (within - more) (take (1 + more) bytes)
+field_front digits more left within bytes le are content behind judged =
+    subst (Passes stage.Name left stage.Name (within - more)) (sym (first_and_more more bytes le))
+    (field_passed digits more left within (get_or bytes 0 0) (take more (drop 1 bytes)) (are 0) content (length-take-le more (drop 1 bytes) (rw (length-drop 1 bytes) (omega (arith, le)))) behind judged)
+
+-- all of a content is digits, or needs to be none
+pub digits_all : (digits : Bool) (count size more : ℕ) (bytes : List ℕ) → digits ≡ true → size ≡ more → count ≡ more → AreDigits (take count (take size bytes)) → IsContent digits (take more bytes)
+digits_all true count size more bytes is sized all are = subst AreDigits (take-take count size bytes (omega (arith, sized, all)) ∙ ap (λ (n : ℕ). take n bytes) all) are
+digits_all false count size more bytes is sized all are = absurd (cc (is))
+
+pub bytes_behind : (digits : Bool) (more : ℕ) (bytes : List ℕ) → digits ≡ false → AreBytes bytes → IsContent digits (take more (drop 1 bytes))
+bytes_behind digits more [] is are = bytes_front digits more [] is are
+bytes_behind digits more (x ∷ bytes) is are = bytes_front digits more bytes is are.1
+
+-- one front after another
+pub passes_more : (at middle to : At) (left less fewer n m : ℕ) (bytes : List ℕ) → Passes at left middle less (take n bytes) → Passes middle less to fewer (take m (from n bytes)) → Passes at left to fewer (take (n + m) bytes)
+passes_more at middle to left less fewer n m bytes first second outer b h =
+    let q = second outer (b ++ take n bytes) (first outer b h) in
+    let joined : take n bytes ++ take m (from n bytes) ≡ take (n + m) bytes = ap (λ (s : List ℕ). take n bytes ++ take m s) (take_rest bytes n) ∙ sym (take-add n m bytes) in
+    subst (λ (t : List ℕ). Stands to fewer outer t) (append_assoc b (take n bytes) (take m (from n bytes)) ∙ ap (λ (s : List ℕ). b ++ s) joined) q
+
+pub named : (left less : ℕ) (at : At) (bytes : List ℕ) → at ≡ stage.Name → Passes stage.Name left stage.Name less bytes → Passes stage.Name left at less bytes
+named left less at bytes is passes = subst (λ (to : At). Passes stage.Name left to less bytes) (sym is) passes

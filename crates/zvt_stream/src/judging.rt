@@ -1,13 +1,13 @@
 //! The judge of a line's bytes, each looked at once.
 
-ghost use Rattle.std.specs.Prelude.{◌≡◌, ℕ, ◌+◌, ◌<◌, ◌≤◌, List, [], ◌∷◌, ◌++◌, false, length, take, reverse, IfSome};
+ghost use Rattle.std.specs.Prelude.{◌≡◌, ℕ, ◌+◌, ◌-◌, ◌<◌, ◌≤◌, List, [], ◌∷◌, ◌++◌, false, length, take, reverse, IfSome};
 ghost use Rattle.zvt_bcd.specs.Digits.{AreDigits};
 ghost use Rattle.zvt_spelling.specs.Reading.{shortest};
 ghost use Rattle.zvt_stream.specs.Standing.{Where, Between};
 ghost use Rattle.zvt_stream.specs.Judge.{start, StandsFor, HasLevels, Stepped, Ran, taken_by, Closes, Settles, Judges, Passes, PassesOver, Skips};
 ghost use Rattle.zvt_stream.specs.Moves.{IsReady};
 
-use crate::moves::{At, Move, judge_byte};
+use crate::moves::{At, Move, judge_byte, judge_field};
 use crate::steps::Steps;
 use arrayvec::ArrayVec;
 use std::marker::Model;
@@ -195,6 +195,7 @@ fn pass(at: At, left: usize, bytes: &[u8]) -> Option<Passed>
 {
     match at {
         At::FirstControl => pass_control(left, bytes),
+        At::Name => pass_fields(left, bytes),
         At::Payload => pass_payload(left, bytes.len()),
         At::Content { digits, more } => pass_content(digits, more, left, bytes),
         At::Object { more } => pass_object(more, left, bytes.len()),
@@ -217,6 +218,48 @@ fn pass_control(left: usize, bytes: &[u8]) -> Option<Passed>
         }),
         _ => None,
     }
+}
+
+/// Whole fields of fixed sizes, each but the last of its level.
+fn pass_fields(left: usize, bytes: &[u8]) -> Option<Passed>
+    requires { 2 ≤ left }
+    ensures { IfSome result (λ passed. (passed.count ≤ length bytes.now) × Passes At.Name left passed.at passed.left (take passed.count bytes.now)) }
+{
+    let mut passed = pass_field(left, bytes)?;
+    'fields: while let Some(next) = pass_field(passed.left, &bytes[passed.count..]) {
+        passed.left = next.left;
+        passed.count += next.count;
+    }
+    Some(passed)
+}
+
+/// The field that stands first, where all of it is there, its size is fixed, and another one follows it in its level.
+fn pass_field(left: usize, bytes: &[u8]) -> Option<Passed>
+    requires { 2 ≤ left }
+    ensures { IfSome result (λ passed. (passed.at ≡ At.Name) × (2 ≤ passed.left) × (0 < passed.count) × (passed.count ≤ length bytes.now) × Passes At.Name left At.Name passed.left (take passed.count bytes.now)) }
+{
+    let [name, ..] = bytes else {
+        return None;
+    };
+    let Ok(Move::Within {
+        at: At::Content { digits, more },
+        left: within,
+    }) = judge_field(left, *name)
+    else {
+        return None;
+    };
+    let after = within.checked_sub(more)?;
+    if after < 2 || bytes.len() <= more {
+        return None;
+    }
+    if digits && digits_first(&bytes[1..1 + more]) < more {
+        return None;
+    }
+    Some(Passed {
+        at: At::Name,
+        left: after,
+        count: 1 + more,
+    })
 }
 
 fn pass_payload(left: usize, most: usize) -> Option<Passed>

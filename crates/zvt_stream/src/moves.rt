@@ -183,7 +183,7 @@ fn judge_head(free: usize, digits: usize, left: usize, byte: u8) -> Result<Move,
     }
 }
 
-fn judge_field(left: usize, byte: u8) -> Result<Move, Why>
+pub(crate) fn judge_field(left: usize, byte: u8) -> Result<Move, Why>
     requires { 2 ≤ left }
     ensures { (depth : ℕ) → Judges At.Name left depth byte result }
 {

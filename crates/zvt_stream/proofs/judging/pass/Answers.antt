@@ -14,3 +14,6 @@ returns-in-Content c = rw c.in-Content.is c.pass_content.ensures
 
 pub returns-in-Object : goal.returns-in-Object
 returns-in-Object c = rw c.in-Object.is (front_passes _ _ _ c.args.bytes.now (are_bytes c.args.bytes.now (λ i. omega (arith, c.type_inv.bytes i))) c.pass_object.ensures)
+
+pub returns-in-Name : goal.returns-in-Name
+returns-in-Name c = rw c.in-Name.is c.pass_fields.ensures
