@@ -2,9 +2,11 @@
 use std::alloc::Global;
 use std::process::Abort;
 use std::test::Fail;
-use zvt_bcd::{Amount, Trace};
+use zvt_bcd::{Amount, Currency, Trace};
 use zvt_till::books::books;
-use zvt_till::{Booked, Cause, Happening, Heard, OrderRefusal, Original, Sent, StatusFacts};
+use zvt_till::{
+    Booked, Cause, CurrencyFact, Happening, Heard, OrderRefusal, Original, Sent, StatusFacts,
+};
 
 /// The price of the payments, in cents.
 fn price(rt: &impl Abort) -> Amount {
@@ -24,6 +26,7 @@ fn approval(number: u32, receipt: u8) -> Happening {
         trace: Trace::new(number),
         receipt: Some([0, receipt]),
         original: Original::Absent,
+        currency: CurrencyFact::Absent,
     }))
 }
 
@@ -63,6 +66,50 @@ fn books_a_completed_payment(rt: HostRuntime) -> Result<(), Fail> {
     let log = [pay(&rt), POSITIVE, approval(17, 5), COMPLETION];
     has_books(&rt, alloc, &log, &[row(&rt, 17, 5)], &[])?;
     has_books(&rt, alloc, &[], &[], &[])
+}
+
+/// An approval of the price as number 17, in this currency.
+fn approval_in(currency: CurrencyFact) -> Happening {
+    Happening::Heard(Heard::Status(StatusFacts {
+        result: Some(0),
+        amount: Amount::new(1234),
+        trace: Trace::new(17),
+        receipt: Some([0, 5]),
+        original: Original::Absent,
+        currency,
+    }))
+}
+
+/// A registration in the currency of that number, if there is one.
+fn registers(number: u16) -> Happening {
+    Happening::Sent(Sent::Register(Currency::new(number)))
+}
+
+#[test]
+fn an_approval_is_in_the_currency_of_the_last_registration(rt: HostRuntime) -> Result<(), Fail> {
+    let alloc = rt.alloc();
+    let euro = Currency::new(978).expect(&rt, "a currency");
+    let in_euro = approval_in(CurrencyFact::Once(euro));
+    let in_two = approval_in(CurrencyFact::Many);
+    let (before, last) = (registers(840), registers(978));
+    // There is no currency of that number.
+    let none = registers(10_000);
+    let rows = [
+        (before, last, in_euro, None),
+        (last, before, in_euro, Some(Cause::WrongCurrency)),
+        (before, none, in_euro, None),
+        (before, last, approval(17, 5), None),
+        (before, last, in_two, Some(Cause::WrongCurrency)),
+        (before, none, in_two, Some(Cause::WrongCurrency)),
+    ];
+    for (first, second, status, cause) in rows {
+        let log = [first, second, pay(&rt), POSITIVE, status, COMPLETION];
+        match cause {
+            None => has_books(&rt, alloc, &log, &[row(&rt, 17, 5)], &[])?,
+            Some(cause) => has_books(&rt, alloc, &log, &[], &[cause])?,
+        }
+    }
+    Ok(())
 }
 
 #[test]
@@ -170,6 +217,7 @@ fn causes_and_refusals_have_names(rt: HostRuntime) -> Result<(), Fail> {
         (Cause::Line, "Line"),
         (Cause::Malformed, "Malformed"),
         (Cause::Unfinished, "Unfinished"),
+        (Cause::WrongCurrency, "WrongCurrency"),
     ] {
         let shown = format!(in alloc; "{cause}")?;
         assert_eq!(rt; shown.as_str(), name);

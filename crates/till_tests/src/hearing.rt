@@ -3,10 +3,10 @@ use std::alloc::Global;
 use std::process::Abort;
 use std::test::Fail;
 use zvt_apdu::{Brief, scan, view};
-use zvt_bcd::{Amount, Trace};
+use zvt_bcd::{Amount, Currency, Trace};
 use zvt_spelling::Scan;
 use zvt_till::hearing::{heard, heard_view};
-use zvt_till::{Heard, Original, Outgoing, StatusFacts};
+use zvt_till::{CurrencyFact, Heard, Original, Outgoing, StatusFacts};
 
 const APPROVAL: [u8; 19] = [
     0x04, 0x0F, 0x10, 0x27, 0x00, 0x04, 0x00, 0x00, 0x00, 0x00, 0x12, 0x34, 0x0B, 0x00, 0x00, 0x17,
@@ -41,6 +41,19 @@ fn takes_back(original: Original) -> Heard {
         trace: None,
         receipt: None,
         original,
+        currency: CurrencyFact::Absent,
+    })
+}
+
+/// A status information of nothing but these currencies.
+fn names(currency: CurrencyFact) -> Heard {
+    Heard::Status(StatusFacts {
+        result: None,
+        amount: None,
+        trace: None,
+        receipt: None,
+        original: Original::Absent,
+        currency,
     })
 }
 
@@ -52,12 +65,18 @@ fn hears_statuses(rt: HostRuntime) -> Result<(), Fail> {
         trace: Trace::new(17),
         receipt: Some([0x00, 0x05]),
         original: Original::Absent,
+        currency: CurrencyFact::Absent,
     });
     let once = [0x04, 0x0F, 0x04, 0x37, 0xAB, 0x00, 0x17];
     let twice = [
         0x04, 0x0F, 0x08, 0x37, 0x00, 0x00, 0x17, 0x37, 0x00, 0x00, 0x17,
     ];
-    let rows: [(&[u8], Heard); 4] = [
+    let euro = Currency::new(978).expect(&rt, "a currency");
+    let currency = [0x04, 0x0F, 0x03, 0x49, 0x09, 0x78];
+    let currencies = [0x04, 0x0F, 0x06, 0x49, 0x09, 0x78, 0x49, 0x09, 0x78];
+    let rows: [(&[u8], Heard); 6] = [
+        (&currency, names(CurrencyFact::Once(euro))),
+        (&currencies, names(CurrencyFact::Many)),
         (&APPROVAL, approved),
         (&[0x04, 0x0F, 0x00], takes_back(Original::Absent)),
         (&once, takes_back(Original::Once([0xAB, 0x00, 0x17]))),

@@ -4,7 +4,8 @@ use std::process::Abort;
 use zvt_apdu::Brief;
 use zvt_bcd::{Amount, Currency, Trace};
 use zvt_till::{
-    Cause, Entry, Heard, Order, OrderRefusal, Original, Outcome, Outgoing, Reply, StatusFacts, Till,
+    Cause, CurrencyFact, Entry, Heard, Order, OrderRefusal, Original, Outcome, Outgoing, Reply,
+    StatusFacts, Till,
 };
 
 const PASSWORD: [u8; 3] = [0; 3];
@@ -103,6 +104,7 @@ fn approval(units: u64, number: u32, receipt: u8) -> Heard {
         trace: Trace::new(number),
         receipt: Some([0, receipt]),
         original: Original::Absent,
+        currency: CurrencyFact::Absent,
     })
 }
 
@@ -114,6 +116,7 @@ fn reversal(receipt: Option<[u8; 2]>) -> Heard {
         trace: Trace::new(18),
         receipt,
         original: Original::Once([0x00, 0x00, 0x17]),
+        currency: CurrencyFact::Absent,
     })
 }
 
@@ -376,6 +379,7 @@ fn a_payment_without_a_receipt_is_not_taken_back(rt: HostRuntime) {
         trace: Trace::new(17),
         receipt: None,
         original: Original::Absent,
+        currency: CurrencyFact::Absent,
     });
     pays(&rt, &mut till, &[silent, Heard::Completion]);
     let refused = Told::Refused(Order::Reverse(0), OrderRefusal::NoReceipt);

@@ -2,9 +2,10 @@
 use std::alloc::Global;
 use std::process::Abort;
 use std::test::Fail;
-use zvt_bcd::{Amount, Trace};
+use zvt_bcd::{Amount, Currency, Trace};
 use zvt_till::{
-    Cause, Entry, Event, Happening, Heard, Order, Original, Outcome, Run, Sent, StatusFacts, replay,
+    Cause, CurrencyFact, Entry, Event, Happening, Heard, Order, Original, Outcome, Run, Sent,
+    StatusFacts, replay,
 };
 
 const ACK: [u8; 3] = [0x80, 0x00, 0x00];
@@ -136,6 +137,7 @@ fn approved() -> Happening {
         trace: Trace::new(17),
         receipt: Some([0x00, 0x05]),
         original: Original::Absent,
+        currency: CurrencyFact::Absent,
     }))
 }
 
@@ -143,7 +145,7 @@ fn approved() -> Happening {
 fn logs(rt: &impl Abort, log: &[Happening]) {
     let wanted = [
         Happening::Connected,
-        Happening::Sent(Sent::Register),
+        Happening::Sent(Sent::Register(Currency::new(978))),
         POSITIVE,
         COMPLETED,
         Happening::Sent(Sent::Pay(price(rt))),
@@ -167,12 +169,46 @@ const TAKES_BACK: [u8; 20] = [
     0x37, 0x00, 0x00, 0x17,
 ];
 
+/// An approval of 1234 as number 17, in euro and without a receipt number.
+const IN_EURO: [u8; 19] = [
+    0x04, 0x0F, 0x10, 0x27, 0x00, 0x04, 0x00, 0x00, 0x00, 0x00, 0x12, 0x34, 0x0B, 0x00, 0x00, 0x17,
+    0x49, 0x09, 0x78,
+];
+
+/// The same in another currency.
+const IN_DOLLARS: [u8; 19] = [
+    0x04, 0x0F, 0x10, 0x27, 0x00, 0x04, 0x00, 0x00, 0x00, 0x00, 0x12, 0x34, 0x0B, 0x00, 0x00, 0x17,
+    0x49, 0x08, 0x40,
+];
+
+#[test]
+fn an_approval_in_the_tills_currency_is_booked(rt: HostRuntime) -> Result<(), Fail> {
+    let alloc = rt.alloc();
+    let mut events = Vec::new(alloc);
+    registers(alloc, &mut events)?;
+    let messages: [&[u8]; 3] = [&ACK, &IN_EURO, &COMPLETION];
+    pays(&rt, alloc, &mut events, &messages)?;
+    let row = Entry {
+        amount: price(&rt),
+        trace: trace(&rt, 17),
+        receipt: None,
+        reversed: false,
+    };
+    let last = Outcome::Paid {
+        trace: trace(&rt, 17),
+        receipt: None,
+    };
+    runs(&rt, alloc, &events, &[row], &[], last)?;
+    Ok(())
+}
+
 #[test]
 fn what_leaves_a_payment_unclear(rt: HostRuntime) -> Result<(), Fail> {
     let aborts = [0x06, 0x1E, 0x01, 0x6C];
     let refuses = [0x84, 0x6C, 0x00];
     let malformed = [0x06, 0x01, 0x02, 0xD0];
-    let rows: [(&[u8], &[u8], &[u8], Cause); 6] = [
+    let rows: [(&[u8], &[u8], &[u8], Cause); 7] = [
+        (&ACK, &IN_DOLLARS, &COMPLETION, Cause::WrongCurrency),
         (&ACK, &APPROVAL, &aborts, Cause::AbortAfterApproval),
         (&ACK, &OTHER_AMOUNT, &COMPLETION, Cause::AmountDiffers),
         (&ACK, &TAKES_BACK, &COMPLETION, Cause::Conflict),

@@ -2,7 +2,7 @@
 use std::alloc::Global;
 use std::process::Abort;
 use std::test::Fail;
-use zvt_bcd::{Amount, Trace};
+use zvt_bcd::{Amount, Currency, Trace};
 use zvt_term::{Move, Row, Verdict, World, run_world};
 use zvt_till::{Cause, Entry, Order};
 
@@ -50,6 +50,7 @@ fn stands(rt: &impl Abort, world: &World, booked: bool) {
     let row = Row {
         number: 1,
         amount: price(rt),
+        currency: Currency::new(978),
         reverses: None,
     };
     assert_eq!(rt; world.terminal.ledger(), [row].as_slice());

@@ -43,6 +43,20 @@ fn payments_are_booked(rt: HostRuntime) -> Result<(), Fail> {
             5,
             0,
         ),
+        // One approved in another currency than that of the registration
+        (
+            r#"> 06 00 06 00 00 00 BE 09 78
+< 80 00 00
+< 06 0F 00
+> 06 01 0A 04 00 00 00 00 12 34 49 09 78
+< 80 00 00
+< 04 0F 10 27 00 04 00 00 00 00 12 34 0B 00 00 17 49 08 40
+< 06 0F 00
+"#,
+            "unclear 1234 WrongCurrency\ntotal 0\n",
+            7,
+            0,
+        ),
         // No end
         (
             "> 06 01 0A 04 00 00 00 00 12 34 49 09 78",

@@ -5,6 +5,8 @@ use Rattle.zvt_till.specs.declared.happenings.Happening.{Happening}
 use Rattle.zvt_till.specs.declared.happenings.Happening.TheVariants.{Heard as HeardIn, Lost}
 use Rattle.zvt_till.specs.declared.messages.Heard.{Heard}
 use Rattle.zvt_till.specs.declared.messages.Heard.TheVariants.{Positive, Negative, Status, Passing, Completion, Abort, Strange}
+use Rattle.zvt_till.specs.declared.messages.CurrencyFact.{CurrencyFact}
+use Rattle.zvt_till.specs.declared.messages.CurrencyFact.TheVariants.{Once as OneCurrency}
 use Rattle.zvt_till.specs.declared.messages.StatusFacts.{StatusFacts}
 use Rattle.zvt_till.specs.declared.statuses.Statuses.{Statuses}
 use Rattle.zvt_till.specs.declared.statuses.Statuses.TheVariants.{Good as AllGood, Fault}
@@ -51,7 +53,7 @@ words ms = filter is_word ms
 -- the sums
 
 abbrev pub asks_amount : ℕ → Asked → ℕ
-asks_amount b (Authorisation (Some a)) = cond (a == b) 1 0
+asks_amount b (Authorisation (Some a) named) = cond (a == b) 1 0
 asks_amount b m = 0
 
 abbrev pub on_the_way : ℕ → List Asked → ℕ
@@ -115,10 +117,10 @@ IsClaimed (AllGood t r) = Unit {0}
 IsClaimed (Fault x) = Unit {0}
 IsClaimed st = ⊥
 
--- each end among these leaves an entry or an unclear payment
+-- each end among these leaves an entry or an unclear payment, whatever currency is in force
 abbrev pub Keeps : ℕ → Statuses → List Heard → Type 0
 Keeps a st [] = Unit {0}
-Keeps a st (Status f ∷ r) = Keeps a (note (Some (Payment (charged a))) st f) r
+Keeps a st (Status f ∷ r) = (currency : Option ℕ) → Keeps a (note (Some (Payment (charged currency a))) st f) r
 Keeps a st (Negative c ∷ r) = IsClaimed st
 Keeps a st (Completion ∷ r) = IsClaimed st
 Keeps a st (Abort c ∷ r) = IsClaimed st
@@ -131,7 +133,7 @@ Pledges l asked book u o st rest = Unit {0}
 
 -- the message that asks for this order, as far as payments go
 abbrev pub Fits : Order → Asked → Type 0
-Fits (PayOrder a) m = m ≡ Authorisation (Some a)
+Fits (PayOrder a) m = (named : CurrencyFact) × (m ≡ Authorisation (Some a) named)
 Fits o m = Unit {0}
 
 -- an order that runs is still on its way to the terminal, or was taken up there
@@ -243,14 +245,15 @@ ended-talks l asked s r out rest a k e p =
     record { accounts = with_none l asked book u (order-closed l asked s.book s.unclear r.order out a k); dialogue = (e, p) }
 
 going-on : (l : List Row) (asked : List Asked) (s : TillState) (r : Running) (h : Happening) (rest : List Heard)
-    → Accounts l asked s.book s.unclear (Some r) → Stage l asked s.book s.unclear (listened (demand_of s.book r.order) r h) rest
-    → Talks l asked (record s { running = Some (listened (demand_of s.book r.order) r h) }) rest
+    → Accounts l asked s.book s.unclear (Some r) → Stage l asked s.book s.unclear (listened (demand_of (Some s.settings.currency) s.book r.order) r h) rest
+    → Talks l asked (record s { running = Some (listened (demand_of (Some s.settings.currency) s.book r.order) r h) }) rest
 going-on l asked s r h rest a p = record { accounts = a; dialogue = p }
 
-status-pledges : (l : List Row) (asked : List Asked) (book : List Entry) (u : List (ℕ × Cause)) (o : Order) (st : Statuses) (f : StatusFacts) (r : List Heard)
-    → Pledges l asked book u o st (Status f ∷ r) → Pledges l asked book u o (note (demand_of book o) st f) r
-status-pledges l asked book u (PayOrder a) st f r p = p
-status-pledges l asked book u o st f r p = tt
+status-pledges : (own : ℕ) (l : List Row) (asked : List Asked) (book : List Entry) (u : List (ℕ × Cause)) (o : Order) (st : Statuses) (f : StatusFacts) (r : List Heard)
+    → Pledges l asked book u o st (Status f ∷ r) → Pledges l asked book u o (note (demand_of (Some own) book o) st f) r
+status-pledges own l asked book u (PayOrder a) st f r (inl covered) = inl covered
+status-pledges own l asked book u (PayOrder a) st f r (inr keeps) = inr (keeps (Some own))
+status-pledges own l asked book u o st f r p = tt
 
 passing-pledges : (l : List Row) (asked : List Asked) (book : List Entry) (u : List (ℕ × Cause)) (o : Order) (st : Statuses) (r : List Heard)
     → Pledges l asked book u o st (Passing ∷ r) → Pledges l asked book u o st r
@@ -277,11 +280,11 @@ asking-hears l asked s r m q coming a m0 e f p = absurd cc
 
 negative-hears : (l : List Row) (asked : List Asked) (s : TillState) (r : Running) (c : ℕ) (rest : List Heard)
     → Accounts l asked s.book s.unclear (Some r) → asked ≡ [] → rest ≡ [] → Pledges l asked s.book s.unclear r.order r.statuses (Negative c ∷ rest)
-    → (b : Bool) → Talks l asked (cond (not b) (finish s r.order (outcome_by s.book r.order r.statuses (HeardIn (Negative c)))) (record s { running = Some (listened (demand_of s.book r.order) r (HeardIn (Negative c))) })) rest
+    → (b : Bool) → Talks l asked (cond (not b) (finish s r.order (outcome_by s.book r.order r.statuses (HeardIn (Negative c)))) (record s { running = Some (listened (demand_of (Some s.settings.currency) s.book r.order) r (HeardIn (Negative c))) })) rest
 negative-hears l asked s r c rest a e n k true =
     let k2 = ignored-pledges l asked s.book s.unclear r.order r.statuses c rest k in
-    let p : Stage l asked s.book s.unclear (listened (demand_of s.book r.order) r (HeardIn (Negative c))) [] = TakenUp e tt k2 in
-    going-on l asked s r (HeardIn (Negative c)) rest a (subst (λ x. Stage l asked s.book s.unclear (listened (demand_of s.book r.order) r (HeardIn (Negative c))) x) (sym n) p)
+    let p : Stage l asked s.book s.unclear (listened (demand_of (Some s.settings.currency) s.book r.order) r (HeardIn (Negative c))) [] = TakenUp e tt k2 in
+    going-on l asked s r (HeardIn (Negative c)) rest a (subst (λ x. Stage l asked s.book s.unclear (listened (demand_of (Some s.settings.currency) s.book r.order) r (HeardIn (Negative c))) x) (sym n) p)
 negative-hears l asked s r c rest a e n k false =
     ended-talks l asked s r (outcome_by s.book r.order r.statuses (HeardIn (Negative c))) rest a (negative-closes l asked s.book s.unclear r.order r.statuses c rest k) e n
 
@@ -291,7 +294,7 @@ taken_up-hears : (l : List Row) (asked : List Asked) (s : TillState) (r : Runnin
 taken_up-hears l asked s r Positive q coming a e n k = going-on l asked s r (HeardIn Positive) (words q ++ coming) a (TakenUp e n k)
 taken_up-hears l asked s r (Negative c) q coming a e n k = negative-hears l asked s r c (words q ++ coming) a e n k r.positive
 taken_up-hears l asked s r (Status f) q coming a e n k =
-    going-on l asked s r (HeardIn (Status f)) (words q ++ coming) a (TakenUp e n (status-pledges l asked s.book s.unclear r.order r.statuses f (words q ++ coming) k))
+    going-on l asked s r (HeardIn (Status f)) (words q ++ coming) a (TakenUp e n (status-pledges s.settings.currency l asked s.book s.unclear r.order r.statuses f (words q ++ coming) k))
 taken_up-hears l asked s r Passing q coming a e n k =
     going-on l asked s r (HeardIn Passing) (words q ++ coming) a (TakenUp e n (passing-pledges l asked s.book s.unclear r.order r.statuses (words q ++ coming) k))
 taken_up-hears l asked s r Completion q coming a e n k =
@@ -328,7 +331,7 @@ till-hears l asked s m q coming up t = by_line s.line_up up
 
 -- hearing keeps the line
 line_up-end : (s : TillState) (r : Running) (h : Happening) (b : Bool)
-    → (cond b (finish s r.order (outcome_by s.book r.order r.statuses h)) (record s { running = Some (listened (demand_of s.book r.order) r h) })).line_up ≡ s.line_up
+    → (cond b (finish s r.order (outcome_by s.book r.order r.statuses h)) (record s { running = Some (listened (demand_of (Some s.settings.currency) s.book r.order) r h) })).line_up ≡ s.line_up
 line_up-end s r h true = refl
 line_up-end s r h false = refl
 
@@ -380,7 +383,7 @@ ends_last-front (m ∷ xs) ys h = ends_last-front xs ys h
 keeps-front : (a : ℕ) (st : Statuses) (xs ys : List Heard) → Keeps a st (xs ++ ys) → Keeps a st xs
 keeps-front a st [] ys h = tt
 keeps-front a st (Negative c ∷ xs) ys h = h
-keeps-front a st (Status f ∷ xs) ys h = keeps-front a (note (Some (Payment (charged a))) st f) xs ys h
+keeps-front a st (Status f ∷ xs) ys h = λ currency. keeps-front a (note (Some (Payment (charged currency a))) st f) xs ys (h currency)
 keeps-front a st (Completion ∷ xs) ys h = h
 keeps-front a st (Abort c ∷ xs) ys h = h
 keeps-front a st (m ∷ xs) ys h = keeps-front a st xs ys h
@@ -427,7 +430,7 @@ accepts-by : (l : List Row) (asked : List Asked) (k : Settings) (up g : Bool) (r
     → session_refusal (facts_of (state k up g run es u last)) o ≡ None → asked_refusal (facts_of (state k up g run es u last)) o ≡ None → Accounts l asked es u run → Dialogue l asked es u run rest
     → Talks l (asked ++ orders_in (asked_out (message_of k es o))) (accept (state k up g run es u last) o) rest
 accepts-by l asked k up g None es u last RegisterOrder rest e q a w = started l asked k up false es u last RegisterOrder (Registration (Some k.currency)) rest (λ b. refl) tt a w
-accepts-by l asked k up g None es u last (PayOrder x) rest e q a w = started l asked k up g es u last (PayOrder x) (Authorisation (Some x)) rest (λ b. refl) refl a w
+accepts-by l asked k up g None es u last (PayOrder x) rest e q a w = started l asked k up g es u last (PayOrder x) (Authorisation (Some x) (OneCurrency k.currency)) rest (λ b. refl) (OneCurrency k.currency, refl) a w
 accepts-by l asked k up g None es u last (ReverseOrder i) rest e q a w =
     let n = named k (slice_get es i) q in
     subst (λ (x : List Asked). Talks l (asked ++ orders_in x) (state k up g (Some (fresh (ReverseOrder i))) es u last) rest) (sym n.1)

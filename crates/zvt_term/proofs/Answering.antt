@@ -10,10 +10,11 @@ use Rattle.zvt_till.specs.declared.statuses.Class.{Class}
 use Rattle.zvt_till.specs.declared.statuses.Class.TheVariants.{Good, Declining, Doubtful}
 use Rattle.zvt_till.specs.declared.entries.Entry.{Entry}
 use Rattle.zvt_till.specs.declared.outcomes.Cause.{Cause}
-use Rattle.zvt_till.specs.declared.outcomes.Cause.TheVariants.{Conflict, AmountDiffers}
+use Rattle.zvt_till.specs.declared.outcomes.Cause.TheVariants.{Conflict, AmountDiffers, WrongCurrency}
 use Rattle.zvt_till.specs.declared.orders.Order.{Order}
 use Rattle.zvt_till.specs.declared.orders.Order.TheVariants.{Register as RegisterOrder, Pay as PayOrder, Reverse as ReverseOrder, CloseDay as CloseDayOrder, Cancel as CancelOrder}
-use Rattle.zvt_till.specs.Statuses.{class_of, same_trace}
+use Rattle.zvt_till.specs.declared.messages.CurrencyFact.{CurrencyFact}
+use Rattle.zvt_till.specs.Statuses.{is_in_currency, class_of, same_trace}
 use Rattle.zvt_till.specs.Outcomes.{charged, note_class}
 use Rattle.zvt_till.specs.Till.{TillState}
 use Rattle.zvt_term.specs.declared.messages.Asked.{Asked}
@@ -26,9 +27,9 @@ use Rattle.zvt_term.specs.declared.turns.Phase.TheVariants.{Idle, Printing, Comp
 use Rattle.zvt_term.specs.declared.turns.Turn.{Turn}
 use Rattle.zvt_term.specs.Ledger.{approval_by, is_taken_back}
 use Rattle.zvt_term.specs.Orderly.{approvals, entries_of_amount, unclear_of_amount, pays_amount}
-use Rattle.zvt_term.specs.Terminal.{TerminalState, has_room, next_number, is_idle, is_ready, aborts, refuses, registers, decides, authorises, takes_back_row, reverses_found, reverses, closes, goes_on, when, turn_of, reports_of}
+use Rattle.zvt_term.specs.Terminal.{TerminalState, has_room, next_number, is_idle, is_ready, aborts, refuses, registers, takes_currency, decides, authorises, takes_back_row, reverses_found, reverses, closes, goes_on, when, turn_of, reports_of}
 use Rattle.zvt_term.proofs.Accounts.{asks_amount, on_the_way, on_the_way-first, approvals-push, orders_in, words, Accounts, Covered, EndsLast, IsClaimed, Keeps, Pledges, Fits, Stage, Asking, TakenUp, Dialogue, Talks, nothing-first, nothing-last}
-use Rattle.zvt_term.proofs.Facts.{heard_of, approval_status}
+use Rattle.zvt_term.proofs.Facts.{heard_of, fact_of, approval_status}
 use Rattle.zvt_term.proofs.TurnLemmas.{taken_back}
 
 -- what the terminal has still to say, as the till hears it
@@ -58,29 +59,33 @@ either-grows : (b n : ℕ) (s : TerminalState) (c : Bool) (x y : Turn) → Grows
 either-grows b n s true x y h k = h
 either-grows b n s false x y h k = k
 
-approved-grows : (b : ℕ) (l : List Row) (a n : ℕ) → approvals b (l ++ record { number = n; amount = a; reverses = None } ∷ []) ≤ approvals b l + cond (a == b) 1 0
-approved-grows b l a n = let e = approvals-push b l (record { number = n; amount = a; reverses = None }) in omega (arith, e)
+approved-grows : (b : ℕ) (l : List Row) (a n : ℕ) (c : Option ℕ) → approvals b (l ++ record { number = n; amount = a; currency = c; reverses = None } ∷ []) ≤ approvals b l + cond (a == b) 1 0
+approved-grows b l a n c = let e = approvals-push b l (record { number = n; amount = a; currency = c; reverses = None }) in omega (arith, e)
 
-reversed-grows : (b : ℕ) (l : List Row) (a n o : ℕ) → approvals b (l ++ record { number = n; amount = a; reverses = Some o } ∷ []) ≤ approvals b l + 0
-reversed-grows b l a n o = let e = approvals-push b l (record { number = n; amount = a; reverses = Some o }) in omega (arith, e)
+reversed-grows : (b : ℕ) (l : List Row) (a n : ℕ) (c : Option ℕ) (o : ℕ) → approvals b (l ++ record { number = n; amount = a; currency = c; reverses = Some o } ∷ []) ≤ approvals b l + 0
+reversed-grows b l a n c o = let e = approvals-push b l (record { number = n; amount = a; currency = c; reverses = Some o }) in omega (arith, e)
 
 unchanged : (b k : ℕ) (s : TerminalState) → approvals b (s.ledger ++ []) ≤ approvals b s.ledger + k
 unchanged b k s = still-grows b (approvals b s.ledger + k) s.ledger (omega arith)
 
 decides-grows : (s : TerminalState) (a : ℕ) (v : Verdict) (b : ℕ) → GrowsTo b (approvals b s.ledger + cond (a == b) 1 0) s (decides s a v)
-decides-grows s a Approve b = approved-grows b s.ledger a (next_number s)
+decides-grows s a Approve b = approved-grows b s.ledger a (next_number s) s.currency
 decides-grows s a (Decline code) b = unchanged b (cond (a == b) 1 0) s
 
-authorises-grows : (s : TerminalState) (o : Option ℕ) (v : Verdict) (b : ℕ) → GrowsTo b (approvals b s.ledger + asks_amount b (Authorisation o)) s (authorises s o v)
-authorises-grows s None v b = unchanged b 0 s
-authorises-grows s (Some a) v b =
-    either-grows b (approvals b s.ledger + cond (a == b) 1 0) s (has_room s) (decides s a v) (refuses s 255) (decides-grows s a v b) (unchanged b (cond (a == b) 1 0) s)
+authorises-grows : (s : TerminalState) (o : Option ℕ) (named : CurrencyFact) (v : Verdict) (b : ℕ)
+    → GrowsTo b (approvals b s.ledger + asks_amount b (Authorisation o named)) s (authorises s o named v)
+authorises-grows s None named v b = unchanged b 0 s
+authorises-grows s (Some a) named v b =
+    let n = approvals b s.ledger + cond (a == b) 1 0 in
+    let same = unchanged b (cond (a == b) 1 0) s in
+    either-grows b n s (has_room s) (cond (takes_currency s.currency named) (decides s a v) (refuses s 111)) (refuses s 255)
+    (either-grows b n s (takes_currency s.currency named) (decides s a v) (refuses s 111) (decides-grows s a v b) same) same
 
 takes_back-grows : (s : TerminalState) (row : Row) (b : ℕ) → GrowsTo b (approvals b s.ledger + 0) s (takes_back_row s row)
 takes_back-grows s row b =
     let n = approvals b s.ledger + 0 in
     either-grows b n s (is_taken_back row.number s.ledger) (aborts s 180) (cond (has_room s) (taken_back s row) (aborts s 255)) (unchanged b 0 s)
-    (either-grows b n s (has_room s) (taken_back s row) (aborts s 255) (reversed-grows b s.ledger row.amount (next_number s) row.number) (unchanged b 0 s))
+    (either-grows b n s (has_room s) (taken_back s row) (aborts s 255) (reversed-grows b s.ledger row.amount (next_number s) s.currency row.number) (unchanged b 0 s))
 
 reverses-grows : (s : TerminalState) (receipt : Option (List ℕ)) (b : ℕ) → GrowsTo b (approvals b s.ledger + 0) s (reverses s receipt)
 reverses-grows s None b = unchanged b 0 s
@@ -103,7 +108,7 @@ when-grows s ready turn b k h = either-grows b (approvals b s.ledger + k) s read
 -- an authorisation heard gives one approval at most
 ledger-grows : (s : TerminalState) (m : Asked) (v : Verdict) (b : ℕ) → GrowsTo b (approvals b s.ledger + asks_amount b m) s (turn_of s m v)
 ledger-grows s (Registration currency) v b = when-grows s (is_idle s.phase) (registers s currency) b 0 (unchanged b 0 s)
-ledger-grows s (Authorisation o) v b = when-grows s (is_ready s) (authorises s o v) b (asks_amount b (Authorisation o)) (authorises-grows s o v b)
+ledger-grows s (Authorisation o named) v b = when-grows s (is_ready s) (authorises s o named v) b (asks_amount b (Authorisation o named)) (authorises-grows s o named v b)
 ledger-grows s (Reversal receipt) v b = when-grows s (is_ready s) (reverses s receipt) b 0 (reverses-grows s receipt b)
 ledger-grows s EndOfDay v b = when-grows s (is_ready s) (closes s) b 0 (unchanged b 0 s)
 ledger-grows s AbortOrder v b = unchanged b 0 s
@@ -120,9 +125,11 @@ decides-ends : (s : TerminalState) (a : ℕ) (v : Verdict) → EndsLast (speech 
 decides-ends s a Approve = refl
 decides-ends s a (Decline code) = refl
 
-authorises-ends : (s : TerminalState) (o : Option ℕ) (v : Verdict) → words (script_of s.phase) ≡ [] → EndsLast (speech (authorises s o v))
-authorises-ends s None v e = e
-authorises-ends s (Some a) v e = either-ends (has_room s) (decides s a v) (refuses s 255) (decides-ends s a v) e
+authorises-ends : (s : TerminalState) (o : Option ℕ) (named : CurrencyFact) (v : Verdict) → words (script_of s.phase) ≡ [] → EndsLast (speech (authorises s o named v))
+authorises-ends s None named v e = e
+authorises-ends s (Some a) named v e =
+    either-ends (has_room s) (cond (takes_currency s.currency named) (decides s a v) (refuses s 111)) (refuses s 255)
+    (either-ends (takes_currency s.currency named) (decides s a v) (refuses s 111) (decides-ends s a v) e) e
 
 takes_back-ends : (s : TerminalState) (row : Row) → EndsLast (speech (takes_back_row s row))
 takes_back-ends s row =
@@ -153,7 +160,7 @@ answer-says s v = by_phase s.phase refl
 
 turn-ends : (s : TerminalState) (m : Asked) (v : Verdict) → words (script_of s.phase) ≡ [] → EndsLast (speech (turn_of s m v))
 turn-ends s (Registration currency) v e = either-ends (is_idle s.phase) (registers s currency) (refuses s 131) refl e
-turn-ends s (Authorisation o) v e = either-ends (is_ready s) (authorises s o v) (refuses s 131) (authorises-ends s o v e) e
+turn-ends s (Authorisation o named) v e = either-ends (is_ready s) (authorises s o named v) (refuses s 131) (authorises-ends s o named v e) e
 turn-ends s (Reversal receipt) v e = either-ends (is_ready s) (reverses s receipt) (refuses s 131) (reverses-ends s receipt) e
 turn-ends s EndOfDay v e = either-ends (is_ready s) (closes s) (refuses s 131) refl e
 turn-ends s AbortOrder v e = subst EndsLast (sym e) tt
@@ -186,12 +193,13 @@ claimed-note (AllGood t r) (Good u) receipt k = by_trace (same_trace u t)
 claimed-note st (Declining c) receipt k = absurd (k tt)
 claimed-note st c receipt k = tt
 
-approval-undeclined : (amount n : ℕ) → IsDeclining (class_of (Payment (charged amount)) (approval_status amount n)) → ⊥
-approval-undeclined amount n = by_amount (amount == amount)
+approval-undeclined : (force : Option ℕ) (amount n : ℕ) (c : Option ℕ) → IsDeclining (class_of (Payment (charged force amount)) (approval_status amount n c)) → ⊥
+approval-undeclined force amount n c = by_tests (is_in_currency force (fact_of c)) (amount == amount)
   where
-    by_amount : (b : Bool) → IsDeclining (cond b (Good (Some n)) (Doubtful AmountDiffers)) → ⊥
-    by_amount true k = k
-    by_amount false k = k
+    by_tests : (own same : Bool) → IsDeclining (cond own (cond same (Good (Some n)) (Doubtful AmountDiffers)) (Doubtful WrongCurrency)) → ⊥
+    by_tests true true k = k
+    by_tests true false k = k
+    by_tests false same k = k
 
 -- what a terminal's answer to a payment is worth
 abbrev Settles : TerminalState → Turn → List Entry → List (ℕ × Cause) → ℕ → Statuses → Type 0
@@ -207,26 +215,28 @@ still-covered l book u h = subst (λ (x : List Row). Covered x [] book u) (sym (
 
 decides-settles : (s : TerminalState) (a : ℕ) (v : Verdict) (book : List Entry) (u : List (ℕ × Cause)) (st : Statuses) → Covered s.ledger [] book u → Settles s (decides s a v) book u a st
 decides-settles s a Approve book u st h =
-    let f = approval_status a (next_number s) in
-    inr (claimed-note st (class_of (Payment (charged a)) f) f.receipt (approval-undeclined a (next_number s)))
+    let f = approval_status a (next_number s) s.currency in
+    inr (λ force. claimed-note st (class_of (Payment (charged force a)) f) f.receipt (approval-undeclined force a (next_number s) s.currency))
 decides-settles s a (Decline code) book u st h = inl (still-covered s.ledger book u h)
 
-payment-settles : (s : TerminalState) (a : ℕ) (v : Verdict) (book : List Entry) (u : List (ℕ × Cause)) (st : Statuses) → Covered s.ledger [] book u
-    → Settles s (turn_of s (Authorisation (Some a)) v) book u a st
-payment-settles s a v book u st h =
+payment-settles : (s : TerminalState) (a : ℕ) (named : CurrencyFact) (v : Verdict) (book : List Entry) (u : List (ℕ × Cause)) (st : Statuses) → Covered s.ledger [] book u
+    → Settles s (turn_of s (Authorisation (Some a) named) v) book u a st
+payment-settles s a named v book u st h =
     let still = still-covered s.ledger book u h in
-    either-settles s (is_ready s) (authorises s (Some a) v) (refuses s 131) book u a st
-    (either-settles s (has_room s) (decides s a v) (refuses s 255) book u a st (decides-settles s a v book u st h) (inl still)) (inl still)
+    let taken = cond (takes_currency s.currency named) (decides s a v) (refuses s 111) in
+    either-settles s (is_ready s) (authorises s (Some a) named v) (refuses s 131) book u a st
+    (either-settles s (has_room s) taken (refuses s 255) book u a st
+    (either-settles s (takes_currency s.currency named) (decides s a v) (refuses s 111) book u a st (decides-settles s a v book u st h) (inl still)) (inl still)) (inl still)
 
 fits-pledges : (s : TerminalState) (m : Asked) (v : Verdict) (o : Order) (book : List Entry) (u : List (ℕ × Cause)) (st : Statuses)
     → ((b : ℕ) → approvals b s.ledger + on_the_way b (m ∷ []) ≤ entries_of_amount b book + unclear_of_amount b u + pays_amount b o) → Fits o m
     → Pledges (ledger_after s (turn_of s m v)) [] book u o st (speech (turn_of s m v))
 fits-pledges s m v RegisterOrder book u st h f = tt
 fits-pledges s m v (PayOrder a) book u st h f =
-    let here : (b : ℕ) → approvals b s.ledger + on_the_way b (Authorisation (Some a) ∷ []) ≤ entries_of_amount b book + unclear_of_amount b u + cond (a == b) 1 0 =
-    subst (λ x. (b : ℕ) → approvals b s.ledger + on_the_way b (x ∷ []) ≤ entries_of_amount b book + unclear_of_amount b u + cond (a == b) 1 0) f h in
+    let here : (b : ℕ) → approvals b s.ledger + on_the_way b (Authorisation (Some a) f.0 ∷ []) ≤ entries_of_amount b book + unclear_of_amount b u + cond (a == b) 1 0 =
+    subst (λ x. (b : ℕ) → approvals b s.ledger + on_the_way b (x ∷ []) ≤ entries_of_amount b book + unclear_of_amount b u + cond (a == b) 1 0) f.1 h in
     let covered : Covered s.ledger [] book u = λ b. let n = here b in omega (arith, n) in
-    subst (λ x. Settles s (turn_of s x v) book u a st) (sym f) (payment-settles s a v book u st covered)
+    subst (λ x. Settles s (turn_of s x v) book u a st) (sym f.1) (payment-settles s a f.0 v book u st covered)
 fits-pledges s m v (ReverseOrder i) book u st h f = tt
 fits-pledges s m v CloseDayOrder book u st h f = tt
 fits-pledges s m v CancelOrder book u st h f = tt

@@ -8,6 +8,8 @@ use Rattle.zvt_till.specs.declared.messages.Heard.{Heard}
 use Rattle.zvt_till.specs.declared.messages.Heard.TheVariants.{Positive, Negative, Status, Passing, Completion, Abort}
 use Rattle.zvt_till.specs.declared.messages.StatusFacts.{StatusFacts}
 use Rattle.zvt_till.specs.declared.messages.Original.TheVariants.{Absent, Once}
+use Rattle.zvt_till.specs.declared.messages.CurrencyFact.{CurrencyFact}
+use Rattle.zvt_till.specs.declared.messages.CurrencyFact.TheVariants.{Absent as NoCurrency, Once as OneCurrency}
 use Rattle.zvt_till.specs.declared.orders.Order.{Order}
 use Rattle.zvt_till.specs.declared.orders.OrderRefusal.{OrderRefusal}
 use Rattle.zvt_till.specs.declared.orders.Outgoing.{Outgoing}
@@ -23,23 +25,30 @@ use Rattle.zvt_term.specs.declared.world.Move.{Move}
 use Rattle.zvt_term.specs.declared.world.Move.TheVariants.{Connect, Order as Ordered, ToTerminal, ToTill, TillLost, TerminalLost}
 use Rattle.zvt_term.specs.Terminal.{TerminalState, lost_terminal, state_after, reports_to}
 
-abbrev pub approval_status : ℕ → ℕ → StatusFacts
-approval_status amount number = record { result = Some 0; amount = Some amount; trace = Some number; receipt = Some (digits 2 number); original = Absent }
+-- the currency that the terminal kept, as it stands in a status
+abbrev pub fact_of : Option ℕ → CurrencyFact
+fact_of None = NoCurrency
+fact_of (Some currency) = OneCurrency currency
+
+abbrev pub approval_status : ℕ → ℕ → Option ℕ → StatusFacts
+approval_status amount number currency =
+    record { result = Some 0; amount = Some amount; trace = Some number; receipt = Some (digits 2 number); original = Absent; currency = fact_of currency }
 
 abbrev pub code_status : ℕ → StatusFacts
-code_status code = record { result = Some code; amount = None; trace = None; receipt = None; original = Absent }
+code_status code = record { result = Some code; amount = None; trace = None; receipt = None; original = Absent; currency = NoCurrency }
 
-abbrev pub reversal_status : ℕ → ℕ → ℕ → StatusFacts
-reversal_status amount number original = record { result = Some 0; amount = Some amount; trace = Some number; receipt = Some (digits 2 number); original = Once (digits 3 original) }
+abbrev pub reversal_status : ℕ → ℕ → ℕ → Option ℕ → StatusFacts
+reversal_status amount number original currency =
+    record { result = Some 0; amount = Some amount; trace = Some number; receipt = Some (digits 2 number); original = Once (digits 3 original); currency = fact_of currency }
 
 -- what a report is to the till
 abbrev pub heard_of : Report → Heard
 heard_of Ack = Positive
 heard_of (Nack code) = cond (code == 0) Positive (Negative code)
 heard_of (Registered tid currency) = Completion
-heard_of (Approved amount number) = Status (approval_status amount number)
+heard_of (Approved amount number currency) = Status (approval_status amount number currency)
 heard_of (Result code) = Status (code_status code)
-heard_of (TakenBack amount number original) = Status (reversal_status amount number original)
+heard_of (TakenBack amount number original currency) = Status (reversal_status amount number original currency)
 heard_of (Line line) = Passing
 heard_of Done = Completion
 heard_of (Aborted code) = Abort code
@@ -49,7 +58,7 @@ abbrev pub asked_of : Brief → Asked
 asked_of AckBrief = Answer
 asked_of (NackBrief code) = Answer
 asked_of (Register password config currency) = Registration (Some currency)
-asked_of (Pay amount currency) = Authorisation (Some amount)
+asked_of (Pay amount currency) = Authorisation (Some amount) (OneCurrency currency)
 asked_of (Reverse password receipt) = Reversal (Some receipt)
 asked_of (CloseDay password) = EndOfDay
 asked_of AbortBrief = AbortOrder

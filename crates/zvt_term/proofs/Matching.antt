@@ -13,7 +13,7 @@ use Rattle.zvt_till.specs.declared.statuses.Statuses.TheVariants.{Nothing, Good 
 use Rattle.zvt_till.specs.declared.statuses.Running.{Running}
 use Rattle.zvt_till.specs.declared.entries.Entry.{Entry}
 use Rattle.zvt_till.specs.declared.outcomes.Cause.{Cause}
-use Rattle.zvt_till.specs.declared.outcomes.Cause.TheVariants.{Conflict, AmountDiffers, NoTrace, TraceUsed}
+use Rattle.zvt_till.specs.declared.outcomes.Cause.TheVariants.{Conflict, AmountDiffers, NoTrace, TraceUsed, WrongCurrency}
 use Rattle.zvt_till.specs.declared.orders.Order.{Order}
 use Rattle.zvt_till.specs.declared.orders.Order.TheVariants.{Register as RegisterOrder, Pay as PayOrder, Reverse as ReverseOrder, CloseDay as CloseDayOrder, Cancel as CancelOrder}
 use Rattle.zvt_till.specs.declared.outcomes.Outcome.{Outcome}
@@ -21,10 +21,11 @@ use Rattle.zvt_till.specs.declared.outcomes.Outcome.TheVariants.{Paid, Refused a
 use Rattle.zvt_till.specs.declared.statuses.Demand.TheVariants.{Payment, Reversal as ReversalDemand}
 use Rattle.zvt_till.specs.declared.statuses.Class.{Class}
 use Rattle.zvt_till.specs.declared.statuses.Class.TheVariants.{Good, Declining, Doubtful}
-use Rattle.zvt_till.specs.Statuses.{class_of, same_trace, spells}
+use Rattle.zvt_till.specs.Statuses.{is_in_currency, class_of, same_trace, spells}
 use Rattle.zvt_till.specs.Segments.{ends, is_completion, status_of}
 use Rattle.zvt_till.specs.Outcomes.{charged, demand_of, note, note_if, note_class, trace_used, payment_outcome, broken_outcome, outcome_by, listened}
 use Rattle.zvt_till.specs.Sending.{Settings}
+use Rattle.zvt_till.specs.Events.{run_settings}
 use Rattle.zvt_till.specs.Till.{TillState, book_after, finish, meet, accept, step}
 use Rattle.zvt_till.proofs.Endings.{reversal-book}
 use Rattle.zvt_till.proofs.Marks.{marked_if}
@@ -33,7 +34,11 @@ use Rattle.zvt_till.proofs.Tied.{state}
 use Rattle.zvt_term.specs.declared.ledger.Row.{Row}
 use Rattle.zvt_term.specs.World.{IsApproved, IsTakenBack, EntryMatches, AllMatch}
 use Rattle.zvt_term.proofs.DigitLemmas.{number_of-digits}
-use Rattle.zvt_term.proofs.Facts.{approval_status, code_status, reversal_status}
+use Rattle.zvt_term.proofs.Facts.{fact_of, approval_status, code_status, reversal_status}
+
+-- the currency of the till of a run
+abbrev pub euro : ℕ
+euro = run_settings.currency
 
 -- a ledger that grows
 
@@ -46,16 +51,16 @@ slice_get-last : {X : Type 0} (xs : List X) (x : X) → slice_get (xs ++ x ∷ [
 slice_get-last [] x = refl
 slice_get-last (y ∷ xs) x = slice_get-last xs x
 
-approved-more : (l more : List Row) (a n : ℕ) → IsApproved l a n → IsApproved (l ++ more) a n
-approved-more l more a n w = (w.0, slice_get-front l more w.0 (record { number = n; amount = a; reverses = None }) w.1)
+approved-more : (l more : List Row) (a n : ℕ) → IsApproved l euro a n → IsApproved (l ++ more) euro a n
+approved-more l more a n w = (w.0, slice_get-front l more w.0 (record { number = n; amount = a; currency = Some euro; reverses = None }) w.1)
 
 taken-more : (l more : List Row) (n : ℕ) → IsTakenBack l n → IsTakenBack (l ++ more) n
 taken-more l more n w = (w.0, w.1, slice_get-front l more w.0 w.1 w.2, w.3)
 
--- what a status may claim, where it came from the terminal of this ledger
+-- what a status may claim, where it came from the terminal of this ledger, whatever currency is in force
 pub record ToldStatus (l : List Row) (f : StatusFacts) : Type 0 where
-  pub pays : (a t : ℕ) → class_of (Payment (charged a)) f ≡ Good (Some t) → IsApproved l a t × f.receipt ≡ Some (digits 2 t)
-  pub takes : (a t : ℕ) (u : Option ℕ) → class_of (ReversalDemand (charged a) t) f ≡ Good u → IsTakenBack l t
+  pub pays : (force : Option ℕ) (a t : ℕ) → class_of (Payment (charged force a)) f ≡ Good (Some t) → IsApproved l euro a t × f.receipt ≡ Some (digits 2 t)
+  pub takes : (force : Option ℕ) (a t : ℕ) (u : Option ℕ) → class_of (ReversalDemand (charged force a) t) f ≡ Good u → IsTakenBack l t
 
 abbrev pub Told : List Row → Heard → Type 0
 Told l Positive = Unit {0}
@@ -73,8 +78,8 @@ AllTold l (m ∷ ms) = Told l m × AllTold l ms
 status-more : (l more : List Row) (f : StatusFacts) → ToldStatus l f → ToldStatus (l ++ more) f
 status-more l more f t =
     record {
-      pays = λ a n e. let w = t.pays a n e in (approved-more l more a n w.0, w.1);
-      takes = λ a n u e. taken-more l more n (t.takes a n u e);
+      pays = λ force a n e. let w = t.pays force a n e in (approved-more l more a n w.0, w.1);
+      takes = λ force a n u e. taken-more l more n (t.takes force a n u e);
     }
 
 told-more : (l more : List Row) (m : Heard) → Told l m → Told (l ++ more) m
@@ -99,11 +104,11 @@ told-at l [] k m t e = absurd cc
 told-at l (n ∷ ms) zero m t e = let q : n ≡ m = cc in subst (Told l) q t.0
 told-at l (n ∷ ms) (suc k) m t e = told-at l ms k m t.1 e
 
-entry-more : (l more : List Row) (e : Entry) → EntryMatches l e → EntryMatches (l ++ more) e
+entry-more : (l more : List Row) (e : Entry) → EntryMatches euro l e → EntryMatches euro (l ++ more) e
 entry-more l more e m =
     record { approved = approved-more l more e.amount e.trace m.approved; receipt = m.receipt; reversed = λ q. taken-more l more e.trace (m.reversed q) }
 
-all_match-more : (l more : List Row) (book : List Entry) → AllMatch l book → AllMatch (l ++ more) book
+all_match-more : (l more : List Row) (book : List Entry) → AllMatch euro l book → AllMatch euro (l ++ more) book
 all_match-more l more [] m = tt
 all_match-more l more (e ∷ book) m = (entry-more l more e m.0, all_match-more l more book m.1)
 
@@ -111,7 +116,7 @@ all_match-more l more (e ∷ book) m = (entry-more l more e m.0, all_match-more 
 abbrev PaysFor : List Row → ℕ → Statuses → Type 0
 PaysFor l a Nothing = Unit {0}
 PaysFor l a (AllGood None r) = Unit {0}
-PaysFor l a (AllGood (Some t) r) = IsApproved l a t × r ≡ Some (digits 2 t)
+PaysFor l a (AllGood (Some t) r) = IsApproved l euro a t × r ≡ Some (digits 2 t)
 PaysFor l a (AllDeclining c) = Unit {0}
 PaysFor l a (Fault x) = Unit {0}
 
@@ -128,55 +133,55 @@ SummaryHolds l book (ReverseOrder e) st = TakesFor l (slice_get book e) st
 SummaryHolds l book CloseDayOrder st = Unit {0}
 SummaryHolds l book CancelOrder st = Unit {0}
 
-pays-note : (l : List Row) (a : ℕ) (f : StatusFacts) → ToldStatus l f → (st : Statuses) (c : Class) → class_of (Payment (charged a)) f ≡ c → PaysFor l a st → PaysFor l a (note_class st c f.receipt)
-pays-note l a f t Nothing (Good None) e h = tt
-pays-note l a f t Nothing (Good (Some n)) e h = t.pays a n e
-pays-note l a f t Nothing (Declining k) e h = tt
-pays-note l a f t Nothing (Doubtful x) e h = tt
-pays-note l a f t (AllGood n r) (Good u) e h = by_trace (same_trace u n)
+pays-note : (l : List Row) (force : Option ℕ) (a : ℕ) (f : StatusFacts) → ToldStatus l f → (st : Statuses) (c : Class) → class_of (Payment (charged force a)) f ≡ c → PaysFor l a st → PaysFor l a (note_class st c f.receipt)
+pays-note l force a f t Nothing (Good None) e h = tt
+pays-note l force a f t Nothing (Good (Some n)) e h = t.pays force a n e
+pays-note l force a f t Nothing (Declining k) e h = tt
+pays-note l force a f t Nothing (Doubtful x) e h = tt
+pays-note l force a f t (AllGood n r) (Good u) e h = by_trace (same_trace u n)
   where
     by_trace : (b : Bool) → PaysFor l a (cond b (AllGood n r) (Fault Conflict))
     by_trace true = h
     by_trace false = tt
-pays-note l a f t (AllGood n r) (Declining k) e h = tt
-pays-note l a f t (AllGood n r) (Doubtful x) e h = tt
-pays-note l a f t (AllDeclining k) (Good n) e h = tt
-pays-note l a f t (AllDeclining k) (Declining j) e h = tt
-pays-note l a f t (AllDeclining k) (Doubtful x) e h = tt
-pays-note l a f t (Fault x) (Good n) e h = tt
-pays-note l a f t (Fault x) (Declining k) e h = tt
-pays-note l a f t (Fault x) (Doubtful y) e h = tt
+pays-note l force a f t (AllGood n r) (Declining k) e h = tt
+pays-note l force a f t (AllGood n r) (Doubtful x) e h = tt
+pays-note l force a f t (AllDeclining k) (Good n) e h = tt
+pays-note l force a f t (AllDeclining k) (Declining j) e h = tt
+pays-note l force a f t (AllDeclining k) (Doubtful x) e h = tt
+pays-note l force a f t (Fault x) (Good n) e h = tt
+pays-note l force a f t (Fault x) (Declining k) e h = tt
+pays-note l force a f t (Fault x) (Doubtful y) e h = tt
 
-takes-note : (l : List Row) (row : Entry) (f : StatusFacts) → ToldStatus l f → (st : Statuses) (c : Class) → class_of (ReversalDemand (charged row.amount) row.trace) f ≡ c
+takes-note : (l : List Row) (force : Option ℕ) (row : Entry) (f : StatusFacts) → ToldStatus l f → (st : Statuses) (c : Class) → class_of (ReversalDemand (charged force row.amount) row.trace) f ≡ c
     → TakesFor l (Some row) st → TakesFor l (Some row) (note_class st c f.receipt)
-takes-note l row f t Nothing (Good n) e h = λ other q. let same : row ≡ other = cc in subst (λ (x : Entry). IsTakenBack l x.trace) same (t.takes row.amount row.trace n e)
-takes-note l row f t Nothing (Declining k) e h = tt
-takes-note l row f t Nothing (Doubtful x) e h = tt
-takes-note l row f t (AllGood n r) (Good u) e h = by_trace (same_trace u n)
+takes-note l force row f t Nothing (Good n) e h = λ other q. let same : row ≡ other = cc in subst (λ (x : Entry). IsTakenBack l x.trace) same (t.takes force row.amount row.trace n e)
+takes-note l force row f t Nothing (Declining k) e h = tt
+takes-note l force row f t Nothing (Doubtful x) e h = tt
+takes-note l force row f t (AllGood n r) (Good u) e h = by_trace (same_trace u n)
   where
     by_trace : (b : Bool) → TakesFor l (Some row) (cond b (AllGood n r) (Fault Conflict))
     by_trace true = h
     by_trace false = tt
-takes-note l row f t (AllGood n r) (Declining k) e h = tt
-takes-note l row f t (AllGood n r) (Doubtful x) e h = tt
-takes-note l row f t (AllDeclining k) (Good n) e h = tt
-takes-note l row f t (AllDeclining k) (Declining j) e h = tt
-takes-note l row f t (AllDeclining k) (Doubtful x) e h = tt
-takes-note l row f t (Fault x) (Good n) e h = tt
-takes-note l row f t (Fault x) (Declining k) e h = tt
-takes-note l row f t (Fault x) (Doubtful y) e h = tt
+takes-note l force row f t (AllGood n r) (Declining k) e h = tt
+takes-note l force row f t (AllGood n r) (Doubtful x) e h = tt
+takes-note l force row f t (AllDeclining k) (Good n) e h = tt
+takes-note l force row f t (AllDeclining k) (Declining j) e h = tt
+takes-note l force row f t (AllDeclining k) (Doubtful x) e h = tt
+takes-note l force row f t (Fault x) (Good n) e h = tt
+takes-note l force row f t (Fault x) (Declining k) e h = tt
+takes-note l force row f t (Fault x) (Doubtful y) e h = tt
 
-takes-option : (l : List Row) (o : Option Entry) (f : StatusFacts) → ToldStatus l f → (st : Statuses)
-    → TakesFor l o st → TakesFor l o (note (option_map (λ row. ReversalDemand (charged row.amount) row.trace) o) st f)
-takes-option l None f t st h = h
-takes-option l (Some row) f t st h = takes-note l row f t st (class_of (ReversalDemand (charged row.amount) row.trace) f) refl h
+takes-option : (l : List Row) (force : Option ℕ) (o : Option Entry) (f : StatusFacts) → ToldStatus l f → (st : Statuses)
+    → TakesFor l o st → TakesFor l o (note (option_map (λ row. ReversalDemand (charged force row.amount) row.trace) o) st f)
+takes-option l force None f t st h = h
+takes-option l force (Some row) f t st h = takes-note l force row f t st (class_of (ReversalDemand (charged force row.amount) row.trace) f) refl h
 
-summary-note : (l : List Row) (book : List Entry) (o : Order) (st : Statuses) (f : StatusFacts) → ToldStatus l f → SummaryHolds l book o st → SummaryHolds l book o (note (demand_of book o) st f)
-summary-note l book RegisterOrder st f t h = tt
-summary-note l book (PayOrder a) st f t h = pays-note l a f t st (class_of (Payment (charged a)) f) refl h
-summary-note l book (ReverseOrder e) st f t h = takes-option l (slice_get book e) f t st h
-summary-note l book CloseDayOrder st f t h = tt
-summary-note l book CancelOrder st f t h = tt
+summary-note : (l : List Row) (force : Option ℕ) (book : List Entry) (o : Order) (st : Statuses) (f : StatusFacts) → ToldStatus l f → SummaryHolds l book o st → SummaryHolds l book o (note (demand_of force book o) st f)
+summary-note l force book RegisterOrder st f t h = tt
+summary-note l force book (PayOrder a) st f t h = pays-note l force a f t st (class_of (Payment (charged force a)) f) refl h
+summary-note l force book (ReverseOrder e) st f t h = takes-option l force (slice_get book e) f t st h
+summary-note l force book CloseDayOrder st f t h = tt
+summary-note l force book CancelOrder st f t h = tt
 
 summary-more : (l more : List Row) (book : List Entry) (o : Order) (st : Statuses) → SummaryHolds l book o st → SummaryHolds (l ++ more) book o st
 summary-more l more book RegisterOrder st h = tt
@@ -194,32 +199,32 @@ summary-more l more book CancelOrder st h = tt
 
 -- one more entry
 
-all_match-push : (l : List Row) (book : List Entry) (x : Entry) → AllMatch l book → EntryMatches l x → AllMatch l (book ++ x ∷ [])
+all_match-push : (l : List Row) (book : List Entry) (x : Entry) → AllMatch euro l book → EntryMatches euro l x → AllMatch euro l (book ++ x ∷ [])
 all_match-push l [] x m e = (e, tt)
 all_match-push l (y ∷ book) x m e = (m.0, all_match-push l book x m.1 e)
 
-paid-book : (l : List Row) (book : List Entry) (a t : ℕ) (r : Option (List ℕ)) → AllMatch l book → IsApproved l a t × r ≡ Some (digits 2 t) → (b : Bool)
-    → AllMatch l (book_after book (PayOrder a) (cond b (UnclearOutcome TraceUsed) (Paid t r)))
+paid-book : (l : List Row) (book : List Entry) (a t : ℕ) (r : Option (List ℕ)) → AllMatch euro l book → IsApproved l euro a t × r ≡ Some (digits 2 t) → (b : Bool)
+    → AllMatch euro l (book_after book (PayOrder a) (cond b (UnclearOutcome TraceUsed) (Paid t r)))
 paid-book l book a t r m p true = m
 paid-book l book a t r m p false =
     let x : Entry = record { amount = a; trace = t; receipt = r; reversed = false } in
-    let e : EntryMatches l x = record { approved = p.0; receipt = p.1; reversed = λ q. absurd cc } in
+    let e : EntryMatches euro l x = record { approved = p.0; receipt = p.1; reversed = λ q. absurd cc } in
     all_match-push l book x m e
 
-pay-completed : (l : List Row) (book : List Entry) (a : ℕ) (st : Statuses) → AllMatch l book → PaysFor l a st → AllMatch l (book_after book (PayOrder a) (payment_outcome book st))
+pay-completed : (l : List Row) (book : List Entry) (a : ℕ) (st : Statuses) → AllMatch euro l book → PaysFor l a st → AllMatch euro l (book_after book (PayOrder a) (payment_outcome book st))
 pay-completed l book a Nothing m p = m
 pay-completed l book a (AllGood None r) m p = m
 pay-completed l book a (AllGood (Some t) r) m p = paid-book l book a t r m p (trace_used t book)
 pay-completed l book a (AllDeclining c) m p = m
 pay-completed l book a (Fault x) m p = m
 
-pay-broken : (l : List Row) (book : List Entry) (a : ℕ) (st : Statuses) (o : Outcome) → AllMatch l (book_after book (PayOrder a) o) → AllMatch l book → AllMatch l (book_after book (PayOrder a) (broken_outcome st o))
+pay-broken : (l : List Row) (book : List Entry) (a : ℕ) (st : Statuses) (o : Outcome) → AllMatch euro l (book_after book (PayOrder a) o) → AllMatch euro l book → AllMatch euro l (book_after book (PayOrder a) (broken_outcome st o))
 pay-broken l book a Nothing o k m = k
 pay-broken l book a (AllGood t r) o k m = m
 pay-broken l book a (AllDeclining c) o k m = k
 pay-broken l book a (Fault x) o k m = m
 
-pay-ended : (l : List Row) (book : List Entry) (a : ℕ) (st : Statuses) (h : Happening) → AllMatch l book → PaysFor l a st → AllMatch l (book_after book (PayOrder a) (outcome_by book (PayOrder a) st h))
+pay-ended : (l : List Row) (book : List Entry) (a : ℕ) (st : Statuses) (h : Happening) → AllMatch euro l book → PaysFor l a st → AllMatch euro l (book_after book (PayOrder a) (outcome_by book (PayOrder a) st h))
 pay-ended l book a st Connected m p = m
 pay-ended l book a st (SentOut o) m p = m
 pay-ended l book a st (HeardIn Positive) m p = m
@@ -234,26 +239,26 @@ pay-ended l book a st Lost m p = m
 
 -- one more mark
 
-match-at : (l : List Row) (book : List Entry) (i : ℕ) (row : Entry) → AllMatch l book → slice_get book i ≡ Some row → EntryMatches l row
+match-at : (l : List Row) (book : List Entry) (i : ℕ) (row : Entry) → AllMatch euro l book → slice_get book i ≡ Some row → EntryMatches euro l row
 match-at l [] i row m e = absurd cc
-match-at l (x ∷ book) zero row m e = let same : x ≡ row = cc in subst (λ y. EntryMatches l y) same m.0
+match-at l (x ∷ book) zero row m e = let same : x ≡ row = cc in subst (λ y. EntryMatches euro l y) same m.0
 match-at l (x ∷ book) (suc i) row m e = match-at l book i row m.1 e
 
-all_match-set : (l : List Row) (book : List Entry) (i : ℕ) (v : Entry) → AllMatch l book → EntryMatches l v → AllMatch l (slice_set book i v)
+all_match-set : (l : List Row) (book : List Entry) (i : ℕ) (v : Entry) → AllMatch euro l book → EntryMatches euro l v → AllMatch euro l (slice_set book i v)
 all_match-set l [] i v m e = tt
 all_match-set l (x ∷ book) zero v m e = (e, m.1)
 all_match-set l (x ∷ book) (suc i) v m e = (m.0, all_match-set l book i v m.1 e)
 
-reversed-book : (l : List Row) (book : List Entry) (i : ℕ) (o : Option Entry) → slice_get book i ≡ o → AllMatch l book → ((row : Entry) → o ≡ Some row → IsTakenBack l row.trace)
-    → AllMatch l (elim o [ None ↦ book | Some row ↦ slice_set book i (record row { reversed = true }) ])
+reversed-book : (l : List Row) (book : List Entry) (i : ℕ) (o : Option Entry) → slice_get book i ≡ o → AllMatch euro l book → ((row : Entry) → o ≡ Some row → IsTakenBack l row.trace)
+    → AllMatch euro l (elim o [ None ↦ book | Some row ↦ slice_set book i (record row { reversed = true }) ])
 reversed-book l book i None e m k = m
 reversed-book l book i (Some row) e m k =
     let v : Entry = record row { reversed = true } in
     let was = match-at l book i row m e in
-    let now : EntryMatches l v = record { approved = was.approved; receipt = was.receipt; reversed = λ q. k row refl } in
+    let now : EntryMatches euro l v = record { approved = was.approved; receipt = was.receipt; reversed = λ q. k row refl } in
     all_match-set l book i v m now
 
-marked-book : (l : List Row) (book : List Entry) (i : ℕ) (b : Bool) → AllMatch l book → (b ≡ true → (row : Entry) → slice_get book i ≡ Some row → IsTakenBack l row.trace) → AllMatch l (marked_if b book i)
+marked-book : (l : List Row) (book : List Entry) (i : ℕ) (b : Bool) → AllMatch euro l book → (b ≡ true → (row : Entry) → slice_get book i ≡ Some row → IsTakenBack l row.trace) → AllMatch euro l (marked_if b book i)
 marked-book l book i true m k = reversed-book l book i (slice_get book i) refl m (k refl)
 marked-book l book i false m k = m
 
@@ -267,11 +272,11 @@ takes-good l o (AllGood t r) h e = h
 takes-good l o (AllDeclining c) h e = absurd cc
 takes-good l o (Fault x) h e = absurd cc
 
-ended-book : (l : List Row) (book : List Entry) (o : Order) (st : Statuses) (h : Happening) → AllMatch l book → SummaryHolds l book o st → AllMatch l (book_after book o (outcome_by book o st h))
+ended-book : (l : List Row) (book : List Entry) (o : Order) (st : Statuses) (h : Happening) → AllMatch euro l book → SummaryHolds l book o st → AllMatch euro l (book_after book o (outcome_by book o st h))
 ended-book l book RegisterOrder st h m s = m
 ended-book l book (PayOrder a) st h m s = pay-ended l book a st h m s
 ended-book l book (ReverseOrder e) st h m s =
-    subst (λ b. AllMatch l b) (sym (reversal-book book e st h))
+    subst (λ b. AllMatch euro l b) (sym (reversal-book book e st h))
     (marked-book l book e (is_completion h && is_all_good st) m (λ q. takes-good l (slice_get book e) st s (and-right (is_completion h) (is_all_good st) q)))
 ended-book l book CloseDayOrder st h m s = m
 ended-book l book CancelOrder st h m s = m
@@ -284,7 +289,7 @@ RunningHolds l book (Some r) = SummaryHolds l book r.order r.statuses
 
 pub record TillHolds (l : List Row) (s : TillState) : Type 0 where
   pub running : RunningHolds l s.book s.running
-  pub book : AllMatch l s.book
+  pub book : AllMatch euro l s.book
 
 running-more : (l more : List Row) (book : List Entry) (run : Option Running) → RunningHolds l book run → RunningHolds (l ++ more) book run
 running-more l more book None h = tt
@@ -293,21 +298,21 @@ running-more l more book (Some r) h = summary-more l more book r.order r.statuse
 pub till-more : (l more : List Row) (s : TillState) → TillHolds l s → TillHolds (l ++ more) s
 till-more l more s t = record { running = running-more l more s.book s.running t.running; book = all_match-more l more s.book t.book }
 
-noted : (l : List Row) (book : List Entry) (o : Order) (st : Statuses) (f : Option StatusFacts) → ((x : StatusFacts) → f ≡ Some x → ToldStatus l x) → SummaryHolds l book o st
-    → SummaryHolds l book o (note_if (demand_of book o) st f)
-noted l book o st None t s = s
-noted l book o st (Some f) t s = summary-note l book o st f (t f refl) s
+noted : (l : List Row) (force : Option ℕ) (book : List Entry) (o : Order) (st : Statuses) (f : Option StatusFacts) → ((x : StatusFacts) → f ≡ Some x → ToldStatus l x) → SummaryHolds l book o st
+    → SummaryHolds l book o (note_if (demand_of force book o) st f)
+noted l force book o st None t s = s
+noted l force book o st (Some f) t s = summary-note l force book o st f (t f refl) s
 
 abbrev HappeningTold : List Row → Happening → Type 0
 HappeningTold l h = (x : StatusFacts) → status_of h ≡ Some x → ToldStatus l x
 
-meet-running-holds : (l : List Row) (s : TillState) (r : Running) (h : Happening) → HappeningTold l h → SummaryHolds l s.book r.order r.statuses → AllMatch l s.book → (b : Bool)
-    → TillHolds l (cond b (finish s r.order (outcome_by s.book r.order r.statuses h)) (record s { running = Some (listened (demand_of s.book r.order) r h) }))
+meet-running-holds : (l : List Row) (s : TillState) (r : Running) (h : Happening) → HappeningTold l h → SummaryHolds l s.book r.order r.statuses → AllMatch euro l s.book → (b : Bool)
+    → TillHolds l (cond b (finish s r.order (outcome_by s.book r.order r.statuses h)) (record s { running = Some (listened (demand_of (Some s.settings.currency) s.book r.order) r h) }))
 meet-running-holds l s r h t k m true = record { running = tt; book = ended-book l s.book r.order r.statuses h m k }
-meet-running-holds l s r h t k m false = record { running = noted l s.book r.order r.statuses (status_of h) t k; book = m }
+meet-running-holds l s r h t k m false = record { running = noted l (Some s.settings.currency) s.book r.order r.statuses (status_of h) t k; book = m }
 
 meet-by-holds : (l : List Row) (h : Happening) (k : Settings) (up g : Bool) (run : Option Running) (es : List Entry) (u : List (ℕ × Cause)) (last : Option Outcome)
-    → HappeningTold l h → RunningHolds l es run → AllMatch l es → TillHolds l (meet (state k up g run es u last) h)
+    → HappeningTold l h → RunningHolds l es run → AllMatch euro l es → TillHolds l (meet (state k up g run es u last) h)
 meet-by-holds l h k up g None es u last t i m = record { running = tt; book = m }
 meet-by-holds l h k up g (Some r) es u last t i m = meet-running-holds l (state k up g (Some r) es u last) r h t i m (ends r.positive h)
 
@@ -342,42 +347,51 @@ lost-holds l s i = let k = meet-holds l s Lost (λ x e. absurd cc) i in record {
 
 -- what the terminal says of its rows
 
-pub approval-told : (l : List Row) (amount n : ℕ) → ToldStatus (l ++ record { number = n; amount = amount; reverses = None } ∷ []) (approval_status amount n)
+pub approval-told : (l : List Row) (amount n : ℕ) → ToldStatus (l ++ record { number = n; amount = amount; currency = Some euro; reverses = None } ∷ []) (approval_status amount n (Some euro))
 approval-told l amount n =
-    record { pays = λ a t e. paid a t (amount == a) refl e; takes = λ a t u e. absurd (not_taken (amount == a) u e) }
+    record {
+      pays = λ force a t e. paid a t (is_in_currency force (fact_of (Some euro))) (amount == a) refl e;
+      takes = λ force a t u e. absurd (not_taken (is_in_currency force (fact_of (Some euro))) (amount == a) u e);
+    }
   where
-    paid : (a t : ℕ) (b : Bool) → (amount == a) ≡ b → cond b (Good (Some n)) (Doubtful AmountDiffers) ≡ Good (Some t)
-        → IsApproved (l ++ record { number = n; amount = amount; reverses = None } ∷ []) a t × Some (digits 2 n) ≡ Some (digits 2 t)
-    paid a t true q e =
+    paid : (a t : ℕ) (own b : Bool) → (amount == a) ≡ b → cond own (cond b (Good (Some n)) (Doubtful AmountDiffers)) (Doubtful WrongCurrency) ≡ Good (Some t)
+        → IsApproved (l ++ record { number = n; amount = amount; currency = Some euro; reverses = None } ∷ []) euro a t × Some (digits 2 n) ≡ Some (digits 2 t)
+    paid a t true true q e =
         let same : amount ≡ a = eqb-true amount a q in
         let number : n ≡ t = cc in
-        let last : IsApproved (l ++ record { number = n; amount = amount; reverses = None } ∷ []) amount n = (length l, slice_get-last l (record { number = n; amount = amount; reverses = None })) in (
-          subst (λ x. IsApproved (l ++ record { number = n; amount = amount; reverses = None } ∷ []) a x) number
-              (subst (λ x. IsApproved (l ++ record { number = n; amount = amount; reverses = None } ∷ []) x n) same last),
+        let row : Row = record { number = n; amount = amount; currency = Some euro; reverses = None } in
+        let last : IsApproved (l ++ row ∷ []) euro amount n = (length l, slice_get-last l row) in (
+          subst (λ x. IsApproved (l ++ row ∷ []) euro a x) number (subst (λ x. IsApproved (l ++ row ∷ []) euro x n) same last),
           ap (λ x. Some (digits 2 x)) number,
         )
-    paid a t false q e = absurd cc
+    paid a t true false q e = absurd cc
+    paid a t false b q e = absurd cc
 
-    not_taken : (b : Bool) (u : Option ℕ) → cond b (Doubtful NoTrace) (Doubtful AmountDiffers) ≡ Good u → ⊥
-    not_taken true u e = cc
-    not_taken false u e = cc
+    not_taken : (own b : Bool) (u : Option ℕ) → cond own (cond b (Doubtful NoTrace) (Doubtful AmountDiffers)) (Doubtful WrongCurrency) ≡ Good u → ⊥
+    not_taken true true u e = cc
+    not_taken true false u e = cc
+    not_taken false b u e = cc
 
 pub code-told : (l : List Row) (code : ℕ) → ToldStatus l (code_status code)
-code-told l code = record { pays = λ a t e. absurd (no_class (code == 0) (Some t) e); takes = λ a t u e. absurd (no_class (code == 0) u e) }
+code-told l code = record { pays = λ force a t e. absurd (no_class (code == 0) (Some t) e); takes = λ force a t u e. absurd (no_class (code == 0) u e) }
   where
     no_class : (b : Bool) (t : Option ℕ) → cond b (Doubtful AmountDiffers) (Declining code) ≡ Good t → ⊥
     no_class true t e = cc
     no_class false t e = cc
 
-pub reversal-told : (l : List Row) (amount n original : ℕ) → original ≤ 9999 → ToldStatus (l ++ record { number = n; amount = amount; reverses = Some original } ∷ []) (reversal_status amount n original)
-reversal-told l amount n original few = record { pays = λ a t e. absurd cc; takes = λ a t u e. taken a t u (amount == a) (spells (digits 3 original) t) refl e }
+pub reversal-told : (l : List Row) (amount n original : ℕ) (kept : Option ℕ) → original ≤ 9999
+    → ToldStatus (l ++ record { number = n; amount = amount; currency = kept; reverses = Some original } ∷ []) (reversal_status amount n original kept)
+reversal-told l amount n original kept few =
+    record { pays = λ force a t e. absurd cc; takes = λ force a t u e. taken t u (is_in_currency force (fact_of kept)) (amount == a) (spells (digits 3 original) t) refl e }
   where
-    taken : (a t : ℕ) (u : Option ℕ) (b c : Bool) → spells (digits 3 original) t ≡ c → cond b (cond c (Good None) (Doubtful NoTrace)) (Doubtful AmountDiffers) ≡ Good u
-        → IsTakenBack (l ++ record { number = n; amount = amount; reverses = Some original } ∷ []) t
-    taken a t u false c q e = absurd cc
-    taken a t u true false q e = absurd cc
-    taken a t u true true q e =
+    taken : (t : ℕ) (u : Option ℕ) (own b c : Bool) → spells (digits 3 original) t ≡ c
+        → cond own (cond b (cond c (Good None) (Doubtful NoTrace)) (Doubtful AmountDiffers)) (Doubtful WrongCurrency) ≡ Good u
+        → IsTakenBack (l ++ record { number = n; amount = amount; currency = kept; reverses = Some original } ∷ []) t
+    taken t u false b c q e = absurd cc
+    taken t u true false c q e = absurd cc
+    taken t u true true false q e = absurd cc
+    taken t u true true true q e =
         let test : (number_of (digits 3 original) == t) ≡ true = and-right (list_all is_digit_pair (digits 3 original)) (number_of (digits 3 original) == t) q in
         let same : original ≡ t = sym (number_of-digits 3 original (omega arith)) ∙ eqb-true (number_of (digits 3 original)) t test in
-        let row : Row = record { number = n; amount = amount; reverses = Some original } in
+        let row : Row = record { number = n; amount = amount; currency = kept; reverses = Some original } in
         (length l, row, slice_get-last l row, ap (λ x. Some x) same)

@@ -8,7 +8,11 @@ use Rattle.zvt_apdu.specs.declared.brief.Brief.{Brief}
 use Rattle.zvt_apdu.specs.declared.brief.Brief.TheVariants.{Ack as AckBrief, Nack as NackBrief, Register, Pay, Reverse, CloseDay, AbortOrder as AbortBrief}
 use Rattle.zvt_till.specs.declared.messages.Heard.{Heard}
 use Rattle.zvt_till.specs.declared.messages.Heard.TheVariants.{Positive, Negative, Status, Passing, Completion, Abort, Strange}
+use Rattle.zvt_till.specs.declared.messages.Original.{Original}
 use Rattle.zvt_till.specs.declared.messages.Original.TheVariants.{Absent, Once}
+use Rattle.zvt_till.specs.declared.messages.CurrencyFact.{CurrencyFact}
+use Rattle.zvt_till.specs.declared.messages.CurrencyFact.TheVariants.{Absent as NoCurrency, Once as OneCurrency}
+use Rattle.zvt_till.specs.declared.messages.StatusFacts.{StatusFacts}
 use Rattle.zvt_till.specs.declared.entries.Entry.{Entry}
 use Rattle.zvt_till.specs.declared.orders.Order.{Order}
 use Rattle.zvt_till.specs.declared.orders.Order.TheVariants.{Register as RegisterOrder, Pay as PayOrder, Reverse as ReverseOrder, CloseDay as CloseDayOrder, Cancel as CancelOrder}
@@ -29,18 +33,22 @@ use Rattle.zvt_term.specs.Asking.{asked_as}
 use Rattle.zvt_term.specs.Ledger.{approval_by, is_approval_named, is_taken_back}
 use Rattle.zvt_term.specs.Reports.{message_of_report, IsWritable}
 use Rattle.zvt_term.specs.Steps.{AreWritable}
-use Rattle.zvt_term.specs.Terminal.{TerminalState, has_room, is_idle, is_ready, aborts, refuses, registers, decides, authorises, takes_back_row, reverses_found, reverses, closes, goes_on, when, turn_of, reports_of}
+use Rattle.zvt_term.specs.Terminal.{TerminalState, has_room, is_idle, is_ready, aborts, refuses, registers, takes_currency, decides, authorises, takes_back_row, reverses_found, reverses, closes, goes_on, when, turn_of, reports_of}
 use Rattle.zvt_term.specs.World.{IsAmount, FitOrder, sent_out}
 use Rattle.zvt_term.proofs.DigitLemmas.{number_of-digits}
 use Rattle.zvt_term.proofs.Facts.{heard_of, asked_of, asked_out}
 use Rattle.zvt_term.proofs.TurnLemmas.{taken_back}
 
--- amounts that there are
+-- amounts and currencies that there are
+
+abbrev pub FitCurrency : Option ℕ → Type 0
+FitCurrency None = Unit {0}
+FitCurrency (Some currency) = currency ≤ 9999
 
 abbrev pub FitAsked : Asked → Type 0
-FitAsked (Registration currency) = Unit {0}
-FitAsked (Authorisation None) = Unit {0}
-FitAsked (Authorisation (Some amount)) = IsAmount amount
+FitAsked (Registration currency) = FitCurrency currency
+FitAsked (Authorisation None named) = Unit {0}
+FitAsked (Authorisation (Some amount) named) = IsAmount amount
 FitAsked (Reversal receipt) = Unit {0}
 FitAsked EndOfDay = Unit {0}
 FitAsked AbortOrder = Unit {0}
@@ -59,9 +67,9 @@ abbrev pub FitReport : Report → Type 0
 FitReport Ack = Unit {0}
 FitReport (Nack code) = Unit {0}
 FitReport (Registered tid currency) = Unit {0}
-FitReport (Approved amount number) = IsAmount amount
+FitReport (Approved amount number currency) = IsAmount amount × FitCurrency currency
 FitReport (Result code) = Unit {0}
-FitReport (TakenBack amount number original) = IsAmount amount
+FitReport (TakenBack amount number original currency) = IsAmount amount × FitCurrency currency
 FitReport (Line line) = Unit {0}
 FitReport Done = Unit {0}
 FitReport (Aborted code) = Unit {0}
@@ -106,16 +114,38 @@ amount-read amount h = ap positive (number_of-digits 6 amount (omega (arith, h.1
 trace-read : (number : ℕ) → number ≤ 9999 → ◌≡◌ {A = Option ℕ} (Some (number_of (digits 3 number))) (Some number)
 trace-read number h = ap (λ (n : ℕ). Some n) (number_of-digits 3 number (omega arith))
 
+currency-read : (currency : ℕ) → currency ≤ 9999 → number_of (digits 2 currency) ≡ currency
+currency-read currency h = number_of-digits 2 currency (omega arith)
+
+abbrev status_of : ℕ → ℕ → List ℕ → Original → CurrencyFact → StatusFacts
+status_of amount number receipt original currency = record { result = Some 0; amount = Some amount; trace = Some number; receipt = Some receipt; original = original; currency = currency }
+
+-- a status whose amount and number were written
+status-read : (amount number : ℕ) (receipt : List ℕ) (original : Original) (currency : CurrencyFact) → IsAmount amount → number ≤ 9999
+    → Status (record {
+      result = Some 0;
+      amount = positive (number_of (digits 6 amount));
+      trace = Some (number_of (digits 3 number));
+      receipt = Some receipt;
+      original = original;
+      currency = currency;
+    }) ≡ Status (status_of amount number receipt original currency)
+status-read amount number receipt original currency f w =
+    ap₂ (λ (a t : Option ℕ). Status (record { result = Some 0; amount = a; trace = t; receipt = Some receipt; original = original; currency = currency })) (amount-read amount f) (trace-read number w)
+
 heard-report : (report : Report) → IsWritable report → FitReport report → heard_as (message_of_report report) ≡ heard_of report
 heard-report Ack w f = refl
 heard-report (Nack code) w f = refl
 heard-report (Registered tid currency) w f = refl
-heard-report (Approved amount number) w f =
-    ap₂ (λ (a t : Option ℕ). Status (record { result = Some 0; amount = a; trace = t; receipt = Some (digits 2 number); original = Absent })) (amount-read amount f) (trace-read number w)
+heard-report (Approved amount number None) w f = status-read amount number (digits 2 number) Absent NoCurrency f.0 w
+heard-report (Approved amount number (Some currency)) w f =
+    status-read amount number (digits 2 number) Absent (OneCurrency (number_of (digits 2 currency))) f.0 w
+    ∙ ap (λ (c : ℕ). Status (status_of amount number (digits 2 number) Absent (OneCurrency c))) (currency-read currency f.1)
 heard-report (Result code) w f = refl
-heard-report (TakenBack amount number original) w f =
-    ap₂ (λ (a t : Option ℕ). Status (record { result = Some 0; amount = a; trace = t; receipt = Some (digits 2 number); original = Once (digits 3 original) })) (amount-read amount f)
-    (trace-read number w.0)
+heard-report (TakenBack amount number original None) w f = status-read amount number (digits 2 number) (Once (digits 3 original)) NoCurrency f.0 w.0
+heard-report (TakenBack amount number original (Some currency)) w f =
+    status-read amount number (digits 2 number) (Once (digits 3 original)) (OneCurrency (number_of (digits 2 currency))) f.0 w.0
+    ∙ ap (λ (c : ℕ). Status (status_of amount number (digits 2 number) (Once (digits 3 original)) (OneCurrency c))) (currency-read currency f.1)
 heard-report (Line line) w f = refl
 heard-report Done w f = refl
 heard-report (Aborted code) w f = refl
@@ -127,8 +157,8 @@ heard-reports (report ∷ reports) w f = ap₂ (λ x xs. x ∷ xs) (heard-report
 abbrev FitBrief : Brief → Type 0
 FitBrief AckBrief = Unit {0}
 FitBrief (NackBrief code) = Unit {0}
-FitBrief (Register password config currency) = Unit {0}
-FitBrief (Pay amount currency) = IsAmount amount
+FitBrief (Register password config currency) = currency ≤ 9999
+FitBrief (Pay amount currency) = IsAmount amount × (currency ≤ 9999)
 FitBrief (Reverse password receipt) = Unit {0}
 FitBrief (CloseDay password) = Unit {0}
 FitBrief AbortBrief = Unit {0}
@@ -141,7 +171,7 @@ asked-brief : (brief : Brief) → FitBrief brief → asked_as (message_of_brief 
 asked-brief AckBrief f = refl
 asked-brief (NackBrief code) f = refl
 asked-brief (Register password config currency) f = refl
-asked-brief (Pay amount currency) f = ap (λ (a : Option ℕ). Authorisation a) (amount-read amount f)
+asked-brief (Pay amount currency) f = ap₂ (λ (a : Option ℕ) (c : ℕ). Authorisation a (OneCurrency c)) (amount-read amount f.0) (currency-read currency f.1)
 asked-brief (Reverse password receipt) f = refl
 asked-brief (CloseDay password) f = refl
 asked-brief AbortBrief f = refl
@@ -153,8 +183,8 @@ asked-out (Some out) f = ap (λ m. m ∷ []) (asked-brief out.brief f)
 asked-fit : (brief : Brief) → FitBrief brief → FitAsked (asked_of brief)
 asked-fit AckBrief f = tt
 asked-fit (NackBrief code) f = tt
-asked-fit (Register password config currency) f = tt
-asked-fit (Pay amount currency) f = f
+asked-fit (Register password config currency) f = f
+asked-fit (Pay amount currency) f = f.0
 asked-fit (Reverse password receipt) f = tt
 asked-fit (CloseDay password) f = tt
 asked-fit AbortBrief f = tt
@@ -163,16 +193,16 @@ pub out-fit : (out : Option Outgoing) → FitOut out → AllAsked (asked_out out
 out-fit None f = tt
 out-fit (Some out) f = (asked-fit out.brief f, tt)
 
-pub order-fit : (s : Settings) (book : List Entry) (o : Order) → FitOrder o → FitOut (message_of s book o)
-order-fit s book RegisterOrder f = tt
-order-fit s book (PayOrder amount) f = f
-order-fit s book (ReverseOrder e) f = by_receipt (receipt_at (slice_get book e))
+pub order-fit : (s : Settings) (book : List Entry) (o : Order) → s.currency ≤ 9999 → FitOrder o → FitOut (message_of s book o)
+order-fit s book RegisterOrder c f = c
+order-fit s book (PayOrder amount) c f = (f, c)
+order-fit s book (ReverseOrder e) c f = by_receipt (receipt_at (slice_get book e))
   where
     by_receipt : (receipt : Option (List ℕ)) → FitOut (option_map (λ r. outgoing (Reverse s.password r)) receipt)
     by_receipt None = tt
     by_receipt (Some r) = tt
-order-fit s book CloseDayOrder f = tt
-order-fit s book CancelOrder f = tt
+order-fit s book CloseDayOrder c f = tt
+order-fit s book CancelOrder c f = tt
 
 pub reply-fit : (m : Heard) → FitOut (reply_to m)
 reply-fit Positive = tt
@@ -183,55 +213,56 @@ reply-fit Completion = tt
 reply-fit (Abort code) = tt
 reply-fit Strange = tt
 
--- what a turn writes down and says has amounts that there are
+-- what a turn writes down, says and keeps has amounts and currencies that there are
 
 abbrev pub FitTurn : Turn → Type 0
-FitTurn turn = FitRows (option_to_list turn.row) × FitReports (reports_of turn.reply)
+FitTurn turn = FitRows (option_to_list turn.row) × FitReports (reports_of turn.reply) × FitCurrency turn.currency
 
-when-fit : (s : TerminalState) (ready : Bool) (turn : Turn) → FitTurn turn → FitTurn (when ready s turn)
-when-fit s true turn h = h
-when-fit s false turn h = (tt, (tt, tt))
+when-fit : (s : TerminalState) (ready : Bool) (turn : Turn) → FitCurrency s.currency → FitTurn turn → FitTurn (when ready s turn)
+when-fit s true turn c h = h
+when-fit s false turn c h = (tt, (tt, tt), c)
 
-decides-fit : (s : TerminalState) (amount : ℕ) (v : Verdict) → IsAmount amount → FitTurn (decides s amount v)
-decides-fit s amount Approve f = ((f, tt), (tt, (f, tt)))
-decides-fit s amount (Decline code) f = (tt, (tt, (tt, tt)))
+decides-fit : (s : TerminalState) (amount : ℕ) (v : Verdict) → FitCurrency s.currency → IsAmount amount → FitTurn (decides s amount v)
+decides-fit s amount Approve c f = ((f, tt), (tt, ((f, c), tt)), c)
+decides-fit s amount (Decline code) c f = (tt, (tt, (tt, tt)), c)
 
-authorises-fit : (s : TerminalState) (amount : Option ℕ) (v : Verdict) → FitAsked (Authorisation amount) → FitTurn (authorises s amount v)
-authorises-fit s None v f = (tt, (tt, tt))
-authorises-fit s (Some amount) v f = by_room (has_room s)
+authorises-fit : (s : TerminalState) (amount : Option ℕ) (named : CurrencyFact) (v : Verdict) → FitCurrency s.currency → FitAsked (Authorisation amount named) → FitTurn (authorises s amount named v)
+authorises-fit s None named v c f = (tt, (tt, tt), c)
+authorises-fit s (Some amount) named v c f = by_both (has_room s) (takes_currency s.currency named)
   where
-    by_room : (b : Bool) → FitTurn (cond b (decides s amount v) (refuses s 255))
-    by_room true = decides-fit s amount v f
-    by_room false = (tt, (tt, tt))
+    by_both : (a b : Bool) → FitTurn (cond a (cond b (decides s amount v) (refuses s 111)) (refuses s 255))
+    by_both true true = decides-fit s amount v c f
+    by_both true false = (tt, (tt, tt), c)
+    by_both false b = (tt, (tt, tt), c)
 
-takes_back-fit : (s : TerminalState) (row : Row) → IsAmount row.amount → FitTurn (takes_back_row s row)
-takes_back-fit s row f = by_both (is_taken_back row.number s.ledger) (has_room s)
+takes_back-fit : (s : TerminalState) (row : Row) → FitCurrency s.currency → IsAmount row.amount → FitTurn (takes_back_row s row)
+takes_back-fit s row c f = by_both (is_taken_back row.number s.ledger) (has_room s)
   where
     by_both : (a b : Bool) → FitTurn (cond a (aborts s 180) (cond b (taken_back s row) (aborts s 255)))
-    by_both true b = (tt, (tt, (tt, tt)))
-    by_both false true = ((f, tt), (tt, (f, tt)))
-    by_both false false = (tt, (tt, (tt, tt)))
+    by_both true b = (tt, (tt, (tt, tt)), c)
+    by_both false true = ((f, tt), (tt, ((f, c), tt)), c)
+    by_both false false = (tt, (tt, (tt, tt)), c)
 
-reverses-fit : (s : TerminalState) (receipt : Option (List ℕ)) → FitRows s.ledger → FitTurn (reverses s receipt)
-reverses-fit s None h = (tt, (tt, (tt, tt)))
-reverses-fit s (Some receipt) h = by_row (approval_by receipt s.ledger) refl
+reverses-fit : (s : TerminalState) (receipt : Option (List ℕ)) → FitCurrency s.currency → FitRows s.ledger → FitTurn (reverses s receipt)
+reverses-fit s None c h = (tt, (tt, (tt, tt)), c)
+reverses-fit s (Some receipt) c h = by_row (approval_by receipt s.ledger) refl
   where
     by_row : (row : Option Row) → approval_by receipt s.ledger ≡ row → FitTurn (reverses_found s row)
-    by_row None is = (tt, (tt, (tt, tt)))
-    by_row (Some row) is = takes_back-fit s row (fit-found (is_approval_named receipt) s.ledger row h is)
+    by_row None is = (tt, (tt, (tt, tt)), c)
+    by_row (Some row) is = takes_back-fit s row c (fit-found (is_approval_named receipt) s.ledger row h is)
 
-goes_on-fit : (s : TerminalState) (phase : Phase) → FitTurn (goes_on s phase)
-goes_on-fit s Idle = (tt, tt)
-goes_on-fit s (Printing line) = (tt, (tt, tt))
-goes_on-fit s Completing = (tt, (tt, tt))
-goes_on-fit s (Aborting code) = (tt, (tt, tt))
-goes_on-fit s Ending = (tt, tt)
+goes_on-fit : (s : TerminalState) (phase : Phase) → FitCurrency s.currency → FitTurn (goes_on s phase)
+goes_on-fit s Idle c = (tt, tt, c)
+goes_on-fit s (Printing line) c = (tt, (tt, tt), c)
+goes_on-fit s Completing c = (tt, (tt, tt), c)
+goes_on-fit s (Aborting code) c = (tt, (tt, tt), c)
+goes_on-fit s Ending c = (tt, tt, c)
 
-pub turn-fit : (s : TerminalState) (asked : Asked) (v : Verdict) → FitRows s.ledger → FitAsked asked → FitTurn (turn_of s asked v)
-turn-fit s (Registration currency) v h f = when-fit s (is_idle s.phase) (registers s currency) (tt, (tt, (tt, tt)))
-turn-fit s (Authorisation amount) v h f = when-fit s (is_ready s) (authorises s amount v) (authorises-fit s amount v f)
-turn-fit s (Reversal receipt) v h f = when-fit s (is_ready s) (reverses s receipt) (reverses-fit s receipt h)
-turn-fit s EndOfDay v h f = when-fit s (is_ready s) (closes s) (tt, (tt, (tt, tt)))
-turn-fit s AbortOrder v h f = (tt, (tt, tt))
-turn-fit s Answer v h f = goes_on-fit s s.phase
-turn-fit s Unknown v h f = (tt, (tt, tt))
+pub turn-fit : (s : TerminalState) (asked : Asked) (v : Verdict) → FitCurrency s.currency → FitRows s.ledger → FitAsked asked → FitTurn (turn_of s asked v)
+turn-fit s (Registration currency) v c h f = when-fit s (is_idle s.phase) (registers s currency) c (tt, (tt, (tt, tt)), f)
+turn-fit s (Authorisation amount named) v c h f = when-fit s (is_ready s) (authorises s amount named v) c (authorises-fit s amount named v c f)
+turn-fit s (Reversal receipt) v c h f = when-fit s (is_ready s) (reverses s receipt) c (reverses-fit s receipt c h)
+turn-fit s EndOfDay v c h f = when-fit s (is_ready s) (closes s) c (tt, (tt, (tt, tt)), c)
+turn-fit s AbortOrder v c h f = (tt, (tt, tt), c)
+turn-fit s Answer v c h f = goes_on-fit s s.phase c
+turn-fit s Unknown v c h f = (tt, (tt, tt), c)

@@ -10,7 +10,7 @@ use Rattle.zvt_apdu.specs.Message.{Message, status, completion, print_line}
 use Rattle.zvt_apdu.specs.Grammar.{IsControl, Data}
 use Rattle.zvt_apdu.specs.Briefs.{digits, PutsMessage}
 use Rattle.zvt_term.specs.declared.messages.Report.TheVariants.{Registered, Approved, TakenBack}
-use Rattle.zvt_term.specs.Reports.{message_of_report}
+use Rattle.zvt_term.specs.Reports.{currency_field, message_of_report}
 use Rattle.zvt_term.proofs.DigitLemmas.{length-digits, are-digits, three-digits, bytes_of}
 
 -- a message with a length of one byte
@@ -112,9 +112,9 @@ number_fields number rest fields h more =
     subst (λ (s : List ℕ). Listing (plain 0x0B (digits 3 number) ∷ fields) (0x0B ∷ (s ++ rest))) (three-digits number h)
     (one_more 0x0B (digits 3 number) rest fields (digits_field 0x0B 3 number trace_shape (omega arith)) more)
 
-receipt_fields : (number : ℕ) → number ≤ 9999 → Listing (plain 0x87 (digits 2 number) ∷ []) (0x87 ∷ digits 2 number)
-receipt_fields number h =
-    one_more 0x87 (digits 2 number) [] [] (fixed_field 0x87 2 (digits 2 number) receipt_shape (length-digits 2 number) (digits_are_bytes 2 number (omega arith))) nothing_listed
+receipt_fields : (number : ℕ) (rest : List ℕ) (fields : List Field) → number ≤ 9999 → Listing fields rest → Listing (plain 0x87 (digits 2 number) ∷ fields) (0x87 ∷ (digits 2 number ++ rest))
+receipt_fields number rest fields h more =
+    one_more 0x87 (digits 2 number) rest fields (fixed_field 0x87 2 (digits 2 number) receipt_shape (length-digits 2 number) (digits_are_bytes 2 number (omega arith))) more
 
 original_fields : (original : ℕ) (rest : List ℕ) (fields : List Field) → original ≤ 9999 → Listing fields rest
     → Listing (plain 0x37 (digits 3 original) ∷ fields) (0x37 ∷ 0 ∷ (digits 2 original ++ rest))
@@ -135,20 +135,29 @@ six_more s rest = get_or s 0 0 ∷ get_or s 1 0 ∷ get_or s 2 0 ∷ get_or s 3 
 abbrev pub two_more : List ℕ → List ℕ → List ℕ
 two_more s rest = get_or s 0 0 ∷ get_or s 1 0 ∷ rest
 
-pub approval_listed : (amount number : ℕ) (six two : List ℕ) → six ≡ digits 6 amount → amount < 100 ^ 6 → two ≡ digits 2 number → number ≤ 9999
-    → Data shortest (message_of_report (Approved amount number)) (0x27 ∷ 0 ∷ 0x04 ∷ six_more six (0x0B ∷ 0 ∷ two_more two (0x87 ∷ two_more two [])))
-approval_listed amount number six two is small is_two few =
-    subst (λ (s : List ℕ). Data shortest (message_of_report (Approved amount number)) (0x27 ∷ 0 ∷ 0x04 ∷ six_more s (0x0B ∷ 0 ∷ two_more two (0x87 ∷ two_more two [])))) (sym is)
-    (subst (λ (t : List ℕ). Data shortest (message_of_report (Approved amount number)) (0x27 ∷ 0 ∷ 0x04 ∷ six_more (digits 6 amount) (0x0B ∷ 0 ∷ two_more t (0x87 ∷ two_more t [])))) (sym is_two)
-    (status_data _ _ (approved_fields amount _ _ small (number_fields number _ _ few (receipt_fields number few)))))
+-- a currency at the end
+pub currency_listed : (currency : ℕ) (two : List ℕ) → two ≡ digits 2 currency → currency < 100 ^ 2 → Listing (currency_field (Some currency)) (0x49 ∷ two_more two [])
+currency_listed currency two is small =
+    subst (λ (t : List ℕ). Listing (currency_field (Some currency)) (0x49 ∷ two_more t [])) (sym is)
+    (one_more 0x49 (digits 2 currency) [] [] (digits_field 0x49 2 currency currency_shape small) nothing_listed)
 
-pub reversal_listed : (amount number original : ℕ) (six two old : List ℕ) → six ≡ digits 6 amount → amount < 100 ^ 6 → two ≡ digits 2 number → number ≤ 9999 → old ≡ digits 2 original → original ≤ 9999
-    → Data shortest (message_of_report (TakenBack amount number original)) (0x27 ∷ 0 ∷ 0x04 ∷ six_more six (0x0B ∷ 0 ∷ two_more two (0x37 ∷ 0 ∷ two_more old (0x87 ∷ two_more two []))))
-reversal_listed amount number original six two old is small is_two few is_old fewer =
-    subst (λ (s : List ℕ). Data shortest (message_of_report (TakenBack amount number original)) (0x27 ∷ 0 ∷ 0x04 ∷ six_more s (0x0B ∷ 0 ∷ two_more two (0x37 ∷ 0 ∷ two_more old (0x87 ∷ two_more two []))))) (sym is)
-    (subst (λ (t : List ℕ). Data shortest (message_of_report (TakenBack amount number original)) (0x27 ∷ 0 ∷ 0x04 ∷ six_more (digits 6 amount) (0x0B ∷ 0 ∷ two_more t (0x37 ∷ 0 ∷ two_more old (0x87 ∷ two_more t []))))) (sym is_two)
-    (subst (λ (t : List ℕ). Data shortest (message_of_report (TakenBack amount number original)) (0x27 ∷ 0 ∷ 0x04 ∷ six_more (digits 6 amount) (0x0B ∷ 0 ∷ two_more (digits 2 number) (0x37 ∷ 0 ∷ two_more t (0x87 ∷ two_more (digits 2 number) []))))) (sym is_old)
-    (status_data _ _ (approved_fields amount _ _ small (number_fields number _ _ few (original_fields original _ _ fewer (receipt_fields number few)))))))
+pub approval_listed : (amount number : ℕ) (currency : Option ℕ) (six two rest : List ℕ) → six ≡ digits 6 amount → amount < 100 ^ 6 → two ≡ digits 2 number → number ≤ 9999 → Listing (currency_field currency) rest
+    → Data shortest (message_of_report (Approved amount number currency)) (0x27 ∷ 0 ∷ 0x04 ∷ six_more six (0x0B ∷ 0 ∷ two_more two (0x87 ∷ two_more two rest)))
+approval_listed amount number currency six two rest is small is_two few more =
+    let m : Message = message_of_report (Approved amount number currency) in
+    subst (λ (s : List ℕ). Data shortest m (0x27 ∷ 0 ∷ 0x04 ∷ six_more s (0x0B ∷ 0 ∷ two_more two (0x87 ∷ two_more two rest)))) (sym is)
+    (subst (λ (t : List ℕ). Data shortest m (0x27 ∷ 0 ∷ 0x04 ∷ six_more (digits 6 amount) (0x0B ∷ 0 ∷ two_more t (0x87 ∷ two_more t rest)))) (sym is_two)
+    (status_data _ _ (approved_fields amount _ _ small (number_fields number _ _ few (receipt_fields number rest _ few more)))))
+
+pub reversal_listed : (amount number original : ℕ) (currency : Option ℕ) (six two old rest : List ℕ) → six ≡ digits 6 amount → amount < 100 ^ 6 → two ≡ digits 2 number → number ≤ 9999
+    → old ≡ digits 2 original → original ≤ 9999 → Listing (currency_field currency) rest
+    → Data shortest (message_of_report (TakenBack amount number original currency)) (0x27 ∷ 0 ∷ 0x04 ∷ six_more six (0x0B ∷ 0 ∷ two_more two (0x37 ∷ 0 ∷ two_more old (0x87 ∷ two_more two rest))))
+reversal_listed amount number original currency six two old rest is small is_two few is_old fewer more =
+    let m : Message = message_of_report (TakenBack amount number original currency) in
+    subst (λ (s : List ℕ). Data shortest m (0x27 ∷ 0 ∷ 0x04 ∷ six_more s (0x0B ∷ 0 ∷ two_more two (0x37 ∷ 0 ∷ two_more old (0x87 ∷ two_more two rest))))) (sym is)
+    (subst (λ (t : List ℕ). Data shortest m (0x27 ∷ 0 ∷ 0x04 ∷ six_more (digits 6 amount) (0x0B ∷ 0 ∷ two_more t (0x37 ∷ 0 ∷ two_more old (0x87 ∷ two_more t rest))))) (sym is_two)
+    (subst (λ (t : List ℕ). Data shortest m (0x27 ∷ 0 ∷ 0x04 ∷ six_more (digits 6 amount) (0x0B ∷ 0 ∷ two_more (digits 2 number) (0x37 ∷ 0 ∷ two_more t (0x87 ∷ two_more (digits 2 number) rest))))) (sym is_old)
+    (status_data _ _ (approved_fields amount _ _ small (number_fields number _ _ few (original_fields original _ _ fewer (receipt_fields number rest _ few more)))))))
 
 abbrev pub four_more : List ℕ → List ℕ → List ℕ
 four_more s rest = get_or s 0 0 ∷ get_or s 1 0 ∷ get_or s 2 0 ∷ get_or s 3 0 ∷ rest
@@ -157,17 +166,11 @@ tid_fields : (tid : ℕ) (rest : List ℕ) (fields : List Field) → tid ≤ 999
     → Listing (plain 0x29 (digits 4 tid) ∷ fields) (0x29 ∷ (digits 4 tid ++ rest))
 tid_fields tid rest fields h more = one_more 0x29 (digits 4 tid) rest fields (digits_field 0x29 4 tid tid_shape (omega arith)) more
 
-pub registered_listed : (tid : ℕ) (four : List ℕ) → four ≡ digits 4 tid → tid ≤ 99999999 → Data shortest (message_of_report (Registered tid None)) (0x29 ∷ four_more four [])
-registered_listed tid four is few =
-    subst (λ (s : List ℕ). Data shortest (message_of_report (Registered tid None)) (0x29 ∷ four_more s [])) (sym is)
-    (completion_data _ _ (tid_fields tid [] [] few nothing_listed))
-
-pub currency_listed : (tid currency : ℕ) (four two : List ℕ) → four ≡ digits 4 tid → tid ≤ 99999999 → two ≡ digits 2 currency → currency < 100 ^ 2
-    → Data shortest (message_of_report (Registered tid (Some currency))) (0x29 ∷ four_more four (0x49 ∷ two_more two []))
-currency_listed tid currency four two is few is_two small =
-    subst (λ (s : List ℕ). Data shortest (message_of_report (Registered tid (Some currency))) (0x29 ∷ four_more s (0x49 ∷ two_more two []))) (sym is)
-    (subst (λ (t : List ℕ). Data shortest (message_of_report (Registered tid (Some currency))) (0x29 ∷ four_more (digits 4 tid) (0x49 ∷ two_more t []))) (sym is_two)
-    (completion_data _ _ (tid_fields tid _ _ few (one_more 0x49 (digits 2 currency) [] [] (digits_field 0x49 2 currency currency_shape small) nothing_listed))))
+pub registered_listed : (tid : ℕ) (currency : Option ℕ) (four rest : List ℕ) → four ≡ digits 4 tid → tid ≤ 99999999 → Listing (currency_field currency) rest
+    → Data shortest (message_of_report (Registered tid currency)) (0x29 ∷ four_more four rest)
+registered_listed tid currency four rest is few more =
+    subst (λ (s : List ℕ). Data shortest (message_of_report (Registered tid currency)) (0x29 ∷ four_more s rest)) (sym is)
+    (completion_data _ _ (tid_fields tid rest (currency_field currency) few more))
 
 pub text_data : (text : List ℕ) → AreBytes text → Data shortest (print_line 0 text) (0 ∷ text)
 text_data text are = (refl, refl, (omega arith, tt), are)

@@ -2,6 +2,7 @@
 use Rattle.std.proofs.Common.{◌≡◌, ℕ, ◌+◌, ◌<◌, ◌≤◌, Bool, true, false, cond, List, [], ◌∷◌, ◌++◌, length, Option, Some, None, option_to_list, refl, sym, subst, arith, length-append, append-nil}
 use Rattle.std.proofs.lemmas.Bool.{ltb-true}
 use Rattle.std.specs.List.{find}
+use Rattle.zvt_till.specs.declared.messages.CurrencyFact.{CurrencyFact}
 use Rattle.zvt_term.specs.declared.messages.Asked.{Asked}
 use Rattle.zvt_term.specs.declared.messages.Asked.TheVariants.{Registration, Authorisation, Reversal, EndOfDay, AbortOrder, Answer, Unknown}
 use Rattle.zvt_term.specs.declared.messages.Line.TheVariants.{Reversed as ReversedLine}
@@ -15,7 +16,7 @@ use Rattle.zvt_term.specs.declared.turns.Turn.{Turn}
 use Rattle.zvt_term.specs.Inside.{IsSound}
 use Rattle.zvt_term.specs.Ledger.{NumberedFrom, approval_by, is_approval_named, is_taken_back}
 use Rattle.zvt_term.specs.Steps.{AreWritable, IsNext}
-use Rattle.zvt_term.specs.Terminal.{TerminalState, most_rows, has_room, next_number, is_idle, is_ready, writes, aborts, refuses, registers, decides, authorises, takes_back_row, reverses_found, reverses, closes, goes_on, when, turn_of, after, state_after, reports_of}
+use Rattle.zvt_term.specs.Terminal.{TerminalState, most_rows, has_room, next_number, is_idle, is_ready, writes, aborts, refuses, registers, takes_currency, decides, authorises, takes_back_row, reverses_found, reverses, closes, goes_on, when, turn_of, after, state_after, reports_of}
 
 pub numbered-append : (n : ℕ) (rows : List Row) (row : Row) → NumberedFrom n rows → row.number ≡ n + length rows → NumberedFrom n (rows ++ row ∷ [])
 numbered-append n [] row h e = (omega arith, tt)
@@ -62,18 +63,19 @@ decides-sound : (s : TerminalState) (amount : ℕ) (v : Verdict) → length s.le
 decides-sound s amount Approve h = record { next = (h, refl); writable = λ k. (tt, (omega (arith, h), tt)) }
 decides-sound s amount (Decline code) h = record { next = tt; writable = λ k. (tt, (tt, tt)) }
 
-authorises-sound : (s : TerminalState) (amount : Option ℕ) (v : Verdict) → Sound s (authorises s amount v)
-authorises-sound s None v = refuses-sound s 255
-authorises-sound s (Some amount) v = by_room (has_room s) refl
+authorises-sound : (s : TerminalState) (amount : Option ℕ) (named : CurrencyFact) (v : Verdict) → Sound s (authorises s amount named v)
+authorises-sound s None named v = refuses-sound s 255
+authorises-sound s (Some amount) named v = by_both (has_room s) (takes_currency s.currency named) refl
   where
-    by_room : (b : Bool) → has_room s ≡ b → Sound s (cond b (decides s amount v) (refuses s 255))
-    by_room true is = decides-sound s amount v (ltb-true (length s.ledger) most_rows is)
-    by_room false is = refuses-sound s 255
+    by_both : (a b : Bool) → has_room s ≡ a → Sound s (cond a (cond b (decides s amount v) (refuses s 111)) (refuses s 255))
+    by_both true true is = decides-sound s amount v (ltb-true (length s.ledger) most_rows is)
+    by_both true false is = refuses-sound s 111
+    by_both false b is = refuses-sound s 255
 
 abbrev pub taken_back : TerminalState → Row → Turn
 taken_back s row =
-    writes s (Printing (ReversedLine row.amount)) (record { number = next_number s; amount = row.amount; reverses = Some row.number })
-    (TakenBack row.amount (next_number s) row.number)
+    writes s (Printing (ReversedLine row.amount)) (record { number = next_number s; amount = row.amount; currency = s.currency; reverses = Some row.number })
+    (TakenBack row.amount (next_number s) row.number s.currency)
 
 takes_back-sound : (s : TerminalState) (row : Row) → (Short s → row.number ≤ 9999) → Sound s (takes_back_row s row)
 takes_back-sound s row few = by_both (is_taken_back row.number s.ledger) (has_room s) refl
@@ -100,7 +102,7 @@ goes_on-sound s Ending = record { next = tt; writable = λ k. tt }
 
 pub turn-sound : (s : TerminalState) (asked : Asked) (v : Verdict) → Sound s (turn_of s asked v)
 turn-sound s (Registration currency) v = when-sound s (is_idle s.phase) (registers s currency) (record { next = tt; writable = λ k. (tt, (k.tid, tt)) })
-turn-sound s (Authorisation amount) v = when-sound s (is_ready s) (authorises s amount v) (authorises-sound s amount v)
+turn-sound s (Authorisation amount named) v = when-sound s (is_ready s) (authorises s amount named v) (authorises-sound s amount named v)
 turn-sound s (Reversal receipt) v = when-sound s (is_ready s) (reverses s receipt) (reverses-sound s receipt)
 turn-sound s EndOfDay v = when-sound s (is_ready s) (closes s) (record { next = tt; writable = λ k. (tt, (tt, tt)) })
 turn-sound s AbortOrder v = record { next = tt; writable = λ k. (tt, tt) }

@@ -4,6 +4,7 @@ use Rattle.zvt_field.specs.Grammar.{Field}
 use Rattle.zvt_field.specs.Named.{amount_of, receipt_of}
 use Rattle.zvt_apdu.specs.declared.messages.Rest.{Rest}
 use Rattle.zvt_apdu.specs.Message.{Message, ack, nack, registration, authorisation, reversal, end_of_day, abort_order, status, intermediate, print_line, text_block, completion, abort, other}
+use Rattle.zvt_till.specs.Hearing.{currency_in as currency_fact}
 use Rattle.zvt_term.specs.declared.messages.Asked.{Asked}
 use Rattle.zvt_term.specs.declared.messages.Asked.TheVariants.{Registration, Authorisation, Reversal, EndOfDay, AbortOrder, Answer, Unknown}
 
@@ -16,12 +17,16 @@ abbrev pub currency_named : Option (ℕ × List Field) → Option ℕ
 currency_named None = None
 currency_named (Some rest) = Some rest.0
 
--- of an authorisation the amount counts, of a reversal the receipt number, each where it stands exactly once
+-- of an authorisation the amount counts, where it stands exactly once, and the currency
+abbrev pub authorised : List Field → Asked
+authorised fields = Authorisation (amount_of fields) (currency_fact fields)
+
+-- of a reversal the receipt number counts, where it stands exactly once
 abbrev pub asked_as : Message → Asked
 asked_as (ack payload) = Answer
 asked_as (nack code payload) = Answer
 asked_as (registration password config rest) = Registration (currency_named rest)
-asked_as (authorisation fields) = Authorisation (amount_of fields)
+asked_as (authorisation fields) = authorised fields
 asked_as (reversal password fields) = Reversal (receipt_of fields)
 asked_as (end_of_day password fields) = EndOfDay
 asked_as (abort_order fields) = AbortOrder

@@ -5,7 +5,7 @@ use Rattle.zvt_term.specs.Terminal.{TerminalState, most_rows}
 use Rattle.zvt_term.specs.declared.terminal.Terminal.TheInside.{Inside}
 
 abbrev pub value_of : Inside → TerminalState
-value_of t = record { tid = t.tid; registered = t.registered; phase = t.phase; ledger = t.ledger.items }
+value_of t = record { tid = t.tid; registered = t.registered; currency = t.currency; phase = t.phase; ledger = t.ledger.items }
 
 -- the rows are numbered from 1, with at most 9,999 of them, and the terminal's number has eight digits
 abbrev pub IsSound : TerminalState → Type 0

@@ -24,12 +24,12 @@ abbrev pub message_of_report : Report → Message
 message_of_report Ack = ack []
 message_of_report (Nack code) = nack code []
 message_of_report (Registered tid currency) = completion (plain 0x29 (digits 4 tid) ∷ currency_field currency)
-message_of_report (Approved amount number) =
-    status (plain 0x27 (0 ∷ []) ∷ plain 0x04 (digits 6 amount) ∷ plain 0x0B (digits 3 number) ∷ plain 0x87 (digits 2 number) ∷ [])
+message_of_report (Approved amount number currency) =
+    status (plain 0x27 (0 ∷ []) ∷ plain 0x04 (digits 6 amount) ∷ plain 0x0B (digits 3 number) ∷ plain 0x87 (digits 2 number) ∷ currency_field currency)
 message_of_report (Result code) = status (plain 0x27 (code ∷ []) ∷ [])
-message_of_report (TakenBack amount number original) =
+message_of_report (TakenBack amount number original currency) =
     status
-    (plain 0x27 (0 ∷ []) ∷ plain 0x04 (digits 6 amount) ∷ plain 0x0B (digits 3 number) ∷ plain 0x37 (digits 3 original) ∷ plain 0x87 (digits 2 number) ∷ [])
+    (plain 0x27 (0 ∷ []) ∷ plain 0x04 (digits 6 amount) ∷ plain 0x0B (digits 3 number) ∷ plain 0x37 (digits 3 original) ∷ plain 0x87 (digits 2 number) ∷ currency_field currency)
 message_of_report (Line line) = print_line 0 (text_of line)
 message_of_report Done = completion []
 message_of_report (Aborted code) = abort code []
@@ -39,9 +39,9 @@ abbrev pub IsWritable : Report → Type 0
 IsWritable Ack = Unit {0}
 IsWritable (Nack code) = Unit {0}
 IsWritable (Registered tid currency) = tid ≤ 99999999
-IsWritable (Approved amount number) = number ≤ 9999
+IsWritable (Approved amount number currency) = number ≤ 9999
 IsWritable (Result code) = Unit {0}
-IsWritable (TakenBack amount number original) = (number ≤ 9999) × (original ≤ 9999)
+IsWritable (TakenBack amount number original currency) = (number ≤ 9999) × (original ≤ 9999)
 IsWritable (Line line) = Unit {0}
 IsWritable Done = Unit {0}
 IsWritable (Aborted code) = Unit {0}

@@ -1,5 +1,7 @@
 -- The terminal as a small machine: what each message makes of it, and what it answers.
 use Rattle.std.specs.Prelude.{ℕ, ◌+◌, Bool, true, false, cond, ◌&&◌, nat_lt, List, [], ◌∷◌, ◌++◌, length, Option, Some, None, option_to_list}
+use Rattle.zvt_till.specs.declared.messages.CurrencyFact.{CurrencyFact}
+use Rattle.zvt_till.specs.Statuses.{is_in_currency}
 use Rattle.zvt_term.specs.declared.messages.Asked.{Asked}
 use Rattle.zvt_term.specs.declared.messages.Asked.TheVariants.{Registration, Authorisation, Reversal, EndOfDay, AbortOrder, Answer, Unknown}
 use Rattle.zvt_term.specs.declared.messages.Line.TheVariants.{Approved as ApprovedLine, Reversed as ReversedLine, DayClosed}
@@ -18,15 +20,16 @@ use Rattle.zvt_term.specs.Ledger.{approval_by, is_taken_back}
 pub record TerminalState : Type 0 where
   pub tid : ℕ
   pub registered : Bool
+  pub currency : Option ℕ
   pub phase : Phase
   pub ledger : List Row
 
 abbrev pub new_terminal : ℕ → TerminalState
-new_terminal tid = record { tid = tid; registered = false; phase = Idle; ledger = [] }
+new_terminal tid = record { tid = tid; registered = false; currency = None; phase = Idle; ledger = [] }
 
 -- the line is down: the order is forgotten, and nobody is registered
 abbrev pub lost_terminal : TerminalState → TerminalState
-lost_terminal s = record { tid = s.tid; registered = false; phase = Idle; ledger = s.ledger }
+lost_terminal s = record { tid = s.tid; registered = false; currency = None; phase = Idle; ledger = s.ledger }
 
 abbrev pub most_rows : ℕ
 most_rows = 9999
@@ -47,15 +50,15 @@ is_idle Ending = false
 
 -- nothing changes but for the answer
 abbrev pub stays : TerminalState → Reply → Turn
-stays s reply = record { registered = s.registered; phase = s.phase; row = None; reply = reply }
+stays s reply = record { registered = s.registered; currency = s.currency; phase = s.phase; row = None; reply = reply }
 
 -- the order is taken, with a first report
 abbrev pub runs : TerminalState → Phase → Report → Turn
-runs s phase report = record { registered = s.registered; phase = phase; row = None; reply = Two Ack report }
+runs s phase report = record { registered = s.registered; currency = s.currency; phase = phase; row = None; reply = Two Ack report }
 
 -- the same with a row
 abbrev pub writes : TerminalState → Phase → Row → Report → Turn
-writes s phase row report = record { registered = s.registered; phase = phase; row = Some row; reply = Two Ack report }
+writes s phase row report = record { registered = s.registered; currency = s.currency; phase = phase; row = Some row; reply = Two Ack report }
 
 -- the order is taken and given up
 abbrev pub aborts : TerminalState → ℕ → Turn
@@ -65,26 +68,31 @@ abbrev pub refuses : TerminalState → ℕ → Turn
 refuses s code = stays s (One (Nack code))
 
 abbrev pub registers : TerminalState → Option ℕ → Turn
-registers s currency = record { registered = true; phase = Ending; row = None; reply = Two Ack (Registered s.tid currency) }
+registers s currency = record { registered = true; currency = currency; phase = Ending; row = None; reply = Two Ack (Registered s.tid currency) }
 
 -- the verdict decides
 abbrev pub decides : TerminalState → ℕ → Verdict → Turn
 decides s amount Approve =
-    writes s (Printing (ApprovedLine amount)) (record { number = next_number s; amount = amount; reverses = None }) (Approved amount (next_number s))
+    writes s (Printing (ApprovedLine amount)) (record { number = next_number s; amount = amount; currency = s.currency; reverses = None }) (Approved amount (next_number s) s.currency)
 decides s amount (Decline code) = runs s (Aborting code) (Result code)
 
--- 255 is FF in hexadecimal
-abbrev pub authorises : TerminalState → Option ℕ → Verdict → Turn
-authorises s None v = refuses s 255
-authorises s (Some amount) v = cond (has_room s) (decides s amount v) (refuses s 255)
+-- a payment is taken only in the currency that is kept; where none is, nothing is asked of it
+abbrev pub takes_currency : Option ℕ → CurrencyFact → Bool
+takes_currency None named = true
+takes_currency (Some own) named = is_in_currency (Some own) named
+
+-- 255 is FF, 111 is 6F in hexadecimal
+abbrev pub authorises : TerminalState → Option ℕ → CurrencyFact → Verdict → Turn
+authorises s None named v = refuses s 255
+authorises s (Some amount) named v = cond (has_room s) (cond (takes_currency s.currency named) (decides s amount v) (refuses s 111)) (refuses s 255)
 
 -- 180 is B4 in hexadecimal
 abbrev pub takes_back_row : TerminalState → Row → Turn
 takes_back_row s row =
     cond (is_taken_back row.number s.ledger) (aborts s 180)
     (cond (has_room s)
-    (writes s (Printing (ReversedLine row.amount)) (record { number = next_number s; amount = row.amount; reverses = Some row.number })
-    (TakenBack row.amount (next_number s) row.number))
+    (writes s (Printing (ReversedLine row.amount)) (record { number = next_number s; amount = row.amount; currency = s.currency; reverses = Some row.number })
+    (TakenBack row.amount (next_number s) row.number s.currency))
     (aborts s 255))
 
 -- 181 is B5 in hexadecimal
@@ -101,7 +109,7 @@ closes s = runs s (Printing DayClosed) (Result 0)
 
 -- on to that phase
 abbrev pub moves_on : TerminalState → Phase → Reply → Turn
-moves_on s phase reply = record { registered = s.registered; phase = phase; row = None; reply = reply }
+moves_on s phase reply = record { registered = s.registered; currency = s.currency; phase = phase; row = None; reply = reply }
 
 -- the till answered what was said last
 abbrev pub goes_on : TerminalState → Phase → Turn
@@ -121,7 +129,7 @@ is_ready s = s.registered && is_idle s.phase
 
 abbrev pub turn_of : TerminalState → Asked → Verdict → Turn
 turn_of s (Registration currency) v = when (is_idle s.phase) s (registers s currency)
-turn_of s (Authorisation amount) v = when (is_ready s) s (authorises s amount v)
+turn_of s (Authorisation amount named) v = when (is_ready s) s (authorises s amount named v)
 turn_of s (Reversal receipt) v = when (is_ready s) s (reverses s receipt)
 turn_of s EndOfDay v = when (is_ready s) s (closes s)
 turn_of s AbortOrder v = stays s (One Ack)
@@ -129,7 +137,7 @@ turn_of s Answer v = goes_on s s.phase
 turn_of s Unknown v = refuses s 131
 
 abbrev pub after : TerminalState → Turn → TerminalState
-after s turn = record { tid = s.tid; registered = turn.registered; phase = turn.phase; ledger = s.ledger ++ option_to_list turn.row }
+after s turn = record { tid = s.tid; registered = turn.registered; currency = turn.currency; phase = turn.phase; ledger = s.ledger ++ option_to_list turn.row }
 
 abbrev pub reports_of : Reply → List Report
 reports_of Nothing = []

@@ -94,28 +94,28 @@ abbrev pub FitMoves : List Move → Type 0
 FitMoves [] = Unit {0}
 FitMoves (x ∷ moves) = FitMove x × FitMoves moves
 
--- the ledger holds this approval
-abbrev pub IsApproved : List Row → (amount number : ℕ) → Type 0
-IsApproved ledger amount number = (k : ℕ) × (slice_get ledger k ≡ Some (record { number = number; amount = amount; reverses = None }))
+-- the ledger holds this approval, in this currency
+abbrev pub IsApproved : List Row → (currency amount number : ℕ) → Type 0
+IsApproved ledger currency amount number = (k : ℕ) × (slice_get ledger k ≡ Some (record { number = number; amount = amount; currency = Some currency; reverses = None }))
 
 -- the ledger holds a row that takes this number back
 abbrev pub IsTakenBack : List Row → (number : ℕ) → Type 0
 IsTakenBack ledger number = (k : ℕ) × (row : Row) × (slice_get ledger k ≡ Some row) × (row.reverses ≡ Some number)
 
--- an entry is an approval of the ledger under its trace number, which its receipt number spells too
-pub record EntryMatches (ledger : List Row) (entry : Entry) : Type 0 where
-  pub approved : IsApproved ledger entry.amount entry.trace
+-- an entry of a till of this currency is an approval of the ledger under its trace number, which its receipt number spells too
+pub record EntryMatches (currency : ℕ) (ledger : List Row) (entry : Entry) : Type 0 where
+  pub approved : IsApproved ledger currency entry.amount entry.trace
   pub receipt : entry.receipt ≡ Some (digits 2 entry.trace)
   pub reversed : entry.reversed ≡ true → IsTakenBack ledger entry.trace
 
-abbrev pub AllMatch : List Row → List Entry → Type 0
-AllMatch ledger [] = Unit {0}
-AllMatch ledger (entry ∷ book) = EntryMatches ledger entry × AllMatch ledger book
+abbrev pub AllMatch : ℕ → List Row → List Entry → Type 0
+AllMatch currency ledger [] = Unit {0}
+AllMatch currency ledger (entry ∷ book) = EntryMatches currency ledger entry × AllMatch currency ledger book
 
--- no trace number stands twice in the book, and each entry has its row
-pub record Matches (book : List Entry) (ledger : List Row) : Type 0 where
-  pub distinct : IsDistinct nat_eq (map trace_of book)
-  pub entries : AllMatch ledger book
+-- no trace number stands twice in the book, and each entry has its row, in the till's currency
+pub record Matches (till : TillState) (ledger : List Row) : Type 0 where
+  pub distinct : IsDistinct nat_eq (map trace_of till.book)
+  pub entries : AllMatch till.settings.currency ledger till.book
 
 abbrev pub WorldsMatch : Type 0
-WorldsMatch = (moves : List Move) → FitMoves moves → Matches (world moves).till.book (world moves).terminal.ledger
+WorldsMatch = (moves : List Move) → FitMoves moves → Matches (world moves).till (world moves).terminal.ledger

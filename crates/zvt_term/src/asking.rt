@@ -1,10 +1,12 @@
 //! What a message of the till asks of the terminal.
 ghost use Rattle.std.specs.Prelude.{◌≡◌};
-ghost use Rattle.zvt_term.specs.Asking.{asked_as, currency_in};
+ghost use Rattle.zvt_term.specs.Asking.{asked_as, authorised, currency_in};
 
 use crate::messages::Asked;
 use zvt_apdu::{Apdu, ApduView, Kind, Message, Rest};
 use zvt_bcd::Currency;
+use zvt_field::{Fields, FieldsView};
+use zvt_till::hearing;
 
 /// The currency of a registration.
 fn currency_in(rest: &Option<Rest>) -> Option<Currency>
@@ -16,6 +18,20 @@ fn currency_in(rest: &Option<Rest>) -> Option<Currency>
     }
 }
 
+/// The authorisation that the fields ask for.
+fn authorised(fields: &Fields) -> Asked
+    ensures { result ≡ authorised fields.now }
+{
+    Asked::Authorisation(zvt_field::amount(fields), hearing::currency_in(fields))
+}
+
+/// The authorisation that the fields of a view ask for.
+fn authorised_view(fields: &FieldsView<'_>) -> Asked
+    ensures { result ≡ authorised fields.now }
+{
+    Asked::Authorisation(fields.amount(), hearing::currency_shown(fields))
+}
+
 /// What the message asks.
 pub fn asked(apdu: &Apdu) -> Asked
     ensures { result ≡ asked_as apdu.now }
@@ -24,7 +40,7 @@ pub fn asked(apdu: &Apdu) -> Asked
         Message::Ack { .. } => Asked::Answer,
         Message::Nack { .. } => Asked::Answer,
         Message::Registration { rest, .. } => Asked::Registration(currency_in(rest)),
-        Message::Authorisation(fields) => Asked::Authorisation(zvt_field::amount(fields)),
+        Message::Authorisation(fields) => authorised(fields),
         Message::Reversal { fields, .. } => Asked::Reversal(zvt_field::receipt(fields)),
         Message::EndOfDay { .. } => Asked::EndOfDay,
         Message::AbortOrder(_) => Asked::AbortOrder,
@@ -40,7 +56,7 @@ pub fn asked_view(apdu: &ApduView<'_>) -> Asked
         Kind::Ack | Kind::Nack => Asked::Answer,
         Kind::Registration => Asked::Registration(apdu.currency()),
         Kind::Authorisation => match apdu.fields() {
-            Some(fields) => Asked::Authorisation(fields.amount()),
+            Some(fields) => authorised_view(&fields),
             None => unreachable!(),
         },
         Kind::Reversal => match apdu.fields() {

@@ -4,7 +4,7 @@ ghost use Rattle.std.specs.Option.{option_copied};
 ghost use Rattle.zvt_till.specs.Statuses.{spells};
 ghost use Rattle.zvt_term.specs.Ledger.{is_approval, takes_back, approval_by, is_taken_back};
 
-use zvt_bcd::{Amount, is_digits, number};
+use zvt_bcd::{Amount, Currency, is_digits, number};
 
 /// An approval, or that one was taken back.
 #[derive(Clone, Copy, Debug, PartialEq, Eq)]
@@ -12,6 +12,8 @@ pub struct Row {
     /// Its place in the ledger, counted from 1.
     pub number: u16,
     pub amount: Amount,
+    /// The currency in which the till was registered then, if its registration named one.
+    pub currency: Option<Currency>,
     /// The number of the approval that it takes back, if it takes one back.
     pub reverses: Option<u16>,
 }

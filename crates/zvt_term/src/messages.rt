@@ -1,13 +1,14 @@
 //! What is asked of the terminal, and what it says.
 use zvt_bcd::{Amount, Currency};
+use zvt_till::CurrencyFact;
 
 /// What a message of the till asks of the terminal.
 #[derive(Clone, Copy, Debug, PartialEq, Eq)]
 pub enum Asked {
     /// 06 00, with the currency that it names, if it names one.
     Registration(Option<Currency>),
-    /// 06 01, with the amount (BMP 04), where that stands exactly once and is not zero.
-    Authorisation(Option<Amount>),
+    /// 06 01, with the amount (BMP 04), where that stands exactly once and is not zero, and the currency (BMP 49).
+    Authorisation(Option<Amount>, CurrencyFact),
     /// 06 30, with the receipt number (BMP 87) as it was read, where that stands exactly once.
     Reversal(Option<[u8; 2]>),
     /// 06 50.
@@ -44,10 +45,12 @@ pub enum Report {
         tid: u32,
         currency: Option<Currency>,
     },
-    /// 04 0F: the amount (BMP 04) was approved, and the terminal keeps it under the number (BMP 0B and 87).
+    /// 04 0F: the amount (BMP 04) was approved, and the terminal keeps it under the number (BMP 0B and 87), in the
+    /// currency (BMP 49) of the registration, if that named one.
     Approved {
         amount: Amount,
         number: u16,
+        currency: Option<Currency>,
     },
     /// 04 0F: what the result code (BMP 27) says.
     Result(u8),
@@ -56,6 +59,7 @@ pub enum Report {
         amount: Amount,
         number: u16,
         original: u16,
+        currency: Option<Currency>,
     },
     /// 06 D1: a line to print.
     Line(Line),

@@ -12,12 +12,16 @@ use std::marker::Model;
 use zvt_apdu::{Apdu, ApduView};
 use zvt_bcd::{Amount, Currency};
 use zvt_stream::Answers;
+use zvt_till::CurrencyFact;
 
 /// The rows that the ledger can have at most, since a row's number has four digits.
 pub const MOST_ROWS: usize = 9_999;
 
 /// The code of an order that the terminal does not take now.
 const NOT_POSSIBLE: u8 = 0x83;
+
+/// The code of a payment in another currency than that of the registration.
+const WRONG_CURRENCY: u8 = 0x6F;
 
 /// The code of an approval that was taken back before.
 const ALREADY_REVERSED: u8 = 0xB4;
@@ -46,6 +50,8 @@ pub enum Input<'a> {
 pub struct Terminal {
     tid: u32,
     registered: bool,
+    /// The currency that the last registration named, if it named one.
+    currency: Option<Currency>,
     phase: Phase,
     ledger: Vec<Row>,
 }
@@ -63,7 +69,7 @@ impl Model for Terminal {
 }
 
 impl Terminal {
-    ghost use Rattle.zvt_term.specs.Terminal.{most_rows, new_terminal, lost_terminal, has_room, next_number, is_idle, is_ready, stays, runs, writes, aborts, refuses, registers, decides, authorises, takes_back_row, reverses, closes, goes_on, turn_of, after};
+    ghost use Rattle.zvt_term.specs.Terminal.{most_rows, new_terminal, lost_terminal, has_room, next_number, is_idle, is_ready, stays, runs, writes, aborts, refuses, registers, takes_currency, decides, authorises, takes_back_row, reverses, closes, goes_on, turn_of, after};
     ghost use Rattle.zvt_term.specs.Inside.{IsSound};
     ghost use Rattle.zvt_term.specs.Steps.{HearsAsked, IsNext, Steps, row_added};
 
@@ -75,6 +81,7 @@ impl Terminal {
         Terminal {
             tid,
             registered: false,
+            currency: None,
             phase: Phase::Idle,
             ledger: Vec::new(alloc),
         }
@@ -109,6 +116,7 @@ impl Terminal {
     {
         Turn {
             registered: self.registered,
+            currency: self.currency,
             phase: self.phase,
             row: None,
             reply,
@@ -128,6 +136,7 @@ impl Terminal {
     {
         Turn {
             registered: self.registered,
+            currency: self.currency,
             phase,
             row: None,
             reply: Reply::Two(Report::Ack, report),
@@ -140,6 +149,7 @@ impl Terminal {
     {
         Turn {
             registered: self.registered,
+            currency: self.currency,
             phase,
             row: Some(row),
             reply: Reply::Two(Report::Ack, report),
@@ -166,26 +176,34 @@ impl Terminal {
     }
 
     /// The till is registered.
-    fn registers(&self, currency: Option<Currency>) -> Turn
-        ensures { result ≡ registers self.now currency }
+    fn registers(&self, currency: &Option<Currency>) -> Turn
+        ensures { result ≡ registers self.now currency.now }
     {
         Turn {
             registered: true,
+            currency: *currency,
             phase: Phase::Ending,
             row: None,
             reply: Reply::Two(
                 Report::Ack,
                 Report::Registered {
                     tid: self.tid,
-                    currency,
+                    currency: *currency,
                 },
             ),
         }
     }
 
-    /// A payment of this amount, or of none.
-    fn authorises(&self, amount: Option<Amount>, verdict: Verdict) -> Turn
-        ensures { result ≡ authorises self.now amount verdict }
+    /// Whether a payment that names its currency so is taken: only in the currency that is kept, where one is.
+    fn takes_currency(&self, named: CurrencyFact) -> bool
+        ensures { result ≡ takes_currency self.now.currency named }
+    {
+        self.currency.is_none() || named.is_in(self.currency)
+    }
+
+    /// A payment of this amount, or of none, that names its currency so.
+    fn authorises(&self, amount: Option<Amount>, named: CurrencyFact, verdict: Verdict) -> Turn
+        ensures { result ≡ authorises self.now amount named verdict }
     {
         let Some(amount) = amount else {
             return self.refuses(SYSTEM_ERROR);
@@ -193,15 +211,24 @@ impl Terminal {
         let Some(number) = self.next_number() else {
             return self.refuses(SYSTEM_ERROR);
         };
+        if !self.takes_currency(named) {
+            return self.refuses(WRONG_CURRENCY);
+        }
         match verdict {
             Verdict::Approve => {
                 let row = Row {
                     number,
                     amount,
+                    currency: self.currency,
                     reverses: None,
                 };
                 let phase = Phase::Printing(Line::Approved(amount));
-                self.writes(phase, row, Report::Approved { amount, number })
+                let report = Report::Approved {
+                    amount,
+                    number,
+                    currency: self.currency,
+                };
+                self.writes(phase, row, report)
             }
             Verdict::Decline(code) => self.runs(Phase::Aborting(code), Report::Result(code)),
         }
@@ -222,12 +249,14 @@ impl Terminal {
         let row = Row {
             number,
             amount,
+            currency: self.currency,
             reverses: Some(original),
         };
         let report = Report::TakenBack {
             amount,
             number,
             original,
+            currency: self.currency,
         };
         self.writes(Phase::Printing(Line::Reversed(amount)), row, report)
     }
@@ -258,6 +287,7 @@ impl Terminal {
         };
         Turn {
             registered: self.registered,
+            currency: self.currency,
             phase,
             row: None,
             reply,
@@ -269,8 +299,10 @@ impl Terminal {
         ensures { result ≡ turn_of self.now asked.now verdict }
     {
         match asked {
-            Asked::Registration(currency) if self.is_idle() => self.registers(*currency),
-            Asked::Authorisation(amount) if self.is_ready() => self.authorises(*amount, verdict),
+            Asked::Registration(currency) if self.is_idle() => self.registers(currency),
+            Asked::Authorisation(amount, named) if self.is_ready() => {
+                self.authorises(*amount, *named, verdict)
+            }
             Asked::Reversal(receipt) if self.is_ready() => self.reverses(*receipt),
             Asked::EndOfDay if self.is_ready() => {
                 self.runs(Phase::Printing(Line::DayClosed), Report::Result(0))
@@ -286,6 +318,7 @@ impl Terminal {
         ensures { self.new ≡ lost_terminal self.old }
     {
         self.registered = false;
+        self.currency = None;
         self.phase = Phase::Idle;
     }
 
@@ -312,6 +345,7 @@ impl Terminal {
     {
         self.write_down(&turn.row)?;
         self.registered = turn.registered;
+        self.currency = turn.currency;
         self.phase = turn.phase;
         Ok(())
     }

@@ -1,6 +1,7 @@
 //! What a message makes of the terminal.
 use crate::ledger::Row;
 use crate::messages::{Line, Reply};
+use zvt_bcd::Currency;
 
 /// What the terminal decides of an authorisation.
 #[derive(Clone, Copy, Debug, PartialEq, Eq)]
@@ -29,6 +30,8 @@ pub enum Phase {
 #[derive(Clone, Copy, Debug, PartialEq, Eq)]
 pub(crate) struct Turn {
     pub registered: bool,
+    /// The currency that it keeps.
+    pub currency: Option<Currency>,
     pub phase: Phase,
     /// The row that it writes down.
     pub row: Option<Row>,

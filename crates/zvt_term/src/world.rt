@@ -165,8 +165,9 @@ impl World {
 /// the till refuses, does nothing; where memory is refused the run ends with the error.
 pub fn run_world(alloc: Global, moves: &[Move]) -> Result<World, AllocError>
     ensures world { IfOk result (λ both. ends_of both ≡ world moves.now) }
-    // Whatever comes late, again or never, each entry of the book is an approval of the ledger of its own.
-    ensures matches { IfOk result (λ both. Matches both.till.state.book both.terminal.ledger) }
+    // Whatever comes late, again or never, each entry of the book is an approval of the ledger of its own, in the
+    // till's currency.
+    ensures matches { IfOk result (λ both. Matches both.till.state both.terminal.ledger) }
     // Over lines that keep order, each approval of an amount is booked, unclear or still awaited.
     ensures accounted { IfOk result (λ both. IsTrue (are_orderly moves.now) → IsAccounted both.till.state both.terminal.ledger) }
 {

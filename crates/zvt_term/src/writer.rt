@@ -102,34 +102,69 @@ fn put_registration(tid: u32, currency: Option<Currency>, out: &mut [u8; 32]) ->
 }
 
 /// Puts the status of an approval at the front, and says its size.
-fn put_approval(amount: Amount, number: u16, out: &mut [u8; 32]) -> usize
+fn put_approval(
+    amount: Amount,
+    number: u16,
+    currency: Option<Currency>,
+    out: &mut [u8; 32],
+) -> usize
     requires { number ≤ 9999 }
-    ensures written { PutsMessage (message_of_report (Report.Approved amount number)) out.old out.new result }
+    ensures written { PutsMessage (message_of_report (Report.Approved amount number currency)) out.old out.new result }
     ensures fits { result ≤ 32 }
 {
     let [a, b, c, d, e, f] = amount_digits(amount);
     let [high, low] = number_digits(number);
-    let fields = [
-        0x27, 0x00, 0x04, a, b, c, d, e, f, 0x0B, 0x00, high, low, 0x87, high, low,
-    ];
-    put_data(0x04, 0x0F, &fields, out)
+    match currency {
+        None => {
+            let fields = [
+                0x27, 0x00, 0x04, a, b, c, d, e, f, 0x0B, 0x00, high, low, 0x87, high, low,
+            ];
+            put_data(0x04, 0x0F, &fields, out)
+        }
+        Some(currency) => {
+            let [first, second] = currency_digits(currency);
+            let fields = [
+                0x27, 0x00, 0x04, a, b, c, d, e, f, 0x0B, 0x00, high, low, 0x87, high, low, 0x49,
+                first, second,
+            ];
+            put_data(0x04, 0x0F, &fields, out)
+        }
+    }
 }
 
 /// Puts the status of a reversal at the front, and says its size.
-fn put_reversal(amount: Amount, number: u16, original: u16, out: &mut [u8; 32]) -> usize
+fn put_reversal(
+    amount: Amount,
+    number: u16,
+    original: u16,
+    currency: Option<Currency>,
+    out: &mut [u8; 32],
+) -> usize
     requires number { number ≤ 9999 }
     requires original { original ≤ 9999 }
-    ensures written { PutsMessage (message_of_report (Report.TakenBack amount number original)) out.old out.new result }
+    ensures written { PutsMessage (message_of_report (Report.TakenBack amount number original currency)) out.old out.new result }
     ensures fits { result ≤ 32 }
 {
     let [a, b, c, d, e, f] = amount_digits(amount);
     let [high, low] = number_digits(number);
     let [old_high, old_low] = number_digits(original);
-    let fields = [
-        0x27, 0x00, 0x04, a, b, c, d, e, f, 0x0B, 0x00, high, low, 0x37, 0x00, old_high, old_low,
-        0x87, high, low,
-    ];
-    put_data(0x04, 0x0F, &fields, out)
+    match currency {
+        None => {
+            let fields = [
+                0x27, 0x00, 0x04, a, b, c, d, e, f, 0x0B, 0x00, high, low, 0x37, 0x00, old_high,
+                old_low, 0x87, high, low,
+            ];
+            put_data(0x04, 0x0F, &fields, out)
+        }
+        Some(currency) => {
+            let [first, second] = currency_digits(currency);
+            let fields = [
+                0x27, 0x00, 0x04, a, b, c, d, e, f, 0x0B, 0x00, high, low, 0x37, 0x00, old_high,
+                old_low, 0x87, high, low, 0x49, first, second,
+            ];
+            put_data(0x04, 0x0F, &fields, out)
+        }
+    }
 }
 
 /// Puts a line to print at the front, and says its size.
@@ -177,13 +212,18 @@ pub fn put_report(report: &Report, buffer: &mut [u8; 32]) -> usize
         Report::Ack => put_data(0x80, 0x00, &[], buffer),
         Report::Nack(code) => put_data(0x84, *code, &[], buffer),
         Report::Registered { tid, currency } => put_registration(*tid, *currency, buffer),
-        Report::Approved { amount, number } => put_approval(*amount, *number, buffer),
+        Report::Approved {
+            amount,
+            number,
+            currency,
+        } => put_approval(*amount, *number, *currency, buffer),
         Report::Result(code) => put_data(0x04, 0x0F, &[0x27, *code], buffer),
         Report::TakenBack {
             amount,
             number,
             original,
-        } => put_reversal(*amount, *number, *original, buffer),
+            currency,
+        } => put_reversal(*amount, *number, *original, *currency, buffer),
         Report::Line(line) => put_line(line, buffer),
         Report::Done => put_data(0x06, 0x0F, &[], buffer),
         Report::Aborted(code) => put_data(0x06, 0x1E, &[*code], buffer),

@@ -36,7 +36,7 @@ no-cancel : (up : Bool) → or_else (cond up (cancel_refusal None) (Some Rattle.
 no-cancel true e = cc
 no-cancel false e = cc
 
-cancelled : (s : TillState) (run : Option Running) → s.running ≡ run → or_else (cond s.line_up (cancel_refusal (option_map awaited_by run)) (Some Rattle.zvt_till.specs.declared.orders.OrderRefusal.TheVariants.Offline)) None ≡ None → IsKnown s
+cancelled : (s : TillState) (run : Option Running) → s.running ≡ run → or_else (cond s.line_up (cancel_refusal (option_map (awaited_by s.settings.currency) run)) (Some Rattle.zvt_till.specs.declared.orders.OrderRefusal.TheVariants.Offline)) None ≡ None → IsKnown s
 cancelled s None e r = absurd (no-cancel s.line_up r)
 cancelled s (Some run) e r = runs s run e
 
@@ -51,7 +51,7 @@ pub known-sent : (o : Order) (old new : TillValue) (first last : Option (List �
 known-sent o old new first last sent = subst IsKnown (sym sent.runs) (known-accepted old.state o sent.taken)
 
 by-end : (s : TillState) (r : Running) (h : Happening) (b : Bool)
-    → IsKnown (cond b (finish s r.order (outcome_by s.book r.order r.statuses h)) (record s { running = Some (listened (demand_of s.book r.order) r h) }))
+    → IsKnown (cond b (finish s r.order (outcome_by s.book r.order r.statuses h)) (record s { running = Some (listened (demand_of (Some s.settings.currency) s.book r.order) r h) }))
 by-end s r h true = λ e. refl
 by-end s r h false = λ e. absurd cc
 

@@ -26,8 +26,8 @@ use Rattle.zvt_till.proofs.Steps.{steps_meet_log}
 use Rattle.zvt_till.proofs.Runs.{is_log-snoc, follows-order, step-order}
 use Rattle.zvt_till.proofs.Lines.{up-heard}
 
-pub stands-more : (settings : Settings) (log : List Happening) (s : TillState) (h : Happening) → Stands settings log s → CanFollow (facts_in log) h → Stands settings (log ++ h ∷ []) (step s h)
-stands-more settings log s h t c = (is_log-snoc [] log h t.0 c, ap (λ x. step x h) t.1 ∙ sym (fold-snoc step (new_till settings) log h))
+pub stands-more : (settings : Settings) (log : List Happening) (s : TillState) (h : Happening) → Stands settings log s → CanFollow settings (facts_in log) h → Stands settings (log ++ h ∷ []) (step s h)
+stands-more settings log s h t c = (is_log-snoc settings [] log h t.0 c, ap (λ x. step x h) t.1 ∙ sym (fold-snoc step (new_till settings) log h))
 
 offline : (up : Bool) (next asked : Option OrderRefusal) → or_else (cond up next (Some Offline)) asked ≡ None → up ≡ true
 offline true next asked e = refl
@@ -35,14 +35,14 @@ offline false next asked e = absurd cc
 
 -- a till with an order that was sent
 stands-order : (settings : Settings) (log : List Happening) (o : Order) (old new : TillValue) (first last : Option (List ℕ)) → Stands settings log old.state → Sends o old new first last
-    → Stands settings (log ++ SentOut (sent_as o) ∷ []) new.state × (line_up (log ++ SentOut (sent_as o) ∷ []) ≡ true)
+    → Stands settings (log ++ SentOut (sent_as settings.currency o) ∷ []) new.state × (line_up (log ++ SentOut (sent_as settings.currency o) ∷ []) ≡ true)
 stands-order settings log o old new first last t sent =
     let facts : facts_of old.state ≡ facts_in log = ap facts_of t.1 ∙ steps_meet_log settings log t.0 in
     let none : refusal (facts_in log) o ≡ None = ap (λ f. refusal f o) (sym facts) ∙ sent.taken in
-    let more = stands-more settings log old.state (SentOut (sent_as o)) t (follows-order (facts_in log) o none) in
+    let more = stands-more settings log old.state (SentOut (sent_as settings.currency o)) t (follows-order settings (facts_in log) o none) in
     let f = facts_in log in
     let up : line_up log ≡ true = offline f.line_up (session_refusal f o) (asked_refusal f o) none in
-    (subst (λ s. Stands settings (log ++ SentOut (sent_as o) ∷ []) s) (step-order old.state o ∙ sym sent.runs) more, fold-snoc line_after false log (SentOut (sent_as o)) ∙ up)
+    (subst (λ s. Stands settings (log ++ SentOut (sent_as settings.currency o) ∷ []) s) (step-order settings.currency old.state o ∙ sym sent.runs) more, fold-snoc line_after false log (SentOut (sent_as settings.currency o)) ∙ up)
 
 -- and then hears messages
 stands-heard : (settings : Settings) (log : List Happening) (old new : TillValue) (messages : List Message) (answers : List Answered) → Stands settings log old.state → line_up log ≡ true → Hears till_hears old messages answers new
@@ -58,11 +58,11 @@ stands-heard settings log old new (m ∷ messages) [] t up h = absurd h
 
 -- an order and the messages after it
 after-order : (settings : Settings) (log : List Happening) (o : Order) (old sent new : TillValue) (first last : Option (List ℕ)) (messages : List Message) (answers : List Answered) → Stands settings log old.state → Sends o old sent first last → Hears till_hears sent messages answers new
-    → Stands settings (log ++ SentOut (sent_as o) ∷ map hears messages) new.state × (line_up (log ++ SentOut (sent_as o) ∷ map hears messages) ≡ true)
+    → Stands settings (log ++ SentOut (sent_as settings.currency o) ∷ map hears messages) new.state × (line_up (log ++ SentOut (sent_as settings.currency o) ∷ map hears messages) ≡ true)
 after-order settings log o old sent new first last messages answers t s h =
     let order = stands-order settings log o old sent first last t s in
-    subst (λ l. Stands settings l new.state × (line_up l ≡ true)) (append_assoc log (SentOut (sent_as o) ∷ []) (map hears messages))
-    (stands-heard settings (log ++ SentOut (sent_as o) ∷ []) sent new messages answers order.0 order.1 h)
+    subst (λ l. Stands settings l new.state × (line_up l ≡ true)) (append_assoc log (SentOut (sent_as settings.currency o) ∷ []) (map hears messages))
+    (stands-heard settings (log ++ SentOut (sent_as settings.currency o) ∷ []) sent new messages answers order.0 order.1 h)
 
 pub runs_are_logged : RunsAreLogged
 runs_are_logged settings log order outcome before after old new coming left first last turns reads_before reads_after t r =
@@ -94,20 +94,20 @@ told-step faults.Memory old new t = t
 told-step faults.Write old new t = t
 told-step faults.Stopped old new t = t
 
-can-be-told : (fault : LineFault) (log : List Happening) → line_up log ≡ true → CanFollow (facts_in log) (told_of fault)
-can-be-told faults.Read log up = tt
-can-be-told (faults.Ended have) log up = tt
-can-be-told faults.Turns log up = tt
-can-be-told (faults.Malformed place why) log up = up
-can-be-told faults.Memory log up = tt
-can-be-told faults.Write log up = tt
-can-be-told faults.Stopped log up = up
+can-be-told : (settings : Settings) (fault : LineFault) (log : List Happening) → line_up log ≡ true → CanFollow settings (facts_in log) (told_of fault)
+can-be-told settings faults.Read log up = tt
+can-be-told settings (faults.Ended have) log up = tt
+can-be-told settings faults.Turns log up = tt
+can-be-told settings (faults.Malformed place why) log up = up
+can-be-told settings faults.Memory log up = tt
+can-be-told settings faults.Write log up = tt
+can-be-told settings faults.Stopped log up = up
 
 pub faults_are_logged : FaultsAreLogged
 faults_are_logged settings log fault order before after old new coming left first last turns reads_before reads_after t b =
     let heard = heard-before fault before after b.broken.read b.broken.written b.sent_till b.middle b.broken.breaks in
-    let here = log ++ SentOut (sent_as order) ∷ map hears heard.messages in
+    let here = log ++ SentOut (sent_as settings.currency order) ∷ map hears heard.messages in
     let stands = after-order settings log order old b.sent_till b.middle first b.between heard.messages heard.answers t b.sends heard.heard in
-    let told = stands-more settings here b.middle.state (told_of fault) stands.0 (can-be-told fault here stands.1) in
-    let whole = append_assoc log (SentOut (sent_as order) ∷ map hears heard.messages) (told_of fault ∷ []) in
+    let told = stands-more settings here b.middle.state (told_of fault) stands.0 (can-be-told settings fault here stands.1) in
+    let whole = append_assoc log (SentOut (sent_as settings.currency order) ∷ map hears heard.messages) (told_of fault ∷ []) in
     (heard.messages, heard.rest, heard.spelled, subst (λ l. Stands settings l new.state) whole (subst (λ s. Stands settings (here ++ told_of fault ∷ []) s) (sym (told-step fault b.middle new b.told)) told))

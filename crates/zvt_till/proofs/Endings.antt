@@ -68,12 +68,12 @@ pub record Shut (ss : List Segment) (the_book : List Entry) (the_unclear : List 
   pub book : the_book ≡ entries_of ss
   pub unclear : the_unclear ≡ settled (books_of ss).unclear
 
-shut-payment : (closed : List Segment) (a : ℕ) (hs : List Happening) (h : Happening) (p : Bool)
+shut-payment : (force : Option ℕ) (closed : List Segment) (a : ℕ) (hs : List Happening) (h : Happening) (p : Bool)
     → end_of (hs ++ h ∷ []) ≡ Some (record { before = hs; by = h }) → ends p h ≡ true → Placed (length (rows closed)) closed
-    → let out : Outcome = outcome_by (entries_of closed) (PayOrder a) (summary (Some (Payment (charge_of (begun_by (Pay a)) a))) (statuses hs)) h in
-    Shut (closed ++ seg (begun_by (Pay a)) (hs ++ h ∷ []) ∷ []) (book_after (entries_of closed) (PayOrder a) out) (unclear_after (loose closed) (PayOrder a) out)
-shut-payment closed a hs h p e n placed =
-    let o : Opening = begun_by (Pay a) in
+    → let out : Outcome = outcome_by (entries_of closed) (PayOrder a) (summary (Some (Payment (charge_of (begun_by force (Pay a)) a))) (statuses hs)) h in
+    Shut (closed ++ seg (begun_by force (Pay a)) (hs ++ h ∷ []) ∷ []) (book_after (entries_of closed) (PayOrder a) out) (unclear_after (loose closed) (PayOrder a) out)
+shut-payment force closed a hs h p e n placed =
+    let o : Opening = begun_by force (Pay a) in
     let d : Option Demand = Some (Payment (charge_of o a)) in
     let out : Outcome = outcome_by (entries_of closed) (PayOrder a) (summary d (statuses hs)) h in
     let s : Segment = seg o (hs ++ h ∷ []) in
@@ -132,41 +132,41 @@ reversal-book book e st (HeardIn Strange) = refl
 reversal-book book e st Malformed = refl
 reversal-book book e st Lost = refl
 
-shut-reversal : (closed : List Segment) (e : ℕ) (hs : List Happening) (h : Happening)
+shut-reversal : (force : Option ℕ) (closed : List Segment) (e : ℕ) (hs : List Happening) (h : Happening)
     → end_of (hs ++ h ∷ []) ≡ Some (record { before = hs; by = h }) → e < length (rows closed)
-    → let st : Statuses = summary (demand_of (entries_of closed) (ReverseOrder e)) (statuses hs) in
-    book_after (entries_of closed) (ReverseOrder e) (outcome_by (entries_of closed) (ReverseOrder e) st h) ≡ entries_of (closed ++ seg (begun_by (Reverse e)) (hs ++ h ∷ []) ∷ [])
-shut-reversal closed e hs h q lt =
-    let o : Opening = begun_by (Reverse e) in
+    → let st : Statuses = summary (demand_of force (entries_of closed) (ReverseOrder e)) (statuses hs) in
+    book_after (entries_of closed) (ReverseOrder e) (outcome_by (entries_of closed) (ReverseOrder e) st h) ≡ entries_of (closed ++ seg (begun_by force (Reverse e)) (hs ++ h ∷ []) ∷ [])
+shut-reversal force closed e hs h q lt =
+    let o : Opening = begun_by force (Reverse e) in
     let w = row_at (rows closed) e lt in
     let row = w.0 in
     let at = entry_at closed 0 (rows closed) e row w.1 in
     let d : Demand = Reversal (charge_of o row.amount) row.trace in
     let ended : Option Ended = Some (record { before = hs; by = h }) in
     let s : Segment = seg o (hs ++ h ∷ []) in
-    let demand : demand_of (entries_of closed) (ReverseOrder e) ≡ Some d = ap (λ x. option_map (λ y. Reversal (charge_of o y.amount) y.trace) x) at.1 in
-    let good : is_all_good (summary (demand_of (entries_of closed) (ReverseOrder e)) (statuses hs)) ≡ takes_back o row (statuses hs) =
+    let demand : demand_of force (entries_of closed) (ReverseOrder e) ≡ Some d = ap (λ x. option_map (λ y. Reversal (charge_of o y.amount) y.trace) x) at.1 in
+    let good : is_all_good (summary (demand_of force (entries_of closed) (ReverseOrder e)) (statuses hs)) ≡ takes_back o row (statuses hs) =
     ap (λ x. is_all_good (summary x (statuses hs))) demand ∙ sym (good-summary d (statuses hs)) in
-    reversal-book (entries_of closed) e (summary (demand_of (entries_of closed) (ReverseOrder e)) (statuses hs)) h
+    reversal-book (entries_of closed) e (summary (demand_of force (entries_of closed) (ReverseOrder e)) (statuses hs)) h
     ∙ ap (λ b. marked_if (is_completion h && b) (entries_of closed) e) good
     ∙ sym (mark-reversal o e ended s (λ place r. ap (reverses_end place r o) q) closed 0 e (rows closed) row (sym (zero-add e)) w.1)
     ∙ sym (entries-shut closed o (hs ++ h ∷ []) ended q)
 
-pub shut : (order : Order) (closed : List Segment) (hs : List Happening) (h : Happening) (p : Bool)
+pub shut : (own : ℕ) (force : Option ℕ) (order : Order) (closed : List Segment) (hs : List Happening) (h : Happening) (p : Bool)
     → end_of (hs ++ h ∷ []) ≡ Some (record { before = hs; by = h }) → ends p h ≡ true
-    → Placed (length (rows closed)) closed → IsPlaced (length (rows closed)) (sent_as order)
+    → Placed (length (rows closed)) closed → IsPlaced (length (rows closed)) (sent_as own order)
     → let es : List Entry = entries_of closed in
-    let out : Outcome = outcome_by es order (summary (demand_of es order) (statuses hs)) h in
-    Shut (closed ++ seg (opened order) (hs ++ h ∷ []) ∷ []) (book_after es order out) (unclear_after (loose closed) order out)
-shut RegisterOrder closed hs h p e n placed here = shut-plain closed (begun_by Register) (hs ++ h ∷ []) (Some (record { before = hs; by = h })) e refl (λ place row. refl)
-shut (PayOrder a) closed hs h p e n placed here = shut-payment closed a hs h p e n placed
-shut (ReverseOrder k) closed hs h p e n placed here =
+    let out : Outcome = outcome_by es order (summary (demand_of force es order) (statuses hs)) h in
+    Shut (closed ++ seg (opened own force order) (hs ++ h ∷ []) ∷ []) (book_after es order out) (unclear_after (loose closed) order out)
+shut own force RegisterOrder closed hs h p e n placed here = shut-plain closed (begun_by force (Register (Some own))) (hs ++ h ∷ []) (Some (record { before = hs; by = h })) e refl (λ place row. refl)
+shut own force (PayOrder a) closed hs h p e n placed here = shut-payment force closed a hs h p e n placed
+shut own force (ReverseOrder k) closed hs h p e n placed here =
     record {
-      book = shut-reversal closed k hs h e here;
-      unclear = ap (λ x. settled x.unclear) (sym (books-snoc closed (begun_by (Reverse k)) (hs ++ h ∷ []) (Some (record { before = hs; by = h })) e));
+      book = shut-reversal force closed k hs h e here;
+      unclear = ap (λ x. settled x.unclear) (sym (books-snoc closed (begun_by force (Reverse k)) (hs ++ h ∷ []) (Some (record { before = hs; by = h })) e));
     }
-shut CloseDayOrder closed hs h p e n placed here = shut-plain closed (begun_by CloseDay) (hs ++ h ∷ []) (Some (record { before = hs; by = h })) e refl (λ place row. refl)
-shut CancelOrder closed hs h p e n placed here = shut-plain closed (begun_by Cancel) (hs ++ h ∷ []) (Some (record { before = hs; by = h })) e refl (λ place row. refl)
+shut own force CloseDayOrder closed hs h p e n placed here = shut-plain closed (begun_by force CloseDay) (hs ++ h ∷ []) (Some (record { before = hs; by = h })) e refl (λ place row. refl)
+shut own force CancelOrder closed hs h p e n placed here = shut-plain closed (begun_by force Cancel) (hs ++ h ∷ []) (Some (record { before = hs; by = h })) e refl (λ place row. refl)
 
 grows-by : (b : Books) (a : ℕ) (v : Verdict) → length b.booked ≤ length (write_down b a v).booked
 grows-by b a (Entered row) = omega (arith, length-append b.booked (row ∷ []))
@@ -174,7 +174,7 @@ grows-by b a (Unclear x) = le_refl (length b.booked)
 grows-by b a Refused = le_refl (length b.booked)
 
 pub grows : (b : Books) (opening : Opening) (o : Sent) (end : Option Ended) → length b.booked ≤ length (judge_as o b opening end).booked
-grows b opening Register end = le_refl (length b.booked)
+grows b opening (Register c) end = le_refl (length b.booked)
 grows b opening (Pay a) end = grows-by b a (verdict_at (charge_of opening a) (traces b.booked) end)
 grows b opening (Reverse e) end = le_refl (length b.booked)
 grows b opening CloseDay end = le_refl (length b.booked)

@@ -23,7 +23,7 @@ abbrev pub BookStep : TillState → Happening → List Entry → Type 0
 BookStep s h book = (book ≡ s.book) ⊎ ((r : Running) × (book ≡ book_after s.book r.order (outcome_by s.book r.order r.statuses h)))
 
 by_end : (s : TillState) (r : Running) (h : Happening) (b : Bool)
-    → BookStep s h (cond b (finish s r.order (outcome_by s.book r.order r.statuses h)) (record s { running = Some (listened (demand_of s.book r.order) r h) })).book
+    → BookStep s h (cond b (finish s r.order (outcome_by s.book r.order r.statuses h)) (record s { running = Some (listened (demand_of (Some s.settings.currency) s.book r.order) r h) })).book
 by_end s r h true = inr (r, refl)
 by_end s r h false = inl refl
 
@@ -119,11 +119,11 @@ entries_stay settings log more =
 -- no step changes what the till was made with
 
 settings-by-end : (s : TillState) (r : Running) (h : Happening) (b : Bool)
-    → (cond b (finish s r.order (outcome_by s.book r.order r.statuses h)) (record s { running = Some (listened (demand_of s.book r.order) r h) })).settings ≡ s.settings
+    → (cond b (finish s r.order (outcome_by s.book r.order r.statuses h)) (record s { running = Some (listened (demand_of (Some s.settings.currency) s.book r.order) r h) })).settings ≡ s.settings
 settings-by-end s r h true = refl
 settings-by-end s r h false = refl
 
-settings-by-running : (s : TillState) (h : Happening) (run : Option Running) → (elim run as (λ x. TillState) [ None ↦ s | Some r ↦ meet_running s r h ]).settings ≡ s.settings
+pub settings-by-running : (s : TillState) (h : Happening) (run : Option Running) → (elim run as (λ x. TillState) [ None ↦ s | Some r ↦ meet_running s r h ]).settings ≡ s.settings
 settings-by-running s h None = refl
 settings-by-running s h (Some r) = settings-by-end s r h (ends r.positive h)
 
@@ -131,7 +131,7 @@ settings-by-line : (s : TillState) (h : Happening) (up : Bool) → (cond up (mee
 settings-by-line s h true = settings-by-running s h s.running
 settings-by-line s h false = refl
 
-settings-accepted : (s : TillState) (o : Option Order) → (elim o as (λ x. TillState) [ None ↦ s | Some order ↦ accept s order ]).settings ≡ s.settings
+pub settings-accepted : (s : TillState) (o : Option Order) → (elim o as (λ x. TillState) [ None ↦ s | Some order ↦ accept s order ]).settings ≡ s.settings
 settings-accepted s None = refl
 settings-accepted s (Some Register) = refl
 settings-accepted s (Some (Pay a)) = refl
@@ -139,7 +139,7 @@ settings-accepted s (Some (Reverse e)) = refl
 settings-accepted s (Some CloseDay) = refl
 settings-accepted s (Some Cancel) = refl
 
-settings-step : (s : TillState) (h : Happening) → (step s h).settings ≡ s.settings
+pub settings-step : (s : TillState) (h : Happening) → (step s h).settings ≡ s.settings
 settings-step s Connected = refl
 settings-step s (SentOut o) = settings-accepted s (order_in o)
 settings-step s (HeardIn m) = settings-by-line s (HeardIn m) s.line_up

@@ -17,7 +17,7 @@ use Rattle.zvt_till.specs.declared.orders.Order.{Order}
 use Rattle.zvt_till.specs.declared.orders.OrderRefusal.{OrderRefusal}
 use Rattle.zvt_till.specs.Refusals.{refusal, sent_as}
 use Rattle.zvt_till.specs.Log.{line_after, line_up, facts_in}
-use Rattle.zvt_till.specs.Events.{EndsLine, hears, HearsPiece, FollowsPiece, Follows, Leads, HoldsLine, ReadsPiece, log_after_order}
+use Rattle.zvt_till.specs.Events.{run_settings, EndsLine, hears, HearsPiece, FollowsPiece, Follows, Leads, HoldsLine, ReadsPiece, log_after_order}
 use Rattle.zvt_till.proofs.Segments.{fold-snoc}
 
 -- Some messages of the piece were heard, and the rest of it stands behind what the stream holds.
@@ -130,7 +130,7 @@ pub lost-follows : (log next : List Happening) (bytes : List ℕ) (stream : Stre
 lost-follows log next bytes stream n = (bytes, (n, refl), λ still. absurd (false≢true (sym (ap line_up n ∙ fold-snoc line_after false log Lost) ∙ still)))
 
 pub line-ordered : (log : List Happening) (o : Order) (r : Option OrderRefusal) → line_up (log_after_order log o r) ≡ line_up log
-line-ordered log o None = fold-snoc line_after false log (SentOut (sent_as o))
+line-ordered log o None = fold-snoc line_after false log (SentOut (sent_as run_settings.currency o))
 line-ordered log o (Some why) = refl
 
 pub order-follows : (log next : List Happening) (bytes : List ℕ) (stream : StreamState) (o : Order) → next ≡ log_after_order log o (refusal (facts_in log) o) → HoldsLine log bytes stream

@@ -32,7 +32,7 @@ mark-last ss s t same =
     (λ place row. list_any-snoc (reverses place row) ss s ∙ ap (λ b. list_any (reverses place row) ss || b) (same place row) ∙ sym (list_any-snoc (reverses place row) ss t))
 
 pub reverses_none : (place : ℕ) (row : Booked) (opening : Opening) (o : Sent) → reverses_as o place row opening None ≡ false
-reverses_none place row opening Register = refl
+reverses_none place row opening (Register c) = refl
 reverses_none place row opening (Pay a) = refl
 reverses_none place row opening (Reverse e) = and-false (e == place)
 reverses_none place row opening CloseDay = refl
@@ -41,7 +41,7 @@ reverses_none place row opening Foreign = refl
 
 -- each reversal is of a row below n
 abbrev pub IsPlaced : ℕ → Sent → Type 0
-IsPlaced n Register = Unit {0}
+IsPlaced n (Register c) = Unit {0}
 IsPlaced n (Pay a) = Unit {0}
 IsPlaced n (Reverse e) = e < n
 IsPlaced n CloseDay = Unit {0}
@@ -53,7 +53,7 @@ Placed n [] = Unit {0}
 Placed n (s ∷ ss) = IsPlaced n s.opening.order × Placed n ss
 
 pub IsPlaced-more : (n m : ℕ) → n ≤ m → (o : Sent) → IsPlaced n o → IsPlaced m o
-IsPlaced-more n m le Register p = tt
+IsPlaced-more n m le (Register c) p = tt
 IsPlaced-more n m le (Pay a) p = tt
 IsPlaced-more n m le (Reverse e) p = omega arith
 IsPlaced-more n m le CloseDay p = tt
@@ -77,7 +77,7 @@ Placed-last n [] s p = p.0
 Placed-last n (t ∷ ss) s p = Placed-last n ss s p.1
 
 unplaced : (n : ℕ) (row : Booked) (opening : Opening) (o : Sent) (end : Option Ended) → IsPlaced n o → reverses_as o n row opening end ≡ false
-unplaced n row opening Register end p = refl
+unplaced n row opening (Register c) end p = refl
 unplaced n row opening (Pay a) end p = refl
 unplaced n row opening (Reverse e) end p = ap (λ b. b && completes (takes_back opening row) end) (ne_eqb e n (λ q. absurd (omega arith)))
 unplaced n row opening CloseDay end p = refl

@@ -27,11 +27,11 @@ use Rattle.zvt_till.proofs.Carrying.{stands-more, runs_are_logged, faults_are_lo
 pub unsent_are_logged : UnsentAreLogged
 unsent_are_logged settings log fault order old new first last t n =
     let facts : facts_of old.state ≡ facts_in log = ap facts_of t.1 ∙ steps_meet_log settings log t.0 in
-    let sent = stands-more settings log old.state (SentOut (sent_as order)) t (follows-order (facts_in log) order (ap (λ f. refusal f order) (sym facts) ∙ n.1)) in
-    let lost = stands-more settings (log ++ SentOut (sent_as order) ∷ []) (step old.state (SentOut (sent_as order))) Lost sent tt in
-    let same : step (step old.state (SentOut (sent_as order))) Lost ≡ new.state = ap (λ s. step s Lost) (step-order old.state order) ∙ sym n.2 in
-    subst (λ l. Stands settings l new.state) (append_assoc log (SentOut (sent_as order) ∷ []) (Lost ∷ []))
-    (subst (λ s. Stands settings ((log ++ SentOut (sent_as order) ∷ []) ++ Lost ∷ []) s) same lost)
+    let sent = stands-more settings log old.state (SentOut (sent_as settings.currency order)) t (follows-order settings (facts_in log) order (ap (λ f. refusal f order) (sym facts) ∙ n.1)) in
+    let lost = stands-more settings (log ++ SentOut (sent_as settings.currency order) ∷ []) (step old.state (SentOut (sent_as settings.currency order))) Lost sent tt in
+    let same : step (step old.state (SentOut (sent_as settings.currency order))) Lost ≡ new.state = ap (λ s. step s Lost) (step-order settings.currency old.state order) ∙ sym n.2 in
+    subst (λ l. Stands settings l new.state) (append_assoc log (SentOut (sent_as settings.currency order) ∷ []) (Lost ∷ []))
+    (subst (λ s. Stands settings ((log ++ SentOut (sent_as settings.currency order) ∷ []) ++ Lost ∷ []) s) same lost)
 
 -- messages bring no orders
 sent-heard : (messages : List Message) (more : List Happening) → sent_in (map hears messages ++ more) ≡ sent_in more
@@ -70,28 +70,28 @@ readied settings log old new t (inr e) =
     record { added = Connected ∷ []; stands = subst (λ s. Stands settings (log ++ Connected ∷ []) s) (sym e) (stands-more settings log old.state Connected t tt); sent = refl }
 
 failed : (settings : Settings) (log : List Happening) (fault : RunFault) (order : Order) (before after : StreamState) (old new : TillValue) (coming left first last : Option (List ℕ)) (turns reads_before reads_after : ℕ)
-    → Stands settings log old.state → Fails fault order before after old new coming left first last turns reads_before reads_after → Adds settings log new.state (sent_by order (Err fault))
+    → Stands settings log old.state → Fails fault order before after old new coming left first last turns reads_before reads_after → Adds settings log new.state (sent_by settings.currency order (Err fault))
 failed settings log (OrderFault why) order before after old new coming left first last turns reads_before reads_after t (inl n) =
     adds-nothing settings log old.state new.state (ap (λ (v : TillValue). v.state) n.0.1) t
 failed settings log (Line fault) order before after old new coming left first last turns reads_before reads_after t (inl n) =
-    record { added = SentOut (sent_as order) ∷ Lost ∷ []; stands = unsent_are_logged settings log fault order old new first last t n.0; sent = refl }
+    record { added = SentOut (sent_as settings.currency order) ∷ Lost ∷ []; stands = unsent_are_logged settings log fault order old new first last t n.0; sent = refl }
 failed settings log fault order before after old new coming left first last turns reads_before reads_after t (inr (broken, e, b)) =
     let l = faults_are_logged settings log broken order before after old new coming left first last turns reads_before reads_after t b in
-    subst (λ f. Adds settings log new.state (sent_by order (Err f))) (sym e)
+    subst (λ f. Adds settings log new.state (sent_by settings.currency order (Err f))) (sym e)
     (record {
-      added = SentOut (sent_as order) ∷ (map hears l.0 ++ told_of broken ∷ []);
+      added = SentOut (sent_as settings.currency order) ∷ (map hears l.0 ++ told_of broken ∷ []);
       stands = l.3;
-      sent = ap (λ x. sent_as order ∷ x) (sent-heard l.0 (told_of broken ∷ []) ∙ sent-told broken);
+      sent = ap (λ x. sent_as settings.currency order ∷ x) (sent-heard l.0 (told_of broken ∷ []) ∙ sent-told broken);
     })
 
 took : (settings : Settings) (log : List Happening) (order : Order) (answer : Result Outcome RunFault) (old new : TillValue) → Stands settings log old.state → Takes order answer old new
-    → Adds settings log new.state (sent_by order answer)
+    → Adds settings log new.state (sent_by settings.currency order answer)
 took settings log order (Ok outcome) old new t k =
     let messages = k.went.pumped.course.heard.messages in
     record {
-      added = SentOut (sent_as order) ∷ map hears messages;
+      added = SentOut (sent_as settings.currency order) ∷ map hears messages;
       stands = runs_are_logged settings log order outcome k.before k.after old new k.coming k.left k.first k.last k.turns k.reads_before k.reads_after t k.went;
-      sent = ap (λ x. sent_as order ∷ x) (ap sent_in (sym (append-nil (map hears messages))) ∙ sent-heard messages []);
+      sent = ap (λ x. sent_as settings.currency order ∷ x) (ap sent_in (sym (append-nil (map hears messages))) ∙ sent-heard messages []);
     }
 took settings log order (Err fault) old new t k =
     failed settings log fault order k.before k.after old new k.coming k.left k.first k.last k.turns k.reads_before k.reads_after t k.went
@@ -106,13 +106,13 @@ joined settings log state front first rest e a =
     }
 
 took-all : (settings : Settings) (log : List Happening) (taken : List (Order × Result Outcome RunFault)) (old new : TillValue) → Stands settings log old.state → TakesAll old taken new
-    → Adds settings log new.state (sent_by_all taken)
+    → Adds settings log new.state (sent_by_all settings.currency taken)
 took-all settings log [] old new t e = adds-nothing settings log old.state new.state (ap (λ (v : TillValue). v.state) (sym e)) t
 took-all settings log (taken ∷ more) old new t (ready, next, r, k, rest) =
     let a = readied settings log old ready t r in
     let b = took settings (log ++ a.added) taken.0 taken.1 ready next a.stands k in
     let c = took-all settings ((log ++ a.added) ++ b.added) more next new b.stands rest in
-    joined settings log new.state a.added [] (sent_by_all (taken ∷ more)) a.sent (joined settings (log ++ a.added) new.state b.added (sent_by taken.0 taken.1) (sent_by_all more) b.sent c)
+    joined settings log new.state a.added [] (sent_by_all settings.currency (taken ∷ more)) a.sent (joined settings (log ++ a.added) new.state b.added (sent_by settings.currency taken.0 taken.1) (sent_by_all settings.currency more) b.sent c)
 
 pub orders_are_logged : OrdersAreLogged
 orders_are_logged settings log taken old new t k =

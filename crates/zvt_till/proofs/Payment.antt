@@ -8,44 +8,45 @@ use Rattle.zvt_till.specs.declared.messages.Heard.TheVariants.{Positive, Negativ
 use Rattle.zvt_till.specs.declared.messages.StatusFacts.{StatusFacts}
 use Rattle.zvt_till.specs.declared.statuses.Statuses.TheVariants.{Good as AllGood, Declining as AllDeclining}
 use Rattle.zvt_till.specs.declared.entries.Entry.{Entry}
-use Rattle.zvt_till.specs.declared.outcomes.Cause.TheVariants.{Conflict, AmountDiffers, NoTrace, TraceUsed, AbortAfterApproval}
+use Rattle.zvt_till.specs.declared.outcomes.Cause.TheVariants.{Conflict, AmountDiffers, NoTrace, TraceUsed, AbortAfterApproval, WrongCurrency}
 use Rattle.zvt_till.specs.declared.outcomes.Outcome.{Outcome}
 use Rattle.zvt_till.specs.declared.outcomes.Outcome.TheVariants.{Registered, Paid, Declined, Refused as RefusedOutcome, Aborted, Unclear as UnclearOutcome, Reversed, DayClosed}
-use Rattle.zvt_till.specs.Statuses.{is_value, is_absent, approves, Charge, Payment, Class, Good, Declining, Doubtful, class_by, class_of, agrees, objection, is_declined}
+use Rattle.zvt_till.specs.Statuses.{is_value, is_absent, is_in_currency, approves, Charge, Payment, Class, Good, Declining, Doubtful, class_by, class_of, agrees, objection, is_declined}
 use Rattle.zvt_till.specs.Books.{Booked, booked_as, Verdict, Entered, Unclear, Refused, earned, unearned, completed, broken_off, verdict_by}
 use Rattle.zvt_till.specs.Outcomes.{trace_used, payment_outcome, broken_outcome, outcome_by}
 use Rattle.zvt_till.proofs.Summaries.{summary, after, disagreeing, whole, summary-whole, is_nothing, all_or_find, declining_agrees}
 
--- the class of a status, from its four tests
-abbrev payment_class : Option ℕ → Bool → Bool → Option ℕ → Class
-payment_class None alone same trace = Doubtful Conflict
-payment_class (Some code) alone same trace =
-    cond (code == 0)
-    (cond alone (cond same (elim trace [ None ↦ Doubtful NoTrace | Some t ↦ Good (Some t) ]) (Doubtful AmountDiffers)) (Doubtful Conflict))
-    (Declining code)
+-- the class of a status, from its five tests
+abbrev undeclined_class : Bool → Bool → Bool → Option ℕ → Class
+undeclined_class alone own same trace =
+    cond alone (cond own (cond same (elim trace [ None ↦ Doubtful NoTrace | Some t ↦ Good (Some t) ]) (Doubtful AmountDiffers)) (Doubtful WrongCurrency)) (Doubtful Conflict)
 
-class-parts : (charge : Charge) (s : StatusFacts) (r : Option ℕ) → class_by r (Payment charge) s ≡ payment_class r (is_absent s.original) (is_value s.amount charge.amount) s.trace
+abbrev payment_class : Option ℕ → Bool → Bool → Bool → Option ℕ → Class
+payment_class None alone own same trace = Doubtful Conflict
+payment_class (Some code) alone own same trace = cond (code == 0) (undeclined_class alone own same trace) (Declining code)
+
+class-parts : (charge : Charge) (s : StatusFacts) (r : Option ℕ) → class_by r (Payment charge) s ≡ payment_class r (is_absent s.original) (is_in_currency charge.currency s.currency) (is_value s.amount charge.amount) s.trace
 class-parts charge s None = refl
 class-parts charge s (Some code) = refl
 
-zero-code : (z : Bool) (code : ℕ) (alone same : Bool) (trace : Option ℕ) (t : ℕ)
-    → (z && alone && same && is_value trace t)
-    ≡ agrees (Good (Some t)) (cond z (cond alone (cond same (elim trace [ None ↦ Doubtful NoTrace | Some u ↦ Good (Some u) ]) (Doubtful AmountDiffers)) (Doubtful Conflict)) (Declining code))
-zero-code false code alone same trace t = refl
-zero-code true code false same trace t = refl
-zero-code true code true false trace t = refl
-zero-code true code true true None t = refl
-zero-code true code true true (Some u) t = refl
+zero-code : (z : Bool) (code : ℕ) (alone own same : Bool) (trace : Option ℕ) (t : ℕ)
+    → (z && alone && own && same && is_value trace t) ≡ agrees (Good (Some t)) (cond z (undeclined_class alone own same trace) (Declining code))
+zero-code false code alone own same trace t = refl
+zero-code true code false own same trace t = refl
+zero-code true code true false same trace t = refl
+zero-code true code true true false trace t = refl
+zero-code true code true true true None t = refl
+zero-code true code true true true (Some u) t = refl
 
-approves-parts : (r : Option ℕ) (alone same : Bool) (trace : Option ℕ) (t : ℕ)
-    → (is_value r 0 && alone && same && is_value trace t) ≡ agrees (Good (Some t)) (payment_class r alone same trace)
-approves-parts None alone same trace t = refl
-approves-parts (Some code) alone same trace t = zero-code (code == 0) code alone same trace t
+approves-parts : (r : Option ℕ) (alone own same : Bool) (trace : Option ℕ) (t : ℕ)
+    → (is_value r 0 && alone && own && same && is_value trace t) ≡ agrees (Good (Some t)) (payment_class r alone own same trace)
+approves-parts None alone own same trace t = refl
+approves-parts (Some code) alone own same trace t = zero-code (code == 0) code alone own same trace t
 
 -- a status approves the charge under a trace exactly where its class agrees with that of a good one
 pub approves-class : (charge : Charge) (t : ℕ) (s : StatusFacts) → approves charge t s ≡ agrees (Good (Some t)) (class_of (Payment charge) s)
 approves-class charge t s =
-    approves-parts s.result (is_absent s.original) (is_value s.amount charge.amount) s.trace t
+    approves-parts s.result (is_absent s.original) (is_in_currency charge.currency s.currency) (is_value s.amount charge.amount) s.trace t
     ∙ ap (agrees (Good (Some t))) (sym (class-parts charge s s.result))
 
 all_approve : (charge : Charge) (t : ℕ) (fs : List StatusFacts) → list_all (approves charge t) fs ≡ list_all (agrees (Good (Some t))) (map (class_of (Payment charge)) fs)
@@ -71,24 +72,26 @@ eqb-self : (t : ℕ) → (t == t) ≡ true
 eqb-self t = eq-eqb t t refl
 
 -- with the trace that it names, the first status approves where its class is good
-earned-bits : (charge : Charge) (used : List ℕ) (r : Option (List ℕ)) (cs : List Class) (result : Option ℕ) (alone same : Bool) (trace : Option ℕ)
-    → earned_first charge used r (λ t. agrees (Good (Some t)) (payment_class result alone same trace)) cs trace
-    ≡ entry_by (payment_class result alone same trace) charge r used cs
-earned-bits charge used r cs None alone same None = refl
-earned-bits charge used r cs None alone same (Some t) = refl
-earned-bits charge used r cs (Some code) alone same trace = by_code (code == 0) alone same trace
+earned-bits : (charge : Charge) (used : List ℕ) (r : Option (List ℕ)) (cs : List Class) (result : Option ℕ) (alone own same : Bool) (trace : Option ℕ)
+    → earned_first charge used r (λ t. agrees (Good (Some t)) (payment_class result alone own same trace)) cs trace
+    ≡ entry_by (payment_class result alone own same trace) charge r used cs
+earned-bits charge used r cs None alone own same None = refl
+earned-bits charge used r cs None alone own same (Some t) = refl
+earned-bits charge used r cs (Some code) alone own same trace = by_code (code == 0) alone own same trace
   where
-    by_code : (z alone same : Bool) (trace : Option ℕ)
-        → earned_first charge used r (λ t. agrees (Good (Some t)) (cond z (cond alone (cond same (elim trace [ None ↦ Doubtful NoTrace | Some u ↦ Good (Some u) ]) (Doubtful AmountDiffers)) (Doubtful Conflict)) (Declining code))) cs trace
-        ≡ entry_by (cond z (cond alone (cond same (elim trace [ None ↦ Doubtful NoTrace | Some u ↦ Good (Some u) ]) (Doubtful AmountDiffers)) (Doubtful Conflict)) (Declining code)) charge r used cs
-    by_code false alone same None = refl
-    by_code false alone same (Some t) = refl
-    by_code true false same None = refl
-    by_code true false same (Some t) = refl
-    by_code true true false None = refl
-    by_code true true false (Some t) = refl
-    by_code true true true None = refl
-    by_code true true true (Some t) = ap (λ b. cond ((b && list_all (agrees (Good (Some t))) cs) && not (list_any (λ x. nat_eq x t) used)) (Some (booked_as charge.amount t r)) None) (eqb-self t)
+    by_code : (z alone own same : Bool) (trace : Option ℕ)
+        → earned_first charge used r (λ t. agrees (Good (Some t)) (cond z (undeclined_class alone own same trace) (Declining code))) cs trace
+        ≡ entry_by (cond z (undeclined_class alone own same trace) (Declining code)) charge r used cs
+    by_code false alone own same None = refl
+    by_code false alone own same (Some t) = refl
+    by_code true false own same None = refl
+    by_code true false own same (Some t) = refl
+    by_code true true false same None = refl
+    by_code true true false same (Some t) = refl
+    by_code true true true false None = refl
+    by_code true true true false (Some t) = refl
+    by_code true true true true None = refl
+    by_code true true true true (Some t) = ap (λ b. cond ((b && list_all (agrees (Good (Some t))) cs) && not (list_any (λ x. nat_eq x t) used)) (Some (booked_as charge.amount t r)) None) (eqb-self t)
 
 earned-trace : (charge : Charge) (used : List ℕ) (r : Option (List ℕ)) (f : StatusFacts) (fs : List StatusFacts) (trace : Option ℕ)
     → elim trace [
@@ -106,7 +109,7 @@ earned-class charge used f fs =
     let cs = map (class_of (Payment charge)) fs in
     earned-trace charge used f.receipt f fs f.trace
     ∙ ap (λ c. earned_first charge used f.receipt (λ t. agrees (Good (Some t)) c) cs f.trace) (class-parts charge f f.result)
-    ∙ earned-bits charge used f.receipt cs f.result (is_absent f.original) (is_value f.amount charge.amount) f.trace
+    ∙ earned-bits charge used f.receipt cs f.result (is_absent f.original) (is_in_currency charge.currency f.currency) (is_value f.amount charge.amount) f.trace
     ∙ ap (λ c. entry_by c charge f.receipt used cs) (sym (class-parts charge f f.result))
 
 -- the verdict that an outcome of a payment stands for

@@ -1,9 +1,11 @@
 -- Whether the till is registered, by its steps and by its log.
-use Rattle.std.proofs.Common.{◌≡◌, ℕ, Bool, true, false, cond, ◌&&◌, ◌||◌, List, [], ◌∷◌, ◌++◌, Option, Some, None, refl, sym, ap, ap₂, subst, ◌∙◌, ◌⊎◌, inl, inr}
+use Rattle.std.proofs.Common.{◌≡◌, ℕ, Bool, true, false, cond, ◌&&◌, ◌||◌, List, [], ◌∷◌, ◌++◌, Option, Some, None, fold, refl, sym, ap, ap₂, subst, ◌∙◌, ◌⊎◌, inl, inr}
 use Rattle.std.specs.List.{list_any}
 use Rattle.std.proofs.Math.Bool.{or-false}
 use Rattle.zvt_till.specs.declared.happenings.Happening.{Happening}
 use Rattle.zvt_till.specs.declared.happenings.Happening.TheVariants.{Connected, Sent as SentOut, Heard as HeardIn, Malformed, Lost}
+use Rattle.zvt_till.specs.declared.happenings.Sent.{Sent}
+use Rattle.zvt_till.specs.declared.happenings.Sent.TheVariants.{Register, Pay, Reverse, CloseDay, Cancel, Foreign}
 use Rattle.zvt_till.specs.declared.orders.Order.{Order}
 use Rattle.zvt_till.specs.declared.orders.Order.TheVariants.{Register as RegisterOrder, Pay as PayOrder, Reverse as ReverseOrder, CloseDay as CloseDayOrder, Cancel as CancelOrder}
 use Rattle.zvt_till.specs.declared.messages.Heard.TheVariants.{Positive, Negative, Status, Passing, Completion, Abort, Strange}
@@ -19,7 +21,7 @@ use Rattle.zvt_till.specs.Segments.{Opening, Segment, Ended, ends, is_positive, 
 use Rattle.zvt_till.specs.Till.{TillState, registered_after_outcome, finish, meet}
 use Rattle.zvt_till.specs.Outcomes.{demand_of, trace_used, outcome_by, reversal_outcome, broken_outcome, completion_outcome, payment_outcome, closing_outcome, listened}
 use Rattle.zvt_till.specs.Sending.{Settings}
-use Rattle.zvt_till.specs.Log.{is_break, registered_by, registered_after, registered_of, awaited_of}
+use Rattle.zvt_till.specs.Log.{is_break, registered_as, registered_by, registered_after, registered_of, awaited_of}
 use Rattle.zvt_till.proofs.Segments.{heard_last, list_any-snoc, fold-snoc, heard_last-snoc, split_last}
 use Rattle.zvt_till.proofs.Worth.{seg, opened, end-kept, has-ended, end-missing, end-reached}
 use Rattle.zvt_till.proofs.Tied.{Open, TiedTo, state, IsQuiet, meet-quiet}
@@ -130,32 +132,32 @@ and-true : (b : Bool) → (b && true) ≡ b
 and-true true = refl
 and-true false = refl
 
-registers-end : (o : Order) (g before : Bool) (hs : List Happening) (h : Happening) → g ≡ registered_by before (opened o) None
-    → registers o g h ≡ registered_by before (opened o) (Some (record { before = hs; by = h }))
-registers-end RegisterOrder g before hs h e = ap (λ b. is_completion h || b) e ∙ or-false (is_completion h) ∙ sym (and-true (is_completion h))
-registers-end (PayOrder a) g before hs h e = e
-registers-end (ReverseOrder k) g before hs h e = e
-registers-end CloseDayOrder g before hs h e = e
-registers-end CancelOrder g before hs h e = e
+registers-end : (own : ℕ) (force : Option ℕ) (o : Order) (g before : Bool) (hs : List Happening) (h : Happening) → g ≡ registered_by before (opened own force o) None
+    → registers o g h ≡ registered_by before (opened own force o) (Some (record { before = hs; by = h }))
+registers-end own force RegisterOrder g before hs h e = ap (λ b. is_completion h || b) e ∙ or-false (is_completion h) ∙ sym (and-true (is_completion h))
+registers-end own force (PayOrder a) g before hs h e = e
+registers-end own force (ReverseOrder k) g before hs h e = e
+registers-end own force CloseDayOrder g before hs h e = e
+registers-end own force CancelOrder g before hs h e = e
 
-registered-running : (ss : List Segment) (h : Happening) (s : TillState) (r : Running) → is_break h ≡ false → s.registered ≡ registered_of ss → Open ss s.book r
+registered-running : (ss : List Segment) (h : Happening) (s : TillState) (r : Running) → is_break h ≡ false → s.registered ≡ registered_of ss → Open s.settings.currency ss s.book r
     → (b : Bool) → ends r.positive h ≡ b
-    → (cond b (finish s r.order (outcome_by s.book r.order r.statuses h)) (record s { running = Some (listened (demand_of s.book r.order) r h) })).registered ≡ registered_of (heard_last ss h)
+    → (cond b (finish s r.order (outcome_by s.book r.order r.statuses h)) (record s { running = Some (listened (demand_of (Some s.settings.currency) s.book r.order) r h) })).registered ≡ registered_of (heard_last ss h)
 registered-running ss h s r k g t true e =
     let closed = t.closed in
     let hs = t.answers in
-    let o = opened r.order in
+    let o = opened s.settings.currency t.force r.order in
     let on : ends (list_any is_positive hs) h ≡ true = subst (λ b. ends b h ≡ true) t.positive e in
     let was : s.registered ≡ registered_by (registered_of closed) o None = g ∙ ap registered_of t.is ∙ registered-snoc closed o hs None false t.unended t.unbroken in
     registered-outcome s.registered s.book r.order r.statuses h
-    ∙ registers-end r.order s.registered (registered_of closed) hs h was
+    ∙ registers-end s.settings.currency t.force r.order s.registered (registered_of closed) hs h was
     ∙ sym (registered-snoc closed o (hs ++ h ∷ []) (Some (record { before = hs; by = h })) false (end-reached hs h t.unended on) (list_any-snoc is_break hs h ∙ ap₂ (λ a b. a || b) t.unbroken k))
     ∙ ap registered_of (sym (heard_last-snoc closed (seg o hs) h))
     ∙ ap (λ x. registered_of (heard_last x h)) (sym t.is)
 registered-running ss h s r k g t false e =
     let closed = t.closed in
     let hs = t.answers in
-    let o = opened r.order in
+    let o = opened s.settings.currency t.force r.order in
     let on : ends (list_any is_positive hs) h ≡ false = subst (λ b. ends b h ≡ false) t.positive e in
     g ∙ ap registered_of t.is
     ∙ registered-snoc closed o hs None false t.unended t.unbroken
@@ -164,14 +166,48 @@ registered-running ss h s r k g t false e =
     ∙ ap (λ x. registered_of (heard_last x h)) (sym t.is)
 
 registered-meet-by : (ss : List Segment) (h : Happening) (k : Settings) (up g : Bool) (run : Option Running) (es : List Entry) (u : List (ℕ × Cause)) (last : Option Outcome)
-    → is_break h ≡ false → g ≡ registered_of ss → TiedTo ss es run → (meet (state k up g run es u last) h).registered ≡ registered_of (heard_last ss h)
+    → is_break h ≡ false → g ≡ registered_of ss → TiedTo k.currency ss es run → (meet (state k up g run es u last) h).registered ≡ registered_of (heard_last ss h)
 registered-meet-by ss h k up g None es u last unbroken e t = e ∙ sym (registered-idle ss h unbroken t)
 registered-meet-by ss h k up g (Some r) es u last unbroken e t = registered-running ss h (state k up g (Some r) es u last) r unbroken e t (ends r.positive h) refl
 
-pub registered-meet : (ss : List Segment) (h : Happening) (s : TillState) → is_break h ≡ false → s.registered ≡ registered_of ss → TiedTo ss s.book s.running
+pub registered-meet : (ss : List Segment) (h : Happening) (s : TillState) → is_break h ≡ false → s.registered ≡ registered_of ss → TiedTo s.settings.currency ss s.book s.running
     → (meet s h).registered ≡ registered_of (heard_last ss h)
 registered-meet ss h s k e t = registered-meet-by ss h s.settings s.line_up s.registered s.running s.book s.unclear s.last_outcome k e t
 
-pub registered-quiet : (ss : List Segment) (h : Happening) (s : TillState) → IsQuiet h → is_break h ≡ false → s.registered ≡ registered_of ss → TiedTo ss s.book s.running
+pub registered-quiet : (ss : List Segment) (h : Happening) (s : TillState) → IsQuiet h → is_break h ≡ false → s.registered ≡ registered_of ss → TiedTo s.settings.currency ss s.book s.running
     → s.registered ≡ registered_of (heard_last ss h)
 registered-quiet ss h s q k e t = ap (λ x. x.registered) (sym (meet-quiet h s q)) ∙ registered-meet ss h s k e t
+
+-- a log without a registration registers nobody
+
+abbrev IsPlain : Sent → Type 0
+IsPlain (Register c) = ⊥
+IsPlain o = Unit {0}
+
+-- none of these is a registration
+abbrev pub Unregistered : List Segment → Type 0
+Unregistered [] = Unit {0}
+Unregistered (s ∷ ss) = IsPlain s.opening.order × Unregistered ss
+
+plain-unregistered : (o : Sent) (end : Option Ended) → IsPlain o → registered_as o false end ≡ false
+plain-unregistered (Register c) end p = absurd p
+plain-unregistered (Pay a) end p = refl
+plain-unregistered (Reverse e) end p = refl
+plain-unregistered CloseDay end p = refl
+plain-unregistered Cancel end p = refl
+plain-unregistered Foreign end p = refl
+
+stays-false : (broken registered : Bool) → registered ≡ false → cond broken false registered ≡ false
+stays-false true registered e = refl
+stays-false false registered e = e
+
+pub unregistered : (ss : List Segment) → Unregistered ss → registered_of ss ≡ false
+unregistered [] u = refl
+unregistered (s ∷ ss) u =
+    let first : registered_after false s ≡ false = stays-false (list_any is_break s.answers) (registered_as s.opening.order false (end_of s.answers)) (plain-unregistered s.opening.order (end_of s.answers) u.0) in
+    ap (λ b. fold registered_after b ss) first ∙ unregistered ss u.1
+
+pub unregistered-heard : (ss : List Segment) (h : Happening) → Unregistered ss → Unregistered (heard_last ss h)
+unregistered-heard [] h u = tt
+unregistered-heard (s ∷ []) h u = (u.0, tt)
+unregistered-heard (s ∷ t ∷ ss) h u = (u.0, unregistered-heard (t ∷ ss) h u.1)

@@ -7,10 +7,13 @@ use Rattle.zvt_till.specs.declared.orders.Order.TheVariants.{Pay as PayOrder}
 use Rattle.zvt_till.specs.declared.messages.Heard.TheVariants.{Positive, Negative, Status, Completion, Abort}
 use Rattle.zvt_till.specs.declared.messages.Original.TheVariants.{Absent, Once}
 use Rattle.zvt_till.specs.declared.messages.Original.{Original}
+use Rattle.zvt_till.specs.declared.messages.CurrencyFact.{CurrencyFact}
+use Rattle.zvt_till.specs.declared.messages.CurrencyFact.TheVariants.{Absent as NoCurrency, Once as OneCurrency, Many as ManyCurrencies}
 use Rattle.zvt_till.specs.declared.outcomes.Outcome.TheVariants.{Refused, Unclear}
 use Rattle.zvt_till.specs.declared.orders.OrderRefusal.TheVariants.{Offline}
 use Rattle.zvt_till.specs.declared.entries.Entry.{Entry}
-use Rattle.zvt_till.specs.declared.outcomes.Cause.TheVariants.{NoStatus, NoTrace, Conflict, AmountDiffers, AbortAfterApproval, TraceUsed, Line as LineCause, Malformed as MalformedCause}
+use Rattle.zvt_till.specs.declared.outcomes.Cause.TheVariants.{NoStatus, NoTrace, Conflict, AmountDiffers, AbortAfterApproval, TraceUsed, Line as LineCause, Malformed as MalformedCause, WrongCurrency}
+use Rattle.zvt_till.specs.Books.{books}
 use Rattle.zvt_till.specs.Marks.{total, entries}
 use Rattle.zvt_till.specs.Sending.{Settings}
 use Rattle.zvt_till.specs.Till.{facts_of, state_after}
@@ -22,10 +25,10 @@ euro : Settings
 euro = record { password = 0 ∷ 0 ∷ 0 ∷ []; config = 190; currency = 978 }
 
 start : List Happening
-start = Connected ∷ SentOut Register ∷ HeardIn Positive ∷ HeardIn Completion ∷ []
+start = Connected ∷ SentOut (Register (Some 978)) ∷ HeardIn Positive ∷ HeardIn Completion ∷ []
 
 approval : Happening
-approval = HeardIn (Status (record { result = Some 0; amount = Some 1234; trace = Some 17; receipt = Some (0 ∷ 5 ∷ []); original = Absent }))
+approval = HeardIn (Status (record { result = Some 0; amount = Some 1234; trace = Some 17; receipt = Some (0 ∷ 5 ∷ []); original = Absent; currency = NoCurrency }))
 
 paid_twice_over : List Happening
 unfolding start approval
@@ -43,14 +46,19 @@ unfolding euro start approval paid_twice_over entry
 same_by_steps = refl
 
 -- a till can have that log, but none of an order on a line that was never raised
-allowed : IsLog paid_twice_over
-unfolding start approval paid_twice_over
-allowed = (tt, (refl, (refl, (refl, (refl, (refl, (refl, (refl, (refl, (refl, tt))))))))))
+allowed : IsLog euro paid_twice_over
+unfolding euro start approval paid_twice_over
+allowed = (tt, ((refl, refl), (refl, (refl, ((refl, refl), (refl, (refl, (refl, (refl, (refl, tt))))))))))
 
-not_raised : IsLog (SentOut (Pay 1234) ∷ []) → ⊥
-not_raised log = let refused : Some Offline ≡ None = log.0 in absurd cc
+not_raised : IsLog euro (SentOut (Pay 1234) ∷ []) → ⊥
+not_raised log = let refused : Some Offline ≡ None = log.0.1 in absurd cc
 
-orders : sent_in paid_twice_over ≡ Register ∷ Pay 1234 ∷ []
+-- nor one of a registration in a currency that isn't its own
+not_own : IsLog euro (Connected ∷ SentOut (Register None) ∷ []) → ⊥
+unfolding euro
+not_own log = let own : Register None ≡ Register (Some 978) = log.1.0.0 in absurd cc
+
+orders : sent_in paid_twice_over ≡ Register (Some 978) ∷ Pay 1234 ∷ []
 unfolding start approval paid_twice_over
 orders = refl
 
@@ -74,7 +82,7 @@ unfolding start approval paid_twice_over
 again =
     paid_twice_over
     ++ (SentOut (Pay 1234) ∷ HeardIn Positive ∷ approval ∷ HeardIn Completion ∷ [])
-    ++ (SentOut (Pay 1234) ∷ HeardIn Positive ∷ HeardIn (Status (record { result = Some 0; amount = Some 1234; trace = Some 18; receipt = Some (0 ∷ 6 ∷ []); original = Absent })) ∷ HeardIn Completion ∷ [])
+    ++ (SentOut (Pay 1234) ∷ HeardIn Positive ∷ HeardIn (Status (record { result = Some 0; amount = Some 1234; trace = Some 18; receipt = Some (0 ∷ 6 ∷ []); original = Absent; currency = NoCurrency })) ∷ HeardIn Completion ∷ [])
 
 again_books : (facts_in again).book ≡ entry 17 5 ∷ entry 18 6 ∷ []
 unfolding start approval paid_twice_over again entry
@@ -85,11 +93,11 @@ unfolding start approval paid_twice_over again entry
 again_unclear = refl
 
 -- another amount; a reversal's status; no status
-other_amount : (facts_in (start ++ (SentOut (Pay 1234) ∷ HeardIn Positive ∷ HeardIn (Status (record { result = Some 0; amount = Some 1235; trace = Some 17; receipt = None; original = Absent })) ∷ HeardIn Completion ∷ []))).unclear ≡ (1234, AmountDiffers) ∷ []
+other_amount : (facts_in (start ++ (SentOut (Pay 1234) ∷ HeardIn Positive ∷ HeardIn (Status (record { result = Some 0; amount = Some 1235; trace = Some 17; receipt = None; original = Absent; currency = NoCurrency })) ∷ HeardIn Completion ∷ []))).unclear ≡ (1234, AmountDiffers) ∷ []
 unfolding start
 other_amount = refl
 
-of_reversal : (facts_in (start ++ (SentOut (Pay 1234) ∷ HeardIn Positive ∷ HeardIn (Status (record { result = Some 0; amount = Some 1234; trace = Some 18; receipt = None; original = Once (0 ∷ 0 ∷ 23 ∷ []) })) ∷ HeardIn Completion ∷ []))).unclear ≡ (1234, Conflict) ∷ []
+of_reversal : (facts_in (start ++ (SentOut (Pay 1234) ∷ HeardIn Positive ∷ HeardIn (Status (record { result = Some 0; amount = Some 1234; trace = Some 18; receipt = None; original = Once (0 ∷ 0 ∷ 23 ∷ []); currency = NoCurrency })) ∷ HeardIn Completion ∷ []))).unclear ≡ (1234, Conflict) ∷ []
 unfolding start
 of_reversal = refl
 
@@ -140,7 +148,7 @@ taken_back : Original → List Happening
 unfolding start approval paid_twice_over
 taken_back original =
     paid_twice_over
-    ++ (SentOut (Reverse 0) ∷ HeardIn Positive ∷ HeardIn (Status (record { result = Some 0; amount = Some 1234; trace = Some 18; receipt = None; original = original })) ∷ HeardIn Completion ∷ [])
+    ++ (SentOut (Reverse 0) ∷ HeardIn Positive ∷ HeardIn (Status (record { result = Some 0; amount = Some 1234; trace = Some 18; receipt = None; original = original; currency = NoCurrency })) ∷ HeardIn Completion ∷ [])
 
 marked : (facts_in (taken_back (Once (0 ∷ 0 ∷ 23 ∷ [])))).book ≡ record { amount = 1234; trace = 17; receipt = Some (0 ∷ 5 ∷ []); reversed = true } ∷ []
 unfolding start approval paid_twice_over taken_back
@@ -157,3 +165,26 @@ no_digits = refl
 not_marked : (facts_in (taken_back (Once (0 ∷ 1 ∷ 13 ∷ [])))).book ≡ entry 17 5 ∷ []
 unfolding start approval paid_twice_over taken_back entry
 not_marked = refl
+
+-- an approval that names the currency in force, another one, or two
+in_currency : CurrencyFact → List Happening
+unfolding start
+in_currency currency =
+    start
+    ++ (SentOut (Pay 1234) ∷ HeardIn Positive ∷ HeardIn (Status (record { result = Some 0; amount = Some 1234; trace = Some 17; receipt = Some (0 ∷ 5 ∷ []); original = Absent; currency = currency })) ∷ HeardIn Completion ∷ [])
+
+own_currency : (facts_in (in_currency (OneCurrency 978))).book ≡ entry 17 5 ∷ []
+unfolding start in_currency entry
+own_currency = refl
+
+other_currency : (facts_in (in_currency (OneCurrency 840))).unclear ≡ (1234, WrongCurrency) ∷ []
+unfolding start in_currency
+other_currency = refl
+
+two_currencies : (facts_in (in_currency ManyCurrencies)).unclear ≡ (1234, WrongCurrency) ∷ []
+unfolding start in_currency
+two_currencies = refl
+
+-- without a registration that names one any one currency will do
+unnamed : (books (SentOut (Register None) ∷ SentOut (Pay 1234) ∷ HeardIn (Status (record { result = Some 0; amount = Some 1234; trace = Some 17; receipt = None; original = Absent; currency = OneCurrency 840 })) ∷ HeardIn Completion ∷ [])).unclear ≡ []
+unnamed = refl

@@ -1,10 +1,10 @@
 -- How the segments of a log, and the end of an order, change with one more happening.
-use Rattle.std.proofs.Common.{◌≡◌, Bool, true, false, cond, ◌||◌, List, [], ◌∷◌, ◌++◌, Option, Some, None, refl, sym, ap, ap₂, subst, ◌∙◌, append_assoc, append-nil, fold, ◌⊎◌, inl, inr}
+use Rattle.std.proofs.Common.{◌≡◌, ℕ, Bool, true, false, cond, ◌||◌, List, [], ◌∷◌, ◌++◌, Option, Some, None, refl, sym, ap, ap₂, subst, ◌∙◌, append_assoc, append-nil, fold, ◌⊎◌, inl, inr}
 use Rattle.std.specs.List.{list_any}
 use Rattle.std.proofs.Math.Bool.{or-false}
 use Rattle.zvt_till.specs.declared.happenings.Happening.{Happening}
 use Rattle.zvt_till.specs.declared.happenings.Sent.{Sent}
-use Rattle.zvt_till.specs.Segments.{Segment, Ended, begun, up_to_order, segments, ends, is_positive, end_after, end_of}
+use Rattle.zvt_till.specs.Segments.{Segment, Ended, begun, up_to_order, force_after, in_force, segments_from, segments, ends, is_positive, end_after, end_of}
 
 -- the last segment gets one more answer
 abbrev pub heard_last : List Segment → Happening → List Segment
@@ -12,9 +12,9 @@ heard_last [] h = []
 heard_last (s ∷ []) h = record { opening = s.opening; answers = s.answers ++ h ∷ [] } ∷ []
 heard_last (s ∷ t ∷ ss) h = s ∷ heard_last (t ∷ ss) h
 
-abbrev pub grown : List Segment → Happening → Option Sent → List Segment
-grown ss h None = heard_last ss h
-grown ss h (Some o) = ss ++ record { opening = record { order = o }; answers = [] } ∷ []
+abbrev pub grown : Option ℕ → List Segment → Happening → Option Sent → List Segment
+grown force ss h None = heard_last ss h
+grown force ss h (Some o) = ss ++ record { opening = record { order = o; currency = force }; answers = [] } ∷ []
 
 abbrev answers_grown : List Segment → List Happening → Happening → Option Sent → List Happening
 answers_grown [] hs h None = hs ++ h ∷ []
@@ -29,47 +29,53 @@ answers_grown-cons (s ∷ ss) g hs h o = refl
 abbrev up_by : Option Sent → Happening → List Happening → List Happening
 up_by b g more = elim b [ None ↦ g ∷ more | Some o ↦ [] ]
 
-abbrev segments_by : Option Sent → List Happening → List Segment → List Segment
-segments_by b more ss = elim b [ None ↦ ss | Some o ↦ record { opening = record { order = o }; answers = more } ∷ ss ]
+abbrev segments_by : Option ℕ → Option Sent → List Happening → List Segment → List Segment
+segments_by force b more ss = elim b [ None ↦ ss | Some o ↦ record { opening = record { order = o; currency = force }; answers = more } ∷ ss ]
 
 up-one : (b : Option Sent) (h : Happening) → up_by b h [] ≡ answers_grown [] [] h b
 up-one None h = refl
 up-one (Some o) h = refl
 
-up-more : (b : Option Sent) (g : Happening) (log : List Happening) (h : Happening)
-    → up_to_order (log ++ h ∷ []) ≡ answers_grown (segments log) (up_to_order log) h (begun h)
-    → up_by b g (up_to_order (log ++ h ∷ [])) ≡ answers_grown (segments_by b (up_to_order log) (segments log)) (up_by b g (up_to_order log)) h (begun h)
-up-more None g log h ih = ap (λ x. g ∷ x) ih ∙ answers_grown-cons (segments log) g (up_to_order log) h (begun h)
-up-more (Some o) g log h ih = refl
+up-more : (b : Option Sent) (g : Happening) (ss : List Segment) (log : List Happening) (more : List Happening) (h : Happening)
+    → up_to_order (log ++ h ∷ []) ≡ answers_grown ss (up_to_order log) h (begun h)
+    → (force : Option ℕ) → up_by b g (up_to_order (log ++ h ∷ [])) ≡ answers_grown (segments_by force b more ss) (up_by b g (up_to_order log)) h (begun h)
+up-more None g ss log more h ih force = ap (λ x. g ∷ x) ih ∙ answers_grown-cons ss g (up_to_order log) h (begun h)
+up-more (Some o) g ss log more h ih force = refl
 
-up_to_order-snoc : (log : List Happening) (h : Happening) → up_to_order (log ++ h ∷ []) ≡ answers_grown (segments log) (up_to_order log) h (begun h)
-up_to_order-snoc [] h = up-one (begun h) h
-up_to_order-snoc (g ∷ log) h = up-more (begun g) g log h (up_to_order-snoc log h)
+up_to_order-snoc : (force : Option ℕ) (log : List Happening) (h : Happening) → up_to_order (log ++ h ∷ []) ≡ answers_grown (segments_from force log) (up_to_order log) h (begun h)
+up_to_order-snoc force [] h = up-one (begun h) h
+up_to_order-snoc force (g ∷ log) h =
+    up-more (begun g) g (segments_from (force_after force g) log) log (up_to_order log) h (up_to_order-snoc (force_after force g) log h) force
 
-segments-one : (b : Option Sent) (h : Happening) → segments_by b [] [] ≡ grown [] h b
-segments-one None h = refl
-segments-one (Some o) h = refl
+segments-one : (force : Option ℕ) (b : Option Sent) (h : Happening) → segments_by force b [] [] ≡ grown force [] h b
+segments-one force None h = refl
+segments-one force (Some o) h = refl
 
-first-grown : (o : Sent) (ss : List Segment) (hs : List Happening) (h : Happening) (b : Option Sent)
-    → record { opening = record { order = o }; answers = answers_grown ss hs h b } ∷ grown ss h b ≡ grown (record { opening = record { order = o }; answers = hs } ∷ ss) h b
-first-grown o [] hs h None = refl
-first-grown o [] hs h (Some p) = refl
-first-grown o (s ∷ ss) hs h None = refl
-first-grown o (s ∷ ss) hs h (Some p) = refl
+abbrev seg : Option ℕ → Sent → List Happening → Segment
+seg force o hs = record { opening = record { order = o; currency = force }; answers = hs }
 
-abbrev seg : Sent → List Happening → Segment
-seg o hs = record { opening = record { order = o }; answers = hs }
+first-grown : (force now : Option ℕ) (o : Sent) (ss : List Segment) (hs : List Happening) (h : Happening) (b : Option Sent)
+    → seg force o (answers_grown ss hs h b) ∷ grown now ss h b ≡ grown now (seg force o hs ∷ ss) h b
+first-grown force now o [] hs h None = refl
+first-grown force now o [] hs h (Some p) = refl
+first-grown force now o (s ∷ ss) hs h None = refl
+first-grown force now o (s ∷ ss) hs h (Some p) = refl
 
-segments-more : (b : Option Sent) (log : List Happening) (h : Happening)
-    → segments (log ++ h ∷ []) ≡ grown (segments log) h (begun h)
-    → segments_by b (up_to_order (log ++ h ∷ [])) (segments (log ++ h ∷ [])) ≡ grown (segments_by b (up_to_order log) (segments log)) h (begun h)
-segments-more None log h ih = ih
-segments-more (Some o) log h ih =
-    ap₂ (λ x y. seg o x ∷ y) (up_to_order-snoc log h) ih ∙ first-grown o (segments log) (up_to_order log) h (begun h)
+segments-more : (force later now : Option ℕ) (b : Option Sent) (log : List Happening) (h : Happening)
+    → segments_from later (log ++ h ∷ []) ≡ grown now (segments_from later log) h (begun h)
+    → segments_by force b (up_to_order (log ++ h ∷ [])) (segments_from later (log ++ h ∷ [])) ≡ grown now (segments_by force b (up_to_order log) (segments_from later log)) h (begun h)
+segments-more force later now None log h ih = ih
+segments-more force later now (Some o) log h ih =
+    ap₂ (λ x y. seg force o x ∷ y) (up_to_order-snoc later log h) ih ∙ first-grown force now o (segments_from later log) (up_to_order log) h (begun h)
 
-pub segments-snoc : (log : List Happening) (h : Happening) → segments (log ++ h ∷ []) ≡ grown (segments log) h (begun h)
-segments-snoc [] h = segments-one (begun h) h
-segments-snoc (g ∷ log) h = segments-more (begun g) log h (segments-snoc log h)
+segments_from-snoc : (force : Option ℕ) (log : List Happening) (h : Happening) → segments_from force (log ++ h ∷ []) ≡ grown (fold force_after force log) (segments_from force log) h (begun h)
+segments_from-snoc force [] h = segments-one force (begun h) h
+segments_from-snoc force (g ∷ log) h =
+    segments-more force (force_after force g) (fold force_after (force_after force g) log) (begun g) log h (segments_from-snoc (force_after force g) log h)
+
+-- an order begins a segment under the currency in force before it
+pub segments-snoc : (log : List Happening) (h : Happening) → segments (log ++ h ∷ []) ≡ grown (in_force log) (segments log) h (begun h)
+segments-snoc log h = segments_from-snoc None log h
 
 -- the end with one more answer
 abbrev pub end_grown : List Happening → Happening → Option Ended → Option Ended

@@ -9,10 +9,10 @@ use Rattle.zvt_till.specs.declared.messages.StatusFacts.{StatusFacts}
 use Rattle.zvt_till.specs.declared.statuses.Statuses.{Statuses}
 use Rattle.zvt_till.specs.declared.statuses.Statuses.TheVariants.{Nothing, Good as AllGood, Declining as AllDeclining, Fault}
 use Rattle.zvt_till.specs.declared.entries.Entry.{Entry}
-use Rattle.zvt_till.specs.declared.outcomes.Cause.TheVariants.{Conflict, AmountDiffers, NoTrace, TraceUsed}
+use Rattle.zvt_till.specs.declared.outcomes.Cause.TheVariants.{Conflict, AmountDiffers, NoTrace, TraceUsed, WrongCurrency}
 use Rattle.zvt_till.specs.declared.outcomes.Outcome.{Outcome}
 use Rattle.zvt_till.specs.declared.outcomes.Outcome.TheVariants.{Registered, Paid, Declined, Refused, Aborted, Unclear, Reversed, DayClosed}
-use Rattle.zvt_till.specs.Statuses.{is_value, is_absent, names, same_trace, Demand, Payment, Reversal, Closing, Class, Good, Declining, Doubtful, class_undeclined, class_by, class_of}
+use Rattle.zvt_till.specs.Statuses.{is_value, is_absent, is_in_currency, names, same_trace, Demand, Payment, Reversal, Closing, Class, Good, Declining, Doubtful, class_undeclined, class_by, class_of}
 use Rattle.zvt_till.specs.Segments.{ends}
 use Rattle.zvt_till.specs.Books.{is_finished}
 use Rattle.zvt_till.specs.Outcomes.{note, note_class, payment_outcome, reversal_outcome, closing_outcome, completion_outcome, broken_outcome, outcome_by}
@@ -38,20 +38,23 @@ IsSettled (Unclear x) = is_finished x ≡ true
 IsSettled Reversed = Unit {0}
 IsSettled DayClosed = Unit {0}
 
-sound-payment : (alone same : Bool) (trace : Option ℕ) → SoundClass (cond alone (cond same (elim trace [ None ↦ Doubtful NoTrace | Some t ↦ Good (Some t) ]) (Doubtful AmountDiffers)) (Doubtful Conflict))
-sound-payment false same trace = refl
-sound-payment true false trace = refl
-sound-payment true true None = refl
-sound-payment true true (Some t) = tt
+sound-payment : (alone own same : Bool) (trace : Option ℕ)
+    → SoundClass (cond alone (cond own (cond same (elim trace [ None ↦ Doubtful NoTrace | Some t ↦ Good (Some t) ]) (Doubtful AmountDiffers)) (Doubtful WrongCurrency)) (Doubtful Conflict))
+sound-payment false own same trace = refl
+sound-payment true false same trace = refl
+sound-payment true true false trace = refl
+sound-payment true true true None = refl
+sound-payment true true true (Some t) = tt
 
-sound-reversal : (same back : Bool) → SoundClass (cond same (cond back (Good None) (Doubtful NoTrace)) (Doubtful AmountDiffers))
-sound-reversal false back = refl
-sound-reversal true false = refl
-sound-reversal true true = tt
+sound-reversal : (own same back : Bool) → SoundClass (cond own (cond same (cond back (Good None) (Doubtful NoTrace)) (Doubtful AmountDiffers)) (Doubtful WrongCurrency))
+sound-reversal false same back = refl
+sound-reversal true false back = refl
+sound-reversal true true false = refl
+sound-reversal true true true = tt
 
 sound-undeclined : (d : Demand) (s : StatusFacts) → SoundClass (class_undeclined d s)
-sound-undeclined (Payment charge) s = sound-payment (is_absent s.original) (is_value s.amount charge.amount) s.trace
-sound-undeclined (Reversal charge t) s = sound-reversal (is_value s.amount charge.amount) (names s.original t)
+sound-undeclined (Payment charge) s = sound-payment (is_absent s.original) (is_in_currency charge.currency s.currency) (is_value s.amount charge.amount) s.trace
+sound-undeclined (Reversal charge t) s = sound-reversal (is_in_currency charge.currency s.currency) (is_value s.amount charge.amount) (names s.original t)
 sound-undeclined Closing s = tt
 
 sound-class : (d : Demand) (s : StatusFacts) (r : Option ℕ) → SoundClass (class_by r d s)

@@ -1,5 +1,5 @@
 -- The state that the steps reach is what the log says: each kind of step, and the induction.
-use Rattle.std.proofs.Common.{◌≡◌, ℕ, ◌<◌, Bool, true, false, cond, List, [], ◌∷◌, ◌++◌, length, Option, Some, None, fold, refl, sym, ap, ap₂, subst, ◌∙◌, arith, append-nil, append_assoc, slice_get, option_map}
+use Rattle.std.proofs.Common.{◌≡◌, ℕ, ◌<◌, Bool, true, false, cond, List, [], ◌∷◌, ◌++◌, length, Option, Some, None, fold, refl, sym, ap, ap₂, subst, ◌∙◌, ◌⊎◌, inl, inr, arith, append-nil, append_assoc, slice_get, option_map}
 use Rattle.std.proofs.lemmas.Option.{slice_get_within}
 use Rattle.zvt_till.specs.declared.happenings.Happening.{Happening}
 use Rattle.zvt_till.specs.declared.happenings.Happening.TheVariants.{Connected, Sent as SentOut, Heard as HeardIn, Malformed, Lost}
@@ -7,25 +7,27 @@ use Rattle.zvt_till.specs.declared.happenings.Sent.TheVariants.{Register, Pay, R
 use Rattle.zvt_till.specs.declared.orders.Order.{Order}
 use Rattle.zvt_till.specs.declared.orders.Order.TheVariants.{Register as RegisterOrder, Pay as PayOrder, Reverse as ReverseOrder, CloseDay as CloseDayOrder}
 use Rattle.zvt_till.specs.declared.orders.OrderRefusal.{OrderRefusal}
+use Rattle.zvt_till.specs.declared.orders.OrderRefusal.TheVariants.{Offline, NotRegistered}
 use Rattle.zvt_till.specs.declared.statuses.Running.{Running}
 use Rattle.zvt_till.specs.declared.entries.Entry.{Entry}
 use Rattle.zvt_till.specs.declared.outcomes.Cause.{Cause}
 use Rattle.zvt_till.specs.declared.outcomes.Outcome.{Outcome}
-use Rattle.zvt_till.specs.Segments.{Opening, Segment, begun, segments, ends}
+use Rattle.zvt_till.specs.Segments.{Opening, Segment, begun, force_by, force_after, in_force, segments, ends}
 use Rattle.zvt_till.specs.Marks.{entries_of}
 use Rattle.zvt_till.specs.Till.{TillState, new_till, finish, meet, fresh, step, state_after, awaited_by, facts_of}
 use Rattle.zvt_till.specs.Outcomes.{demand_of, outcome_by, listened}
-use Rattle.zvt_till.specs.Refusals.{sent_as, Awaited, Facts, refusal, line_refusal, row_refusal, or_else}
+use Rattle.zvt_till.specs.Refusals.{sent_as, Awaited, Facts, refusal, busy_refusal, idle_refusal, line_refusal, asked_refusal, row_refusal, or_else}
 use Rattle.zvt_till.specs.Sending.{Settings}
-use Rattle.zvt_till.specs.Log.{line_after, line_up, registered_by, registered_of, awaited_by_end, awaited_of, facts_in_segments, CanFollow, IsLogFrom, IsLog, StepsMeetLog}
+use Rattle.zvt_till.specs.Log.{line_after, line_up, registered_by, registered_of, awaited_by_end, awaited_of, facts_in_segments, facts_in, CanFollow, IsLogFrom, IsLog, StepsMeetLog}
 use Rattle.zvt_till.proofs.Segments.{heard_last, grown, segments-snoc, fold-snoc}
 use Rattle.zvt_till.proofs.Marks.{IsPlaced, Placed, Placed-snoc, mark-length}
 use Rattle.zvt_till.proofs.Worth.{seg, opened, begun_by, rows, rows-open, loose-open, entries-open, awaited-snoc}
 use Rattle.zvt_till.proofs.Tied.{TiedTo, Core, CoreAt, state, core-meet, core-quiet, quiet-connected, quiet-cancel}
-use Rattle.zvt_till.proofs.Registrations.{registered-snoc, registered-break, registered-meet, registered-quiet}
+use Rattle.zvt_till.proofs.Registrations.{registered-snoc, registered-break, registered-meet, registered-quiet, Unregistered, unregistered, unregistered-heard}
+use Rattle.zvt_till.proofs.Kept.{settings-by-running, settings-step}
 
 line-met-running : (s : TillState) (r : Running) (h : Happening) (b : Bool)
-    → (cond b (finish s r.order (outcome_by s.book r.order r.statuses h)) (record s { running = Some (listened (demand_of s.book r.order) r h) })).line_up ≡ s.line_up
+    → (cond b (finish s r.order (outcome_by s.book r.order r.statuses h)) (record s { running = Some (listened (demand_of (Some s.settings.currency) s.book r.order) r h) })).line_up ≡ s.line_up
 line-met-running s r h true = refl
 line-met-running s r h false = refl
 
@@ -39,23 +41,54 @@ line-met s h = line-met-by h s.settings s.line_up s.registered s.running s.book 
 
 -- one more happening
 
-pub record Inv (up : Bool) (ss : List Segment) (s : TillState) : Type 0 where
+-- the currency in force is the till's own, once it has sent a registration
+abbrev Forced : ℕ → Option ℕ → List Segment → Type 0
+Forced own force ss = (force ≡ Some own) ⊎ Unregistered ss
+
+pub record Inv (up : Bool) (force : Option ℕ) (ss : List Segment) (s : TillState) : Type 0 where
   pub line : s.line_up ≡ up
   pub registered : s.registered ≡ registered_of ss
   pub core : CoreAt ss s
+  pub forced : Forced s.settings.currency force ss
+
+forced-heard : (own : ℕ) (force : Option ℕ) (ss : List Segment) (h : Happening) → Forced own force ss → Forced own force (heard_last ss h)
+forced-heard own force ss h (inl e) = inl e
+forced-heard own force ss h (inr u) = inr (unregistered-heard ss h u)
+
+forced-met : (force : Option ℕ) (ss : List Segment) (s : TillState) (h : Happening) → Forced s.settings.currency force ss → Forced (meet s h).settings.currency force (heard_last ss h)
+forced-met force ss s h f =
+    subst (λ (k : Settings). Forced k.currency force (heard_last ss h)) (sym (settings-by-running s h s.running)) (forced-heard s.settings.currency force ss h f)
+
+-- who is registered is registered under the till's own currency
+in-force : (own : ℕ) (force : Option ℕ) (ss : List Segment) → Forced own force ss → registered_of ss ≡ true → force ≡ Some own
+in-force own force ss (inl e) g = e
+in-force own force ss (inr u) g = let none = unregistered ss u in absurd cc
+
+needs-registration : (up g : Bool) (busy asked : Option OrderRefusal) → or_else (cond up (cond g busy (Some NotRegistered)) (Some Offline)) asked ≡ None → g ≡ true
+needs-registration true true busy asked e = refl
+needs-registration true false busy asked e = absurd cc
+needs-registration false g busy asked e = absurd cc
+
+-- under which an order is sent that needs a registration
+forced-by : (up : Bool) (force : Option ℕ) (ss : List Segment) (s : TillState) (asked : Option OrderRefusal) → Inv up force ss s
+    → or_else (cond up (idle_refusal (facts_in_segments up ss)) (Some Offline)) asked ≡ None → force ≡ Some s.settings.currency
+forced-by up force ss s asked i e =
+    in-force s.settings.currency force ss i.forced (needs-registration up (registered_of ss) (busy_refusal (awaited_of ss)) asked e)
 
 -- an order that begins a segment
 
-core-order : (ss : List Segment) (s : TillState) (o : Order) → CoreAt ss s → IsPlaced (length (rows ss)) (sent_as o)
-    → Core (ss ++ seg (opened o) [] ∷ []) s.book s.unclear (Some (fresh o))
-core-order ss s o c here =
+core-order : (force : Option ℕ) (ss : List Segment) (s : TillState) (o : Order) → CoreAt ss s → IsPlaced (length (rows ss)) (sent_as s.settings.currency o)
+    → ((book : List Entry) → demand_of (Some s.settings.currency) book o ≡ demand_of force book o)
+    → Core s.settings.currency (ss ++ seg (opened s.settings.currency force o) [] ∷ []) s.book s.unclear (Some (fresh o))
+core-order force ss s o c here forced =
+    let opening : Opening = opened s.settings.currency force o in
     record {
-      book = c.book ∙ sym (entries-open ss (opened o) [] refl);
-      unclear = c.unclear ∙ sym (loose-open ss (opened o) [] refl);
+      book = c.book ∙ sym (entries-open ss opening [] refl);
+      unclear = c.unclear ∙ sym (loose-open ss opening [] refl);
       placed =
-          subst (λ n. Placed n (ss ++ seg (opened o) [] ∷ [])) (ap (λ x. length x) (sym (rows-open ss (opened o) [] refl)))
-          (Placed-snoc (length (rows ss)) ss (seg (opened o) []) c.placed here);
-      tied = record { closed = ss; answers = []; is = refl; unended = refl; unbroken = refl; positive = refl; statuses = refl };
+          subst (λ n. Placed n (ss ++ seg opening [] ∷ [])) (ap (λ x. length x) (sym (rows-open ss opening [] refl)))
+          (Placed-snoc (length (rows ss)) ss (seg opening []) c.placed here);
+      tied = record { closed = ss; answers = []; force = force; forced = forced; is = refl; unended = refl; unbroken = refl; positive = refl; statuses = refl };
     }
 
 registered-order : (ss : List Segment) (o : Opening) → registered_of (ss ++ seg o [] ∷ []) ≡ registered_by (registered_of ss) o None
@@ -77,72 +110,116 @@ placed-reversal up ss e q =
     let lt : e < length (entries_of ss) = slice_get_within (entries_of ss) e w.0 w.1 in
     omega (arith, mark-length ss 0 (rows ss))
 
-grow : (up : Bool) (ss : List Segment) (s : TillState) (h : Happening) → Inv up ss s → CanFollow (facts_in_segments up ss) h
-    → Inv (line_after up h) (grown ss h (begun h)) (step s h)
-grow up ss s Connected i k =
+same-demand : (own : ℕ) (force : Option ℕ) (o : Order) → force ≡ Some own → (book : List Entry) → demand_of (Some own) book o ≡ demand_of force book o
+same-demand own force o e book = ap (λ c. demand_of c book o) (sym e)
+
+-- a registration brings its currency into force
+registers : (up : Bool) (force : Option ℕ) (ss : List Segment) (s : TillState) → Inv up force ss s
+    → Inv up (Some s.settings.currency) (ss ++ seg (opened s.settings.currency force RegisterOrder) [] ∷ []) (step s (SentOut (Register (Some s.settings.currency))))
+registers up force ss s i =
+    record {
+      line = i.line;
+      registered = sym (registered-order ss (opened s.settings.currency force RegisterOrder));
+      core = core-order force ss s RegisterOrder i.core tt (λ book. refl);
+      forced = inl refl;
+    }
+
+grow : (up : Bool) (force : Option ℕ) (ss : List Segment) (s : TillState) (h : Happening) → Inv up force ss s → CanFollow s.settings (facts_in_segments up ss) h
+    → Inv (line_after up h) (force_after force h) (grown force ss h (begun h)) (step s h)
+grow up force ss s Connected i k =
     record {
       line = refl;
       registered = registered-quiet ss Connected s quiet-connected refl i.registered i.core.tied;
       core = core-quiet ss Connected s quiet-connected i.core;
+      forced = forced-heard s.settings.currency force ss Connected i.forced;
     }
-grow up ss s (SentOut Register) i k =
-    record { line = i.line; registered = sym (registered-order ss (begun_by Register)); core = core-order ss s RegisterOrder i.core tt }
-grow up ss s (SentOut (Pay a)) i k =
-    record { line = i.line; registered = i.registered ∙ sym (registered-order ss (begun_by (Pay a))); core = core-order ss s (PayOrder a) i.core tt }
-grow up ss s (SentOut (Reverse e)) i k =
-    record { line = i.line; registered = i.registered ∙ sym (registered-order ss (begun_by (Reverse e))); core = core-order ss s (ReverseOrder e) i.core (placed-reversal up ss e k) }
-grow up ss s (SentOut CloseDay) i k =
-    record { line = i.line; registered = i.registered ∙ sym (registered-order ss (begun_by CloseDay)); core = core-order ss s CloseDayOrder i.core tt }
-grow up ss s (SentOut Cancel) i k =
+grow up force ss s (SentOut (Register c)) i k =
+    let own : Register (Some s.settings.currency) ≡ Register c = sym k.0 in
+    subst (λ o. Inv up (force_by force o) (ss ++ seg (begun_by force o) [] ∷ []) (step s (SentOut o))) own (registers up force ss s i)
+grow up force ss s (SentOut (Pay a)) i k =
+    let e = forced-by up force ss s (asked_refusal (facts_in_segments up ss) (PayOrder a)) i k.1 in
+    record {
+      line = i.line;
+      registered = i.registered ∙ sym (registered-order ss (begun_by force (Pay a)));
+      core = core-order force ss s (PayOrder a) i.core tt (same-demand s.settings.currency force (PayOrder a) e);
+      forced = inl e;
+    }
+grow up force ss s (SentOut (Reverse n)) i k =
+    let e = forced-by up force ss s (asked_refusal (facts_in_segments up ss) (ReverseOrder n)) i k.1 in
+    record {
+      line = i.line;
+      registered = i.registered ∙ sym (registered-order ss (begun_by force (Reverse n)));
+      core = core-order force ss s (ReverseOrder n) i.core (placed-reversal up ss n k.1) (same-demand s.settings.currency force (ReverseOrder n) e);
+      forced = inl e;
+    }
+grow up force ss s (SentOut CloseDay) i k =
+    record {
+      line = i.line;
+      registered = i.registered ∙ sym (registered-order ss (begun_by force CloseDay));
+      core = core-order force ss s CloseDayOrder i.core tt (λ book. refl);
+      forced = inl (forced-by up force ss s None i k.1);
+    }
+grow up force ss s (SentOut Cancel) i k =
     record {
       line = i.line;
       registered = registered-quiet ss (SentOut Cancel) s quiet-cancel refl i.registered i.core.tied;
       core = core-quiet ss (SentOut Cancel) s quiet-cancel i.core;
+      forced = forced-heard s.settings.currency force ss (SentOut Cancel) i.forced;
     }
-grow up ss s (SentOut Foreign) i k = absurd k
-grow up ss s (HeardIn m) i k =
-    let met : Inv up (heard_last ss (HeardIn m)) (meet s (HeardIn m)) =
-    record { line = line-met s (HeardIn m) ∙ i.line; registered = registered-meet ss (HeardIn m) s refl i.registered i.core.tied; core = core-meet ss (HeardIn m) s i.core } in
-    subst (λ b. Inv up (heard_last ss (HeardIn m)) (cond b (meet s (HeardIn m)) s)) (sym (i.line ∙ k)) met
-grow up ss s Malformed i k =
-    record { line = refl; registered = sym (registered-break ss Malformed refl); core = core-meet ss Malformed s i.core }
-grow up ss s Lost i k =
-    record { line = refl; registered = sym (registered-break ss Lost refl); core = core-meet ss Lost s i.core }
+grow up force ss s (SentOut Foreign) i k = absurd k
+grow up force ss s (HeardIn m) i k =
+    let met : Inv up force (heard_last ss (HeardIn m)) (meet s (HeardIn m)) =
+    record {
+      line = line-met s (HeardIn m) ∙ i.line;
+      registered = registered-meet ss (HeardIn m) s refl i.registered i.core.tied;
+      core = core-meet ss (HeardIn m) s i.core;
+      forced = forced-met force ss s (HeardIn m) i.forced;
+    } in
+    subst (λ b. Inv up force (heard_last ss (HeardIn m)) (cond b (meet s (HeardIn m)) s)) (sym (i.line ∙ k)) met
+grow up force ss s Malformed i k =
+    record { line = refl; registered = sym (registered-break ss Malformed refl); core = core-meet ss Malformed s i.core; forced = forced-met force ss s Malformed i.forced }
+grow up force ss s Lost i k =
+    record { line = refl; registered = sym (registered-break ss Lost refl); core = core-meet ss Lost s i.core; forced = forced-met force ss s Lost i.forced }
 
 -- the whole log
 
-inv-after : (log more : List Happening) (s : TillState) → Inv (line_up log) (segments log) s → IsLogFrom log more
-    → Inv (line_up (log ++ more)) (segments (log ++ more)) (fold step s more)
-inv-after log [] s i k = subst (λ x. Inv (line_up x) (segments x) s) (sym (append-nil log)) i
-inv-after log (h ∷ more) s i k =
-    let one : Inv (line_up (log ++ h ∷ [])) (segments (log ++ h ∷ [])) (step s h) =
-    subst (λ b. Inv b (segments (log ++ h ∷ [])) (step s h)) (sym (fold-snoc line_after false log h))
-    (subst (λ x. Inv (line_after (line_up log) h) x (step s h)) (sym (segments-snoc log h)) (grow (line_up log) (segments log) s h i k.0)) in
-    subst (λ x. Inv (line_up x) (segments x) (fold step (step s h) more)) (append_assoc log (h ∷ []) more)
-    (inv-after (log ++ h ∷ []) more (step s h) one k.1)
+abbrev InvOf : List Happening → TillState → Type 0
+InvOf log s = Inv (line_up log) (in_force log) (segments log) s
 
-inv-new : (settings : Settings) → Inv false [] (new_till settings)
-inv-new settings = record { line = refl; registered = refl; core = record { book = refl; unclear = refl; placed = tt; tied = refl } }
+inv-after : (settings : Settings) (log more : List Happening) (s : TillState) → s.settings ≡ settings → InvOf log s → IsLogFrom settings log more → InvOf (log ++ more) (fold step s more)
+inv-after settings log [] s e i k = subst (λ x. InvOf x s) (sym (append-nil log)) i
+inv-after settings log (h ∷ more) s e i k =
+    let can : CanFollow s.settings (facts_in log) h = subst (λ x. CanFollow x (facts_in log) h) (sym e) k.0 in
+    let one : InvOf (log ++ h ∷ []) (step s h) =
+    subst (λ b. Inv b (in_force (log ++ h ∷ [])) (segments (log ++ h ∷ [])) (step s h)) (sym (fold-snoc line_after false log h))
+    (subst (λ c. Inv (line_after (line_up log) h) c (segments (log ++ h ∷ [])) (step s h)) (sym (fold-snoc force_after None log h))
+    (subst (λ x. Inv (line_after (line_up log) h) (force_after (in_force log) h) x (step s h)) (sym (segments-snoc log h)) (grow (line_up log) (in_force log) (segments log) s h i can))) in
+    subst (λ x. InvOf x (fold step (step s h) more)) (append_assoc log (h ∷ []) more)
+    (inv-after settings (log ++ h ∷ []) more (step s h) (settings-step s h ∙ e) one k.1)
 
-inv-log : (settings : Settings) (log : List Happening) → IsLog log → Inv (line_up log) (segments log) (state_after settings log)
-inv-log settings log k = inv-after [] log (new_till settings) (inv-new settings) k
+inv-new : (settings : Settings) → InvOf [] (new_till settings)
+inv-new settings = record { line = refl; registered = refl; core = record { book = refl; unclear = refl; placed = tt; tied = refl }; forced = inr tt }
+
+inv-log : (settings : Settings) (log : List Happening) → IsLog settings log → InvOf log (state_after settings log)
+inv-log settings log k = inv-after settings [] log (new_till settings) refl (inv-new settings) k
 
 -- what the till awaits
 
-awaited-tied : (ss : List Segment) (book : List Entry) (run : Option Running) → TiedTo ss book run → option_map awaited_by run ≡ awaited_of ss
-awaited-tied ss book None t = sym t
-awaited-tied ss book (Some r) t =
-    ap (λ p. Some (record { order = sent_as r.order; positive = p })) t.positive
-    ∙ sym (ap awaited_of t.is ∙ awaited-snoc t.closed (seg (opened r.order) t.answers) ∙ ap (awaited_by_end (seg (opened r.order) t.answers)) t.unended)
+awaited-tied : (own : ℕ) (ss : List Segment) (book : List Entry) (run : Option Running) → TiedTo own ss book run → option_map (awaited_by own) run ≡ awaited_of ss
+awaited-tied own ss book None t = sym t
+awaited-tied own ss book (Some r) t =
+    let last = seg (opened own t.force r.order) t.answers in
+    ap (λ p. Some (record { order = sent_as own r.order; positive = p })) t.positive
+    ∙ sym (ap awaited_of t.is ∙ awaited-snoc t.closed last ∙ ap (awaited_by_end last) t.unended)
 
 abbrev pub facts_by : Bool → Bool → Option Awaited → List Entry → List (ℕ × Cause) → Facts
 facts_by up g awaited book unclear = record { line_up = up; registered = g; awaited = awaited; book = book; unclear = unclear }
 
-facts-tied : (up : Bool) (ss : List Segment) (s : TillState) → Inv up ss s → facts_of s ≡ facts_in_segments up ss
-facts-tied up ss s i =
-    ap₂ (λ a b. facts_by a b (option_map awaited_by s.running) s.book s.unclear) i.line i.registered
-    ∙ ap₂ (λ a b. facts_by up (registered_of ss) a b s.unclear) (awaited-tied ss s.book s.running i.core.tied) i.core.book
+facts-tied : (up : Bool) (force : Option ℕ) (ss : List Segment) (s : TillState) → Inv up force ss s → facts_of s ≡ facts_in_segments up ss
+facts-tied up force ss s i =
+    ap₂ (λ a b. facts_by a b (option_map (awaited_by s.settings.currency) s.running) s.book s.unclear) i.line i.registered
+    ∙ ap₂ (λ a b. facts_by up (registered_of ss) a b s.unclear) (awaited-tied s.settings.currency ss s.book s.running i.core.tied) i.core.book
     ∙ ap (λ u. facts_by up (registered_of ss) (awaited_of ss) (entries_of ss) u) i.core.unclear
 
 pub steps_meet_log : StepsMeetLog
-steps_meet_log settings log k = facts-tied (line_up log) (segments log) (state_after settings log) (inv-log settings log k)
+steps_meet_log settings log k = facts-tied (line_up log) (in_force log) (segments log) (state_after settings log) (inv-log settings log k)

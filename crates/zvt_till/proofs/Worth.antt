@@ -20,12 +20,13 @@ use Rattle.zvt_till.proofs.Marks.{mark-idle, mark-last, reverses_none}
 abbrev pub seg : Opening → List Happening → Segment
 seg o hs = record { opening = o; answers = hs }
 
--- an order as the till sends it
-abbrev pub opened : Order → Opening
-opened o = record { order = sent_as o }
+-- an order sent under a currency in force
+abbrev pub begun_by : Option ℕ → Sent → Opening
+begun_by force o = record { order = o; currency = force }
 
-abbrev pub begun_by : Sent → Opening
-begun_by o = record { order = o }
+-- an order as a till of its own currency sends it
+abbrev pub opened : ℕ → Option ℕ → Order → Opening
+opened own force o = begun_by force (sent_as own o)
 
 abbrev pub rows : List Segment → List Booked
 rows ss = (books_of ss).booked
@@ -55,7 +56,7 @@ entries-alike closed o xs ys e =
 
 -- a segment without an end is worth nothing yet
 booked-unended : (b : Books) (opening : Opening) (o : Sent) → (judge_as o b opening None).booked ≡ b.booked
-booked-unended b opening Register = refl
+booked-unended b opening (Register c) = refl
 booked-unended b opening (Pay a) = refl
 booked-unended b opening (Reverse e) = refl
 booked-unended b opening CloseDay = refl
@@ -63,7 +64,7 @@ booked-unended b opening Cancel = refl
 booked-unended b opening Foreign = refl
 
 unclear-unended : (b : Books) (opening : Opening) (o : Sent) → settled (judge_as o b opening None).unclear ≡ settled b.unclear
-unclear-unended b opening Register = refl
+unclear-unended b opening (Register c) = refl
 unclear-unended b opening (Pay a) = filter-append (λ row. is_finished row.1) b.unclear ((a, Unfinished) ∷ []) ∙ append-nil (settled b.unclear)
 unclear-unended b opening (Reverse e) = refl
 unclear-unended b opening CloseDay = refl

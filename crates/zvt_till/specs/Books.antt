@@ -20,7 +20,7 @@ pub record Booked : Type 0 where
 
 -- what the statuses of a payment have to name as charged
 abbrev pub charge_of : Opening → ℕ → Charge
-charge_of opening amount = record { amount = amount }
+charge_of opening amount = record { amount = amount; currency = opening.currency }
 
 abbrev pub booked_as : ℕ → ℕ → Option (List ℕ) → Booked
 booked_as amount trace receipt = record { amount = amount; trace = trace; receipt = receipt }
@@ -96,7 +96,7 @@ write_down b amount (Unclear cause) = record { booked = b.booked; unclear = b.un
 write_down b amount Refused = b
 
 abbrev pub judge_as : Sent → Books → Opening → Option Ended → Books
-judge_as Register b opening end = b
+judge_as (Register c) b opening end = b
 judge_as (Pay a) b opening end = write_down b a (verdict_at (charge_of opening a) (traces b.booked) end)
 judge_as (Reverse e) b opening end = b
 judge_as CloseDay b opening end = b

@@ -22,7 +22,7 @@ use Rattle.zvt_till.specs.Line.{NotSent, Runs, BreaksOff, Fails}
 
 -- a till that this log leads to
 abbrev pub Stands : Settings → List Happening → TillState → Type 0
-Stands settings log state = IsLog log × (state ≡ state_after settings log)
+Stands settings log state = IsLog settings log × (state ≡ state_after settings log)
 
 -- an order that ran to its end adds itself and the messages of the bytes that were read
 abbrev pub RunsAreLogged : Type 0
@@ -30,7 +30,7 @@ RunsAreLogged =
     (settings : Settings) (log : List Happening) (order : Order) (outcome : Outcome) (before after : StreamState) (old new : TillValue) (coming left first last : Option (List ℕ)) (turns reads_before reads_after : ℕ)
     → Stands settings log old.state
     → (runs : Runs order outcome before after old new coming left first last turns reads_before reads_after)
-    → Stands settings (log ++ SentOut (sent_as order) ∷ map hears runs.pumped.course.heard.messages) new.state
+    → Stands settings (log ++ SentOut (sent_as settings.currency order) ∷ map hears runs.pumped.course.heard.messages) new.state
 
 -- what a till is told of a fault
 abbrev pub told_of : LineFault → Happening
@@ -49,7 +49,7 @@ FaultsAreLogged =
     → Stands settings log old.state
     → (breaks : BreaksOff fault order before after old new coming left first last turns reads_before reads_after)
     → (messages : List Message) × (rest : List ℕ) × Spelled (before.held ++ breaks.broken.read) messages rest
-    × Stands settings (log ++ SentOut (sent_as order) ∷ (map hears messages ++ told_of fault ∷ [])) new.state
+    × Stands settings (log ++ SentOut (sent_as settings.currency order) ∷ (map hears messages ++ told_of fault ∷ [])) new.state
 
 -- an accepted order whose message could not be written stands in the log as sent, and then the line was lost
 abbrev pub UnsentAreLogged : Type 0
@@ -57,7 +57,7 @@ UnsentAreLogged =
     (settings : Settings) (log : List Happening) (fault : LineFault) (order : Order) (old new : TillValue) (first last : Option (List ℕ))
     → Stands settings log old.state
     → NotSent (Line fault) order old new first last
-    → Stands settings (log ++ SentOut (sent_as order) ∷ Lost ∷ []) new.state
+    → Stands settings (log ++ SentOut (sent_as settings.currency order) ∷ Lost ∷ []) new.state
 
 -- An order on a line, by what was answered.
 pub record Takes (order : Order) (answer : Result Outcome RunFault) (old new : TillValue) : Type 0 where
@@ -85,14 +85,15 @@ TakesAll old [] new = old ≡ new
 TakesAll old (taken ∷ more) new = (ready : TillValue) × (next : TillValue) × Readies old ready × Takes taken.0 taken.1 ready next × TakesAll next more new
 
 -- a refused order is not sent
-abbrev pub sent_by : Order → Result Outcome RunFault → List Sent
-sent_by order (Ok outcome) = sent_as order ∷ []
-sent_by order (Err (Line fault)) = sent_as order ∷ []
-sent_by order (Err (OrderFault why)) = []
+abbrev pub sent_by : ℕ → Order → Result Outcome RunFault → List Sent
+sent_by own order (Ok outcome) = sent_as own order ∷ []
+sent_by own order (Err (Line fault)) = sent_as own order ∷ []
+sent_by own order (Err (OrderFault why)) = []
 
-abbrev pub sent_by_all : List (Order × Result Outcome RunFault) → List Sent
-sent_by_all [] = []
-sent_by_all (taken ∷ more) = sent_by taken.0 taken.1 ++ sent_by_all more
+-- the orders of a till of this currency
+abbrev pub sent_by_all : ℕ → List (Order × Result Outcome RunFault) → List Sent
+sent_by_all own [] = []
+sent_by_all own (taken ∷ more) = sent_by own taken.0 taken.1 ++ sent_by_all own more
 
 -- the orders of a log
 abbrev pub sent_in : List Happening → List Sent
@@ -110,4 +111,4 @@ OrdersAreLogged =
     (settings : Settings) (log : List Happening) (taken : List (Order × Result Outcome RunFault)) (old new : TillValue)
     → Stands settings log old.state
     → TakesAll old taken new
-    → (more : List Happening) × Stands settings (log ++ more) new.state × (facts_of new.state ≡ facts_in (log ++ more)) × (sent_in more ≡ sent_by_all taken)
+    → (more : List Happening) × Stands settings (log ++ more) new.state × (facts_of new.state ≡ facts_in (log ++ more)) × (sent_in more ≡ sent_by_all settings.currency taken)

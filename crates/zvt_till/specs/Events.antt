@@ -18,9 +18,13 @@ use Rattle.zvt_till.specs.Marks.{entries}
 use Rattle.zvt_till.specs.Till.{TillState, state_after}
 use Rattle.zvt_till.specs.Log.{IsLog, facts_in, line_up}
 
+-- the till of a run has the password 00 00 00, the configuration BE and the euro
+abbrev pub run_settings : Settings
+run_settings = record { password = 0 ∷ 0 ∷ 0 ∷ []; config = 190; currency = 978 }
+
 -- an order is sent where the log so far refuses it for no reason; else it leaves nothing
 abbrev pub log_after_order : List Happening → Order → Option OrderRefusal → List Happening
-log_after_order log order None = log ++ SentOut (sent_as order) ∷ []
+log_after_order log order None = log ++ SentOut (sent_as run_settings.currency order) ∷ []
 log_after_order log order (Some why) = log
 
 -- where no message begins with the rest of a line, the line is malformed
@@ -63,10 +67,6 @@ Leads log bytes (event ∷ events) last later = (next : List Happening) × (more
 abbrev pub IsLogOf : List Event → List Happening → Type 0
 IsLogOf events log = (bytes : List ℕ) × Leads [] [] events log bytes
 
--- the till of a run has the password 00 00 00, the configuration BE and the euro
-abbrev pub run_settings : Settings
-run_settings = record { password = 0 ∷ 0 ∷ 0 ∷ []; config = 190; currency = 978 }
-
 -- what the till sends by one more happening: the message of an order by the book so far, or the answer to a message
 abbrev pub sends : List Happening → Happening → List Outgoing
 sends log Connected = []
@@ -88,7 +88,7 @@ sent_over log = map message_out (sent_from [] log)
 
 -- a till that took this log, and the bytes that it sent
 pub record IsTied (log : List Happening) (state : TillState) (sent : List ℕ) : Type 0 where
-  pub allowed : IsLog log
+  pub allowed : IsLog run_settings log
   pub reached : state ≡ state_after run_settings log
   pub spelled : Spelled sent (sent_over log) []
 

@@ -1,17 +1,23 @@
 -- What a message of the terminal is to a till.
 use Rattle.std.specs.Prelude.{◌==◌, cond, Some, None, List}
 use Rattle.zvt_field.specs.Grammar.{Field}
-use Rattle.zvt_field.specs.Named.{count_of, amount_of, trace_of, result_of, receipt_of, original_of}
+use Rattle.zvt_field.specs.Named.{count_of, amount_of, trace_of, result_of, receipt_of, currency_of, original_of}
 use Rattle.zvt_apdu.specs.Message.{Message, ack, nack, registration, authorisation, reversal, end_of_day, abort_order, status, intermediate, print_line, text_block, completion, abort, other}
 use Rattle.zvt_till.specs.declared.messages.Heard.{Heard}
 use Rattle.zvt_till.specs.declared.messages.Heard.TheVariants.{Positive, Negative, Status, Passing, Completion, Abort, Strange}
 use Rattle.zvt_till.specs.declared.messages.Original.{Original}
 use Rattle.zvt_till.specs.declared.messages.Original.TheVariants.{Absent, Once, Many}
+use Rattle.zvt_till.specs.declared.messages.CurrencyFact.{CurrencyFact}
+use Rattle.zvt_till.specs.declared.messages.CurrencyFact.TheVariants.{Absent as NoCurrency, Once as OneCurrency, Many as ManyCurrencies}
 use Rattle.zvt_till.specs.declared.messages.StatusFacts.{StatusFacts}
 
 -- BMP 37 where it stands once; else whether it stands at all
 abbrev pub original_in : List Field → Original
 original_in fields = elim (original_of fields) [ None ↦ cond (count_of 0x37 fields == 0) Absent Many | Some bytes ↦ Once bytes ]
+
+-- BMP 49 where it stands once; else whether it stands at all
+abbrev pub currency_in : List Field → CurrencyFact
+currency_in fields = elim (currency_of fields) [ None ↦ cond (count_of 0x49 fields == 0) NoCurrency ManyCurrencies | Some currency ↦ OneCurrency currency ]
 
 -- what the fields of a status information say, each where it stands exactly once
 abbrev pub facts_in_fields : List Field → StatusFacts
@@ -22,6 +28,7 @@ facts_in_fields fields =
       trace = trace_of fields;
       receipt = receipt_of fields;
       original = original_in fields;
+      currency = currency_in fields;
     }
 
 -- of the other messages only their kind counts, and the code of a refusal

@@ -12,7 +12,7 @@ use Rattle.zvt_till.specs.declared.judging.Booked.{Booked as BookedRow}
 use Rattle.zvt_till.specs.declared.judging.Books.{Books as BooksFound}
 use Rattle.zvt_till.specs.declared.judging.OpenPayment.{OpenPayment}
 use Rattle.zvt_till.specs.Statuses.{Demand, Payment}
-use Rattle.zvt_till.specs.Segments.{Segment, Ended, segments, is_positive, end_of, statuses}
+use Rattle.zvt_till.specs.Segments.{Segment, Ended, in_force, segments, is_positive, end_of, statuses}
 use Rattle.zvt_till.specs.Books.{Booked, booked_as, Books, books_of}
 use Rattle.zvt_till.specs.Marks.{entry_of}
 use Rattle.zvt_till.specs.UsedTraces.{AreTracesOf}
@@ -49,12 +49,12 @@ written b amount Reversed = b
 written b amount DayClosed = b
 
 -- what the statuses of a payment are measured against
-abbrev pub paying : ℕ → Option Demand
-paying amount = Some (Payment (charged amount))
+abbrev pub paying : Option ℕ → ℕ → Option Demand
+paying currency amount = Some (Payment (charged currency amount))
 
 -- the order is a payment without an end
 abbrev pub is_open_as : Sent → Option Ended → Bool
-is_open_as Register end = false
+is_open_as (Register c) end = false
 is_open_as (Pay a) None = true
 is_open_as (Pay a) (Some e) = false
 is_open_as (Reverse e) end = false
@@ -73,11 +73,11 @@ ends_open ss = fold open_after false ss
 pub record Runs (ss : List Segment) (b : Books) (p : OpenPayment) : Type 0 where
   pub closed : List Segment
   pub answers : List Happening
-  pub is : ss ≡ closed ++ record { opening = record { order = Pay p.amount }; answers = answers } ∷ []
+  pub is : ss ≡ closed ++ record { opening = record { order = Pay p.amount; currency = p.currency }; answers = answers } ∷ []
   pub earlier : b ≡ books_of closed
   pub unended : end_of answers ≡ None
   pub positive : p.positive ≡ list_any is_positive answers
-  pub noted : p.statuses ≡ fold (note (paying p.amount)) Nothing (statuses answers)
+  pub noted : p.statuses ≡ fold (note (paying p.currency p.amount)) Nothing (statuses answers)
 
 -- no payment runs, and the books are those of all segments
 pub record Rests (ss : List Segment) (b : Books) : Type 0 where
@@ -89,19 +89,21 @@ abbrev pub IsJudged : List Happening → Books → Option OpenPayment → Type 0
 IsJudged log b None = Rests (segments log) b
 IsJudged log b (Some p) = Runs (segments log) b p
 
--- books that go on, and the payment that runs
+-- books that go on, the payment that runs, and the currency in force
 pub record BooksSoFar : Type 0 where
   pub books : Books
   pub running : Option OpenPayment
+  pub currency : Option ℕ
 
 -- they are those of this log, but for the payment that runs at its end
 abbrev pub HasJudged : List Happening → BooksSoFar → Type 0
-HasJudged log b = IsJudged log b.books b.running
+HasJudged log b = IsJudged log b.books b.running × (b.currency ≡ in_force log)
 
-abbrev pub opened : Sent → Option OpenPayment
-opened Register = None
-opened (Pay a) = Some (record { amount = a; positive = false; statuses = Nothing })
-opened (Reverse e) = None
-opened CloseDay = None
-opened Cancel = None
-opened Foreign = None
+-- the payment that an order begins under a currency in force
+abbrev pub opened : Option ℕ → Sent → Option OpenPayment
+opened currency (Register c) = None
+opened currency (Pay a) = Some (record { amount = a; currency = currency; positive = false; statuses = Nothing })
+opened currency (Reverse e) = None
+opened currency CloseDay = None
+opened currency Cancel = None
+opened currency Foreign = None

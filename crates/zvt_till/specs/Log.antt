@@ -8,7 +8,7 @@ use Rattle.zvt_till.specs.declared.happenings.Sent.TheVariants.{Register, Pay, R
 use Rattle.zvt_till.specs.Segments.{Opening, Segment, Ended, segments, end_of, is_positive, completes}
 use Rattle.zvt_till.specs.Books.{books_of, settled}
 use Rattle.zvt_till.specs.Marks.{entries_of}
-use Rattle.zvt_till.specs.Refusals.{Facts, Awaited, refusal, order_in}
+use Rattle.zvt_till.specs.Refusals.{Facts, Awaited, refusal, sent_as, order_in}
 use Rattle.zvt_till.specs.Sending.{Settings}
 use Rattle.zvt_till.specs.Till.{facts_of, state_after}
 
@@ -31,7 +31,7 @@ is_break Malformed = true
 is_break Lost = true
 
 abbrev pub registered_as : Sent → Bool → Option Ended → Bool
-registered_as Register before end = completes (λ ss. true) end
+registered_as (Register c) before end = completes (λ ss. true) end
 registered_as (Pay a) before end = before
 registered_as (Reverse e) before end = before
 registered_as CloseDay before end = before
@@ -73,22 +73,22 @@ facts_in_segments up ss =
 abbrev pub facts_in : List Happening → Facts
 facts_in log = facts_in_segments (line_up log) (segments log)
 
--- nothing is heard on a line that is down, and an order is sent only where nothing refuses it
-abbrev pub CanFollow : Facts → Happening → Type 0
-CanFollow f Connected = Unit {0}
-CanFollow f (SentOut o) = elim (order_in o) [ None ↦ ⊥ | Some order ↦ refusal f order ≡ None ]
-CanFollow f (HeardIn m) = f.line_up ≡ true
-CanFollow f Malformed = f.line_up ≡ true
-CanFollow f Lost = Unit {0}
+-- nothing is heard on a line that is down, and an order is sent as the till's own, only where nothing refuses it
+abbrev pub CanFollow : Settings → Facts → Happening → Type 0
+CanFollow settings f Connected = Unit {0}
+CanFollow settings f (SentOut o) = elim (order_in o) [ None ↦ ⊥ | Some order ↦ (o ≡ sent_as settings.currency order) × (refusal f order ≡ None) ]
+CanFollow settings f (HeardIn m) = f.line_up ≡ true
+CanFollow settings f Malformed = f.line_up ≡ true
+CanFollow settings f Lost = Unit {0}
 
-abbrev pub IsLogFrom : List Happening → List Happening → Type 0
-IsLogFrom log [] = Unit {0}
-IsLogFrom log (h ∷ more) = CanFollow (facts_in log) h × IsLogFrom (log ++ h ∷ []) more
+abbrev pub IsLogFrom : Settings → List Happening → List Happening → Type 0
+IsLogFrom settings log [] = Unit {0}
+IsLogFrom settings log (h ∷ more) = CanFollow settings (facts_in log) h × IsLogFrom settings (log ++ h ∷ []) more
 
--- a log that a till can have
-abbrev pub IsLog : List Happening → Type 0
-IsLog log = IsLogFrom [] log
+-- a log that a till of these settings can have
+abbrev pub IsLog : Settings → List Happening → Type 0
+IsLog settings log = IsLogFrom settings [] log
 
 -- the state that the steps reach has the book, the marks and the unclear payments of the log, and takes the same orders
 abbrev pub StepsMeetLog : Type 0
-StepsMeetLog = (settings : Settings) (log : List Happening) → IsLog log → facts_of (state_after settings log) ≡ facts_in log
+StepsMeetLog = (settings : Settings) (log : List Happening) → IsLog settings log → facts_of (state_after settings log) ≡ facts_in log

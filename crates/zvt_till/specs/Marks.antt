@@ -15,7 +15,7 @@ abbrev pub takes_back : Opening → Booked → List StatusFacts → Bool
 takes_back opening row ss = is_good (map (class_of (Reversal (charge_of opening row.amount) row.trace)) ss)
 
 abbrev pub reverses_as : Sent → ℕ → Booked → Opening → Option Ended → Bool
-reverses_as Register place row opening end = false
+reverses_as (Register c) place row opening end = false
 reverses_as (Pay a) place row opening end = false
 reverses_as (Reverse e) place row opening end = (e == place) && completes (takes_back opening row) end
 reverses_as CloseDay place row opening end = false

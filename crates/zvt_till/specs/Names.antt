@@ -1,7 +1,7 @@
 -- The names of causes and refusals, as every output writes them.
 use Rattle.std.specs.Prelude.{ℕ, List, codes}
 use Rattle.zvt_till.specs.declared.outcomes.Cause.{Cause}
-use Rattle.zvt_till.specs.declared.outcomes.Cause.TheVariants.{NoStatus, Conflict, AmountDiffers, NoTrace, TraceUsed, AbortAfterApproval, Line, Malformed, Unfinished}
+use Rattle.zvt_till.specs.declared.outcomes.Cause.TheVariants.{NoStatus, Conflict, AmountDiffers, NoTrace, TraceUsed, AbortAfterApproval, Line, Malformed, Unfinished, WrongCurrency}
 use Rattle.zvt_till.specs.declared.orders.OrderRefusal.{OrderRefusal}
 use Rattle.zvt_till.specs.declared.orders.OrderRefusal.TheVariants.{Offline, NotRegistered, Busy, NothingToCancel, BookFull, UnknownEntry, AlreadyReversed, NoReceipt, Memory}
 
@@ -15,6 +15,7 @@ cause_name AbortAfterApproval = codes "AbortAfterApproval"
 cause_name Line = codes "Line"
 cause_name Malformed = codes "Malformed"
 cause_name Unfinished = codes "Unfinished"
+cause_name WrongCurrency = codes "WrongCurrency"
 
 abbrev pub refusal_name : OrderRefusal → List ℕ
 refusal_name Offline = codes "Offline"

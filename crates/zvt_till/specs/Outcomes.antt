@@ -17,17 +17,17 @@ use Rattle.zvt_till.specs.declared.outcomes.Outcome.TheVariants.{Registered, Pai
 use Rattle.zvt_till.specs.Statuses.{Charge, Demand, Payment, Reversal, Closing, Class, Good, Declining, Doubtful, class_of, same_trace}
 use Rattle.zvt_till.specs.Segments.{is_positive, status_of}
 
--- what the statuses of the till that runs an order have to name as charged
-abbrev pub charged : ℕ → Charge
-charged amount = record { amount = amount }
+-- what the statuses of an order have to name as charged under a currency in force
+abbrev pub charged : Option ℕ → ℕ → Charge
+charged currency amount = record { amount = amount; currency = currency }
 
 -- what the statuses of an order are measured against; those of a registration say nothing
-abbrev pub demand_of : List Entry → Order → Option Demand
-demand_of book RegisterOrder = None
-demand_of book (PayOrder a) = Some (Payment (charged a))
-demand_of book (ReverseOrder e) = option_map (λ row. Reversal (charged row.amount) row.trace) (slice_get book e)
-demand_of book CloseDayOrder = Some Closing
-demand_of book CancelOrder = None
+abbrev pub demand_of : Option ℕ → List Entry → Order → Option Demand
+demand_of currency book RegisterOrder = None
+demand_of currency book (PayOrder a) = Some (Payment (charged currency a))
+demand_of currency book (ReverseOrder e) = option_map (λ row. Reversal (charged currency row.amount) row.trace) (slice_get book e)
+demand_of currency book CloseDayOrder = Some Closing
+demand_of currency book CancelOrder = None
 
 -- one more status
 abbrev pub note_class : Statuses → Class → Option (List ℕ) → Statuses

@@ -21,15 +21,16 @@ pub record Facts : Type 0 where
   pub book : List Entry
   pub unclear : List (ℕ × Cause)
 
-abbrev pub sent_as : Order → Sent
-sent_as RegisterOrder = Register
-sent_as (PayOrder a) = Pay a
-sent_as (ReverseOrder e) = Reverse e
-sent_as CloseDayOrder = CloseDay
-sent_as CancelOrder = Cancel
+-- the order of a till of this currency
+abbrev pub sent_as : ℕ → Order → Sent
+sent_as own RegisterOrder = Register (Some own)
+sent_as own (PayOrder a) = Pay a
+sent_as own (ReverseOrder e) = Reverse e
+sent_as own CloseDayOrder = CloseDay
+sent_as own CancelOrder = Cancel
 
 abbrev pub order_in : Sent → Option Order
-order_in Register = Some RegisterOrder
+order_in (Register c) = Some RegisterOrder
 order_in (Pay a) = Some (PayOrder a)
 order_in (Reverse e) = Some (ReverseOrder e)
 order_in CloseDay = Some CloseDayOrder

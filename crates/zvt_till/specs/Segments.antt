@@ -1,5 +1,5 @@
 -- The segments of a log: an order, what was heard after it, and its end.
-use Rattle.std.specs.Prelude.{Bool, true, false, not, cond, ◌&&◌, List, [], ◌∷◌, ◌++◌, Option, Some, None, filter_map}
+use Rattle.std.specs.Prelude.{ℕ, Bool, true, false, not, cond, ◌&&◌, List, [], ◌∷◌, ◌++◌, Option, Some, None, filter_map, fold}
 use Rattle.std.specs.List.{list_any}
 use Rattle.zvt_till.specs.declared.happenings.Happening.{Happening}
 use Rattle.zvt_till.specs.declared.happenings.Happening.TheVariants.{Connected, Sent as SentOut, Heard as HeardIn, Malformed, Lost}
@@ -11,7 +11,7 @@ use Rattle.zvt_till.specs.declared.messages.StatusFacts.{StatusFacts}
 -- the order that a segment begins with: any but Cancel
 abbrev pub begun : Happening → Option Sent
 begun Connected = None
-begun (SentOut Register) = Some Register
+begun (SentOut (Register c)) = Some (Register c)
 begun (SentOut (Pay a)) = Some (Pay a)
 begun (SentOut (Reverse e)) = Some (Reverse e)
 begun (SentOut CloseDay) = Some CloseDay
@@ -21,9 +21,30 @@ begun (HeardIn m) = None
 begun Malformed = None
 begun Lost = None
 
--- what holds as an order is sent
+-- the currency in force after an order: a registration gives its own, also none
+abbrev pub force_by : Option ℕ → Sent → Option ℕ
+force_by force (Register currency) = currency
+force_by force (Pay a) = force
+force_by force (Reverse e) = force
+force_by force CloseDay = force
+force_by force Cancel = force
+force_by force Foreign = force
+
+abbrev pub force_after : Option ℕ → Happening → Option ℕ
+force_after force Connected = force
+force_after force (SentOut o) = force_by force o
+force_after force (HeardIn m) = force
+force_after force Malformed = force
+force_after force Lost = force
+
+-- the currency in force behind a log: that of its last registration
+abbrev pub in_force : List Happening → Option ℕ
+in_force log = fold force_after None log
+
+-- what holds as an order is sent: the order, and the currency in force before it
 pub record Opening : Type 0 where
   pub order : Sent
+  pub currency : Option ℕ
 
 -- an order, and what followed up to the next one
 pub record Segment : Type 0 where
@@ -35,11 +56,18 @@ abbrev pub up_to_order : List Happening → List Happening
 up_to_order [] = []
 up_to_order (h ∷ rest) = elim (begun h) [ None ↦ h ∷ up_to_order rest | Some o ↦ [] ]
 
+-- the segments of what happens from a currency in force on
+abbrev pub segments_from : Option ℕ → List Happening → List Segment
+segments_from force [] = []
+segments_from force (h ∷ rest) =
+    elim (begun h) [
+      | None ↦ segments_from (force_after force h) rest
+      | Some o ↦ record { opening = record { order = o; currency = force }; answers = up_to_order rest } ∷ segments_from (force_after force h) rest
+    ]
+
 -- each order but Cancel begins one; what came before the first belongs to none
 abbrev pub segments : List Happening → List Segment
-segments [] = []
-segments (h ∷ rest) =
-    elim (begun h) [ None ↦ segments rest | Some o ↦ record { opening = record { order = o }; answers = up_to_order rest } ∷ segments rest ]
+segments log = segments_from None log
 
 -- an end: what ended the order, and what was heard before that
 pub record Ended : Type 0 where

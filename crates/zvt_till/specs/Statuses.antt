@@ -5,8 +5,10 @@ use Rattle.zvt_bcd.specs.Digits.{is_digit_pair, number_of}
 use Rattle.zvt_till.specs.declared.messages.StatusFacts.{StatusFacts}
 use Rattle.zvt_till.specs.declared.messages.Original.{Original}
 use Rattle.zvt_till.specs.declared.messages.Original.TheVariants.{Absent, Once, Many}
+use Rattle.zvt_till.specs.declared.messages.CurrencyFact.{CurrencyFact}
+use Rattle.zvt_till.specs.declared.messages.CurrencyFact.TheVariants.{Absent as NoCurrency, Once as OneCurrency, Many as ManyCurrencies}
 use Rattle.zvt_till.specs.declared.outcomes.Cause.{Cause}
-use Rattle.zvt_till.specs.declared.outcomes.Cause.TheVariants.{Conflict, AmountDiffers, NoTrace}
+use Rattle.zvt_till.specs.declared.outcomes.Cause.TheVariants.{Conflict, AmountDiffers, NoTrace, WrongCurrency}
 pub use Rattle.zvt_till.specs.declared.statuses.Charge.{Charge}
 pub use Rattle.zvt_till.specs.declared.statuses.Demand.{Demand}
 pub use Rattle.zvt_till.specs.declared.statuses.Demand.TheVariants.{Payment, Reversal, Closing}
@@ -34,21 +36,31 @@ names Absent trace = false
 names (Once bytes) trace = spells bytes trace
 names Many trace = false
 
--- an approval of the charge under this trace number: result 0, the amount and the trace number each stand once, and no other payment is named
+-- no currency is named, or one alone: that in force, where there is one
+abbrev pub is_in_currency : Option ℕ → CurrencyFact → Bool
+is_in_currency force NoCurrency = true
+is_in_currency force (OneCurrency named) = elim force [ None ↦ true | Some own ↦ named == own ]
+is_in_currency force ManyCurrencies = false
+
+-- an approval of the charge under this trace number: result 0, the amount and the trace number each stand once, no other payment is named, and no other currency
 abbrev pub approves : Charge → ℕ → StatusFacts → Bool
 approves charge trace s =
-    is_value s.result 0 && is_absent s.original && is_value s.amount charge.amount && is_value s.trace trace
+    is_value s.result 0 && is_absent s.original && is_in_currency charge.currency s.currency && is_value s.amount charge.amount && is_value s.trace trace
 
 -- the class of a status that declines nothing and names one result
 abbrev pub class_undeclined : Demand → StatusFacts → Class
 class_undeclined (Payment charge) s =
     cond (is_absent s.original)
+    (cond (is_in_currency charge.currency s.currency)
     (cond (is_value s.amount charge.amount) (elim s.trace [ None ↦ Doubtful NoTrace | Some t ↦ Good (Some t) ]) (Doubtful AmountDiffers))
+    (Doubtful WrongCurrency))
     (Doubtful Conflict)
 class_undeclined (Reversal charge trace) s =
-    cond (is_value s.amount charge.amount)
+    cond (is_in_currency charge.currency s.currency)
+    (cond (is_value s.amount charge.amount)
     (cond (names s.original trace) (Good None) (Doubtful NoTrace))
-    (Doubtful AmountDiffers)
+    (Doubtful AmountDiffers))
+    (Doubtful WrongCurrency)
 class_undeclined Closing s = Good None
 
 -- one result that is not 0 declines, whatever else is said

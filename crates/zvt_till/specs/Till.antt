@@ -65,7 +65,7 @@ abbrev pub meet_running : TillState → Running → Happening → TillState
 meet_running s r h =
     cond (ends r.positive h)
     (finish s r.order (outcome_by s.book r.order r.statuses h))
-    (record s { running = Some (listened (demand_of s.book r.order) r h) })
+    (record s { running = Some (listened (demand_of (Some s.settings.currency) s.book r.order) r h) })
 
 -- what the running order makes of it: it ends, or it listens
 abbrev pub meet : TillState → Happening → TillState
@@ -108,15 +108,15 @@ outcome_at s h =
       | Some r ↦ cond (ends r.positive h) (Some (outcome_by s.book r.order r.statuses h)) None
     ]
 
-abbrev pub awaited_by : Running → Awaited
-awaited_by r = record { order = sent_as r.order; positive = r.positive }
+abbrev pub awaited_by : ℕ → Running → Awaited
+awaited_by own r = record { order = sent_as own r.order; positive = r.positive }
 
 abbrev pub facts_of : TillState → Facts
 facts_of s =
     record {
       line_up = s.line_up;
       registered = s.registered;
-      awaited = option_map awaited_by s.running;
+      awaited = option_map (awaited_by s.settings.currency) s.running;
       book = s.book;
       unclear = s.unclear;
     }

@@ -3,12 +3,12 @@ ghost use Rattle.std.specs.Prelude.{◌≡◌, ◌++◌, ◌∷◌, [], List, If
 ghost use Rattle.zvt_till.specs.Books.{books};
 ghost use Rattle.zvt_till.specs.Judging.{HasJudged, books_value};
 
-use crate::happenings::Happening;
+use crate::happenings::{Happening, force_after};
 use crate::judging::{Books, OpenPayment};
 use crate::statuses::Statuses;
 use std::alloc::{AllocError, Global};
 use std::marker::Model;
-use zvt_bcd::Trace;
+use zvt_bcd::{Currency, Trace};
 
 /// The books of a log that goes on: each happening is judged as it comes, and none is kept.
 #[derive(Drop)]
@@ -16,6 +16,8 @@ pub struct Bookkeeping {
     found: Books,
     /// The payment that has no end so far.
     running: Option<OpenPayment>,
+    /// The currency in force, if one is.
+    currency: Option<Currency>,
 }
 
 impl Model for Bookkeeping {
@@ -23,7 +25,7 @@ impl Model for Bookkeeping {
 
     ghost Value = { BooksSoFar };
 
-    ghost view = { λ b. record { books = books_value b.found; running = b.running } };
+    ghost view = { λ b. record { books = books_value b.found; running = b.running; currency = b.currency } };
 
     ghost invariant = { λ b. KnowsTraces b.found };
 }
@@ -36,6 +38,7 @@ impl Bookkeeping {
         Bookkeeping {
             found: Books::new(alloc),
             running: None,
+            currency: None,
         }
     }
 
@@ -46,8 +49,9 @@ impl Bookkeeping {
         // Names the types that a running payment is made of, which the proof asks for.
         let _statuses: Option<Statuses> = None;
         let _trace: Option<Trace> = None;
-        let running = self.found.take(&self.running, happening)?;
+        let running = self.found.take(&self.running, self.currency, happening)?;
         self.running = running;
+        self.currency = force_after(self.currency, happening);
         Ok(())
     }
 
@@ -55,7 +59,7 @@ impl Bookkeeping {
     pub fn close(self) -> Result<Books, AllocError>
         ensures { IfOk result (λ found. (log : List Happening) → HasJudged log self → books_value found ≡ books log) }
     {
-        let Bookkeeping { found, running } = self;
+        let Bookkeeping { found, running, .. } = self;
         let mut found = found;
         found.close(&running)?;
         Ok(found)

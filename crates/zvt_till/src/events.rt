@@ -13,11 +13,11 @@ ghost use Rattle.zvt_till.specs.Events.{IsTied, HoldsLine, Follows, IsLogOf, run
 
 use crate::happenings::{Happening, Sent};
 use crate::hearing::heard_view;
-use crate::messages::{Heard, Original, StatusFacts};
+use crate::messages::{CurrencyFact, Heard, Original, StatusFacts};
 use crate::orders::{Order, OrderRefusal, Outgoing};
 use crate::till::Till;
 use std::alloc::{AllocError, Global};
-use zvt_bcd::{Amount, Trace};
+use zvt_bcd::{Amount, Currency, Trace};
 use zvt_stream::{FedView, FeedError, Stream};
 
 /// What a run of a till is made of.
@@ -41,12 +41,12 @@ pub struct Run {
     pub sent: Vec<u8>,
 }
 
-/// The order as a log has it.
-fn sent_as(order: &Order) -> Sent
-    ensures { result ≡ sent_as order.now }
+/// The order of a till of this currency as a log has it.
+fn sent_as(currency: Currency, order: &Order) -> Sent
+    ensures { result ≡ sent_as currency order.now }
 {
     match order {
-        Order::Register => Sent::Register,
+        Order::Register => Sent::Register(Some(currency)),
         Order::Pay(amount) => Sent::Pay(*amount),
         Order::Reverse(entry) => Sent::Reverse(*entry),
         Order::CloseDay => Sent::CloseDay,
@@ -65,6 +65,8 @@ fn add(log: &mut Vec<Happening>, happening: Happening) -> Result<(), AllocError>
     let _amount: Option<Amount> = None;
     let _trace: Option<Trace> = None;
     let _original: Option<Original> = None;
+    let _named: Option<CurrencyFact> = None;
+    let _currency: Option<Currency> = None;
     log.push(happening)?;
     Ok(())
 }
@@ -95,7 +97,7 @@ impl Run {
         ensures tied { OnOk result (IsTied self.new.log.items self.new.till.state self.new.sent.items) }
         ensures log { OnOk result (self.new.log.items ≡ log_after_order self.old.log.items order (refusal (facts_in self.old.log.items) order)) }
     {
-        let as_sent = sent_as(&order);
+        let as_sent = sent_as(self.till.currency(), &order);
         match self.till.order(order) {
             Ok(outgoing) => {
                 add(&mut self.log, Happening::Sent(as_sent))?;
@@ -217,7 +219,7 @@ impl Run {
 pub fn replay(alloc: Global, events: &[Event]) -> Result<Run, AllocError>
     // The log is that of the events, however the line's bytes are cut into pieces.
     ensures log { IfOk result (λ run. IsLogOf events.now run.log.items) }
-    ensures allowed { IfOk result (λ run. IsLog run.log.items) }
+    ensures allowed { IfOk result (λ run. IsLog run_settings run.log.items) }
     // The till stands as the log says,
     ensures state { IfOk result (λ run. run.till.state ≡ state_after run_settings run.log.items) }
     ensures facts { IfOk result (λ run. facts_of run.till.state ≡ facts_in run.log.items) }

@@ -1,14 +1,15 @@
 //! What happens on a till's line, and what of it ends an order.
 ghost use Rattle.std.specs.Prelude.{◌≡◌};
-ghost use Rattle.zvt_till.specs.Segments.{ends, is_positive};
+ghost use Rattle.zvt_till.specs.Segments.{ends, force_after, is_positive};
 
 use crate::messages::Heard;
-use zvt_bcd::Amount;
+use zvt_bcd::{Amount, Currency};
 
 /// An order as it went out.
 #[derive(Clone, Copy, Debug, PartialEq, Eq)]
 pub enum Sent {
-    Register,
+    /// A registration, under the currency that it names, if it names one.
+    Register(Option<Currency>),
     Pay(Amount),
     Reverse(usize),
     CloseDay,
@@ -39,6 +40,16 @@ pub fn ends(positive: bool, happening: &Happening) -> bool
         | Happening::Lost => true,
         Happening::Heard(Heard::Negative(_)) => !positive,
         _ => false,
+    }
+}
+
+/// The currency in force after this: that of the last registration, where it named one.
+pub fn force_after(force: Option<Currency>, happening: &Happening) -> Option<Currency>
+    ensures { result ≡ force_after force happening.now }
+{
+    match happening {
+        Happening::Sent(Sent::Register(currency)) => *currency,
+        _ => force,
     }
 }
 

@@ -1,13 +1,16 @@
 //! What a message of the terminal is to a till.
 ghost use Rattle.std.specs.Prelude.{◌≡◌, ◌==◌, cond};
-ghost use Rattle.zvt_till.specs.Hearing.{original_in, facts_in_fields, heard_as};
+ghost use Rattle.zvt_till.specs.Hearing.{original_in, currency_in, facts_in_fields, heard_as};
 
-use crate::messages::{Heard, Original, StatusFacts};
+use crate::messages::{CurrencyFact, Heard, Original, StatusFacts};
 use zvt_apdu::{Apdu, ApduView, Kind, Message};
-use zvt_field::{Fields, FieldsView, count, original};
+use zvt_field::{Fields, FieldsView, count, currency, original};
 
 /// The BMP of the trace number of a payment that is taken back.
 const ORIGINAL_TRACE: u8 = 0x37;
+
+/// The BMP of a currency.
+const CURRENCY: u8 = 0x49;
 
 /// The payment that the fields say is taken back.
 fn original_in(fields: &Fields) -> Original
@@ -30,6 +33,27 @@ fn not_once(count: usize) -> Original
     }
 }
 
+/// That no currency is named, or not one alone.
+fn not_one(count: usize) -> CurrencyFact
+    ensures { result ≡ cond (count == 0) CurrencyFact.Absent CurrencyFact.Many }
+{
+    if count == 0 {
+        CurrencyFact::Absent
+    } else {
+        CurrencyFact::Many
+    }
+}
+
+/// The currency that the fields name.
+pub fn currency_in(fields: &Fields) -> CurrencyFact
+    ensures { result ≡ currency_in fields.now }
+{
+    match currency(fields) {
+        Some(currency) => CurrencyFact::Once(currency),
+        None => not_one(count(fields, CURRENCY)),
+    }
+}
+
 /// What the fields of a status information say.
 fn facts_in(fields: &Fields) -> StatusFacts
     ensures { result ≡ facts_in_fields fields.now }
@@ -40,6 +64,7 @@ fn facts_in(fields: &Fields) -> StatusFacts
         trace: zvt_field::trace(fields),
         receipt: zvt_field::receipt(fields),
         original: original_in(fields),
+        currency: currency_in(fields),
     }
 }
 
@@ -76,6 +101,16 @@ fn original_shown(fields: &FieldsView<'_>) -> Original
     }
 }
 
+/// The currency that the fields of a view name.
+pub fn currency_shown(fields: &FieldsView<'_>) -> CurrencyFact
+    ensures { result ≡ currency_in fields.now }
+{
+    match fields.currency() {
+        Some(currency) => CurrencyFact::Once(currency),
+        None => not_one(fields.count(CURRENCY)),
+    }
+}
+
 /// What the fields of a view of a status information say.
 fn facts_shown(fields: &FieldsView<'_>) -> StatusFacts
     ensures { result ≡ facts_in_fields fields.now }
@@ -86,6 +121,7 @@ fn facts_shown(fields: &FieldsView<'_>) -> StatusFacts
         trace: fields.trace(),
         receipt: fields.receipt(),
         original: original_shown(fields),
+        currency: currency_shown(fields),
     }
 }
 

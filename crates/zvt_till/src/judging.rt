@@ -1,6 +1,6 @@
 //! A log's payments, judged one after another.
 ghost use Rattle.std.specs.Prelude.{◌≡◌, ◌++◌, ◌∷◌, [], ◌||◌, List, OnOk, IfOk};
-ghost use Rattle.zvt_till.specs.Segments.{begun, is_positive, status_of};
+ghost use Rattle.zvt_till.specs.Segments.{begun, in_force, is_positive, status_of};
 ghost use Rattle.zvt_till.specs.Books.{books};
 ghost use Rattle.zvt_till.specs.Outcomes.{note_if};
 ghost use Rattle.zvt_till.specs.Judging.{books_value, written, paying, opened, IsJudged, KnowsTraces};
@@ -11,7 +11,7 @@ use crate::outcomes::{Cause, Outcome, outcome_by};
 use crate::statuses::{Running, Statuses, demand_of, listened};
 use crate::used_traces::UsedTraces;
 use std::alloc::{AllocError, Global};
-use zvt_bcd::{Amount, Trace};
+use zvt_bcd::{Amount, Currency, Trace};
 
 /// A payment that was completed, as a log has it.
 #[derive(Clone, Copy, Debug, PartialEq, Eq)]
@@ -38,6 +38,8 @@ pub struct Books {
 #[derive(Clone, Copy, Debug, PartialEq, Eq)]
 pub struct OpenPayment {
     pub amount: Amount,
+    /// The currency in force as it was sent, if one was.
+    pub currency: Option<Currency>,
     pub positive: bool,
     pub statuses: Statuses,
 }
@@ -53,13 +55,14 @@ fn begun(happening: &Happening) -> Option<Sent>
     }
 }
 
-/// The payment that the order begins, if it is one.
-fn opened(order: &Sent) -> Option<OpenPayment>
-    ensures { result ≡ opened order.now }
+/// The payment that the order begins under this currency, if it is one.
+fn opened(currency: Option<Currency>, order: &Sent) -> Option<OpenPayment>
+    ensures { result ≡ opened currency order.now }
 {
     match order {
         Sent::Pay(amount) => Some(OpenPayment {
             amount: *amount,
+            currency,
             positive: false,
             statuses: Statuses::Nothing,
         }),
@@ -71,18 +74,20 @@ impl OpenPayment {
     /// The payment after something that does not end it.
     fn listened(&self, happening: &Happening) -> OpenPayment
         ensures amount { result.amount ≡ self.now.amount }
+        ensures currency { result.currency ≡ self.now.currency }
         ensures positive { result.positive ≡ (self.now.positive || is_positive happening.now) }
-        ensures statuses { result.statuses ≡ note_if (paying self.now.amount) self.now.statuses (status_of happening.now) }
+        ensures statuses { result.statuses ≡ note_if (paying self.now.currency self.now.amount) self.now.statuses (status_of happening.now) }
     {
         let running = Running {
             order: Order::Pay(self.amount),
             positive: self.positive,
             statuses: self.statuses,
         };
-        let demand = demand_of(&[], &running.order);
+        let demand = demand_of(self.currency, &[], &running.order);
         let next = listened(&demand, &running, happening);
         OpenPayment {
             amount: self.amount,
+            currency: self.currency,
             positive: next.positive,
             statuses: next.statuses,
         }
@@ -136,19 +141,20 @@ impl Books {
         Ok(())
     }
 
-    /// Takes what happened next, and answers the payment that runs after it.
+    /// Takes what happened next, under the currency in force before it, and answers the payment that runs after it.
     pub(crate) fn take(
         &mut self,
         running: &Option<OpenPayment>,
+        currency: Option<Currency>,
         happening: &Happening,
     ) -> Result<Option<OpenPayment>, AllocError>
         requires { KnowsTraces self.old }
         ensures traces { KnowsTraces self.new }
-        ensures judged { IfOk result (λ next. (log : List Happening) → IsJudged log (books_value self.old) running.now → IsJudged (log ++ happening.now ∷ []) (books_value self.new) next) }
+        ensures judged { IfOk result (λ next. (log : List Happening) → currency ≡ in_force log → IsJudged log (books_value self.old) running.now → IsJudged (log ++ happening.now ∷ []) (books_value self.new) next) }
     {
         if let Some(order) = begun(happening) {
             self.close(running)?;
-            return Ok(opened(&order));
+            return Ok(opened(currency, &order));
         }
         let Some(payment) = running else {
             return Ok(None);

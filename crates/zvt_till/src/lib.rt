@@ -22,7 +22,7 @@ pub use events::{Event, Run, replay};
 pub use happenings::{Happening, Sent};
 pub use judging::{Booked, Books};
 pub use line::{RunFault, run_order, send_order};
-pub use messages::{Heard, Original, StatusFacts};
+pub use messages::{CurrencyFact, Heard, Original, StatusFacts};
 pub use orders::{Order, OrderRefusal, Outgoing, Reply};
 pub use outcomes::{Cause, Outcome};
 pub use till::{MOST_ROWS, Till};

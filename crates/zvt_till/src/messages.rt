@@ -5,7 +5,7 @@ ghost use Rattle.zvt_till.specs.Statuses.{spells};
 
 use crate::orders::Outgoing;
 use zvt_apdu::Brief;
-use zvt_bcd::{Amount, Trace, is_digits, number};
+use zvt_bcd::{Amount, Currency, Trace, is_digits, number};
 
 /// The answer code of a message that a till does not understand.
 const UNKNOWN_MESSAGE: u8 = 0x83;
@@ -40,8 +40,35 @@ impl Original {
     }
 }
 
-/// What a status information says. A field that stands more than once is as good as absent; that BMP 37
-/// stands more than once is told.
+/// The currency that a message names (BMP 49).
+#[derive(Clone, Copy, Debug, PartialEq, Eq)]
+pub enum CurrencyFact {
+    Absent,
+    Once(Currency),
+    Many,
+}
+
+impl CurrencyFact {
+    ghost use Rattle.std.specs.Prelude.{◌≡◌};
+    ghost use Rattle.zvt_till.specs.Statuses.{is_in_currency};
+
+    /// Whether no currency is named, or one alone: that in force, where there is one.
+    pub fn is_in(&self, force: Option<Currency>) -> bool
+        ensures { result ≡ is_in_currency force self.now }
+    {
+        match self {
+            CurrencyFact::Absent => true,
+            CurrencyFact::Once(named) => match force {
+                None => true,
+                Some(own) => *named == own,
+            },
+            CurrencyFact::Many => false,
+        }
+    }
+}
+
+/// What a status information says. A field that stands more than once is as good as absent; that BMP 37 or
+/// BMP 49 stands more than once is told.
 #[derive(Clone, Copy, Debug, PartialEq, Eq)]
 pub struct StatusFacts {
     /// The result code (BMP 27), 0 where the terminal approves.
@@ -54,6 +81,8 @@ pub struct StatusFacts {
     pub receipt: Option<[u8; 2]>,
     /// The payment taken back (BMP 37).
     pub original: Original,
+    /// The currency (BMP 49).
+    pub currency: CurrencyFact,
 }
 
 /// A message of the terminal.

@@ -33,6 +33,8 @@ pub enum Cause {
     Malformed,
     /// It has no end yet. Never in a till.
     Unfinished,
+    /// A status names a currency other than that in force, or more than one.
+    WrongCurrency,
 }
 
 impl Cause {
@@ -52,6 +54,7 @@ impl Cause {
             Cause::Line => "Line",
             Cause::Malformed => "Malformed",
             Cause::Unfinished => "Unfinished",
+            Cause::WrongCurrency => "WrongCurrency",
         }
     }
 }

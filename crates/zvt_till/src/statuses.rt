@@ -8,12 +8,26 @@ use crate::happenings::{Happening, is_positive};
 use crate::messages::{Heard, StatusFacts};
 use crate::orders::Order;
 use crate::outcomes::Cause;
-use zvt_bcd::{Amount, Trace};
+use zvt_bcd::{Amount, Currency, Trace};
 
-/// What a status has to name as charged.
+/// What a status has to name as charged: it may leave out the currency.
 #[derive(Clone, Copy, Debug, PartialEq, Eq)]
 pub struct Charge {
     pub amount: Amount,
+    /// The currency in force, if one is.
+    pub currency: Option<Currency>,
+}
+
+impl Charge {
+    ghost use Rattle.std.specs.Prelude.{◌≡◌};
+    ghost use Rattle.zvt_till.specs.Statuses.{is_value};
+
+    /// Whether this is the amount that is charged.
+    fn is_amount(&self, named: Option<Amount>) -> bool
+        ensures { result ≡ is_value named self.now.amount }
+    {
+        named == Some(self.amount)
+    }
 }
 
 /// What the statuses of an order are measured against.
@@ -65,7 +79,9 @@ fn class_undeclined(demand: &Demand, status: &StatusFacts) -> Class
         Demand::Payment(charge) => {
             if !status.original.is_absent() {
                 Class::Doubtful(Cause::Conflict)
-            } else if status.amount != Some(charge.amount) {
+            } else if !status.currency.is_in(charge.currency) {
+                Class::Doubtful(Cause::WrongCurrency)
+            } else if !charge.is_amount(status.amount) {
                 Class::Doubtful(Cause::AmountDiffers)
             } else {
                 match status.trace {
@@ -75,7 +91,9 @@ fn class_undeclined(demand: &Demand, status: &StatusFacts) -> Class
             }
         }
         Demand::Reversal(charge, trace) => {
-            if status.amount != Some(charge.amount) {
+            if !status.currency.is_in(charge.currency) {
+                Class::Doubtful(Cause::WrongCurrency)
+            } else if !charge.is_amount(status.amount) {
                 Class::Doubtful(Cause::AmountDiffers)
             } else if status.original.names(*trace) {
                 Class::Good(None)
@@ -138,16 +156,20 @@ fn note(demand: &Option<Demand>, so_far: Statuses, status: &StatusFacts) -> Stat
     }
 }
 
-/// What the statuses of the order are measured against; those of a registration say nothing.
-pub fn demand_of(book: &[Entry], order: &Order) -> Option<Demand>
-    ensures { result ≡ demand_of book.now order.now }
+/// What the statuses of the order are measured against, by the currency in force; those of a registration say nothing.
+pub fn demand_of(currency: Option<Currency>, book: &[Entry], order: &Order) -> Option<Demand>
+    ensures { result ≡ demand_of currency book.now order.now }
 {
     match order {
         Order::Register | Order::Cancel => None,
-        Order::Pay(amount) => Some(Demand::Payment(Charge { amount: *amount })),
+        Order::Pay(amount) => Some(Demand::Payment(Charge {
+            amount: *amount,
+            currency,
+        })),
         Order::Reverse(entry) => {
             let row = book.get(*entry)?;
-            Some(Demand::Reversal(Charge { amount: row.amount }, row.trace))
+            let amount = row.amount;
+            Some(Demand::Reversal(Charge { amount, currency }, row.trace))
         }
         Order::CloseDay => Some(Demand::Closing),
     }

@@ -99,6 +99,13 @@ impl Till {
         self.line_up
     }
 
+    /// The currency in which it registers and pays.
+    pub(crate) fn currency(&self) -> Currency
+        ensures { result ≡ self.now.state.settings.currency }
+    {
+        self.currency
+    }
+
     /// The payments that were booked, in the order of their completions.
     pub fn book(&self) -> &[Entry]
         ensures rows { result.now ≡ self.now.state.book }
@@ -198,7 +205,7 @@ impl Till {
             self.finish(&running.order, &outcome);
             return Some(outcome);
         }
-        let demand = demand_of(self.book(), &running.order);
+        let demand = demand_of(Some(self.currency), self.book(), &running.order);
         self.running = Some(listened(&demand, &running, happening));
         None
     }

@@ -5,6 +5,7 @@ use Rattle.zvt_spelling.specs.Cuts.{Cut}
 use Rattle.zvt_spelling.specs.Reading.{shortest}
 use Rattle.zvt_field.specs.Named.{amount_of}
 use Rattle.zvt_apdu.specs.Grammar.{Spells}
+use Rattle.zvt_apdu.specs.Views.{currency_in}
 use Rattle.zvt_apdu.specs.Message.{Message, ack, nack, registration, authorisation, reversal, end_of_day, abort_order, status, intermediate, print_line, text_block, completion, abort, other}
 use Rattle.zvt_till.specs.Hearing.{heard_as}
 use Rattle.zvt_till.specs.declared.happenings.Happening.{Happening}
@@ -28,7 +29,7 @@ paid (Some amount) = Pay amount
 abbrev pub ordered : Message → Option Sent
 ordered (ack payload) = None
 ordered (nack code payload) = None
-ordered (registration password config rest) = Some Register
+ordered (registration password config rest) = Some (Register (currency_in (registration password config rest)))
 ordered (authorisation fields) = Some (paid (amount_of fields))
 ordered (reversal password fields) = Some Foreign
 ordered (end_of_day password fields) = Some CloseDay

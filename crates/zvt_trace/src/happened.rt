@@ -39,7 +39,7 @@ fn ordered(apdu: &ApduView<'_>) -> Option<Sent>
     ensures { result ≡ ordered apdu.now }
 {
     match apdu.kind() {
-        Kind::Registration => Some(Sent::Register),
+        Kind::Registration => Some(Sent::Register(apdu.currency())),
         Kind::Authorisation => match apdu.fields() {
             Some(fields) => Some(paid(&fields)),
             None => unreachable!(),

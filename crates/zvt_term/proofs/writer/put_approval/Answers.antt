@@ -1,8 +1,21 @@
-use Rattle.zvt_term.proofs.SpellingLemmas.{put_spelled, approval_listed}
-use Rattle.std.proofs.Common.{arith, refl}
+use Rattle.std.proofs.Common.{ℕ, Option, arith, refl, sym, subst}
+use Rattle.std.specs.Prelude.{None, Some}
+use Rattle.zvt_apdu.specs.Briefs.{PutsMessage}
+use Rattle.zvt_term.specs.declared.messages.Report.TheVariants.{Approved}
+use Rattle.zvt_term.specs.Reports.{message_of_report}
+use Rattle.zvt_term.proofs.SpellingLemmas.{put_spelled, nothing_listed, approval_listed, currency_listed}
 use Rattle.zvt_term.proofs.writer.put_approval.Goals as goal
 
-pub returns-clause-written : goal.returns-clause-written
-returns-clause-written c =
-    put_spelled _ 0x04 0x0F _ _ _ _ refl (omega arith)
-    (approval_listed c.args.amount c.args.number c.amount_digits.result c.number_digits.result c.amount_digits.ensures.digits c.amount_digits.ensures.small c.number_digits.ensures c.requires) c.put_data.ensures.written
+pub returns-in-None-clause-written : goal.returns-in-None-clause-written
+returns-in-None-clause-written c =
+    subst (λ (o : Option ℕ). PutsMessage (message_of_report (Approved c.args.amount c.args.number o)) c.args.out.now c.put_data.new.out c.put_data.result) (sym c.in-None.is)
+    (put_spelled _ 0x04 0x0F _ _ _ _ refl (omega arith)
+    (approval_listed c.args.amount c.args.number None c.amount_digits.result c.number_digits.result _ c.amount_digits.ensures.digits c.amount_digits.ensures.small c.number_digits.ensures c.requires
+    nothing_listed) c.put_data.ensures.written)
+
+pub returns-in-Some-clause-written : goal.returns-in-Some-clause-written
+returns-in-Some-clause-written c =
+    subst (λ (o : Option ℕ). PutsMessage (message_of_report (Approved c.args.amount c.args.number o)) c.args.out.now c.put_data-in-Some.new.out c.put_data-in-Some.result) (sym c.in-Some.is)
+    (put_spelled _ 0x04 0x0F _ _ _ _ refl (omega arith)
+    (approval_listed c.args.amount c.args.number (Some c.in-Some.currency) c.amount_digits.result c.number_digits.result _ c.amount_digits.ensures.digits c.amount_digits.ensures.small c.number_digits.ensures c.requires
+    (currency_listed c.in-Some.currency c.currency_digits.result c.currency_digits.ensures.digits c.currency_digits.ensures.small)) c.put_data-in-Some.ensures.written)
