@@ -68,8 +68,13 @@ fn books_a_completed_payment(rt: HostRuntime) -> Result<(), Fail> {
     has_books(&rt, alloc, &[], &[], &[])
 }
 
-/// An approval of the price as number 17, in this currency.
-fn approval_in(currency: CurrencyFact) -> Happening {
+/// An approval of the price as number 17, which names the euro so often.
+fn approval_in_euro(rt: &impl Abort, count: usize) -> Happening {
+    let currency = match count {
+        0 => CurrencyFact::Absent,
+        1 => CurrencyFact::Once(Currency::new(978).expect(rt, "a currency")),
+        _ => CurrencyFact::Many,
+    };
     Happening::Heard(Heard::Status(StatusFacts {
         result: Some(0),
         amount: Amount::new(1234),
@@ -88,25 +93,28 @@ fn registers(number: u16) -> Happening {
 #[test]
 fn an_approval_is_in_the_currency_of_the_last_registration(rt: HostRuntime) -> Result<(), Fail> {
     let alloc = rt.alloc();
-    let euro = Currency::new(978).expect(&rt, "a currency");
-    let in_euro = approval_in(CurrencyFact::Once(euro));
-    let in_two = approval_in(CurrencyFact::Many);
-    let (before, last) = (registers(840), registers(978));
-    // There is no currency of that number.
-    let none = registers(10_000);
+    // There is no currency of the number 10,000.
     let rows = [
-        (before, last, in_euro, None),
-        (last, before, in_euro, Some(Cause::WrongCurrency)),
-        (before, none, in_euro, None),
-        (before, last, approval(17, 5), None),
-        (before, last, in_two, Some(Cause::WrongCurrency)),
-        (before, none, in_two, Some(Cause::WrongCurrency)),
+        (840, 978, 1, true),
+        (978, 840, 1, false),
+        (840, 10_000, 1, true),
+        (978, 840, 0, true),
+        (840, 978, 2, false),
+        (840, 10_000, 2, false),
     ];
-    for (first, second, status, cause) in rows {
-        let log = [first, second, pay(&rt), POSITIVE, status, COMPLETION];
-        match cause {
-            None => has_books(&rt, alloc, &log, &[row(&rt, 17, 5)], &[])?,
-            Some(cause) => has_books(&rt, alloc, &log, &[], &[cause])?,
+    for (first, last, count, booked) in rows {
+        let log = [
+            registers(first),
+            registers(last),
+            pay(&rt),
+            POSITIVE,
+            approval_in_euro(&rt, count),
+            COMPLETION,
+        ];
+        if booked {
+            has_books(&rt, alloc, &log, &[row(&rt, 17, 5)], &[])?;
+        } else {
+            has_books(&rt, alloc, &log, &[], &[Cause::WrongCurrency])?;
         }
     }
     Ok(())
