@@ -1,6 +1,6 @@
 //! Messages out of pieces of a line.
 
-ghost use Rattle.std.specs.Prelude.{◌≡◌, ℕ, ◌+◌, ◌<◌, ◌≤◌, [], ◌++◌, None, IfOk, IfNone, IfSome, IsNone, IsSome, OnErr, List, length, false, true, MatchResult};
+ghost use Rattle.std.specs.Prelude.{◌≡◌, ℕ, ◌+◌, ◌<◌, ◌≤◌, [], ◌++◌, None, IfOk, IfNone, IfSome, IsNone, IsSome, OnErr, List, length, take, false, true, MatchResult};
 ghost use Rattle.std.specs.Result.{IsErrOf};
 ghost use Rattle.zvt_stream.specs.Apdus.{Spells, Unfinished};
 ghost use Rattle.zvt_stream.specs.StreamState.{at_start, Holds, Keeps, IsReserved};
@@ -280,6 +280,17 @@ impl Stream {
         ensures none { self.now.stopped ≡ true → self.now.held ≡ [] }
     {
         if self.lends { 0 } else { self.held.len() }
+    }
+
+    /// The control bytes of the unfinished message, as far as they have come: none, one, or both.
+    pub fn beginning(&self) -> &[u8]
+        ensures { result.now ≡ take 2 self.now.held }
+    {
+        if self.lends {
+            &[]
+        } else {
+            self.held.beginning()
+        }
     }
 
     /// How many levels are open: none where nothing is held, else the frame, the fields, and containers and objects in

@@ -9,7 +9,7 @@ use std::marker::Model;
 /// How many bytes the longest message has.
 pub const LONGEST: usize = 65_540;
 
-/// The bytes of an unfinished message. They are lent only where they have become a whole one.
+/// The bytes of an unfinished message. They are lent only where they have become a whole one, but for the first two.
 #[derive(Drop)]
 pub struct Held {
     bytes: Vec<u8>,
@@ -92,6 +92,16 @@ impl Held {
         ensures { result ≡ length self.now.bytes }
     {
         self.bytes.len()
+    }
+
+    /// The first two bytes, or those that there are.
+    pub fn beginning(&self) -> &[u8]
+        ensures { result.now ≡ take 2 self.now.bytes }
+    {
+        match self.bytes.as_slice() {
+            [_, _, ..] => &self.bytes[..2],
+            few => few,
+        }
     }
 
     /// The bytes of a whole message.
