@@ -13,8 +13,8 @@ use Rattle.zvt_trace.specs.Walks.{both, nothing}
 use Rattle.zvt_trace.specs.Written.{AddsEnd, AddsLine, AddsPiece, AddsSideEnd, AppendsEnd, AppendsLine, Follow, Follows}
 use Rattle.zvt_trace.specs.declared.fault.Tally.{Tally}
 use Rattle.zvt_trace.specs.declared.streams.Streams.{Streams}
-use Rattle.zvt_trace.specs.declared.style.Direction.{Direction}
-use Rattle.zvt_trace.specs.declared.style.Direction.TheVariants.{FromTill, FromTerminal}
+use Rattle.zvt_trace.specs.declared.direction.Direction.{Direction}
+use Rattle.zvt_trace.specs.declared.direction.Direction.TheVariants.{FromTill, FromTerminal}
 use Rattle.zvt_trace.specs.declared.style.Style.{Style}
 
 -- nothing is held by a new stream

@@ -21,7 +21,7 @@ use Rattle.zvt_trace.specs.Walks.{Part, both, nothing}
 use Rattle.zvt_trace.specs.Written.{Follows}
 use Rattle.zvt_trace.specs.declared.happened.Brought.{Brought}
 use Rattle.zvt_trace.specs.declared.happened.Hearing.{Hearing}
-use Rattle.zvt_trace.specs.declared.style.Direction.{Direction}
+use Rattle.zvt_trace.specs.declared.direction.Direction.{Direction}
 use Rattle.zvt_trace.proofs.PieceLemmas.{EndsAs, arrived, behind, nothing_left, split}
 
 -- nothing happened

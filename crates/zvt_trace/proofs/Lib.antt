@@ -1,11 +1,15 @@
 pub mod AuditLemmas
 pub mod BlockLemmas
 pub mod EndLemmas
+pub mod EventLemmas
 pub mod HeardLemmas
 pub mod InputLemmas
 pub mod LineLemmas
 pub mod LinkLemmas
 pub mod PieceLemmas
+pub mod SidesLemmas
 pub mod SpelledLemmas
+pub mod TellLemmas
 pub mod TraceLemmas
 pub mod WalkLemmas
+pub mod WalkedLemmas

@@ -13,8 +13,8 @@ use Rattle.zvt_trace.specs.Written.{Follows}
 use Rattle.zvt_trace.specs.declared.fault.Tally.{Tally}
 use Rattle.zvt_trace.specs.declared.happened.Hearing.{Hearing}
 use Rattle.zvt_trace.specs.declared.link.Link.{Link}
-use Rattle.zvt_trace.specs.declared.style.Direction.{Direction}
-use Rattle.zvt_trace.specs.declared.style.Direction.TheVariants.{FromTill, FromTerminal}
+use Rattle.zvt_trace.specs.declared.direction.Direction.{Direction}
+use Rattle.zvt_trace.specs.declared.direction.Direction.TheVariants.{FromTill, FromTerminal}
 use Rattle.zvt_trace.proofs.HeardLemmas.{takes_more, takes_none}
 
 -- nothing happened by a remark

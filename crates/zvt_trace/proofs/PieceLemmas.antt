@@ -21,7 +21,7 @@ use Rattle.zvt_trace.specs.Trace.{Arrives, Ending, EndsIn, MessageText, Messages
 use Rattle.zvt_trace.specs.Walks.{both}
 use Rattle.zvt_trace.specs.Written.{AddsMessage, AddsPiece, Follows}
 use Rattle.zvt_trace.specs.declared.fault.Tally.{Tally}
-use Rattle.zvt_trace.specs.declared.style.Direction.{Direction}
+use Rattle.zvt_trace.specs.declared.direction.Direction.{Direction}
 use Rattle.zvt_trace.specs.declared.style.Style.{Style}
 
 -- so many whole messages came, and the text grew by theirs

@@ -15,8 +15,8 @@ use Rattle.zvt_till.specs.declared.happenings.Sent.TheVariants.{Register, Pay, C
 use Rattle.zvt_trace.specs.Meanings.{Meaning, remark, piece, lost}
 use Rattle.zvt_trace.specs.Trace.{Arrives, Ending, Side, begun, refused, running, side_after, stopped}
 use Rattle.zvt_trace.specs.Walks.{LinesSay, Part, both, nothing}
-use Rattle.zvt_trace.specs.declared.style.Direction.{Direction}
-use Rattle.zvt_trace.specs.declared.style.Direction.TheVariants.{FromTill, FromTerminal}
+use Rattle.zvt_trace.specs.declared.direction.Direction.{Direction}
+use Rattle.zvt_trace.specs.declared.direction.Direction.TheVariants.{FromTill, FromTerminal}
 
 -- ---- one message
 

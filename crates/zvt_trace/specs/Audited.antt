@@ -21,7 +21,7 @@ use Rattle.zvt_trace.specs.declared.fault.TraceFault.TheVariants.{Memory, Read, 
 use Rattle.zvt_trace.specs.declared.happened.Brought.{Brought}
 use Rattle.zvt_trace.specs.declared.happened.Hearing.{Hearing}
 use Rattle.zvt_trace.specs.declared.link.Link.{Link}
-use Rattle.zvt_trace.specs.declared.style.Direction.{Direction}
+use Rattle.zvt_trace.specs.declared.direction.Direction.{Direction}
 
 -- ---- what the streams of the code stand for
 

@@ -2,8 +2,11 @@ pub mod Audit
 pub mod Audited
 pub mod Booked
 pub mod Lines
+pub mod Listening
 pub mod Meanings
 pub mod Spelled
+pub mod Telling
+pub mod Told
 pub mod Trace
 pub mod Walks
 pub mod Written

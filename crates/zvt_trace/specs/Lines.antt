@@ -5,8 +5,8 @@ use Rattle.zvt_spelling.specs.Names.{why_name}
 use Rattle.zvt_spelling.specs.declared.why.Why.{Why}
 use Rattle.zvt_trace.specs.declared.fault.What.{What}
 use Rattle.zvt_trace.specs.declared.fault.What.TheVariants.{Form, Hex}
-use Rattle.zvt_trace.specs.declared.style.Direction.{Direction}
-use Rattle.zvt_trace.specs.declared.style.Direction.TheVariants.{FromTill, FromTerminal}
+use Rattle.zvt_trace.specs.declared.direction.Direction.{Direction}
+use Rattle.zvt_trace.specs.declared.direction.Direction.TheVariants.{FromTill, FromTerminal}
 use Rattle.zvt_trace.specs.declared.style.Style.{Style}
 use Rattle.zvt_trace.specs.declared.style.Style.TheVariants.{Join, Receipts, Show}
 

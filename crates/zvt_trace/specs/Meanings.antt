@@ -7,8 +7,8 @@ use Rattle.zvt_trace.specs.declared.fault.What.{What}
 use Rattle.zvt_trace.specs.declared.fault.What.TheVariants.{Form, Hex}
 use Rattle.zvt_trace.specs.declared.line.Line.{Line}
 use Rattle.zvt_trace.specs.declared.line.Line.TheVariants as code
-use Rattle.zvt_trace.specs.declared.style.Direction.{Direction}
-use Rattle.zvt_trace.specs.declared.style.Direction.TheVariants.{FromTill, FromTerminal}
+use Rattle.zvt_trace.specs.declared.direction.Direction.{Direction}
+use Rattle.zvt_trace.specs.declared.direction.Direction.TheVariants.{FromTill, FromTerminal}
 
 pub data Meaning : Type 0 where
   remark : Meaning

@@ -13,8 +13,8 @@ use Rattle.zvt_text.specs.Said.{said}
 use Rattle.zvt_trace.specs.Lines.{direction_text, lost_text, refused_text, stopped_text, truncated_text}
 use Rattle.zvt_trace.specs.Meanings.{Meaning, remark, piece, lost}
 use Rattle.zvt_trace.specs.Walks.{LinesSay, Part, both, nothing}
-use Rattle.zvt_trace.specs.declared.style.Direction.{Direction}
-use Rattle.zvt_trace.specs.declared.style.Direction.TheVariants.{FromTill, FromTerminal}
+use Rattle.zvt_trace.specs.declared.direction.Direction.{Direction}
+use Rattle.zvt_trace.specs.declared.direction.Direction.TheVariants.{FromTill, FromTerminal}
 use Rattle.zvt_trace.specs.declared.style.Style.{Style}
 use Rattle.zvt_trace.specs.declared.style.Style.TheVariants.{Join, Receipts, Show}
 

@@ -16,7 +16,7 @@ use Rattle.zvt_trace.specs.declared.fault.Tally.{Tally}
 use Rattle.zvt_trace.specs.declared.fault.TraceFault.{TraceFault}
 use Rattle.zvt_trace.specs.declared.fault.TraceFault.TheVariants.{Memory, Read, TooLong, Trace, Write}
 use Rattle.zvt_trace.specs.declared.streams.Streams.{Streams}
-use Rattle.zvt_trace.specs.declared.style.Direction.{Direction}
+use Rattle.zvt_trace.specs.declared.direction.Direction.{Direction}
 use Rattle.zvt_trace.specs.declared.style.Style.{Style}
 
 -- ---- what the streams of the code stand for

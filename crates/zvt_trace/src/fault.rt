@@ -2,6 +2,7 @@
 ghost use Rattle.std.specs.Prelude.{◌≡◌};
 ghost use Rattle.zvt_trace.specs.declared.fault.TraceFault.TheVariants.{Memory};
 
+use crate::listener::Failure;
 use std::alloc::{AllocError, AllocFailed};
 use std::fmt;
 use thiserror::Error;
@@ -74,5 +75,18 @@ impl From<AllocError> for TraceFault {
 
     fn from(_refused: AllocError) -> TraceFault {
         TraceFault::Memory
+    }
+}
+
+impl From<Failure> for ToolFault {
+    ghost use Rattle.zvt_trace.specs.Listening.{fault_of};
+
+    ghost from_gives = { λ failure fault. fault ≡ fault_of failure };
+
+    fn from(failure: Failure) -> ToolFault {
+        match failure {
+            Failure::Memory => ToolFault::Memory,
+            Failure::Write => ToolFault::Write,
+        }
     }
 }

@@ -7,8 +7,8 @@ ghost use Rattle.std.specs.List.{cons_option};
 ghost use Rattle.zvt_trace.specs.Audit.{Begun, happened, ordered};
 ghost use Rattle.zvt_trace.specs.Audited.{AddsMessages, Hears, Takes};
 
+use crate::direction::Direction;
 use crate::fault::Tally;
-use crate::style::Direction;
 use std::alloc::AllocError;
 use zvt_apdu::{ApduView, Kind};
 use zvt_field::FieldsView;

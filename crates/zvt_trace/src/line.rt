@@ -4,9 +4,9 @@ ghost use Rattle.hex.specs.Hex.{decode_of};
 ghost use Rattle.zvt_trace.specs.Meanings.{meaning_of, meant_by, piece_of, size_of, without_spaces};
 ghost use Rattle.zvt_trace.specs.declared.fault.What.{What};
 
+use crate::direction::Direction;
 use crate::fault::What;
 use crate::spelled;
-use crate::style::Direction;
 use std::alloc::AllocError;
 
 /// What a line of a trace means.

@@ -4,11 +4,11 @@ ghost use Rattle.zvt_trace.specs.Meanings.{meant_by, piece, size_of};
 ghost use Rattle.zvt_trace.specs.Audit.{LinkEnds, LinkState, new_link};
 ghost use Rattle.zvt_trace.specs.Audited.{AddsLine, StandsFor};
 
+use crate::direction::Direction;
 use crate::fault::Tally;
 use crate::happened::{count_begun, hear};
 use crate::line::Line;
 use crate::streams::Streams;
-use crate::style::Direction;
 use std::alloc::{AllocError, Global};
 use zvt_till::Happening;
 use zvt_till::books::Bookkeeping;

@@ -6,7 +6,8 @@ ghost use Rattle.zvt_trace.specs.Trace.{receipt, shown};
 ghost use Rattle.zvt_trace.specs.Written.{AddsMessage, IsMessage, IsSpelling};
 ghost use Rattle.zvt_trace.specs.declared.style.Style.TheVariants.{Join};
 
-use crate::style::{Direction, Style};
+use crate::direction::Direction;
+use crate::style::Style;
 use std::alloc::AllocError;
 use zvt_apdu::{ApduView, view};
 use zvt_text::Scribe;

@@ -4,8 +4,9 @@ ghost use Rattle.std.specs.String.{string_bytes};
 ghost use Rattle.zvt_trace.specs.Trace.{Side};
 ghost use Rattle.zvt_trace.specs.Written.{AddsPiece, Follows};
 
+use crate::direction::Direction;
 use crate::fault::Tally;
-use crate::style::{Direction, Style};
+use crate::style::Style;
 use crate::{message, style};
 use std::alloc::AllocError;
 use zvt_stream::{FedView, FeedError, Stream};

@@ -5,10 +5,11 @@ ghost use Rattle.zvt_trace.specs.Meanings.{meant_by, piece, size_of};
 ghost use Rattle.zvt_trace.specs.Trace.{Side, Sides};
 ghost use Rattle.zvt_trace.specs.Written.{AddsEnd, AddsLine, AddsSideEnd, Follow, Follows};
 
+use crate::direction::Direction;
 use crate::fault::Tally;
 use crate::line::Line;
 use crate::streams::Streams;
-use crate::style::{Direction, Style};
+use crate::style::Style;
 use crate::{piece, style};
 use std::alloc::{AllocError, Global};
 use zvt_stream::{Stream, Truncated};

@@ -1,44 +1,12 @@
-//! Who sends, and how what was read is written.
+//! How what was read is written.
 ghost use Rattle.std.specs.Prelude.{◌≡◌, ◌++◌, OnOk};
 ghost use Rattle.std.specs.String.{string_bytes};
 ghost use Rattle.zvt_trace.specs.Lines.{lost_text, refused_text, stopped_text, truncated_text};
 
+use crate::direction::Direction;
 use std::alloc::AllocError;
-use std::fmt;
 use std::fmt::Write;
 use zvt_spelling::Why;
-
-/// Who sends.
-#[derive(Clone, Copy, Debug, PartialEq, Eq)]
-pub(crate) enum Direction {
-    FromTill,
-    FromTerminal,
-}
-
-impl Direction {
-    ghost use Rattle.zvt_trace.specs.Lines.{direction_text};
-
-    /// How a trace marks it.
-    pub(crate) fn sign(self) -> &'static str
-        ensures { result.now ≡ direction_text self }
-    {
-        match self {
-            Direction::FromTill => ">",
-            Direction::FromTerminal => "<",
-        }
-    }
-}
-
-impl fmt::Display for Direction {
-    ghost use Rattle.std.specs.Prelude.{Some};
-    ghost use Rattle.zvt_trace.specs.Lines.{direction_text};
-
-    ghost output = { λ from. Some (direction_text from) };
-
-    fn fmt<W: fmt::Write>(&self, f: &mut fmt::Formatter<W>) -> fmt::Result {
-        f.write_str(self.sign())
-    }
-}
 
 /// How what was read is written.
 #[derive(Clone, Copy, Debug, PartialEq, Eq)]

@@ -1,0 +1,311 @@
+-- What both sides of the line tell.
+use Rattle.std.proofs.Common.{◌≡◌, ℕ, ◌+◌, Bool, true, false, subst, List, [], ◌∷◌, ◌++◌, refl, sym, ◌∙◌, arith, append-nil}
+use Rattle.std.proofs.lemmas.Bool.{false≢true}
+use Rattle.zvt_stream.specs.StreamState.{StreamState}
+use Rattle.zvt_trace.specs.Listening.{BesideBegins, Fails, FailsIn, FollowBoth, FollowsUntil, Hears, HearsBeside, HearsEnd, HearsLine, HearsPiece, PieceBegins, is_stopped}
+use Rattle.zvt_trace.specs.Meanings.{lost, piece, remark}
+use Rattle.zvt_trace.specs.Told.{At, Tallies, on, unread}
+use Rattle.zvt_trace.specs.Told as told
+use Rattle.zvt_trace.specs.Telling.{FrontOf, Leaves, LineEnds, LineTells, MeaningBegins, PieceTells, SideEnds, both_sides, cut_off_told, other}
+use Rattle.zvt_trace.specs.Trace.{Side, Sides, new_line, running, stopped}
+use Rattle.zvt_trace.specs.Written.{Follows}
+use Rattle.zvt_trace.specs.declared.both_sides.BothSides.{BothSides}
+use Rattle.zvt_trace.specs.declared.direction.Direction.{Direction}
+use Rattle.zvt_trace.specs.declared.direction.Direction.TheVariants.{FromTill, FromTerminal}
+use Rattle.zvt_trace.specs.declared.fault.Tally.{Tally}
+use Rattle.zvt_trace.specs.declared.listener.Failure.{Failure}
+use Rattle.zvt_trace.specs.declared.listener.Scope.{Scope}
+use Rattle.zvt_trace.specs.declared.listener.Scope.TheVariants.{OneSide, WholeLine}
+use Rattle.zvt_trace.specs.declared.tell.Hearing.{Hearing}
+use Rattle.zvt_trace.proofs.EventLemmas.{fails_as, fails_behind, fails_next, front_before, front_behind, front_whole, hears_append, hears_one, hears_push, messages_append, bad_append, tallies_both}
+
+-- ---- a piece, and the other side
+
+-- a side that goes on leaves the other one as it is, and so does one that is left alone
+leaves_all : (scope : Scope) (line : ℕ) (from : Direction) (side beside : Side) → (scope ≡ WholeLine → is_stopped side ≡ false) → Leaves scope line from side beside [] beside
+leaves_all OneSide line from side beside going = (refl, refl)
+leaves_all WholeLine line from (running bytes) beside going = (refl, refl)
+leaves_all WholeLine line from stopped beside going = absurd (false≢true (sym (going refl)))
+
+pub goes_on : {S : Type 0} (hears : Hears S) (scope : Scope) (line : ℕ) (from : Direction) (side beside : Side) (bytes : List ℕ) (state others : StreamState) (hearing whole : Hearing) (old new : S)
+    → HearsPiece hears line from side bytes state hearing old new → Follows others beside → (scope ≡ WholeLine → hearing.stopped ≡ false) → whole.tally ≡ hearing.tally → whole.stopped ≡ false
+    → HearsBeside hears scope line from side beside bytes state others whole old new
+goes_on hears scope line from side beside bytes state others hearing whole old new heard follows going same still = record {
+  events = heard.events;
+  after = heard.after;
+  beside_after = beside;
+  tells = record {
+    own = heard.events;
+    others = [];
+    tells = heard.tells;
+    leaves = leaves_all scope line from heard.after beside (λ is. sym heard.ends ∙ going is);
+    is_all = sym (append-nil heard.events);
+  };
+  heard = heard.heard;
+  follows = subst (λ (b : Bool). FollowsUntil b state heard.after) (sym still) heard.follows;
+  follows_beside = subst (λ (b : Bool). FollowsUntil b others beside) (sym still) follows;
+  counts = subst (λ (t : Tally). Tallies t heard.events) (sym same) heard.counts;
+}
+
+is_end : (side : Side) → is_stopped side ≡ true → side ≡ stopped
+is_end (running bytes) e = absurd (false≢true e)
+is_end stopped e = refl
+
+pub gives_up : {S : Type 0} (hears : Hears S) (scope : Scope) (line : ℕ) (from there : Direction) (side beside : Side) (bytes : List ℕ) (state others : StreamState) (hearing whole : Hearing) (bad : ℕ) (old middle new : S)
+    → scope ≡ WholeLine → there ≡ other from → HearsPiece hears line from side bytes state hearing old middle → hearing.stopped ≡ true → HearsEnd hears (SideEnds line there beside) bad middle new
+    → whole.tally.messages ≡ hearing.tally.messages → whole.tally.bad ≡ hearing.tally.bad + bad → whole.stopped ≡ true
+    → HearsBeside hears scope line from side beside bytes state others whole old new
+gives_up hears scope line from there side beside bytes state others hearing whole bad old middle new is_whole is_other heard over cut messages bads still =
+    let after : heard.after ≡ stopped = is_end heard.after (sym heard.ends ∙ over) in
+    let ended : SideEnds line (other from) beside cut.events = subst (λ (d : Direction). SideEnds line d beside cut.events) is_other cut.ends in
+    let tells : PieceTells line from side bytes heard.events stopped = subst (λ (s : Side). PieceTells line from side bytes heard.events s) after heard.tells in
+    record {
+      events = heard.events ++ cut.events;
+      after = stopped;
+      beside_after = stopped;
+      tells = record {
+        own = heard.events;
+        others = cut.events;
+        tells = tells;
+        leaves = rw is_whole (ended, refl);
+        is_all = refl;
+      };
+      heard = hears_append hears heard.events cut.events old middle new heard.heard cut.heard;
+      follows = subst (λ (b : Bool). FollowsUntil b state stopped) (sym still) refl;
+      follows_beside = subst (λ (b : Bool). FollowsUntil b others stopped) (sym still) refl;
+      counts = tallies_both hearing.tally (record { messages = 0; bad = bad }) whole.tally heard.events cut.events heard.counts cut.counts (omega (arith, messages)) bads;
+    }
+
+-- there is something that a refusal leaves
+ends_some : (line : ℕ) (from : Direction) (side : Side) (state : StreamState) → Follows state side → (events : List At) × SideEnds line from side events
+ends_some line from (running bytes) state follows = (cut_off_told line from state.held, (follows.1, state.held, follows.2, refl))
+ends_some line from stopped state follows = ([], refl)
+
+leaves_some : (scope : Scope) (line : ℕ) (from : Direction) (side beside : Side) (others : StreamState) → Follows others beside → (after : Side) × (events : List At) × Leaves scope line from side beside events after
+leaves_some OneSide line from side beside others follows = (beside, [], (refl, refl))
+leaves_some WholeLine line from (running bytes) beside others follows = (beside, [], (refl, refl))
+leaves_some WholeLine line from stopped beside others follows = let ended = ends_some line (other from) beside others follows in (stopped, ended.0, (ended.1, refl))
+
+beside_begins : (scope : Scope) (line : ℕ) (from : Direction) (side beside : Side) (bytes : List ℕ) (others : StreamState) (events : List At) → Follows others beside → PieceBegins line from side bytes events
+    → BesideBegins scope line from side beside bytes events
+beside_begins scope line from side beside bytes others events follows begins =
+    let leaves = leaves_some scope line from begins.after beside others follows in record {
+      first = begins.first;
+      more = begins.more;
+      after = begins.after;
+      beside_after = leaves.0;
+      cut = begins.cut;
+      tells = front_before events begins.tells (λ all tells. (leaves.1, record { own = all; others = leaves.1; tells = tells; leaves = leaves.2; is_all = refl }));
+    }
+
+pub piece_fails : {S : Type 0} (hears : Hears S) (fails : Fails S) (why : Failure) (scope : Scope) (line : ℕ) (from : Direction) (side beside : Side) (bytes : List ℕ) (others : StreamState) (old new : S)
+    → FailsIn hears fails why (PieceBegins line from side bytes) old new → Follows others beside → FailsIn hears fails why (BesideBegins scope line from side beside bytes) old new
+piece_fails hears fails why scope line from side beside bytes others old new failed follows =
+    fails_as hears fails why old new failed (λ events so. beside_begins scope line from side beside bytes others events follows so)
+
+pub cut_off_fails : {S : Type 0} (hears : Hears S) (fails : Fails S) (why : Failure) (scope : Scope) (line : ℕ) (from there : Direction) (side beside : Side) (bytes : List ℕ) (state : StreamState) (hearing : Hearing) (old middle new : S)
+    → scope ≡ WholeLine → there ≡ other from → HearsPiece hears line from side bytes state hearing old middle → hearing.stopped ≡ true → FailsIn hears fails why (FrontOf (SideEnds line there beside)) middle new
+    → FailsIn hears fails why (BesideBegins scope line from side beside bytes) old new
+cut_off_fails hears fails why scope line from there side beside bytes state hearing old middle new is_whole is_other heard over failed =
+    let after : heard.after ≡ stopped = is_end heard.after (sym heard.ends ∙ over) in
+    let tells : PieceTells line from side bytes heard.events stopped = subst (λ (s : Side). PieceTells line from side bytes heard.events s) after heard.tells in
+    fails_behind hears fails why heard.events old middle new heard.heard failed (λ events front. record {
+      first = bytes;
+      more = [];
+      after = stopped;
+      beside_after = stopped;
+      cut = sym (append-nil bytes);
+      tells = front_behind heard.events events front (λ all ended. record {
+        own = heard.events;
+        others = all;
+        tells = tells;
+        leaves = rw is_whole (subst (λ (d : Direction). SideEnds line d beside all) is_other ended, refl);
+        is_all = refl;
+      });
+    })
+
+-- ---- both sides
+
+pub until : (deaf : Bool) (state : StreamState) (side : Side) → deaf ≡ false → FollowsUntil deaf state side → Follows state side
+until false state side e follows = follows
+until true state side e follows = absurd (false≢true (sym e))
+
+until_end : (deaf : Bool) (state : StreamState) (side : Side) → deaf ≡ true → FollowsUntil deaf state side → side ≡ stopped
+until_end false state side e follows = absurd (false≢true e)
+until_end true state side e follows = follows
+
+abbrev silent : Sides
+silent = record { till = stopped; terminal = stopped }
+
+silent_is : {a b : Side} → a ≡ stopped → b ≡ stopped → (let both : Sides = record { till = a; terminal = b } in both) ≡ silent
+silent_is e f = rw (e, f) refl
+
+is_silent : (state : BothSides) (sides : Sides) → FollowBoth state sides → state.deaf ≡ true → sides ≡ silent
+is_silent state sides follow deaf = silent_is (until_end state.deaf state.till sides.till deaf follow.till) (until_end state.deaf state.terminal sides.terminal deaf follow.terminal)
+
+leaves_silent : (scope : Scope) (line : ℕ) (from : Direction) → Leaves scope line from stopped stopped [] stopped
+leaves_silent OneSide line from = (refl, refl)
+leaves_silent WholeLine line from = (refl, refl)
+
+silent_piece : (scope : Scope) (line : ℕ) (from : Direction) (bytes : List ℕ) → LineTells scope line (piece from bytes) silent (on line (unread from) ∷ []) silent
+silent_piece scope line FromTill bytes =
+    (stopped, stopped, record { own = on line (unread FromTill) ∷ []; others = []; tells = (refl, refl); leaves = leaves_silent scope line FromTill; is_all = refl }, refl)
+silent_piece scope line FromTerminal bytes =
+    (stopped, stopped, record { own = on line (unread FromTerminal) ∷ []; others = []; tells = (refl, refl); leaves = leaves_silent scope line FromTerminal; is_all = refl }, refl)
+
+pub unheard : {S : Type 0} (hears : Hears S) (scope : Scope) (line : ℕ) (from : Direction) (bytes : List ℕ) (sides : Sides) (state : BothSides) (tally : Tally) (old new : S) → FollowBoth state sides → state.deaf ≡ true
+    → hears old (on line (unread from)) new → tally.messages ≡ 0 → tally.bad ≡ 0 → HearsLine hears scope line (piece from bytes) sides state tally old new
+unheard hears scope line from bytes sides state tally old new follow deaf heard messages bad =
+    let is = is_silent state sides follow deaf in record {
+      events = on line (unread from) ∷ [];
+      after = silent;
+      tells = subst (λ (s : Sides). LineTells scope line (piece from bytes) s (on line (unread from) ∷ []) silent) (sym is) (silent_piece scope line from bytes);
+      heard = hears_one hears (on line (unread from)) old new heard;
+      follow = subst (λ (s : Sides). FollowBoth state s) is follow;
+      counts = record { messages = messages; bad = bad };
+    }
+
+pub unheard_fails : {S : Type 0} (hears : Hears S) (fails : Fails S) (why : Failure) (scope : Scope) (line : ℕ) (from : Direction) (bytes : List ℕ) (sides : Sides) (state : BothSides) (old new : S) → FollowBoth state sides → state.deaf ≡ true
+    → fails old (on line (unread from)) why new → FailsIn hears fails why (MeaningBegins scope line (piece from bytes) sides) old new
+unheard_fails hears fails why scope line from bytes sides state old new follow deaf failed =
+    let is = is_silent state sides follow deaf in
+    let tells = subst (λ (s : Sides). LineTells scope line (piece from bytes) s (on line (unread from) ∷ []) silent) (sym is) (silent_piece scope line from bytes) in
+    fails_next hears fails why [] (on line (unread from)) old old new refl
+    (record { front = piece from bytes; after = silent; begins = (bytes, [], refl, sym (append-nil bytes)); tells = front_whole (on line (unread from) ∷ []) tells }) failed
+
+-- a piece of the till is heard
+pub till_heard : {S : Type 0} (hears : Hears S) (scope : Scope) (line : ℕ) (from : Direction) (bytes : List ℕ) (sides : Sides) (start state : BothSides) (hearing : Hearing) (old new : S) → from ≡ FromTill
+    → HearsBeside hears scope line from sides.till sides.terminal bytes state.till start.terminal hearing old new → state.terminal ≡ start.terminal → state.deaf ≡ hearing.stopped
+    → HearsLine hears scope line (piece from bytes) sides state hearing.tally old new
+till_heard hears scope line from bytes sides start state hearing old new is heard same over =
+    let told = rw is at heard in rw is (record {
+      events = told.events;
+      after = both_sides FromTill told.after told.beside_after;
+      tells = (told.after, told.beside_after, told.tells, refl);
+      heard = told.heard;
+      follow = record {
+        till = subst (λ (b : Bool). FollowsUntil b state.till told.after) (sym over) told.follows;
+        terminal = subst (λ (b : Bool). FollowsUntil b state.terminal told.beside_after) (sym over) (subst (λ (s : StreamState). FollowsUntil hearing.stopped s told.beside_after) (sym same) told.follows_beside);
+      };
+      counts = told.counts;
+    })
+
+-- and one of the terminal
+pub terminal_heard : {S : Type 0} (hears : Hears S) (scope : Scope) (line : ℕ) (from : Direction) (bytes : List ℕ) (sides : Sides) (start state : BothSides) (hearing : Hearing) (old new : S) → from ≡ FromTerminal
+    → HearsBeside hears scope line from sides.terminal sides.till bytes state.terminal start.till hearing old new → state.till ≡ start.till → state.deaf ≡ hearing.stopped
+    → HearsLine hears scope line (piece from bytes) sides state hearing.tally old new
+terminal_heard hears scope line from bytes sides start state hearing old new is heard same over =
+    let told = rw is at heard in rw is (record {
+      events = told.events;
+      after = both_sides FromTerminal told.after told.beside_after;
+      tells = (told.after, told.beside_after, told.tells, refl);
+      heard = told.heard;
+      follow = record {
+        till = subst (λ (b : Bool). FollowsUntil b state.till told.beside_after) (sym over) (subst (λ (s : StreamState). FollowsUntil hearing.stopped s told.beside_after) (sym same) told.follows_beside);
+        terminal = subst (λ (b : Bool). FollowsUntil b state.terminal told.after) (sym over) told.follows;
+      };
+      counts = told.counts;
+    })
+
+pub till_fails : {S : Type 0} (hears : Hears S) (fails : Fails S) (why : Failure) (scope : Scope) (line : ℕ) (from : Direction) (bytes : List ℕ) (sides : Sides) (old new : S) → from ≡ FromTill
+    → FailsIn hears fails why (BesideBegins scope line from sides.till sides.terminal bytes) old new → FailsIn hears fails why (MeaningBegins scope line (piece from bytes) sides) old new
+till_fails hears fails why scope line from bytes sides old new is failed =
+    let told = rw is at failed in
+    rw is (fails_as hears fails why old new told (λ events so. record {
+      front = piece FromTill so.first;
+      after = both_sides FromTill so.after so.beside_after;
+      begins = (so.first, so.more, refl, so.cut);
+      tells = front_behind [] events so.tells (λ all tells. (so.after, so.beside_after, tells, refl));
+    }))
+
+pub terminal_fails : {S : Type 0} (hears : Hears S) (fails : Fails S) (why : Failure) (scope : Scope) (line : ℕ) (from : Direction) (bytes : List ℕ) (sides : Sides) (old new : S) → from ≡ FromTerminal
+    → FailsIn hears fails why (BesideBegins scope line from sides.terminal sides.till bytes) old new → FailsIn hears fails why (MeaningBegins scope line (piece from bytes) sides) old new
+terminal_fails hears fails why scope line from bytes sides old new is failed =
+    let told = rw is at failed in
+    rw is (fails_as hears fails why old new told (λ events so. record {
+      front = piece FromTerminal so.first;
+      after = both_sides FromTerminal so.after so.beside_after;
+      begins = (so.first, so.more, refl, so.cut);
+      tells = front_behind [] events so.tells (λ all tells. (so.after, so.beside_after, tells, refl));
+    }))
+
+-- ---- the end of the line
+
+pub none_ends : {S : Type 0} (hears : Hears S) (line : ℕ) (sides : Sides) (state : BothSides) (now : S) → FollowBoth state sides → state.deaf ≡ true → HearsEnd hears (LineEnds line sides) 0 now now
+none_ends hears line sides state now follow deaf =
+    let is = is_silent state sides follow deaf in record {
+      events = [];
+      ends = subst (λ (s : Sides). LineEnds line s []) (sym is) (record { till = []; terminal = []; till_ends = refl; terminal_ends = refl; is_all = refl });
+      heard = refl;
+      counts = record { messages = refl; bad = refl };
+    }
+
+pub both_end : {S : Type 0} (hears : Hears S) (line : ℕ) (sides : Sides) (a b all : ℕ) (old middle new : S) → HearsEnd hears (SideEnds line FromTill sides.till) a old middle → HearsEnd hears (SideEnds line FromTerminal sides.terminal) b middle new
+    → all ≡ a + b → HearsEnd hears (LineEnds line sides) all old new
+both_end hears line sides a b all old middle new till terminal is = record {
+  events = till.events ++ terminal.events;
+  ends = record { till = till.events; terminal = terminal.events; till_ends = till.ends; terminal_ends = terminal.ends; is_all = refl };
+  heard = hears_append hears till.events terminal.events old middle new till.heard terminal.heard;
+  counts = tallies_both (record { messages = 0; bad = a }) (record { messages = 0; bad = b }) (record { messages = 0; bad = all }) till.events terminal.events till.counts terminal.counts refl is;
+}
+
+pub till_end_fails : {S : Type 0} (hears : Hears S) (fails : Fails S) (why : Failure) (line : ℕ) (sides : Sides) (terminal : StreamState) (old new : S) → FailsIn hears fails why (FrontOf (SideEnds line FromTill sides.till)) old new
+    → Follows terminal sides.terminal → FailsIn hears fails why (FrontOf (LineEnds line sides)) old new
+till_end_fails hears fails why line sides terminal old new failed follows =
+    let ended = ends_some line FromTerminal sides.terminal terminal follows in
+    fails_as hears fails why old new failed (λ events so. front_before events so
+    (λ all till. (ended.0, record { till = all; terminal = ended.0; till_ends = till; terminal_ends = ended.1; is_all = refl })))
+
+pub terminal_end_fails : {S : Type 0} (hears : Hears S) (fails : Fails S) (why : Failure) (line : ℕ) (sides : Sides) (bad : ℕ) (old middle new : S) → HearsEnd hears (SideEnds line FromTill sides.till) bad old middle
+    → FailsIn hears fails why (FrontOf (SideEnds line FromTerminal sides.terminal)) middle new → FailsIn hears fails why (FrontOf (LineEnds line sides)) old new
+terminal_end_fails hears fails why line sides bad old middle new till failed =
+    fails_behind hears fails why till.events old middle new till.heard failed (λ events so. front_behind till.events events so
+    (λ all terminal. record { till = till.events; terminal = all; till_ends = till.ends; terminal_ends = terminal; is_all = refl }))
+
+-- ---- the other lines
+
+pub remarks : {S : Type 0} (hears : Hears S) (scope : Scope) (line : ℕ) (sides : Sides) (state : BothSides) (tally : Tally) (now : S) → FollowBoth state sides → tally.messages ≡ 0 → tally.bad ≡ 0
+    → HearsLine hears scope line remark sides state tally now now
+remarks hears scope line sides state tally now follow messages bad = record {
+  events = [];
+  after = sides;
+  tells = (refl, refl);
+  heard = refl;
+  follow = follow;
+  counts = record { messages = messages; bad = bad };
+}
+
+pub loses : {S : Type 0} (hears : Hears S) (scope : Scope) (line : ℕ) (sides : Sides) (state : BothSides) (tally : Tally) (bad : ℕ) (old middle new : S) → HearsEnd hears (LineEnds line sides) bad old middle → hears middle (on line told.lost) new
+    → FollowBoth state new_line → tally.messages ≡ 0 → tally.bad ≡ bad → HearsLine hears scope line lost sides state tally old new
+loses hears scope line sides state tally bad old middle new ended heard fresh messages bads =
+    let last = on line told.lost ∷ [] in record {
+      events = ended.events ++ last;
+      after = new_line;
+      tells = (ended.events, ended.ends, refl, refl);
+      heard = hears_push hears ended.events (on line told.lost) old middle new ended.heard heard;
+      follow = fresh;
+      counts = record {
+        messages = omega (arith, messages, ended.counts.messages, messages_append ended.events last);
+        bad = omega (arith, bads, ended.counts.bad, bad_append ended.events last);
+      };
+    }
+
+pub end_fails : {S : Type 0} (hears : Hears S) (fails : Fails S) (why : Failure) (scope : Scope) (line : ℕ) (sides : Sides) (old new : S) → FailsIn hears fails why (FrontOf (LineEnds line sides)) old new
+    → FailsIn hears fails why (MeaningBegins scope line lost sides) old new
+end_fails hears fails why scope line sides old new failed =
+    fails_as hears fails why old new failed (λ events so. record {
+      front = lost;
+      after = new_line;
+      begins = refl;
+      tells = front_before events so (λ all ended. (on line told.lost ∷ [], (all, ended, refl, refl)));
+    })
+
+pub loss_fails : {S : Type 0} (hears : Hears S) (fails : Fails S) (why : Failure) (scope : Scope) (line : ℕ) (sides : Sides) (bad : ℕ) (old middle new : S) → HearsEnd hears (LineEnds line sides) bad old middle → fails middle (on line told.lost) why new
+    → FailsIn hears fails why (MeaningBegins scope line lost sides) old new
+loss_fails hears fails why scope line sides bad old middle new ended failed =
+    fails_next hears fails why ended.events (on line told.lost) old middle new ended.heard (record {
+      front = lost;
+      after = new_line;
+      begins = refl;
+      tells = front_whole (ended.events ++ on line told.lost ∷ []) (ended.events, ended.ends, refl, refl);
+    }) failed

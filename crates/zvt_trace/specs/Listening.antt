@@ -1,0 +1,162 @@
+-- What a listener is told, and what becomes of it.
+use Rattle.std.specs.Prelude.{◌≡◌, ◌⊎◌, ℕ, Bool, true, false, List, [], ◌∷◌, ◌++◌, Result, Ok, Err}
+use Rattle.zvt_stream.specs.StreamState.{StreamState}
+use Rattle.zvt_trace.specs.Meanings.{Meaning, meaning_of}
+use Rattle.zvt_trace.specs.Told.{At, Tallies}
+use Rattle.zvt_trace.specs.Telling.{BrokenTrace, FrontOf, LineSoFar, LineTells, MeaningBegins, PieceTells, TellsBeside, ToldSoFar, WholeTrace}
+use Rattle.zvt_trace.specs.Trace.{Side, Sides, running, stopped}
+use Rattle.zvt_trace.specs.Written.{Follows}
+use Rattle.zvt_trace.specs.declared.both_sides.BothSides.{BothSides}
+use Rattle.zvt_trace.specs.declared.direction.Direction.{Direction}
+use Rattle.zvt_trace.specs.declared.fault.Tally.{Tally}
+use Rattle.zvt_trace.specs.declared.fault.ToolFault.{ToolFault}
+use Rattle.zvt_trace.specs.declared.fault.ToolFault.TheVariants.{BadStep, Line, Memory, Net, Read, TooLong, Trace, Write}
+use Rattle.zvt_trace.specs.declared.listener.Failure.{Failure}
+use Rattle.zvt_trace.specs.declared.listener.Failure.TheVariants as failure
+use Rattle.zvt_trace.specs.declared.listener.Scope.{Scope}
+use Rattle.zvt_trace.specs.declared.tell.Hearing.{Hearing}
+
+-- ---- events, one after another
+
+-- what a listener and its device become by one event, and what a failure leaves of them
+abbrev pub Hears : Type 0 → Type 1
+Hears S = S → At → S → Type 0
+
+abbrev pub Fails : Type 0 → Type 1
+Fails S = S → At → Failure → S → Type 0
+
+abbrev pub HearsAll : {S : Type 0} → Hears S → S → List At → S → Type 0
+HearsAll hears old [] new = new ≡ old
+HearsAll {S = S} hears old (event ∷ events) new = (middle : S) × hears old event middle × HearsAll hears middle events new
+
+-- memory was refused to the walk, which left the listener as it was; or hearing the next event failed
+abbrev pub Stops : {S : Type 0} → Fails S → Failure → (So : List At → Type 0) → List At → S → S → Type 0
+Stops fails why So events middle new = ((why ≡ failure.Memory) × So events × (new ≡ middle)) ⊎ ((event : At) × So (events ++ event ∷ []) × fails middle event why new)
+
+-- these events were heard, and then it failed
+pub record FailsIn {S : Type 0} (hears : Hears S) (fails : Fails S) (why : Failure) (So : List At → Type 0) (old new : S) : Type 0 where
+  pub events : List At
+  pub middle : S
+  pub heard : HearsAll hears old events middle
+  pub stops : Stops fails why So events middle new
+
+-- ---- one side
+
+abbrev pub is_stopped : Side → Bool
+is_stopped (running bytes) = false
+is_stopped stopped = true
+
+-- what a piece tells was heard, and the stream goes on behind it
+pub record HearsPiece {S : Type 0} (hears : Hears S) (line : ℕ) (from : Direction) (side : Side) (bytes : List ℕ) (state : StreamState) (hearing : Hearing) (old new : S) : Type 0 where
+  pub events : List At
+  pub after : Side
+  pub tells : PieceTells line from side bytes events after
+  pub heard : HearsAll hears old events new
+  pub follows : Follows state after
+  pub counts : Tallies hearing.tally events
+  pub ends : hearing.stopped ≡ is_stopped after
+
+-- a front of what a front of the piece tells
+pub record PieceBegins (line : ℕ) (from : Direction) (side : Side) (bytes : List ℕ) (events : List At) : Type 0 where
+  pub first : List ℕ
+  pub more : List ℕ
+  pub after : Side
+  pub cut : bytes ≡ first ++ more
+  pub tells : FrontOf (λ all. PieceTells line from side first all after) events
+
+abbrev pub TellsPiece : {S : Type 0} → Hears S → Fails S → ℕ → Direction → Side → List ℕ → StreamState → (old new : S) → Result Hearing Failure → Type 0
+TellsPiece hears fails line from side bytes state old new (Ok hearing) = HearsPiece hears line from side bytes state hearing old new
+TellsPiece hears fails line from side bytes state old new (Err why) = FailsIn hears fails why (PieceBegins line from side bytes) old new
+
+-- what is cut off was heard
+pub record HearsEnd {S : Type 0} (hears : Hears S) (Ends : List At → Type 0) (bad : ℕ) (old new : S) : Type 0 where
+  pub events : List At
+  pub ends : Ends events
+  pub heard : HearsAll hears old events new
+  pub counts : Tallies (record { messages = 0; bad = bad }) events
+
+abbrev pub TellsEnd : {S : Type 0} → Hears S → Fails S → (Ends : List At → Type 0) → (old new : S) → Result ℕ Failure → Type 0
+TellsEnd hears fails Ends old new (Ok bad) = HearsEnd hears Ends bad old new
+TellsEnd hears fails Ends old new (Err why) = FailsIn hears fails why (FrontOf Ends) old new
+
+-- ---- both sides
+
+-- each stream holds what is left of its side's bytes, until none is read
+abbrev pub FollowsUntil : Bool → StreamState → Side → Type 0
+FollowsUntil true state side = side ≡ stopped
+FollowsUntil false state side = Follows state side
+
+pub record FollowBoth (state : BothSides) (sides : Sides) : Type 0 where
+  pub till : FollowsUntil state.deaf state.till sides.till
+  pub terminal : FollowsUntil state.deaf state.terminal sides.terminal
+
+-- what a piece tells was heard, and what it leaves of the other side
+pub record HearsBeside {S : Type 0} (hears : Hears S) (scope : Scope) (line : ℕ) (from : Direction) (side beside : Side) (bytes : List ℕ) (state other : StreamState) (hearing : Hearing) (old new : S) : Type 0 where
+  pub events : List At
+  pub after : Side
+  pub beside_after : Side
+  pub tells : TellsBeside scope line from side beside bytes events after beside_after
+  pub heard : HearsAll hears old events new
+  pub follows : FollowsUntil hearing.stopped state after
+  pub follows_beside : FollowsUntil hearing.stopped other beside_after
+  pub counts : Tallies hearing.tally events
+
+-- a front of what a front of the piece tells, and of what it leaves of the other side
+pub record BesideBegins (scope : Scope) (line : ℕ) (from : Direction) (side beside : Side) (bytes : List ℕ) (events : List At) : Type 0 where
+  pub first : List ℕ
+  pub more : List ℕ
+  pub after : Side
+  pub beside_after : Side
+  pub cut : bytes ≡ first ++ more
+  pub tells : FrontOf (λ all. TellsBeside scope line from side beside first all after beside_after) events
+
+abbrev pub TellsThere : {S : Type 0} → Hears S → Fails S → Scope → ℕ → Direction → (side beside : Side) → List ℕ → (state other : StreamState) → (old new : S) → Result Hearing Failure → Type 0
+TellsThere hears fails scope line from side beside bytes state other old new (Ok hearing) = HearsBeside hears scope line from side beside bytes state other hearing old new
+TellsThere hears fails scope line from side beside bytes state other old new (Err why) = FailsIn hears fails why (BesideBegins scope line from side beside bytes) old new
+
+-- ---- one line of the trace
+
+-- what the line tells was heard, and the streams go on behind it
+pub record HearsLine {S : Type 0} (hears : Hears S) (scope : Scope) (number : ℕ) (meaning : Meaning) (sides : Sides) (state : BothSides) (tally : Tally) (old new : S) : Type 0 where
+  pub events : List At
+  pub after : Sides
+  pub tells : LineTells scope number meaning sides events after
+  pub heard : HearsAll hears old events new
+  pub follow : FollowBoth state after
+  pub counts : Tallies tally events
+
+abbrev pub TellsLine : {S : Type 0} → Hears S → Fails S → Scope → ℕ → Meaning → Sides → BothSides → (old new : S) → Result Tally Failure → Type 0
+TellsLine hears fails scope number meaning sides state old new (Ok tally) = HearsLine hears scope number meaning sides state tally old new
+TellsLine hears fails scope number meaning sides state old new (Err why) = FailsIn hears fails why (MeaningBegins scope number meaning sides) old new
+
+-- the fault of a walk that failed
+abbrev pub fault_of : Failure → ToolFault
+fault_of failure.Memory = Memory
+fault_of failure.Write = Write
+
+-- What telling the line of that number answers.
+abbrev pub WalksLine : {S : Type 0} → Hears S → Fails S → Scope → ℕ → List ℕ → Sides → BothSides → (old new : S) → Result Tally ToolFault → Type 0
+WalksLine hears fails scope number line sides state old new (Ok tally) =
+    (meaning : Meaning) × (meaning_of line ≡ Ok meaning) × HearsLine hears scope number meaning sides state tally old new
+WalksLine hears fails scope number line sides state old new (Err (Trace at_line what)) = (at_line ≡ number) × (meaning_of line ≡ Err what) × (new ≡ old)
+WalksLine hears fails scope number line sides state old new (Err Memory) = FailsIn hears fails failure.Memory (LineSoFar scope number line sides) old new
+WalksLine hears fails scope number line sides state old new (Err Write) = FailsIn hears fails failure.Write (LineSoFar scope number line sides) old new
+WalksLine hears fails scope number line sides state old new (Err TooLong) = ⊥
+WalksLine hears fails scope number line sides state old new (Err Read) = ⊥
+WalksLine hears fails scope number line sides state old new (Err (Line broken)) = ⊥
+WalksLine hears fails scope number line sides state old new (Err (BadStep word)) = ⊥
+WalksLine hears fails scope number line sides state old new (Err Net) = ⊥
+
+-- ---- the trace
+
+-- What a walk over lines answers. Where it fails, the events of the lines before were heard, and a front of those that came next.
+abbrev pub AnswersWalk : {S : Type 0} → Hears S → Fails S → Scope → List (List ℕ) → (old new : S) → Result Tally ToolFault → Type 0
+AnswersWalk hears fails scope lines old new (Ok tally) = (events : List At) × WholeTrace scope lines events × HearsAll hears old events new × Tallies tally events
+AnswersWalk hears fails scope lines old new (Err (Trace number what)) = (events : List At) × BrokenTrace scope lines number what events × HearsAll hears old events new
+AnswersWalk hears fails scope lines old new (Err Memory) = FailsIn hears fails failure.Memory (ToldSoFar scope lines) old new
+AnswersWalk hears fails scope lines old new (Err Write) = FailsIn hears fails failure.Write (ToldSoFar scope lines) old new
+AnswersWalk hears fails scope lines old new (Err TooLong) = ⊥
+AnswersWalk hears fails scope lines old new (Err Read) = ⊥
+AnswersWalk hears fails scope lines old new (Err (Line broken)) = ⊥
+AnswersWalk hears fails scope lines old new (Err (BadStep word)) = ⊥
+AnswersWalk hears fails scope lines old new (Err Net) = ⊥

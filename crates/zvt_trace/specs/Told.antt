@@ -1,0 +1,80 @@
+-- What is told of a trace, and at which of its lines.
+use Rattle.std.specs.Prelude.{◌≡◌, ℕ, List, [], ◌∷◌}
+use Rattle.std.specs.List.{sum_by}
+use Rattle.zvt_spelling.specs.Reading.{shortest}
+use Rattle.zvt_spelling.specs.declared.why.Why.{Why}
+use Rattle.zvt_apdu.specs.Grammar.{Spells}
+use Rattle.zvt_apdu.specs.Message.{Message}
+use Rattle.zvt_trace.specs.declared.direction.Direction.{Direction}
+use Rattle.zvt_trace.specs.declared.fault.Tally.{Tally}
+use Rattle.zvt_trace.specs.declared.told.Head.{Head}
+use Rattle.zvt_trace.specs.declared.told.Head.TheVariants.{Empty, One, Two}
+use Rattle.zvt_trace.specs.declared.told.Told as code
+use Rattle.zvt_trace.specs.declared.told.Told.TheVariants as code_told
+
+-- the control bytes at the front of a message, as far as they have come
+abbrev pub head_of : List ℕ → Head
+head_of [] = Empty
+head_of (first ∷ []) = One first
+head_of (first ∷ second ∷ more) = Two first second
+
+-- a whole message; or that bytes were refused, with the byte at which no message could follow any more; or that a piece
+-- behind a refusal is not read; or that a message of so many bytes is cut off where the line ends; or that the line was lost
+pub data Told : Type 0 where
+  message : (from : Direction) → (message : Message) → Told
+  refused : (from : Direction) → (head : Head) → (byte place : ℕ) → (why : Why) → Told
+  unread : (from : Direction) → Told
+  cut_off : (from : Direction) → (head : Head) → (have : ℕ) → Told
+  lost : Told
+
+-- told at a line of the trace, which is counted from 1
+pub record At : Type 0 where
+  pub line : ℕ
+  pub told : Told
+
+abbrev pub on : ℕ → Told → At
+on line told = record { line = line; told = told }
+
+-- ---- what the code hands on
+
+abbrev pub told_of : code.Told → Told
+told_of (code_told.Message from apdu bytes) = message from apdu
+told_of (code_told.Refused from head byte place why) = refused from head byte place why
+told_of (code_told.Unread from) = unread from
+told_of (code_told.CutOff from head have) = cut_off from head have
+told_of code_told.Lost = lost
+
+-- the bytes of a message are its one spelling
+abbrev pub HasItsBytes : code.Told → Type 0
+HasItsBytes (code_told.Message from apdu bytes) = Spells shortest apdu bytes.now
+HasItsBytes (code_told.Refused from head byte place why) = Unit {0}
+HasItsBytes (code_told.Unread from) = Unit {0}
+HasItsBytes (code_told.CutOff from head have) = Unit {0}
+HasItsBytes code_told.Lost = Unit {0}
+
+-- ---- counts
+
+abbrev pub message_count : Told → ℕ
+message_count (message from m) = 1
+message_count (refused from head byte place why) = 0
+message_count (unread from) = 0
+message_count (cut_off from head have) = 0
+message_count lost = 0
+
+abbrev pub bad_count : Told → ℕ
+bad_count (message from m) = 0
+bad_count (refused from head byte place why) = 1
+bad_count (unread from) = 0
+bad_count (cut_off from head have) = 1
+bad_count lost = 0
+
+abbrev pub messages_in : List At → ℕ
+messages_in events = sum_by (λ (event : At). message_count event.told) events
+
+abbrev pub bad_in : List At → ℕ
+bad_in events = sum_by (λ (event : At). bad_count event.told) events
+
+-- the tally has the whole messages, and the streams that were refused or cut off
+pub record Tallies (tally : Tally) (events : List At) : Type 0 where
+  pub messages : tally.messages ≡ messages_in events
+  pub bad : tally.bad ≡ bad_in events

@@ -1,0 +1,121 @@
+//! Both sides of the line between a till and its terminal.
+ghost use Rattle.std.specs.Prelude.{◌≡◌, ◌≤◌, length, IfOk};
+ghost use Rattle.zvt_trace.specs.Meanings.{meant_by, piece, size_of};
+ghost use Rattle.zvt_trace.specs.Trace.{Sides, new_line};
+ghost use Rattle.zvt_trace.specs.Telling.{LineEnds};
+ghost use Rattle.zvt_trace.specs.Listening.{FollowBoth, TellsEnd, TellsLine};
+
+use crate::direction::Direction;
+use crate::fault::Tally;
+use crate::line::Line;
+use crate::listener::{Failure, Listener, Scope};
+use crate::tell::{tell_beside, tell_cut_off};
+use crate::told::Told;
+use std::alloc::Global;
+use zvt_stream::Stream;
+
+/// A stream for each side of the line. Once a refusal has left both sides unread, neither is fed.
+#[derive(Drop)]
+pub(crate) struct BothSides {
+    pub(crate) till: Stream,
+    pub(crate) terminal: Stream,
+    pub(crate) deaf: bool,
+}
+
+impl BothSides {
+    /// Those of a new line.
+    pub(crate) fn new(alloc: Global) -> BothSides
+        ensures { FollowBoth result new_line }
+    {
+        BothSides {
+            till: Stream::new(alloc),
+            terminal: Stream::new(alloc),
+            deaf: false,
+        }
+    }
+
+    /// Tells what the line of that number says.
+    #[inline(always)]
+    pub(crate) fn tell<D, L: Listener<D>>(
+        &mut self,
+        listener: &mut L,
+        device: &mut D,
+        alloc: Global,
+        scope: Scope,
+        number: u64,
+        line: &Line<'_>,
+    ) -> Result<Tally, Failure>
+        ensures tells { (sides : Sides) → FollowBoth self.old sides → TellsLine L.hears L.fails scope number (meant_by line.now) sides self.new (listener.old, device.old) (listener.new, device.new) result }
+        ensures few { IfOk result (λ tally. tally.messages ≤ size_of (meant_by line.now)) }
+        ensures two { IfOk result (λ tally. tally.bad ≤ 2) }
+    {
+        match line {
+            Line::Remark => Ok(Tally::none()),
+            Line::Piece { from, bytes } => {
+                self.tell_piece(listener, device, scope, number, *from, bytes)
+            }
+            Line::Lost => {
+                let bad = self.tell_end(listener, device, number)?;
+                listener.hear(device, number, &Told::Lost)?;
+                *self = BothSides::new(alloc);
+                Ok(Tally { messages: 0, bad })
+            }
+        }
+    }
+
+    /// Tells what a piece of that side brings.
+    #[inline(always)]
+    fn tell_piece<D, L: Listener<D>>(
+        &mut self,
+        listener: &mut L,
+        device: &mut D,
+        scope: Scope,
+        number: u64,
+        from: Direction,
+        bytes: &[u8],
+    ) -> Result<Tally, Failure>
+        ensures tells { (sides : Sides) → FollowBoth self.old sides → TellsLine L.hears L.fails scope number (piece from bytes.now) sides self.new (listener.old, device.old) (listener.new, device.new) result }
+        ensures few { IfOk result (λ tally. tally.messages ≤ length bytes.now) }
+        ensures two { IfOk result (λ tally. tally.bad ≤ 2) }
+    {
+        if self.deaf {
+            listener.hear(device, number, &Told::Unread { from })?;
+            return Ok(Tally::none());
+        }
+        let BothSides { till, terminal, .. } = self;
+        let hearing = match from {
+            Direction::FromTill => {
+                tell_beside(listener, device, scope, number, from, till, terminal, bytes)?
+            }
+            Direction::FromTerminal => {
+                tell_beside(listener, device, scope, number, from, terminal, till, bytes)?
+            }
+        };
+        self.deaf = hearing.stopped;
+        Ok(hearing.tally)
+    }
+
+    /// Tells which messages are cut off where the line ends, and answers how many are.
+    pub(crate) fn tell_end<D, L: Listener<D>>(
+        &self,
+        listener: &mut L,
+        device: &mut D,
+        number: u64,
+    ) -> Result<u64, Failure>
+        ensures tells { (sides : Sides) → FollowBoth self.now sides → TellsEnd L.hears L.fails (LineEnds number sides) (listener.old, device.old) (listener.new, device.new) result }
+        ensures two { IfOk result (λ bad. bad ≤ 2) }
+    {
+        if self.deaf {
+            return Ok(0);
+        }
+        let till = tell_cut_off(listener, device, number, Direction::FromTill, &self.till)?;
+        let terminal = tell_cut_off(
+            listener,
+            device,
+            number,
+            Direction::FromTerminal,
+            &self.terminal,
+        )?;
+        Ok(till + terminal)
+    }
+}

@@ -1,0 +1,51 @@
+//! What listens to a trace.
+ghost use Rattle.std.specs.Prelude.{◌≡◌, MatchResult};
+ghost use Rattle.zvt_trace.specs.Told.{At, HasItsBytes, on, told_of};
+ghost use Rattle.zvt_trace.specs.declared.listener.Failure.{Failure};
+
+use crate::told::Told;
+use std::alloc::AllocError;
+
+/// What a refusal leaves unread until the line is lost.
+#[derive(Clone, Copy, Debug, PartialEq, Eq)]
+pub enum Scope {
+    /// The side whose bytes were refused.
+    OneSide,
+    /// Both sides. What the other side had begun is cut off there, and told after the refusal.
+    WholeLine,
+}
+
+/// Why a listener could not hear.
+#[derive(Clone, Copy, Debug, Drop, PartialEq, Eq)]
+pub enum Failure {
+    /// Memory was refused.
+    Memory,
+    /// A write to the device failed.
+    Write,
+}
+
+impl From<AllocError> for Failure {
+    ghost use Rattle.zvt_trace.specs.declared.listener.Failure.TheVariants.{Memory};
+
+    ghost from_gives = { λ _ failure. failure ≡ Memory };
+
+    fn from(_refused: AllocError) -> Failure {
+        Failure::Memory
+    }
+}
+
+/// What hears all that a trace tells, one thing after another, and writes of it to a device.
+pub trait Listener<D> {
+    /// Hearing this, a listener with its device becomes that.
+    ghost hears: { (Self × D) → At → (Self × D) → Type 0 };
+
+    /// What a failure leaves of a listener with its device that was to hear this.
+    ghost fails: { (Self × D) → At → Failure → (Self × D) → Type 0 };
+
+    /// Hears what is told at the line of that number.
+    fn hear(&mut self, device: &mut D, line: u64, told: &Told<'_>) -> Result<(), Failure>
+        requires { HasItsBytes told.now }
+        ensures { MatchResult result
+            (λ _. hears (self.old, device.old) (on line (told_of told.now)) (self.new, device.new))
+            (λ failure. fails (self.old, device.old) (on line (told_of told.now)) failure (self.new, device.new)) };
+}

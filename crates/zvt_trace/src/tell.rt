@@ -1,0 +1,168 @@
+//! Tells a listener what one side of the line sends.
+ghost use Rattle.std.specs.Prelude.{◌≡◌, ◌≤◌, length, false, Some, IfOk, MatchResult};
+ghost use Rattle.zvt_apdu.specs.Message.{Message};
+ghost use Rattle.zvt_trace.specs.Told.{on};
+ghost use Rattle.zvt_trace.specs.Told as told;
+ghost use Rattle.zvt_trace.specs.Trace.{Side};
+ghost use Rattle.zvt_trace.specs.Telling.{SideEnds};
+ghost use Rattle.zvt_trace.specs.Listening.{TellsEnd, TellsPiece, TellsThere};
+ghost use Rattle.zvt_trace.specs.Written.{Follows};
+
+use crate::direction::Direction;
+use crate::fault::Tally;
+use crate::listener::{Failure, Listener, Scope};
+use crate::told::{Head, Told};
+use zvt_apdu::view;
+use zvt_stream::{FedView, FeedError, Stream, Truncated};
+
+/// What a piece brought: the tally, and whether nothing more is read.
+#[derive(Clone, Copy, Debug, PartialEq, Eq)]
+pub(crate) struct Hearing {
+    pub(crate) tally: Tally,
+    pub(crate) stopped: bool,
+}
+
+/// So many messages came, and what follows is read.
+#[inline(always)]
+fn going(messages: u64) -> Hearing
+    ensures { (result.tally.messages ≡ messages) × (result.tally.bad ≡ 0) × (result.stopped ≡ false) }
+{
+    Hearing {
+        tally: Tally { messages, bad: 0 },
+        stopped: false,
+    }
+}
+
+/// Tells the message that the stream lends.
+#[inline(always)]
+fn tell_message<D, L: Listener<D>>(
+    listener: &mut L,
+    device: &mut D,
+    line: u64,
+    from: Direction,
+    stream: &Stream,
+) -> Result<(), Failure>
+    requires { (message : Message) × (stream.now.lent ≡ Some message) }
+    ensures { (message : Message) → stream.now.lent ≡ Some message → MatchResult result
+        (λ _. L.hears (listener.old, device.old) (on line (told.message from message)) (listener.new, device.new))
+        (λ failure. L.fails (listener.old, device.old) (on line (told.message from message)) failure (listener.new, device.new)) }
+{
+    let Some(bytes) = stream.lent_bytes() else {
+        unreachable!()
+    };
+    let apdu = view(bytes);
+    listener.hear(device, line, &Told::Message { from, apdu, bytes })
+}
+
+/// Tells what a piece brings: the messages that end in it, and whether its stream is refused.
+pub(crate) fn tell_piece<D, L: Listener<D>>(
+    listener: &mut L,
+    device: &mut D,
+    line: u64,
+    from: Direction,
+    stream: &mut Stream,
+    bytes: &[u8],
+) -> Result<Hearing, Failure>
+    ensures tells { (side : Side) → Follows stream.old side → TellsPiece L.hears L.fails line from side bytes.now stream.new (listener.old, device.old) (listener.new, device.new) result }
+    ensures few { IfOk result (λ hearing. hearing.tally.messages ≤ length bytes.now) }
+    ensures one { IfOk result (λ hearing. hearing.tally.bad ≤ 1) }
+{
+    let mut messages = 0;
+    let mut head = Head::of(stream.beginning());
+    let mut held = stream.held();
+    let mut rest = bytes;
+    'messages: loop {
+        match stream.feed_view(rest) {
+            Ok(FedView::Message { taken }) => {
+                tell_message(listener, device, line, from, stream)?;
+                messages += 1;
+                let (_, after) = rest.split_at(taken);
+                // Most pieces end with a message.
+                if after.is_empty() {
+                    return Ok(going(messages));
+                }
+                head = Head::Empty;
+                held = 0;
+                rest = after;
+            }
+            Ok(FedView::More) => return Ok(going(messages)),
+            Ok(FedView::Refused { place, why }) => {
+                let told = Told::Refused {
+                    from,
+                    head: head.before(rest),
+                    byte: rest[place - held],
+                    place,
+                    why,
+                };
+                listener.hear(device, line, &told)?;
+                return Ok(Hearing {
+                    tally: Tally { messages, bad: 1 },
+                    stopped: true,
+                });
+            }
+            Err(FeedError::Stopped) => {
+                listener.hear(device, line, &Told::Unread { from })?;
+                return Ok(Hearing {
+                    tally: Tally { messages, bad: 0 },
+                    stopped: true,
+                });
+            }
+            Err(FeedError::Memory) => return Err(Failure::Memory),
+        }
+    }
+}
+
+/// Tells what a piece of a side brings, and what a refusal cuts off of the other side.
+#[inline(always)]
+pub(crate) fn tell_beside<D, L: Listener<D>>(
+    listener: &mut L,
+    device: &mut D,
+    scope: Scope,
+    line: u64,
+    from: Direction,
+    stream: &mut Stream,
+    other: &Stream,
+    bytes: &[u8],
+) -> Result<Hearing, Failure>
+    ensures tells { (side beside : Side) → Follows stream.old side → Follows other.now beside → TellsThere L.hears L.fails scope line from side beside bytes.now stream.new other.now (listener.old, device.old) (listener.new, device.new) result }
+    ensures few { IfOk result (λ hearing. hearing.tally.messages ≤ length bytes.now) }
+    ensures two { IfOk result (λ hearing. hearing.tally.bad ≤ 2) }
+{
+    let hearing = tell_piece(listener, device, line, from, stream, bytes)?;
+    let Tally { messages, bad } = hearing.tally;
+    if scope == Scope::WholeLine && hearing.stopped {
+        let cut_off = tell_cut_off(listener, device, line, from.other(), other)?;
+        return Ok(Hearing {
+            tally: Tally {
+                messages,
+                bad: bad + cut_off,
+            },
+            stopped: true,
+        });
+    }
+    Ok(Hearing {
+        tally: hearing.tally,
+        stopped: false,
+    })
+}
+
+/// Tells whether a message of that side is cut off, and answers how many are.
+pub(crate) fn tell_cut_off<D, L: Listener<D>>(
+    listener: &mut L,
+    device: &mut D,
+    line: u64,
+    from: Direction,
+    stream: &Stream,
+) -> Result<u64, Failure>
+    ensures tells { (side : Side) → Follows stream.now side → TellsEnd L.hears L.fails (SideEnds line from side) (listener.old, device.old) (listener.new, device.new) result }
+    ensures one { IfOk result (λ bad. bad ≤ 1) }
+{
+    match stream.finish() {
+        Ok(()) => Ok(0),
+        Err(Truncated { have }) => {
+            let head = Head::of(stream.beginning());
+            listener.hear(device, line, &Told::CutOff { from, head, have })?;
+            Ok(1)
+        }
+    }
+}

@@ -1,0 +1,78 @@
+//! A whole trace, told to a listener.
+ghost use Rattle.std.specs.Prelude.{◌≡◌, ◌≤◌, length, IfOk};
+ghost use Rattle.std.specs.Str.Lines.{lines};
+ghost use Rattle.zvt_trace.specs.Listening.{AnswersWalk, FollowBoth, WalksLine};
+ghost use Rattle.zvt_trace.specs.Trace.{Sides};
+ghost use Rattle.zvt_trace.specs.Written.{limit};
+
+use crate::both_sides::BothSides;
+use crate::fault::{Tally, ToolFault};
+use crate::line::{BadLine, read_line};
+use crate::listener::{Listener, Scope};
+use crate::traces::next_line;
+use std::alloc::Global;
+
+/// Tells the listener, line by line, what the trace says, and what is cut off at its end. Nothing is told of a line that
+/// can't be read, and of the lines behind it.
+///
+/// A stream that is refused or cut off counts as bad. Where the walk fails, the listener has heard all that the lines
+/// before tell, and a front of what the line says that was being read.
+pub fn walk<D, L: Listener<D>>(
+    listener: &mut L,
+    device: &mut D,
+    alloc: Global,
+    scope: Scope,
+    trace: &[u8],
+) -> Result<Tally, ToolFault>
+    requires { length trace.now ≤ limit }
+    ensures { AnswersWalk L.hears L.fails scope (lines trace.now) (listener.old, device.old) (listener.new, device.new) result }
+{
+    let mut tally = Tally::none();
+    let mut sides = BothSides::new(alloc);
+    let mut buffer = Vec::new(alloc);
+    let mut rest = trace;
+    let mut number = 0;
+    'lines: while !rest.is_empty() {
+        let (content, after) = next_line(rest);
+        number += 1;
+        let counted = tell_line(
+            listener,
+            device,
+            alloc,
+            scope,
+            &mut sides,
+            &mut buffer,
+            number,
+            content,
+        )?;
+        tally.messages += counted.messages;
+        tally.bad += counted.bad;
+        rest = after;
+    }
+    tally.bad += sides.tell_end(listener, device, number)?;
+    Ok(tally)
+}
+
+/// Tells what the line of that number says, where it can be read.
+#[inline(always)]
+fn tell_line<D, L: Listener<D>>(
+    listener: &mut L,
+    device: &mut D,
+    alloc: Global,
+    scope: Scope,
+    sides: &mut BothSides,
+    buffer: &mut Vec<u8>,
+    number: u64,
+    content: &[u8],
+) -> Result<Tally, ToolFault>
+    ensures tells { (state : Sides) → FollowBoth sides.old state → WalksLine L.hears L.fails scope number content.now state sides.new (listener.old, device.old) (listener.new, device.new) result }
+    ensures few { IfOk result (λ tally. tally.messages ≤ length content.now) }
+    ensures two { IfOk result (λ tally. tally.bad ≤ 2) }
+{
+    let line = match read_line(buffer, content) {
+        Ok(line) => line,
+        Err(BadLine::Wrong(what)) => return Err(ToolFault::Trace { line: number, what }),
+        Err(BadLine::Memory) => return Err(ToolFault::Memory),
+    };
+    Ok(sides.tell(listener, device, alloc, scope, number, &line)?)
+}
