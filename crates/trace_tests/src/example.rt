@@ -1,7 +1,8 @@
 //! The example `messages.trace` of the repository, and what `show` writes of it: its folder has both as files.
 use std::test::Fail;
 use zvt_io::Over;
-use zvt_trace::{Tally, show};
+use zvt_show::show;
+use zvt_trace::Tally;
 
 const TRACE: &str =
     r#"# Every message of the payment profile once at least, and what can go wrong on a line.

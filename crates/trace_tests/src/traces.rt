@@ -3,7 +3,8 @@ use std::alloc::Global;
 use std::process::Abort;
 use std::test::Fail;
 use zvt_io::{Failed, GhostCount, Over, Sink, Source};
-use zvt_trace::{Tally, TraceFault, What, join, receipts, show};
+use zvt_show::{join, receipts, show};
+use zvt_trace::{Tally, TraceFault, What};
 
 /// A trace, what is written of it, how many messages it has, and how many bad streams.
 type Case<'a> = (&'a str, &'a str, u64, u64);

@@ -11,4 +11,5 @@ pub use zvt_run::{
     currency_of, end_trace, password_of, plan, result_code, run_both_ends, run_loop, run_terminal,
     run_till, run_till_end, serve, step_of,
 };
-pub use zvt_trace::{Tally, TraceFault, What, audit, join, receipts, show};
+pub use zvt_show::{join, receipts, show};
+pub use zvt_trace::{Tally, TraceFault, What, audit};

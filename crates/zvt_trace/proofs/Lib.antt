@@ -1,6 +1,4 @@
 pub mod AuditLemmas
-pub mod BlockLemmas
-pub mod EndLemmas
 pub mod EventLemmas
 pub mod HeardLemmas
 pub mod InputLemmas
@@ -9,7 +7,7 @@ pub mod LinkLemmas
 pub mod PieceLemmas
 pub mod SidesLemmas
 pub mod SpelledLemmas
+pub mod StartLemmas
 pub mod TellLemmas
-pub mod TraceLemmas
 pub mod WalkLemmas
 pub mod WalkedLemmas

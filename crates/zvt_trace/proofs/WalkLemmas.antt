@@ -2,7 +2,7 @@
 use Rattle.std.proofs.Common.{◌≡◌, ℕ, ◌+◌, List, [], ◌∷◌, ◌++◌, Ok, Err, length, refl, sym, ◌∙◌, ap, subst, arith, append_assoc, append-nil, length-append}
 use Rattle.std.specs.Str.Lines.{lines}
 use Rattle.zvt_trace.specs.Meanings.{Meaning, meaning_of}
-use Rattle.zvt_trace.specs.Walks.{Broken, Counts, Leading, LinesSay, Part, Step, both, nothing}
+use Rattle.zvt_trace.specs.Walks.{Broken, Counts, LinesSay, Part, Step, both, nothing}
 use Rattle.zvt_trace.specs.declared.fault.Tally.{Tally}
 use Rattle.zvt_trace.specs.declared.fault.What.{What}
 
@@ -82,19 +82,6 @@ pub walked_all : {S A : Type 0} (Says : Step S A) (start state : S) (trace rest 
     → length rest ≡ 0 → Walked Says start trace rest number tally all state → LinesSay Says start (lines trace) all state
 walked_all Says start state trace [] number tally all none so = subst (λ (ls : List (List ℕ)). LinesSay Says start ls all state) (sym (so.cut ∙ append-nil so.done)) so.said
 walked_all Says start state trace (byte ∷ rest) number tally all none so = absurd (omega arith)
-
--- what was read so far
-pub walked_leading : {S A : Type 0} (Says : Step S A) (start state : S) (trace rest : List ℕ) (number : ℕ) (tally : Tally) (all : Part A)
-    → Walked Says start trace rest number tally all state → Leading Says start (lines trace) all
-walked_leading Says start state trace rest number tally all so = record { done = so.done; later = lines rest; after = state; cut = so.cut; says = so.said }
-
--- the lines before one that can't be read
-pub broken_leading : {S A : Type 0} (Says : Step S A) (start : S) (lines : List (List ℕ)) (number : ℕ) (what : What) (all : Part A) → Broken Says start lines number what all → Leading Says start lines all
-broken_leading Says start lines number what all so = record { done = so.done; later = so.line ∷ so.later; after = so.after; cut = so.cut; says = so.says }
-
--- no line was read
-pub leading_none : {S A : Type 0} (Says : Step S A) (start : S) (lines : List (List ℕ)) → Leading Says start lines nothing
-leading_none Says start lines = record { done = []; later = lines; after = start; cut = refl; says = (refl, refl) }
 
 -- the next line can't be read
 pub walked_broken : {S A : Type 0} (Says : Step S A) (start state : S) (trace rest content after : List ℕ) (number at : ℕ) (what : What) (tally : Tally) (all : Part A)

@@ -8,8 +8,8 @@ use Rattle.zvt_trace.specs.Telling.{FrontOf, LineEnds, LineSoFar, LineTells, Lin
 use Rattle.zvt_trace.specs.Trace.{Sides, new_line}
 use Rattle.zvt_trace.specs.declared.both_sides.BothSides.{BothSides}
 use Rattle.zvt_trace.specs.declared.fault.Tally.{Tally}
-use Rattle.zvt_trace.specs.declared.fault.ToolFault.{ToolFault}
-use Rattle.zvt_trace.specs.declared.fault.ToolFault.TheVariants.{BadStep, Line, Memory, Net, Read, TooLong, Trace, Write}
+use Rattle.zvt_trace.specs.declared.fault.TraceFault.{TraceFault}
+use Rattle.zvt_trace.specs.declared.fault.TraceFault.TheVariants.{Memory, Read, TooLong, Trace, Write}
 use Rattle.zvt_trace.specs.declared.listener.Failure.{Failure}
 use Rattle.zvt_trace.specs.declared.listener.Failure.TheVariants as failure
 use Rattle.zvt_trace.specs.declared.listener.Scope.{Scope}
@@ -141,7 +141,7 @@ next_so_far hears fails why scope trace rest content after number state tally ol
     fails_behind hears fails why so.all old now new so.heard failed (λ events next. next_reaches hears scope trace rest content after number state tally old now events so first next)
 
 -- the next line could not be told
-pub failed : {S : Type 0} (hears : Hears S) (fails : Fails S) (scope : Scope) (trace rest content after : List ℕ) (number : ℕ) (state next : BothSides) (tally : Tally) (fault : ToolFault) (old now new : S)
+pub failed : {S : Type 0} (hears : Hears S) (fails : Fails S) (scope : Scope) (trace rest content after : List ℕ) (number : ℕ) (state next : BothSides) (tally : Tally) (fault : TraceFault) (old now new : S)
     → (so : Walked hears scope trace rest number state tally old now) → lines rest ≡ content ∷ lines after → WalksLine hears fails scope (number + 1) content so.sides next now new (Err fault)
     → AnswersWalk hears fails scope (lines trace) old new (Err fault)
 failed {S = S} hears fails scope trace rest content after number state next tally (Trace line what) old now new so first wrong = (
@@ -162,9 +162,6 @@ failed hears fails scope trace rest content after number state next tally Memory
 failed hears fails scope trace rest content after number state next tally Write old now new so first fault = next_so_far hears fails failure.Write scope trace rest content after number state tally old now new so first fault
 failed hears fails scope trace rest content after number state next tally TooLong old now new so first never = absurd never
 failed hears fails scope trace rest content after number state next tally Read old now new so first never = absurd never
-failed hears fails scope trace rest content after number state next tally (Line broken) old now new so first never = absurd never
-failed hears fails scope trace rest content after number state next tally (BadStep word) old now new so first never = absurd never
-failed hears fails scope trace rest content after number state next tally Net old now new so first never = absurd never
 
 -- so much of the end
 end_so_far : {S : Type 0} (hears : Hears S) (fails : Fails S) (why : Failure) (scope : Scope) (trace rest : List ℕ) (number : ℕ) (state : BothSides) (tally : Tally) (old now new : S) → length rest ≡ 0

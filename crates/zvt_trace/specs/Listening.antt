@@ -9,8 +9,8 @@ use Rattle.zvt_trace.specs.Written.{Follows}
 use Rattle.zvt_trace.specs.declared.both_sides.BothSides.{BothSides}
 use Rattle.zvt_trace.specs.declared.direction.Direction.{Direction}
 use Rattle.zvt_trace.specs.declared.fault.Tally.{Tally}
-use Rattle.zvt_trace.specs.declared.fault.ToolFault.{ToolFault}
-use Rattle.zvt_trace.specs.declared.fault.ToolFault.TheVariants.{BadStep, Line, Memory, Net, Read, TooLong, Trace, Write}
+use Rattle.zvt_trace.specs.declared.fault.TraceFault.{TraceFault}
+use Rattle.zvt_trace.specs.declared.fault.TraceFault.TheVariants.{Memory, Read, TooLong, Trace, Write}
 use Rattle.zvt_trace.specs.declared.listener.Failure.{Failure}
 use Rattle.zvt_trace.specs.declared.listener.Failure.TheVariants as failure
 use Rattle.zvt_trace.specs.declared.listener.Scope.{Scope}
@@ -130,12 +130,12 @@ TellsLine hears fails scope number meaning sides state old new (Ok tally) = Hear
 TellsLine hears fails scope number meaning sides state old new (Err why) = FailsIn hears fails why (MeaningBegins scope number meaning sides) old new
 
 -- the fault of a walk that failed
-abbrev pub fault_of : Failure → ToolFault
+abbrev pub fault_of : Failure → TraceFault
 fault_of failure.Memory = Memory
 fault_of failure.Write = Write
 
 -- What telling the line of that number answers.
-abbrev pub WalksLine : {S : Type 0} → Hears S → Fails S → Scope → ℕ → List ℕ → Sides → BothSides → (old new : S) → Result Tally ToolFault → Type 0
+abbrev pub WalksLine : {S : Type 0} → Hears S → Fails S → Scope → ℕ → List ℕ → Sides → BothSides → (old new : S) → Result Tally TraceFault → Type 0
 WalksLine hears fails scope number line sides state old new (Ok tally) =
     (meaning : Meaning) × (meaning_of line ≡ Ok meaning) × HearsLine hears scope number meaning sides state tally old new
 WalksLine hears fails scope number line sides state old new (Err (Trace at_line what)) = (at_line ≡ number) × (meaning_of line ≡ Err what) × (new ≡ old)
@@ -143,20 +143,14 @@ WalksLine hears fails scope number line sides state old new (Err Memory) = Fails
 WalksLine hears fails scope number line sides state old new (Err Write) = FailsIn hears fails failure.Write (LineSoFar scope number line sides) old new
 WalksLine hears fails scope number line sides state old new (Err TooLong) = ⊥
 WalksLine hears fails scope number line sides state old new (Err Read) = ⊥
-WalksLine hears fails scope number line sides state old new (Err (Line broken)) = ⊥
-WalksLine hears fails scope number line sides state old new (Err (BadStep word)) = ⊥
-WalksLine hears fails scope number line sides state old new (Err Net) = ⊥
 
 -- ---- the trace
 
 -- What a walk over lines answers. Where it fails, the events of the lines before were heard, and a front of those that came next.
-abbrev pub AnswersWalk : {S : Type 0} → Hears S → Fails S → Scope → List (List ℕ) → (old new : S) → Result Tally ToolFault → Type 0
+abbrev pub AnswersWalk : {S : Type 0} → Hears S → Fails S → Scope → List (List ℕ) → (old new : S) → Result Tally TraceFault → Type 0
 AnswersWalk hears fails scope lines old new (Ok tally) = (events : List At) × WholeTrace scope lines events × HearsAll hears old events new × Tallies tally events
 AnswersWalk hears fails scope lines old new (Err (Trace number what)) = (events : List At) × BrokenTrace scope lines number what events × HearsAll hears old events new
 AnswersWalk hears fails scope lines old new (Err Memory) = FailsIn hears fails failure.Memory (ToldSoFar scope lines) old new
 AnswersWalk hears fails scope lines old new (Err Write) = FailsIn hears fails failure.Write (ToldSoFar scope lines) old new
 AnswersWalk hears fails scope lines old new (Err TooLong) = ⊥
 AnswersWalk hears fails scope lines old new (Err Read) = ⊥
-AnswersWalk hears fails scope lines old new (Err (Line broken)) = ⊥
-AnswersWalk hears fails scope lines old new (Err (BadStep word)) = ⊥
-AnswersWalk hears fails scope lines old new (Err Net) = ⊥

@@ -46,14 +46,6 @@ abbrev pub LinesSay : {S A : Type 0} → Step S A → S → List (List ℕ) → 
 LinesSay Says state [] all after = (all ≡ nothing) × (after ≡ state)
 LinesSay Says state (line ∷ lines) all after = OneMore Says state line (λ middle rest. LinesSay Says middle lines rest after) all
 
--- the first so many lines can be read: what they come to
-pub record Leading {S A : Type 0} (Says : Step S A) (start : S) (lines : List (List ℕ)) (all : Part A) : Type 0 where
-  pub done : List (List ℕ)
-  pub later : List (List ℕ)
-  pub after : S
-  pub cut : lines ≡ done ++ later
-  pub says : LinesSay Says start done all after
-
 -- lines of which one can't be read, counted from 1: what those before it come to
 pub record Broken {S A : Type 0} (Says : Step S A) (start : S) (lines : List (List ℕ)) (number : ℕ) (what : What) (all : Part A) : Type 0 where
   pub done : List (List ℕ)

@@ -1,7 +1,10 @@
 //! The books of a whole trace.
-ghost use Rattle.std.specs.Prelude.{◌≡◌, ◌<◌, ◌≤◌, length, Err, IfOk, IfSome};
+ghost use Rattle.std.specs.Prelude.{◌≡◌, ◌<◌, ◌≤◌, length, Err, IfErr, IfOk, IfSome, OnErr, OnOk};
+ghost use Rattle.std.specs.Io.KnownBytes.{Appends};
 ghost use Rattle.std.specs.Str.Lines.{lines};
-ghost use Rattle.zvt_trace.specs.Written.{limit};
+ghost use Rattle.std.specs.String.{string_bytes};
+ghost use Rattle.zvt_io.specs.Devices.{CountsFailure};
+ghost use Rattle.zvt_trace.specs.Written.{AppendsFront, limit};
 ghost use Rattle.zvt_trace.specs.Audit.{LinkState};
 ghost use Rattle.zvt_trace.specs.Audited.{AnswersAudit, StandsFor, TakesLine, TakesLines};
 
@@ -9,10 +12,10 @@ use crate::booked;
 use crate::fault::{Tally, TraceFault};
 use crate::input::read_trace;
 use crate::line::{BadLine, read_line};
+use crate::lines::next_line;
 use crate::link::Link;
-use crate::traces::{next_line, put};
 use std::alloc::Global;
-use zvt_io::{Sink, Source};
+use zvt_io::{Failed, Sink, Source};
 use zvt_text::Scribe;
 use zvt_till::Happening;
 use zvt_till::books::Bookkeeping;
@@ -46,6 +49,19 @@ pub fn audit<R: Source, W: Sink>(
     booked::write(&mut scribe, &mut text, &found)?;
     put(&text, writer)?;
     Ok(tally)
+}
+
+/// Writes the text to the device.
+fn put<W: Sink>(text: &String, writer: &mut W) -> Result<(), TraceFault>
+    ensures bytes { OnOk result (Appends (W.written writer.old) (W.written writer.new) (string_bytes text.now)) }
+    ensures fault { IfErr result (λ fault. fault ≡ TraceFault.Write) }
+    ensures failures { CountsFailure (W.failures writer.old) (W.failures writer.new) result }
+    ensures front { OnErr result (AppendsFront (W.written writer.old) (W.written writer.new) (string_bytes text.now)) }
+{
+    match writer.write_all(text.as_bytes()) {
+        Ok(()) => Ok(()),
+        Err(Failed) => Err(TraceFault::Write),
+    }
 }
 
 /// Takes what happened by the lines of a trace.

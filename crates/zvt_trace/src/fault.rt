@@ -78,15 +78,15 @@ impl From<AllocError> for TraceFault {
     }
 }
 
-impl From<Failure> for ToolFault {
+impl From<Failure> for TraceFault {
     ghost use Rattle.zvt_trace.specs.Listening.{fault_of};
 
     ghost from_gives = { λ failure fault. fault ≡ fault_of failure };
 
-    fn from(failure: Failure) -> ToolFault {
+    fn from(failure: Failure) -> TraceFault {
         match failure {
-            Failure::Memory => ToolFault::Memory,
-            Failure::Write => ToolFault::Write,
+            Failure::Memory => TraceFault::Memory,
+            Failure::Write => TraceFault::Write,
         }
     }
 }

@@ -8,10 +8,10 @@ use std::alloc::Global;
 use zvt_io::{Failed, Source};
 
 /// The most bytes of a trace.
-pub(crate) const LIMIT: usize = 16_777_216;
+const LIMIT: usize = 16_777_216;
 
 /// All that the reader gives, which is read to its end or to the first byte past the limit.
-pub(crate) fn read_trace<R: Source>(alloc: Global, reader: &mut R) -> Result<Vec<u8>, TraceFault>
+pub fn read_trace<R: Source>(alloc: Global, reader: &mut R) -> Result<Vec<u8>, TraceFault>
     ensures trace { ReadsTrace (R.remaining reader.old) result }
     ensures taken { (taken : List ℕ) × (length taken ≤ limit + 1) × Consumes (R.remaining reader.old) (R.remaining reader.new) taken }
     ensures failed { result ≡ Err TraceFault.Read → R.failures reader.old < R.failures reader.new }

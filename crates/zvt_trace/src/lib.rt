@@ -1,7 +1,7 @@
-//! Traces of the line between a till and its terminal, as text.
+//! Traces of the line between a till and its terminal.
 //!
-//! [`show`] writes each message with its fields, [`join`] each message as one line of a trace,
-//! [`receipts`] the text of the terminal's print lines, [`audit`] the books of the payments.
+//! [`read_trace`] reads one whole, and [`walk`] tells a listener all that it says, line by line. [`audit`] writes the books
+//! of the payments.
 #![tactic(auto)]
 
 mod auditing;
@@ -12,23 +12,19 @@ mod fault;
 mod happened;
 mod input;
 mod line;
+mod lines;
 mod link;
 mod listener;
-mod message;
-mod piece;
-mod said;
 mod spelled;
 mod streams;
-mod style;
 mod tell;
 mod told;
-mod traces;
 mod walking;
 
 pub use auditing::audit;
 pub use direction::Direction;
 pub use fault::{Tally, TraceFault, What};
+pub use input::read_trace;
 pub use listener::{Failure, Listener, Scope};
 pub use told::{Head, Told};
-pub use traces::{join, receipts, show};
 pub use walking::walk;

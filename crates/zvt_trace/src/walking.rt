@@ -6,10 +6,10 @@ ghost use Rattle.zvt_trace.specs.Trace.{Sides};
 ghost use Rattle.zvt_trace.specs.Written.{limit};
 
 use crate::both_sides::BothSides;
-use crate::fault::{Tally, ToolFault};
+use crate::fault::{Tally, TraceFault};
 use crate::line::{BadLine, read_line};
+use crate::lines::next_line;
 use crate::listener::{Listener, Scope};
-use crate::traces::next_line;
 use std::alloc::Global;
 
 /// Tells the listener, line by line, what the trace says, and what is cut off at its end. Nothing is told of a line that
@@ -23,7 +23,7 @@ pub fn walk<D, L: Listener<D>>(
     alloc: Global,
     scope: Scope,
     trace: &[u8],
-) -> Result<Tally, ToolFault>
+) -> Result<Tally, TraceFault>
     requires { length trace.now ≤ limit }
     ensures { AnswersWalk L.hears L.fails scope (lines trace.now) (listener.old, device.old) (listener.new, device.new) result }
 {
@@ -64,15 +64,15 @@ fn tell_line<D, L: Listener<D>>(
     buffer: &mut Vec<u8>,
     number: u64,
     content: &[u8],
-) -> Result<Tally, ToolFault>
+) -> Result<Tally, TraceFault>
     ensures tells { (state : Sides) → FollowBoth sides.old state → WalksLine L.hears L.fails scope number content.now state sides.new (listener.old, device.old) (listener.new, device.new) result }
     ensures few { IfOk result (λ tally. tally.messages ≤ length content.now) }
     ensures two { IfOk result (λ tally. tally.bad ≤ 2) }
 {
     let line = match read_line(buffer, content) {
         Ok(line) => line,
-        Err(BadLine::Wrong(what)) => return Err(ToolFault::Trace { line: number, what }),
-        Err(BadLine::Memory) => return Err(ToolFault::Memory),
+        Err(BadLine::Wrong(what)) => return Err(TraceFault::Trace { line: number, what }),
+        Err(BadLine::Memory) => return Err(TraceFault::Memory),
     };
     Ok(sides.tell(listener, device, alloc, scope, number, &line)?)
 }

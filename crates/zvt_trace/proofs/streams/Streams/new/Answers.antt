@@ -1,4 +1,4 @@
-use Rattle.zvt_trace.proofs.EndLemmas.{new_follows}
+use Rattle.zvt_trace.proofs.StartLemmas.{new_follows}
 use Rattle.zvt_trace.proofs.streams.Streams.new.Goals as goal
 
 pub returns : goal.returns

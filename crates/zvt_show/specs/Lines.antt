@@ -1,0 +1,35 @@
+-- What is said of a stream or a line, not of a message.
+use Rattle.std.specs.Prelude.{ℕ, List, [], ◌∷◌, ◌++◌, codes, Option, Some, None}
+use Rattle.std.specs.Fmt.{decimal}
+use Rattle.zvt_spelling.specs.Names.{why_name}
+use Rattle.zvt_spelling.specs.declared.why.Why.{Why}
+use Rattle.zvt_trace.specs.Lines.{direction_text}
+use Rattle.zvt_trace.specs.declared.direction.Direction.{Direction}
+use Rattle.zvt_show.specs.declared.style.Style.{Style}
+use Rattle.zvt_show.specs.declared.style.Style.TheVariants.{Join, Receipts, Show}
+
+-- what stands before a line that is no part of a trace, where such lines are written at all
+abbrev pub mark_of : Style → Option (List ℕ)
+mark_of Show = Some []
+mark_of Join = Some (codes "# ")
+mark_of Receipts = None
+
+abbrev pub marked : Option (List ℕ) → List ℕ → List ℕ
+marked None text = []
+marked (Some mark) text = mark ++ text ++ 10 ∷ []
+
+abbrev pub refused_text : Style → Direction → ℕ → Why → List ℕ
+refused_text style from place why =
+    marked (mark_of style) (direction_text from ++ codes " refused at " ++ decimal place ++ codes ": " ++ why_name why)
+
+-- what is said of each piece behind a refusal
+abbrev pub stopped_text : Style → Direction → List ℕ
+stopped_text style from = marked (mark_of style) (direction_text from ++ codes " stopped")
+
+abbrev pub truncated_text : Style → Direction → ℕ → List ℕ
+truncated_text style from have = marked (mark_of style) (direction_text from ++ codes " truncated after " ++ decimal have)
+
+abbrev pub lost_text : Style → List ℕ
+lost_text Show = codes "! line lost" ++ 10 ∷ []
+lost_text Join = codes "!" ++ 10 ∷ []
+lost_text Receipts = []

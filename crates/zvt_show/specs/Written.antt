@@ -1,0 +1,103 @@
+-- What the commands answer and write.
+use Rattle.std.specs.Prelude.{◌≡◌, ℕ, ◌<◌, ◌≤◌, ◌++◌, List, length, Option, None, Some, Result, Ok, Err}
+use Rattle.std.specs.Io.KnownBytes.{Appends, Keeps}
+use Rattle.std.specs.Str.Lines.{lines}
+use Rattle.zvt_io.specs.Devices.{IsFront}
+use Rattle.zvt_apdu.specs.Message.{Message}
+use Rattle.zvt_trace.specs.Told.{At, Tallies, Told}
+use Rattle.zvt_trace.specs.Telling.{BrokenTrace, ToldSoFar, WholeTrace}
+use Rattle.zvt_trace.specs.Written.{AppendsFront, limit}
+use Rattle.zvt_trace.specs.declared.direction.Direction.{Direction}
+use Rattle.zvt_trace.specs.declared.fault.Tally.{Tally}
+use Rattle.zvt_trace.specs.declared.fault.TraceFault.{TraceFault}
+use Rattle.zvt_trace.specs.declared.fault.TraceFault.TheVariants.{Memory, Read, TooLong, Trace, Write}
+use Rattle.zvt_trace.specs.declared.listener.Failure.{Failure}
+use Rattle.zvt_trace.specs.declared.listener.Failure.TheVariants as failure
+use Rattle.zvt_trace.specs.declared.listener.Scope.TheVariants.{OneSide}
+use Rattle.zvt_show.specs.Text.{EventText, EventsText, MessageText}
+use Rattle.zvt_show.specs.declared.style.Style.{Style}
+
+-- ---- what the functions add to the text
+
+-- the text grew by a message's
+pub record AddsMessage (style : Style) (from : Direction) (message : Message) (old new : List ℕ) : Type 0 where
+  pub one : List ℕ
+  pub says : MessageText style from message one
+  pub grown : new ≡ old ++ one
+
+-- the text grew by that of what is told
+pub record AddsEvent (style : Style) (told : Told) (old new : List ℕ) : Type 0 where
+  pub one : List ℕ
+  pub says : EventText style told one
+  pub grown : new ≡ old ++ one
+
+-- ---- what a device has that failed
+
+-- the device has all that it had
+abbrev pub Extends : (old new : Option (List ℕ)) → Type 0
+Extends old new = (more : List ℕ) × Appends old new more
+
+-- the device has a front of what was to stand there
+abbrev pub IsShortOf : (whole new : Option (List ℕ)) → Type 0
+IsShortOf None new = Unit {0}
+IsShortOf (Some bytes) None = ⊥
+IsShortOf (Some bytes) (Some front) = IsFront front bytes
+
+-- ---- blocks
+
+-- what the device has once it has the block too
+abbrev pub behind : Option (List ℕ) → List ℕ → Option (List ℕ)
+behind None block = None
+behind (Some bytes) block = Some (bytes ++ block)
+
+-- what the device has, what is to be written, and how many writes failed
+pub record Page : Type 0 where
+  pub style : Style
+  pub written : Option (List ℕ)
+  pub block : List ℕ
+  pub failures : ℕ
+
+abbrev pub page : Style → Option (List ℕ) → List ℕ → ℕ → Page
+page style written block failures = record { style = style; written = written; block = block; failures = failures }
+
+abbrev pub all_of : Page → Option (List ℕ)
+all_of page = behind page.written page.block
+
+-- the text of what is told stands behind the block, or the block's does on the device
+pub record WritesEvent (told : Told) (old new : Page) : Type 0 where
+  pub text : List ℕ
+  pub says : EventText old.style told text
+  pub appended : Appends (all_of old) (all_of new) text
+  pub extends : Extends old.written new.written
+  pub failures : new.failures ≡ old.failures
+  pub same : new.style ≡ old.style
+
+-- where memory is refused nothing of it is written; of a write that failed, some front of what was to be written before
+abbrev pub FailsEvent : Failure → (old new : Page) → Type 0
+FailsEvent failure.Memory old new = Keeps (all_of old) (all_of new) × Extends old.written new.written × (old.failures ≤ new.failures)
+FailsEvent failure.Write old new = IsShortOf (all_of old) (all_of new) × Extends old.written new.written × (old.failures < new.failures)
+
+-- ---- what a command answers
+
+-- What a command answers for the lines of a trace. Where memory is refused, the text of all that the lines before tell is
+-- written, and of a front of what comes next; of a write that failed, some front of such a text.
+abbrev pub AnswersLines : Style → List (List ℕ) → (old new : Option (List ℕ)) → Result Tally TraceFault → Type 0
+AnswersLines style lines old new (Ok tally) =
+    (events : List At) × (text : List ℕ) × WholeTrace OneSide lines events × EventsText style events text × Appends old new text × Tallies tally events
+AnswersLines style lines old new (Err (Trace number what)) =
+    (events : List At) × (text : List ℕ) × BrokenTrace OneSide lines number what events × EventsText style events text × Appends old new text
+AnswersLines style lines old new (Err Write) =
+    (events : List At) × (text : List ℕ) × ToldSoFar OneSide lines events × EventsText style events text × AppendsFront old new text
+AnswersLines style lines old new (Err Memory) =
+    (events : List At) × (text : List ℕ) × ToldSoFar OneSide lines events × EventsText style events text × Appends old new text
+AnswersLines style lines old new (Err TooLong) = ⊥
+AnswersLines style lines old new (Err Read) = ⊥
+
+-- What a command answers for a trace of known bytes.
+abbrev pub AnswersTrace : Style → (trace : List ℕ) → (old new : Option (List ℕ)) → Result Tally TraceFault → Type 0
+AnswersTrace style trace old new (Ok tally) = (length trace ≤ limit) × AnswersLines style (lines trace) old new (Ok tally)
+AnswersTrace style trace old new (Err (Trace line what)) = (length trace ≤ limit) × AnswersLines style (lines trace) old new (Err (Trace line what))
+AnswersTrace style trace old new (Err TooLong) = (limit < length trace) × Keeps old new
+AnswersTrace style trace old new (Err Read) = Keeps old new
+AnswersTrace style trace old new (Err Write) = (length trace ≤ limit) × AnswersLines style (lines trace) old new (Err Write)
+AnswersTrace style trace old new (Err Memory) = AnswersLines style (lines trace) old new (Err Memory)

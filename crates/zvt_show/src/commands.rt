@@ -1,0 +1,73 @@
+//! The commands that write the text of a trace.
+ghost use Rattle.std.specs.Prelude.{◌≡◌, ◌<◌, ◌≤◌, length, Err, IfSome};
+ghost use Rattle.std.specs.Str.Lines.{lines};
+ghost use Rattle.zvt_trace.specs.Written.{limit};
+ghost use Rattle.zvt_show.specs.Written.{AnswersLines, AnswersTrace};
+ghost use Rattle.zvt_show.specs.declared.style.Style.TheVariants.{Join, Receipts, Show};
+
+use crate::pages::{Pages, flush};
+use crate::style::Style;
+use std::alloc::Global;
+use zvt_io::{Sink, Source};
+use zvt_trace::{Scope, Tally, TraceFault, read_trace, walk};
+
+/// Writes each whole message of the trace as text: its direction and name, and a line for each
+/// field. A stream that is refused or cut off is said, and counts as bad.
+pub fn show<R: Source, W: Sink>(
+    alloc: Global,
+    reader: &mut R,
+    writer: &mut W,
+) -> Result<Tally, TraceFault>
+    ensures writes { IfSome (R.remaining reader.old) (λ trace. AnswersTrace Show trace (W.written writer.old) (W.written writer.new) result) }
+    ensures read { result ≡ Err TraceFault.Read → R.failures reader.old < R.failures reader.new }
+    ensures write { result ≡ Err TraceFault.Write → W.failures writer.old < W.failures writer.new }
+{
+    let trace = read_trace(alloc, reader)?;
+    write_lines(alloc, Style::Show, trace.as_slice(), writer)
+}
+
+/// Writes each whole message of the trace as one line of a trace, and all else as remarks.
+pub fn join<R: Source, W: Sink>(
+    alloc: Global,
+    reader: &mut R,
+    writer: &mut W,
+) -> Result<Tally, TraceFault>
+    ensures writes { IfSome (R.remaining reader.old) (λ trace. AnswersTrace Join trace (W.written writer.old) (W.written writer.new) result) }
+    ensures read { result ≡ Err TraceFault.Read → R.failures reader.old < R.failures reader.new }
+    ensures write { result ≡ Err TraceFault.Write → W.failures writer.old < W.failures writer.new }
+{
+    let trace = read_trace(alloc, reader)?;
+    write_lines(alloc, Style::Join, trace.as_slice(), writer)
+}
+
+/// Writes the text of each print line of the terminal as one line, with escapes (`\xHH`) for what is no printing
+/// character, and nothing else. A stream that is refused or cut off counts as bad all the same.
+pub fn receipts<R: Source, W: Sink>(
+    alloc: Global,
+    reader: &mut R,
+    writer: &mut W,
+) -> Result<Tally, TraceFault>
+    ensures writes { IfSome (R.remaining reader.old) (λ trace. AnswersTrace Receipts trace (W.written writer.old) (W.written writer.new) result) }
+    ensures read { result ≡ Err TraceFault.Read → R.failures reader.old < R.failures reader.new }
+    ensures write { result ≡ Err TraceFault.Write → W.failures writer.old < W.failures writer.new }
+{
+    let trace = read_trace(alloc, reader)?;
+    write_lines(alloc, Style::Receipts, trace.as_slice(), writer)
+}
+
+/// Writes the text of what the lines of a trace tell. It goes out in blocks, the last one also where the walk fails.
+fn write_lines<W: Sink>(
+    alloc: Global,
+    style: Style,
+    trace: &[u8],
+    writer: &mut W,
+) -> Result<Tally, TraceFault>
+    requires { length trace.now ≤ limit }
+    ensures writes { AnswersLines style (lines trace.now) (W.written writer.old) (W.written writer.new) result }
+    ensures write { result ≡ Err TraceFault.Write → W.failures writer.old < W.failures writer.new }
+{
+    let mut pages = Pages::new(alloc, style);
+    let answer = walk(&mut pages, writer, alloc, Scope::OneSide, trace);
+    flush(&mut pages.block, writer)?;
+    answer
+}

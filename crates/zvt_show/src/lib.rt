@@ -1,0 +1,13 @@
+//! The text of traces of the line between a till and its terminal.
+//!
+//! [`show`] writes each message with its fields, [`join`] each message as one line of a trace, and [`receipts`] the text
+//! of the terminal's print lines.
+#![tactic(auto)]
+
+mod commands;
+mod event;
+mod message;
+mod pages;
+mod style;
+
+pub use commands::{join, receipts, show};
