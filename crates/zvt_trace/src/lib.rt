@@ -25,6 +25,7 @@ pub use auditing::audit;
 pub use direction::Direction;
 pub use fault::{Tally, TraceFault, What};
 pub use input::read_trace;
+pub use lines::next_line;
 pub use listener::{Failure, Listener, Scope};
 pub use told::{Head, Told};
 pub use walking::walk;

@@ -5,7 +5,7 @@ ghost use Rattle.std.specs.Str.Lines.{lines, strip_carriage_return};
 
 /// The first line, and what follows it.
 #[inline(always)]
-pub(crate) fn next_line(rest: &[u8]) -> (&[u8], &[u8])
+pub fn next_line(rest: &[u8]) -> (&[u8], &[u8])
     requires { 0 < length rest.now }
     ensures lines { lines rest.now ≡ result.0.now ∷ lines result.1.now }
     ensures shorter { length result.0.now + length result.1.now ≤ length rest.now }

@@ -1,0 +1,30 @@
+use Rattle.std.proofs.Common.{◌≡◌, ◌++◌, sym, ◌∙◌, ap, refl, List, ℕ}
+use Rattle.std.specs.String.{string_bytes}
+use Rattle.std.proofs.lemmas.Result.{err_from_is_err_and}
+use Rattle.zvt_vectors.specs.Checked.{got_text}
+use Rattle.zvt_vectors.proofs.VectorLemmas.{line_text, other, right, same, unwritten, wrong}
+use Rattle.zvt_vectors.proofs.checking.check_vector.Goals as goal
+
+pub returns-then-eq-clause-checks : goal.returns-then-eq-clause-checks
+returns-then-eq-clause-checks g c =
+    let told = c.in_ok-write_answer.ensures in
+    let answer = told.0 in
+    let made : c.as_bytes.result.now ≡ answer = c.as_bytes.ensures.value ∙ told.2 ∙ ap (λ (t : List ℕ). t ++ answer) c.new-answer.ensures.bytes in
+    right c.args.number c.args.bytes.now c.args.claim.now answer _ _ told.1 (same c.as_bytes.result.now c.args.claim.now (sym c.if-eq.ensures) ∙ made) refl refl
+
+pub returns-in_err-put-clause-checks : goal.returns-in_err-put-clause-checks
+returns-in_err-put-clause-checks g c =
+    let told = c.in_ok-write_answer.ensures in
+    let answer = told.0 in
+    let made : c.as_bytes.result.now ≡ answer = c.as_bytes.ensures.value ∙ told.2 ∙ ap (λ (t : List ℕ). t ++ answer) c.new-answer.ensures.bytes in
+    let p = err_from_is_err_and c.from_residual-in_err-put.result c.from_residual-in_err-put.ensures.1 in
+    let said : string_bytes c.writeln.new.self ≡ got_text c.args.number answer = line_text c.args.number _ _ _ answer c.new-text.ensures.bytes (told.2 ∙ ap (λ (t : List ℕ). t ++ answer) c.new-answer.ensures.bytes) c.in_ok-writeln.ensures.bytes in
+    rw (p.1, p.2, c.in_err-put.ensures.fault) (unwritten c.args.number c.args.bytes.now c.args.claim.now answer (string_bytes c.writeln.new.self) _ _ told.1 (λ e. other c.as_bytes.result.now c.args.claim.now (sym c.if-eq.ensures) (e ∙ sym made)) said c.in_err-put.ensures.front)
+
+pub returns-clause-checks : goal.returns-clause-checks
+returns-clause-checks g c =
+    let told = c.in_ok-write_answer.ensures in
+    let answer = told.0 in
+    let made : c.as_bytes.result.now ≡ answer = c.as_bytes.ensures.value ∙ told.2 ∙ ap (λ (t : List ℕ). t ++ answer) c.new-answer.ensures.bytes in
+    let said : string_bytes c.writeln.new.self ≡ got_text c.args.number answer = line_text c.args.number _ _ _ answer c.new-text.ensures.bytes (told.2 ∙ ap (λ (t : List ℕ). t ++ answer) c.new-answer.ensures.bytes) c.in_ok-writeln.ensures.bytes in
+    wrong c.args.number c.args.bytes.now c.args.claim.now answer (string_bytes c.writeln.new.self) _ _ _ told.1 (λ e. other c.as_bytes.result.now c.args.claim.now (sym c.if-eq.ensures) (e ∙ sym made)) said c.in_ok-put.ensures.bytes refl refl

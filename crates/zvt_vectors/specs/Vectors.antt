@@ -1,0 +1,87 @@
+-- What a line of a file of vectors means.
+use Rattle.std.specs.Prelude.{◌≡◌, ◌≢◌, ℕ, ◌<◌, ◌≤◌, ◌⊎◌, List, [], ◌∷◌, ◌++◌, codes, length, IsErr, Result, Ok, Err}
+use Rattle.std.specs.Fmt.{decimal}
+use Rattle.std.specs.List.{All}
+use Rattle.hex.specs.Hex.{decode_of}
+use Rattle.zvt_spelling.specs.Names.{why_name}
+use Rattle.zvt_spelling.specs.Reading.{shortest}
+use Rattle.zvt_spelling.specs.declared.answer.Scan.{Scan}
+use Rattle.zvt_spelling.specs.declared.answer.Scan.TheVariants.{Whole, More, Refused}
+use Rattle.zvt_apdu.specs.Judging.{Answers}
+use Rattle.zvt_apdu.specs.Message.{Message}
+use Rattle.zvt_trace.specs.Meanings.{without_spaces}
+use Rattle.zvt_trace.specs.declared.fault.What.{What}
+use Rattle.zvt_trace.specs.declared.fault.What.TheVariants.{Form, Hex}
+use Rattle.zvt_vectors.specs.declared.line.Line.{Line}
+use Rattle.zvt_vectors.specs.declared.line.Line.TheVariants as code
+
+-- ---- what a reader answers, as text
+
+abbrev pub answer_text : Scan (Message × ℕ) → List ℕ
+answer_text (Whole found) = codes "whole " ++ decimal found.1
+answer_text More = codes "more"
+answer_text (Refused place why) = codes "refused at " ++ decimal place ++ codes ": " ++ why_name why
+
+-- what the bytes are to a reader of messages, as text
+pub record AnswersAs (bytes text : List ℕ) : Type 0 where
+  pub answer : Scan (Message × ℕ)
+  pub answers : Answers shortest bytes answer
+  pub is_text : text ≡ answer_text answer
+
+-- ---- texts that have the form of an answer
+
+abbrev pub IsDigit : ℕ → Type 0
+IsDigit character = (48 ≤ character) × (character ≤ 57)
+
+abbrev pub IsLetter : ℕ → Type 0
+IsLetter character = ((65 ≤ character) × (character ≤ 90)) ⊎ ((97 ≤ character) × (character ≤ 122))
+
+abbrev pub IsNumber : List ℕ → Type 0
+IsNumber text = (0 < length text) × All IsDigit text
+
+abbrev pub IsWord : List ℕ → Type 0
+IsWord text = (0 < length text) × All IsLetter text
+
+abbrev pub IsRefusal : List ℕ → Type 0
+IsRefusal text = (place : List ℕ) × (reason : List ℕ) × IsNumber place × IsWord reason × (text ≡ place ++ codes ": " ++ reason)
+
+abbrev pub IsClaim : List ℕ → Type 0
+IsClaim text =
+    (text ≡ codes "more")
+    ⊎ ((size : List ℕ) × IsNumber size × (text ≡ codes "whole " ++ size))
+    ⊎ ((rest : List ℕ) × IsRefusal rest × (text ≡ codes "refused at " ++ rest))
+
+-- ---- one line
+
+-- what stands before the first '='
+abbrev pub IsOther : ℕ → Type 0
+IsOther character = character ≢ 61
+
+-- bytes in hexadecimal, and what is claimed of them, behind the first '=' of the line
+pub record IsVector (line : List ℕ) (spelled claim : List ℕ) : Type 0 where
+  pub cut : line ≡ spelled ++ codes "= " ++ claim
+  pub first : All IsOther spelled
+  pub claims : IsClaim claim
+
+pub data Meaning : Type 0 where
+  remark : Meaning
+  vector : (bytes claim : List ℕ) → Meaning
+
+-- an empty line, or one that begins with '#'
+abbrev pub IsRemark : List ℕ → Type 0
+IsRemark [] = Unit {0}
+IsRemark (first ∷ rest) = first ≡ 35
+
+-- what the line means, or what is wrong with it
+abbrev pub Means : List ℕ → Result Meaning What → Type 0
+Means line (Ok remark) = IsRemark line
+Means line (Ok (vector bytes claim)) =
+    (IsRemark line → ⊥) × (spelled : List ℕ) × IsVector line spelled claim × (decode_of (without_spaces spelled) ≡ Ok bytes)
+Means line (Err Form) = (IsRemark line → ⊥) × ((spelled claim : List ℕ) → IsVector line spelled claim → ⊥)
+Means line (Err Hex) =
+    (IsRemark line → ⊥) × (spelled : List ℕ) × (claim : List ℕ) × IsVector line spelled claim × IsErr (decode_of (without_spaces spelled))
+
+-- the meaning that a line of the code stands for
+abbrev pub meant_by : Line → Meaning
+meant_by code.Remark = remark
+meant_by (code.Vector bytes claim) = vector bytes.items claim.now

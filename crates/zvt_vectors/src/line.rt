@@ -1,0 +1,96 @@
+//! One line of a file of vectors.
+ghost use Rattle.std.specs.Prelude.{◌≡◌, ◌<◌, ◌≤◌, ℕ, List, Ok, Err, IfOk, IfSome, IsErr, IsNone, length, slice_index, take};
+ghost use Rattle.std.specs.List.{All};
+ghost use Rattle.hex.specs.Hex.{decode_of};
+ghost use Rattle.zvt_trace.specs.Meanings.{without_spaces};
+ghost use Rattle.zvt_trace.specs.declared.fault.What.{What};
+ghost use Rattle.zvt_vectors.specs.Vectors.{IsOther, IsVector, Means, meant_by, vector};
+
+use crate::claims::is_claim;
+use hex::FromHexError;
+use std::alloc::{AllocError, Global};
+use zvt_trace::What;
+
+/// What a line means.
+#[derive(Drop)]
+pub(crate) enum Line<'a> {
+    /// Nothing.
+    Remark,
+    /// A reader that is given these bytes is to answer that.
+    Vector { bytes: Vec<u8>, claim: &'a [u8] },
+}
+
+/// Why a line has no meaning.
+#[derive(Clone, Copy, Debug, PartialEq, Eq)]
+pub(crate) enum BadLine {
+    Wrong(What),
+    Memory,
+}
+
+impl From<AllocError> for BadLine {
+    ghost use Rattle.zvt_vectors.specs.declared.line.BadLine.TheVariants.{Memory};
+
+    ghost from_gives = { λ _ bad. bad ≡ Memory };
+
+    fn from(_refused: AllocError) -> BadLine {
+        BadLine::Memory
+    }
+}
+
+/// Reads a line, which has lost its line feed.
+pub(crate) fn read_line<'a>(alloc: Global, line: &'a [u8]) -> Result<Line<'a>, BadLine>
+    ensures ok { IfOk result (λ read. Means line.now (Ok (meant_by read))) }
+    ensures wrong { (what : What) → result ≡ Err (BadLine.Wrong what) → Means line.now (Err what) }
+{
+    match line {
+        [] | [b'#', ..] => Ok(Line::Remark),
+        _ => match cut(line) {
+            Some((spelled, claim)) => read_vector(alloc, spelled, claim),
+            None => Err(BadLine::Wrong(What::Form)),
+        },
+    }
+}
+
+/// The bytes in hexadecimal and the claim of a vector, where the line has its form.
+fn cut(line: &[u8]) -> Option<(&[u8], &[u8])>
+    ensures some { IfSome result (λ parts. IsVector line.now parts.0.now parts.1.now) }
+    ensures none { IsNone result → (spelled claim : List ℕ) → IsVector line.now spelled claim → ⊥ }
+{
+    let (spelled, rest) = line.split_at(count_before(line));
+    let claim = rest.strip_prefix(b"= ".as_slice())?;
+    if is_claim(claim) {
+        Some((spelled, claim))
+    } else {
+        None
+    }
+}
+
+/// How many characters stand before the first `=`.
+fn count_before(line: &[u8]) -> usize
+    ensures few { result ≤ length line.now }
+    ensures others { All IsOther (take result line.now) }
+    ensures all { result < length line.now → IsOther (slice_index line.now result) → ⊥ }
+{
+    let mut count = 0;
+    while count < line.len() && line[count] != b'=' {
+        count += 1;
+    }
+    count
+}
+
+/// The vector of these bytes in hexadecimal, with spaces.
+fn read_vector<'a>(alloc: Global, spelled: &[u8], claim: &'a [u8]) -> Result<Line<'a>, BadLine>
+    ensures ok { IfOk result (λ read. (bytes : List ℕ) × (decode_of (without_spaces spelled.now) ≡ Ok bytes) × (meant_by read ≡ vector bytes claim.now)) }
+    ensures wrong { (what : What) → result ≡ Err (BadLine.Wrong what) → (what ≡ What.Hex) × IsErr (decode_of (without_spaces spelled.now)) }
+{
+    let digits: Vec<u8> = spelled
+        .iter()
+        .copied()
+        .filter(|character| *character != b' ')
+        .collect(alloc)?;
+    match hex::decode(alloc, digits) {
+        Ok(bytes) => Ok(Line::Vector { bytes, claim }),
+        Err(FromHexError::OutOfMemory) => Err(BadLine::Memory),
+        Err(_) => Err(BadLine::Wrong(What::Hex)),
+    }
+}
