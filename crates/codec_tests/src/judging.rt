@@ -7,7 +7,7 @@ use std::alloc::{AllocError, Global};
 use std::process::Abort;
 use std::test::Fail;
 use zvt_spelling::Why;
-use zvt_stream::{Fed, FeedError, Stream};
+use zvt_stream::{Fed, FeedError, Stream, Truncated};
 
 /// A container of five constructed objects in one another, and one with bytes in the last.
 const NESTED: [u8; 17] = [
@@ -161,18 +161,23 @@ fn each_cut(rt: &impl Abort, alloc: Global, bytes: &[u8], step: usize)
     one_by_one(rt, alloc, bytes);
 }
 
-/// The bytes with each byte changed to each of some others.
-fn each_change(rt: &impl Abort, alloc: Global, bytes: &[u8]) -> Result<(), Fail> {
+/// The bytes with each of their first `count` replaced by each other byte, fed at cuts so far apart.
+fn each_change(
+    rt: &impl Abort,
+    alloc: Global,
+    bytes: &[u8],
+    count: usize,
+    step: usize,
+) -> Result<(), Fail>
+    requires { 0 < step }
+{
     let mut changed = Vec::new(alloc);
     changed.extend_from_slice(bytes)?;
-    for at in 0..bytes.len().min(24) {
+    for at in 0..bytes.len().min(count) {
         let before = changed[at];
-        for value in [
-            0x00u8, 0x01, 0x02, 0x03, 0x04, 0x06, 0x07, 0x0F, 0x1F, 0x22, 0x24, 0x25, 0x3F, 0x7E,
-            0x7F, 0x80, 0x81, 0x82, 0x83, 0x9F, 0xBF, 0xF0, 0xF1, 0xF9, 0xFA, 0xFE, 0xFF,
-        ] {
+        for value in 0..=255u8 {
             changed[at] = value;
-            each_cut(rt, alloc, &changed, 3);
+            each_cut(rt, alloc, &changed, step);
         }
         changed[at] = before;
     }
@@ -215,7 +220,42 @@ fn rows_at_every_cut(rt: HostRuntime) -> Result<(), Fail> {
 #[test]
 fn changed_rows(rt: HostRuntime) -> Result<(), Fail> {
     for &row in &ROWS {
-        each_change(&rt, rt.alloc(), row)?;
+        each_change(&rt, rt.alloc(), row, 24, 5)?;
+    }
+    for row in [ROWS[0], ROWS[8], &NESTED] {
+        each_change(&rt, rt.alloc(), row, row.len(), 1)?;
+    }
+    // What stands behind the first eight bytes is a content of any bytes.
+    let (first, byte, size) = LONG_ROWS[0];
+    let row = filled(rt.alloc(), first, byte, size)?;
+    each_change(&rt, rt.alloc(), &row, 10, 1)
+}
+
+/// Feeds each front of the bytes but the empty one: none ends a message, and all of it is held where the line ends.
+fn each_front(rt: &impl Abort, alloc: Global, message: &[u8]) {
+    for have in 1..message.len() {
+        let mut stream = Stream::new(alloc);
+        let fed = told_by_stream(alloc, &mut stream, &message[..have]);
+        assert_eq!(rt; fed, (1, 0, None));
+        assert_eq!(rt; stream.finish(), Err(Truncated { have }));
+    }
+}
+
+#[test]
+fn messages_cut_off_at_each_byte(rt: HostRuntime) -> Result<(), Fail> {
+    let alloc = rt.alloc();
+    let mut messages = 0;
+    for &row in &ROWS {
+        let mut stream = Stream::new(alloc);
+        let (answer, taken, _) = told_by_stream(alloc, &mut stream, row);
+        if answer == 0 {
+            each_front(&rt, alloc, &row[..taken.min(row.len())]);
+            messages += 1;
+        }
+    }
+    assert_eq!(rt; messages, 19);
+    for (first, byte, size) in LONG_ROWS {
+        each_front(&rt, alloc, &filled(alloc, first, byte, size)?);
     }
     Ok(())
 }

@@ -1,8 +1,8 @@
 //! One order over memory.
 use std::alloc::Global;
-use std::io::{self, Write};
+use std::io::{self, Read, Write};
 use std::process::Abort;
-use zvt_bcd::Currency;
+use zvt_bcd::{Amount, Currency, Trace};
 use zvt_io::Over;
 use zvt_spelling::Why;
 use zvt_stream::{LineFault, Stream};
@@ -132,4 +132,119 @@ fn an_order_that_cannot_be_sent(rt: HostRuntime) {
     }
     assert_eq!(rt; till.last_outcome(), Some(Outcome::Unclear(Cause::Line)));
     assert_eq!(rt; reader.inner.len(), 3);
+}
+
+const APPROVED: [u8; 25] = [
+    0x80, 0x00, 0x00, 0x04, 0x0F, 0x10, 0x27, 0x00, 0x04, 0x00, 0x00, 0x00, 0x00, 0x12, 0x34, 0x0B,
+    0x00, 0x00, 0x17, 0x87, 0x00, 0x05, 0x06, 0x0F, 0x00,
+];
+
+/// A reader that gives one byte for each read, and fails at the one of that number, counted from 1.
+#[derive(Drop)]
+struct Dripping<'a> {
+    bytes: &'a [u8],
+    reads: usize,
+    fails: usize,
+}
+
+impl Read for Dripping<'_> {
+    fn read(&mut self, buffer: &mut [u8]) -> io::Result<usize> {
+        self.reads = self.reads.saturating_add(1);
+        if self.reads == self.fails {
+            return Err(io::Error::from(io::ErrorKind::TimedOut));
+        }
+        match (self.bytes, buffer) {
+            ([first, rest @ ..], [room, ..]) => {
+                *room = *first;
+                self.bytes = rest;
+                Ok(1)
+            }
+            _ => Ok(0),
+        }
+    }
+}
+
+/// A writer that takes each message whole, and fails at the one of that number, counted from 1.
+#[derive(Drop)]
+struct Failing {
+    writes: usize,
+    fails: usize,
+}
+
+impl Write for Failing {
+    fn write(&mut self, bytes: &[u8]) -> io::Result<usize> {
+        self.writes = self.writes.saturating_add(1);
+        if self.writes == self.fails {
+            return Err(io::Error::from(io::ErrorKind::BrokenPipe));
+        }
+        Ok(bytes.len())
+    }
+
+    fn flush(&mut self) -> io::Result<()> {
+        Ok(())
+    }
+}
+
+/// What comes of paying 1234 where the approval comes byte by byte, and that read or that write fails, if there is one: a
+/// payment that was booked, or one that is unclear.
+fn pays_over(
+    rt: &impl Abort,
+    alloc: Global,
+    read: usize,
+    write: usize,
+) -> (Result<Outcome, RunFault>, Option<Outcome>, usize, usize) {
+    let mut stream = Stream::new(alloc);
+    let mut till = connected_till(rt, alloc);
+    let mut completed = Over::new([0x80, 0x00, 0x00, 0x06, 0x0F, 0x00].as_slice());
+    let mut sent = Over::new(Vec::new(alloc));
+    let registered = run_order(
+        alloc,
+        &mut completed,
+        &mut sent,
+        &mut stream,
+        &mut till,
+        Order::Register,
+        10,
+    );
+    assert_eq!(rt; registered, Ok(Outcome::Registered));
+    let mut reader = Over::new(Dripping {
+        bytes: &APPROVED,
+        reads: 0,
+        fails: read,
+    });
+    let mut writer = Over::new(Failing {
+        writes: 0,
+        fails: write,
+    });
+    let price = Amount::new(1234).expect(rt, "an amount");
+    let result = run_order(
+        alloc,
+        &mut reader,
+        &mut writer,
+        &mut stream,
+        &mut till,
+        Order::Pay(price),
+        100,
+    );
+    let last = till.last_outcome();
+    (result, last, till.book().len(), till.unclear().len())
+}
+
+#[test]
+fn a_payment_whose_read_or_write_fails(rt: HostRuntime) {
+    let unclear = Some(Outcome::Unclear(Cause::Line));
+    for read in 1..=25 {
+        let fault = Err(RunFault::Line(LineFault::Read));
+        assert_eq!(rt; pays_over(&rt, rt.alloc(), read, 0), (fault, unclear, 0, 1));
+    }
+    for write in 1..=2 {
+        let fault = Err(RunFault::Line(LineFault::Write));
+        assert_eq!(rt; pays_over(&rt, rt.alloc(), 0, write), (fault, unclear, 0, 1));
+    }
+    let paid = Some(Outcome::Paid {
+        trace: Trace::new(17).expect(&rt, "a trace number"),
+        receipt: Some([0, 5]),
+    });
+    let fault = Err(RunFault::Line(LineFault::Write));
+    assert_eq!(rt; pays_over(&rt, rt.alloc(), 0, 3), (fault, paid, 1, 0));
 }

@@ -258,3 +258,26 @@ fn a_lost_line(rt: HostRuntime) -> Result<(), Fail> {
     assert!(rt; run.till.registered());
     Ok(())
 }
+
+#[test]
+fn a_line_lost_at_each_byte(rt: HostRuntime) -> Result<(), Fail> {
+    let alloc = rt.alloc();
+    let mut answers = Vec::new(alloc);
+    for message in [&ACK, APPROVAL.as_slice(), &COMPLETION] {
+        answers.extend_from_slice(message)?;
+    }
+    for count in 0..=answers.len() {
+        let mut events = Vec::new(alloc);
+        registers(alloc, &mut events)?;
+        pays(&rt, alloc, &mut events, &[&answers[..count]])?;
+        events.push(Event::Lost)?;
+        if count < 25 {
+            let lost = Outcome::Unclear(Cause::Line);
+            runs(&rt, alloc, &events, &[], &[Cause::Line], lost)?;
+        } else {
+            let book = [entry(&rt, 17, 5)];
+            runs(&rt, alloc, &events, &book, &[], paid(&rt, 17, 5))?;
+        }
+    }
+    Ok(())
+}
