@@ -2,8 +2,9 @@
 use std::alloc::Global;
 use std::process::Abort;
 use std::test::Fail;
+use zvt_audit::audit;
 use zvt_io::{Failed, GhostCount, Over, Sink, Source};
-use zvt_trace::{Tally, TraceFault, What, audit};
+use zvt_trace::{Tally, TraceFault, What};
 
 /// What `audit` writes of a trace.
 fn audited(alloc: Global, trace: &str) -> (Result<Tally, TraceFault>, Vec<u8>) {

@@ -2,7 +2,7 @@
 use Rattle.std.specs.Prelude.{◌≡◌, ℕ, List, [], Option, None, Some, Result, codes}
 use Rattle.zvt_choice.specs.declared.chosen.Choice.{Choice}
 use Rattle.zvt_choice.specs.declared.chosen.Choice.TheVariants.{Audit, Join, Loop, Receipts, Show, Terminal, Till}
-use Rattle.zvt_trace.specs.Audited.{AnswersAudit}
+use Rattle.zvt_audit.specs.Audited.{AnswersAudit}
 use Rattle.zvt_show.specs.Lines.{mark_of}
 use Rattle.zvt_show.specs.Written.{AnswersTrace}
 use Rattle.zvt_trace.specs.declared.fault.Tally.{Tally}

@@ -5,6 +5,7 @@
 mod fault;
 
 pub use fault::ToolFault;
+pub use zvt_audit::audit;
 pub use zvt_choice::{Choice, ChoiceFault, words};
 pub use zvt_run::{
     BothEnds, End, EndFault, Ends, LineEnd, Planned, Recorded, Step, TillSettings, Way, config_of,
@@ -12,4 +13,4 @@ pub use zvt_run::{
     run_till, run_till_end, serve, step_of,
 };
 pub use zvt_show::{join, receipts, show};
-pub use zvt_trace::{Tally, TraceFault, What, audit};
+pub use zvt_trace::{Tally, TraceFault, What};

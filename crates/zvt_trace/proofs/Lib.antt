@@ -1,13 +1,9 @@
-pub mod AuditLemmas
 pub mod EventLemmas
-pub mod HeardLemmas
 pub mod InputLemmas
 pub mod LineLemmas
-pub mod LinkLemmas
 pub mod PieceLemmas
 pub mod SidesLemmas
 pub mod SpelledLemmas
 pub mod StartLemmas
 pub mod TellLemmas
-pub mod WalkLemmas
 pub mod WalkedLemmas

@@ -1,6 +1,5 @@
 -- What a piece brings, and what a feed of it answers.
-use Rattle.std.proofs.Common.{◌≡◌, ℕ, Bool, true, false, subst, List, [], ◌∷◌, ◌++◌, length, take, drop, refl, sym, ◌∙◌, ap, arith, append_assoc, append-nil}
-use Rattle.std.proofs.lemmas.List.{take-append-drop}
+use Rattle.std.proofs.Common.{◌≡◌, ℕ, Bool, true, false, subst, List, [], ◌∷◌, ◌++◌, length, refl, sym, ◌∙◌, arith, append-nil}
 use Rattle.zvt_spelling.proofs.CutLemmas.{spelled_append, spelled_more}
 use Rattle.zvt_spelling.specs.Beginnings.{NoneWhole}
 use Rattle.zvt_spelling.specs.Cuts.{Cut, Spelled}
@@ -16,10 +15,6 @@ use Rattle.std.specs.Prelude.{Result, Ok, Err, Option, Some, IfSome, IsSome}
 use Rattle.std.specs.Result.{IsErrOf}
 use Rattle.zvt_trace.specs.Trace.{Arrives, Ending, EndsIn, begun, running, refused, side_after}
 use Rattle.zvt_trace.specs.Written.{Follows}
-
--- what is held and what comes, cut behind so many bytes of what comes
-pub split : (held rest : List ℕ) (n : ℕ) → held ++ rest ≡ (held ++ take n rest) ++ drop n rest
-split held rest n = ap (λ r. held ++ r) (sym (take-append-drop n rest)) ∙ sym (append_assoc held (take n rest) (drop n rest))
 
 -- nothing is held, and nothing comes
 pub nothing_left : (held rest : List ℕ) → held ≡ [] → length rest ≡ 0 → held ++ rest ≡ []

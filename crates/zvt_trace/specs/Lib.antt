@@ -1,6 +1,3 @@
-pub mod Audit
-pub mod Audited
-pub mod Booked
 pub mod Lines
 pub mod Listening
 pub mod Meanings
@@ -8,5 +5,4 @@ pub mod Spelled
 pub mod Telling
 pub mod Told
 pub mod Trace
-pub mod Walks
 pub mod Written

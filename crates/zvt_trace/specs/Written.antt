@@ -8,10 +8,9 @@ use Rattle.zvt_spelling.specs.Reading.{shortest}
 use Rattle.zvt_apdu.specs.Grammar.{Spells}
 use Rattle.zvt_apdu.specs.Message.{Message}
 use Rattle.zvt_stream.specs.StreamState.{StreamState, HasRefused}
-use Rattle.zvt_trace.specs.Trace.{Side, Sides, running, stopped}
+use Rattle.zvt_trace.specs.Trace.{Side, running, stopped}
 use Rattle.zvt_trace.specs.declared.fault.TraceFault.{TraceFault}
 use Rattle.zvt_trace.specs.declared.fault.TraceFault.TheVariants.{Memory, Read, TooLong, Trace, Write}
-use Rattle.zvt_trace.specs.declared.streams.Streams.{Streams}
 
 -- ---- what the streams of the code stand for
 
@@ -19,10 +18,6 @@ use Rattle.zvt_trace.specs.declared.streams.Streams.{Streams}
 abbrev pub Follows : StreamState → Side → Type 0
 Follows state (running bytes) = (state.stopped ≡ false) × (messages : List Message) × Cut (Spells shortest) bytes messages state.held
 Follows state stopped = HasRefused state
-
-pub record Follow (streams : Streams) (sides : Sides) : Type 0 where
-  pub till : Follows streams.till sides.till
-  pub terminal : Follows streams.terminal sides.terminal
 
 -- ---- what a device has that failed
 

@@ -1,0 +1,35 @@
+-- What an audit answers and writes.
+use Rattle.std.specs.Prelude.{ℕ, ◌<◌, ◌≤◌, List, ◌++◌, length, Option, Result, Ok, Err}
+use Rattle.std.specs.Io.KnownBytes.{Appends, Keeps}
+use Rattle.std.specs.Str.Lines.{lines}
+use Rattle.zvt_till.specs.Books.{books}
+use Rattle.zvt_till.specs.Judging.{BooksSoFar, HasJudged}
+use Rattle.zvt_till.specs.declared.happenings.Happening.{Happening}
+use Rattle.zvt_trace.specs.Told.{At, Tallies}
+use Rattle.zvt_trace.specs.Telling.{BrokenTrace, WholeTrace}
+use Rattle.zvt_trace.specs.Written.{AppendsFront, limit}
+use Rattle.zvt_trace.specs.declared.fault.Tally.{Tally}
+use Rattle.zvt_trace.specs.declared.fault.TraceFault.{TraceFault}
+use Rattle.zvt_trace.specs.declared.fault.TraceFault.TheVariants.{Memory, Read, TooLong, Trace, Write}
+use Rattle.zvt_trace.specs.declared.listener.Scope.TheVariants.{WholeLine}
+use Rattle.zvt_audit.specs.Booked.{books_text}
+use Rattle.zvt_audit.specs.Happened.{log_of}
+
+-- the books of a log became those of the log with these happenings behind it
+abbrev pub Takes : (old new : BooksSoFar) → List Happening → Type 0
+Takes old new happened = (log : List Happening) → HasJudged log old → HasJudged (log ++ happened) new
+
+-- the device has besides the text of the books of what the trace tells
+abbrev pub WritesBooks : (trace : List ℕ) → Tally → (old new : Option (List ℕ)) → Type 0
+WritesBooks trace tally old new =
+    (events : List At) × WholeTrace WholeLine (lines trace) events × Appends old new (books_text (books (log_of events))) × Tallies tally events
+
+-- What an audit answers for a trace of known bytes. Where it fails nothing is written, but of a write that failed a front of the text.
+abbrev pub AnswersAudit : (trace : List ℕ) → (old new : Option (List ℕ)) → Result Tally TraceFault → Type 0
+AnswersAudit trace old new (Ok tally) = (length trace ≤ limit) × WritesBooks trace tally old new
+AnswersAudit trace old new (Err (Trace number what)) = (length trace ≤ limit) × (events : List At) × BrokenTrace WholeLine (lines trace) number what events × Keeps old new
+AnswersAudit trace old new (Err TooLong) = (limit < length trace) × Keeps old new
+AnswersAudit trace old new (Err Read) = Keeps old new
+AnswersAudit trace old new (Err Memory) = Keeps old new
+AnswersAudit trace old new (Err Write) =
+    (length trace ≤ limit) × (events : List At) × WholeTrace WholeLine (lines trace) events × AppendsFront old new (books_text (books (log_of events)))

@@ -1,0 +1,67 @@
+//! The books of a whole trace.
+ghost use Rattle.std.specs.Prelude.{◌≡◌, ◌<◌, Err, IfErr, IfSome, OnErr, OnOk};
+ghost use Rattle.std.specs.Io.KnownBytes.{Appends};
+ghost use Rattle.std.specs.String.{string_bytes};
+ghost use Rattle.zvt_io.specs.Devices.{CountsFailure};
+ghost use Rattle.zvt_trace.specs.Written.{AppendsFront};
+ghost use Rattle.zvt_audit.specs.Audited.{AnswersAudit};
+
+use crate::auditor::Auditor;
+use crate::booked;
+use std::alloc::Global;
+use zvt_io::{Failed, Sink, Source};
+use zvt_text::Scribe;
+use zvt_till::Happening;
+use zvt_till::books::Bookkeeping;
+use zvt_trace::{Scope, Tally, TraceFault, read_trace, walk};
+
+/// Writes the books of the trace: a line for each payment that was completed, then one for each of which it is not
+/// known whether it happened, and the sum of the former in the smallest unit of the currency. Payments that were taken
+/// back count too.
+///
+/// The till's orders and the terminal's messages are judged as a till's log that begins with its connection. Where bytes
+/// of either side are refused, neither is read until the line is lost. A stream that is refused or cut off counts as
+/// bad.
+///
+/// The text is written once, at the end. Nothing is written where a line can't be read, where the trace is too long or
+/// can't be read to its end, and where there is too little memory.
+pub fn audit<R: Source, W: Sink>(
+    alloc: Global,
+    reader: &mut R,
+    writer: &mut W,
+) -> Result<Tally, TraceFault>
+    ensures writes { IfSome (R.remaining reader.old) (λ trace. AnswersAudit trace (W.written writer.old) (W.written writer.new) result) }
+    ensures read { result ≡ Err TraceFault.Read → R.failures reader.old < R.failures reader.new }
+    ensures write { result ≡ Err TraceFault.Write → W.failures writer.old < W.failures writer.new }
+{
+    let trace = read_trace(alloc, reader)?;
+    let mut books = Bookkeeping::new(alloc);
+    books.take(&Happening::Connected)?;
+    let mut auditor = Auditor { books };
+    let tally = walk(
+        &mut auditor,
+        &mut (),
+        alloc,
+        Scope::WholeLine,
+        trace.as_slice(),
+    )?;
+    let found = auditor.books.close()?;
+    let mut text = String::new(alloc);
+    let mut scribe = Scribe::new(alloc);
+    booked::write(&mut scribe, &mut text, &found)?;
+    put(&text, writer)?;
+    Ok(tally)
+}
+
+/// Writes the text to the device.
+fn put<W: Sink>(text: &String, writer: &mut W) -> Result<(), TraceFault>
+    ensures bytes { OnOk result (Appends (W.written writer.old) (W.written writer.new) (string_bytes text.now)) }
+    ensures fault { IfErr result (λ fault. fault ≡ TraceFault.Write) }
+    ensures failures { CountsFailure (W.failures writer.old) (W.failures writer.new) result }
+    ensures front { OnErr result (AppendsFront (W.written writer.old) (W.written writer.new) (string_bytes text.now)) }
+{
+    match writer.write_all(text.as_bytes()) {
+        Ok(()) => Ok(()),
+        Err(Failed) => Err(TraceFault::Write),
+    }
+}
