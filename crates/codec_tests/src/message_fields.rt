@@ -1,10 +1,8 @@
 //! Messages with fields, worked by hand.
 
-use crate::messages::{Refusal, first, is_read, refuses};
-use std::alloc::{AllocError, Global};
+use crate::messages::{first, is_read};
 use std::test::Fail;
-use zvt_apdu::{Message, scan};
-use zvt_spelling::{Scan, Why};
+use zvt_apdu::Message;
 
 const PAYMENT: [u8; 13] = [
     0x06, 0x01, 0x0A, 0x04, 0x00, 0x00, 0x00, 0x00, 0x12, 0x34, 0x49, 0x09, 0x78,
@@ -52,63 +50,9 @@ fn takes_each_message_whole(rt: HostRuntime) -> Result<(), Fail> {
     Ok(())
 }
 
-fn wants_more(alloc: Global, bytes: &[u8]) -> Result<bool, AllocError> {
-    Ok(matches!(scan(alloc, bytes)?, Scan::More))
-}
-
-#[test]
-fn wants_more_until_a_message_is_whole(rt: HostRuntime) -> Result<(), Fail> {
-    for size in 0..19 {
-        assert!(rt; wants_more(rt.alloc(), &STATUS[..size])?, "{size}");
-    }
-    Ok(())
-}
-
 #[test]
 fn takes_a_long_object(rt: HostRuntime) -> Result<(), Fail> {
     let mut bytes = [0x20; 134];
     bytes[..8].copy_from_slice(&[0x06, 0x0F, 0x83, 0x06, 0x81, 0x80, 0x07, 0x7E]);
     is_read(&rt, rt.alloc(), &bytes, 134)
-}
-
-#[test]
-fn refuses_in_fields(rt: HostRuntime) -> Result<(), Fail> {
-    let rows: [Refusal; 12] = [
-        (
-            &[0x06, 0x0F, 0x06, 0x06, 0x04, 0x07, 0x81, 0x01, 0x41],
-            6,
-            Why::NotShortest,
-        ),
-        (&[0x06, 0x0F, 0x03, 0x06], 3, Why::DoesNotFit),
-        (&[0x06, 0x01, 0x08, 0x04], 3, Why::DoesNotFit),
-        (&[0x06, 0x0F, 0x05, 0x06, 0x03, 0x25], 5, Why::DoesNotFit),
-        (
-            &[0x06, 0x01, 0x07, 0x04, 0x00, 0x00, 0x00, 0x00, 0x12, 0x3A],
-            9,
-            Why::NotDigit,
-        ),
-        (&[0x06, 0x01, 0x02, 0xD0], 3, Why::UnknownField),
-        (&[0x04, 0x0F, 0x05, 0x8B, 0xF0, 0xFA], 5, Why::LengthDigit),
-        (&[0x04, 0x0F, 0x06, 0x8B, 0xF1], 4, Why::DoesNotFit),
-        (
-            &[0x06, 0x0F, 0x06, 0x06, 0x04, 0x1F, 0x81, 0x87],
-            7,
-            Why::TagTooLong,
-        ),
-        (
-            &[0x06, 0x0F, 0x04, 0x06, 0x02, 0x07, 0x80],
-            6,
-            Why::LengthForm,
-        ),
-        (&[0x06, 0x0F, 0x82, 0x06, 0x81], 4, Why::NotShortest),
-        (
-            &[
-                0x06, 0x0F, 0x0E, 0x06, 0x0C, 0x25, 0x0A, 0x25, 0x08, 0x25, 0x06, 0x25, 0x04, 0x25,
-                0x02, 0x25, 0x00,
-            ],
-            15,
-            Why::TooDeep,
-        ),
-    ];
-    refuses(&rt, rt.alloc(), &rows)
 }

@@ -37,23 +37,12 @@ pub fn is_read(rt: &impl Abort, alloc: Global, bytes: &[u8], wanted: usize) -> R
     written
 }
 
-/// Bytes that begin no message, and where and why they are refused.
-pub type Refusal<'a> = (&'a [u8], usize, Why);
-
 /// Where and why the bytes are refused.
 pub fn refusal(alloc: Global, bytes: &[u8]) -> Result<Option<(usize, Why)>, AllocError> {
     Ok(match scan(alloc, bytes)? {
         Scan::Refused { place, why } => Some((place, why)),
         _ => None,
     })
-}
-
-/// The bytes are refused so.
-pub fn refuses(rt: &impl Abort, alloc: Global, rows: &[Refusal]) -> Result<(), Fail> {
-    for &(bytes, at, reason) in rows {
-        assert_eq!(rt; refusal(alloc, bytes)?, Some((at, reason)), "{bytes:?}");
-    }
-    Ok(())
 }
 
 /// The name of a message without fields, the bytes that it names, and what stands behind them.
@@ -158,19 +147,6 @@ fn long_lengths(rt: HostRuntime) -> Result<(), Fail> {
         is_read(&rt, rt.alloc(), &bytes, size)?;
     }
     Ok(())
-}
-
-#[test]
-fn refuses_at_the_first_byte_that_none_can_follow(rt: HostRuntime) -> Result<(), Fail> {
-    let no_digit = [0x06, 0x00, 0x06, 0x00, 0x00, 0x00, 0xBE, 0x09, 0x7A];
-    let rows: [Refusal; 5] = [
-        (&[0x06, 0x00, 0x05], 2, Why::DoesNotFit),
-        (&[0x06, 0x01, 0x01], 2, Why::DoesNotFit),
-        (&[0x06, 0x30, 0x02], 2, Why::DoesNotFit),
-        (&no_digit, 8, Why::NotDigit),
-        (&[0x06, 0xD1, 0xFF, 0xFE, 0x00], 4, Why::NotShortest),
-    ];
-    refuses(&rt, rt.alloc(), &rows)
 }
 
 /// Why the message has no spelling, and the bytes that it still names and how many stand behind them.
