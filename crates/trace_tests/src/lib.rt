@@ -15,3 +15,5 @@ mod run_words;
 mod runs;
 #[cfg(test)]
 mod traces;
+#[cfg(test)]
+mod vectors;
