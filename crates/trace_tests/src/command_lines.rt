@@ -62,12 +62,12 @@ fn commands_and_their_options(rt: HostRuntime) -> Result<(), Fail> {
             r#"Till { port: 1, host: "127.0.0.1", password: Some("12"), config: Some("8A"), currency: Some("0752"), trace: Some("t.trace"), steps: [] }"#,
         ),
         (
-            "zvt terminal --port=1 --decline 6c --tid=99999999 --host ::1 --trace t",
-            r#"Terminal { port: 1, host: "::1", tid: 99999999, decline: Some("6c"), trace: Some("t") }"#,
+            "zvt terminal --port=1 --decline 6c --tid=99999999 --host ::1 --trace t --connections 3",
+            r#"Terminal { port: 1, host: "::1", tid: 99999999, connections: 3, decline: Some("6c"), trace: Some("t") }"#,
         ),
         (
             "zvt terminal --port 4711",
-            r#"Terminal { port: 4711, host: "127.0.0.1", tid: 12345678, decline: None, trace: None }"#,
+            r#"Terminal { port: 4711, host: "127.0.0.1", tid: 12345678, connections: 1, decline: None, trace: None }"#,
         ),
     ];
     for (line, choice) in cases {
@@ -89,6 +89,10 @@ fn wrong_words(rt: HostRuntime) -> Result<(), Fail> {
         ("zvt till --port=x", ErrorKind::ValueValidation),
         (
             "zvt terminal --port=1 --tid=100000000",
+            ErrorKind::ValueValidation,
+        ),
+        (
+            "zvt terminal --port=1 --connections=65536",
             ErrorKind::ValueValidation,
         ),
         ("zvt terminal --port=1 register", ErrorKind::UnknownArgument),

@@ -2,7 +2,7 @@
 use std::alloc::Global;
 use std::process::Abort;
 use std::test::Fail;
-use zvt_run::EndFault;
+use zvt_run::{EndFault, NetFault};
 use zvt_spelling::Why;
 use zvt_stream::LineFault;
 
@@ -18,11 +18,11 @@ fn runs_say_why_they_ended(rt: HostRuntime) -> Result<(), Fail> {
     let rows = [
         (
             &EndFault::BadStep { at: 3 },
-            "word 3, counted from 0, is no step: the steps are 'register', 'pay:N', 'reverse:N', 'close' and, where both ends run, 'decline:N:XX'",
+            "word 4 is no step: the steps are 'register', 'pay:N', 'reverse:N', 'close' and, where both ends run, 'decline:N:XX'",
         ),
         (
-            &EndFault::Net,
-            "there is no connection: see whether the other end listens at that host and port, and whether the port is free where one is to be opened",
+            &EndFault::Trace,
+            "the trace of the line can't be written: see whether there is room where it goes; the line was given up, though it did not break",
         ),
         (
             &EndFault::Write,
@@ -32,6 +32,48 @@ fn runs_say_why_they_ended(rt: HostRuntime) -> Result<(), Fail> {
     ];
     for (fault, wanted) in rows {
         says(&rt, rt.alloc(), fault, wanted)?;
+    }
+    Ok(())
+}
+
+#[test]
+fn each_want_of_a_connection_is_said(rt: HostRuntime) -> Result<(), Fail> {
+    let rows = [
+        (
+            NetFault::UnknownHost,
+            "there is no connection: the host has no address that can be found: see whether its name is right",
+        ),
+        (
+            NetFault::Refused,
+            "there is no connection: nothing listens at that host and port: see whether the terminal runs there, and at which port",
+        ),
+        (
+            NetFault::Unreachable,
+            "there is no connection: the host can't be reached from here",
+        ),
+        (
+            NetFault::Silent,
+            "there is no connection: the host does not answer: see whether its name or address is right",
+        ),
+        (
+            NetFault::InUse,
+            "there is no connection: the port is in use: end the program that listens there, or give another port, or 0 for a free one",
+        ),
+        (
+            NetFault::Elsewhere,
+            "there is no connection: the address to listen at is none of this machine's",
+        ),
+        (
+            NetFault::NotAllowed,
+            "there is no connection: the system does not allow that port: one from 1024 on needs no rights of its own",
+        ),
+        (
+            NetFault::Other,
+            "there is no connection: see whether the other end listens at that host and port, and whether the port is free where one is to be opened",
+        ),
+    ];
+    for (fault, wanted) in rows {
+        says(&rt, rt.alloc(), &EndFault::Net(fault), wanted)?;
     }
     Ok(())
 }

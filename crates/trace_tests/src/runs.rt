@@ -5,7 +5,7 @@ use std::net::TcpListener;
 use std::test::Fail;
 use zvt_io::{Over, Sink, Source};
 use zvt_run::{
-    BothEnds, End, EndFault, Ends, Recorded, TillSettings, Way, config_of, currency_of, password_of, plan,
+    BothEnds, End, EndFault, Ends, NetFault, Recorded, TillSettings, Way, config_of, currency_of, password_of, plan,
     run_both_ends, run_loop, run_terminal, run_till, run_till_end, serve,
 };
 use zvt_spelling::Why;
@@ -180,7 +180,7 @@ fn ends_that_never_rest(rt: HostRuntime) -> Result<(), Fail> {
 }
 
 /// What a terminal of the number 87654321, which declines with 6C, writes where these bytes come, and how it ends.
-fn serves(alloc: Global, coming: &[u8]) -> (Result<(), EndFault>, Vec<u8>) {
+fn serves(alloc: Global, coming: &[u8]) -> (Result<(), LineFault>, Vec<u8>) {
     let mut end = End {
         reader: Over::new(coming),
         writer: Over::new(Vec::new(alloc)),
@@ -209,13 +209,13 @@ fn a_terminal_serves_its_line(rt: HostRuntime) -> Result<(), Fail> {
     assert!(rt; ended.is_ok());
     assert_eq!(rt; written.as_slice(), answers.as_slice());
     let (ended, _) = serves(rt.alloc(), [0x06, 0x01, 0x0A, 0x04].as_slice());
-    assert!(rt; matches!(ended, Err(EndFault::Line(LineFault::Ended { have: 4 }))));
+    assert!(rt; matches!(ended, Err(LineFault::Ended { have: 4 })));
     let (ended, _) = serves(rt.alloc(), [0x06, 0x01, 0x02, 0xD0].as_slice());
     let fault = LineFault::Malformed {
         place: 3,
         why: Why::UnknownField,
     };
-    assert!(rt; matches!(&ended, Err(EndFault::Line(found)) if *found == fault));
+    assert!(rt; matches!(&ended, Err(found) if *found == fault));
     Ok(())
 }
 
@@ -226,8 +226,8 @@ fn no_till_connects(rt: HostRuntime) -> Result<(), Fail> {
     let mut tell = Over::new(Vec::new(rt.alloc()));
     let host = "127.0.0.1";
     let verdict = Verdict::Approve;
-    let ended = run_terminal(&rt, rt.alloc(), host, port, 1, verdict, None, &mut tell);
-    assert!(rt; matches!(ended, Err(EndFault::Net)));
+    let ended = run_terminal(&rt, rt.alloc(), host, port, 1, verdict, 1, None, &mut tell);
+    assert!(rt; matches!(ended, Err(EndFault::Net(NetFault::InUse))));
     assert!(rt; tell.inner.is_empty());
     Ok(())
 }
@@ -263,7 +263,7 @@ fn no_terminal_listens(rt: HostRuntime) -> Result<(), Fail> {
     let port = closed_port(&rt)?;
     let mut writer = Over::new(Vec::new(rt.alloc()));
     let ended = till_at(&rt, port, &[], &mut writer);
-    assert!(rt; matches!(ended, Err(EndFault::Net)));
+    assert!(rt; matches!(ended, Err(EndFault::Net(NetFault::Refused))));
     assert!(rt; writer.inner.is_empty());
     Ok(())
 }

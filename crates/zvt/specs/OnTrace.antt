@@ -16,7 +16,7 @@ IsOnTrace Audit = Unit {0}
 IsOnTrace Receipts = Unit {0}
 IsOnTrace (Loop trace steps) = ⊥
 IsOnTrace (Till port host password config currency trace steps) = ⊥
-IsOnTrace (Terminal port host tid decline trace) = ⊥
+IsOnTrace (Terminal port host tid connections decline trace) = ⊥
 
 -- what is answered and written in the style that marks its faults so
 abbrev pub AnswersMarked : Option (List ℕ) → (trace : List ℕ) → (old new : Option (List ℕ)) → Result Tally TraceFault → Type 0
@@ -31,4 +31,4 @@ AnswersOnTrace Receipts trace old new result = AnswersMarked None trace old new 
 AnswersOnTrace Audit trace old new result = AnswersAudit trace old new result
 AnswersOnTrace (Loop file steps) trace old new result = ⊥
 AnswersOnTrace (Till port host password config currency file steps) trace old new result = ⊥
-AnswersOnTrace (Terminal port host tid decline file) trace old new result = ⊥
+AnswersOnTrace (Terminal port host tid connections decline file) trace old new result = ⊥

@@ -31,10 +31,11 @@ status_of_trace_fault on_trace.Read = 4
 status_of_trace_fault on_trace.Write = 4
 status_of_trace_fault on_trace.Memory = 5
 
--- a wrong word is 2, a device, a line or a connection that failed 4, want of memory 5
+-- a wrong word is 2, a device, a line, its trace or a connection that failed 4, want of memory 5
 abbrev pub status_of_end_fault : EndFault → ℕ
 status_of_end_fault (at_end.BadStep at) = 2
-status_of_end_fault at_end.Net = 4
+status_of_end_fault (at_end.Net why) = 4
+status_of_end_fault at_end.Trace = 4
 status_of_end_fault (at_end.Line fault) = status_of_line fault
 status_of_end_fault at_end.Write = 4
 status_of_end_fault at_end.Memory = 5

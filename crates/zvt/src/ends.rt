@@ -66,17 +66,22 @@ pub fn till(
     finish_run(rt, steps, answer)
 }
 
-/// Serves one till as a terminal, and answers the exit status.
+/// Serves so many tills as a terminal, and answers the exit status.
 pub fn terminal(
     rt: &HostRuntime,
     host: &str,
     port: u16,
     tid: u32,
+    connections: u16,
     decline: Option<&str>,
     trace: Option<&str>,
 ) -> io::Result<u8>
     requires { tid ≤ 99999999 }
 {
+    if connections == 0 {
+        eprintln!(rt; "zvt: '0' is no number of connections: one from 1 to 65535")?;
+        return Ok(WORDS);
+    }
     let verdict = match decline {
         None => Verdict::Approve,
         Some(word) => match result_code(word) {
@@ -95,7 +100,17 @@ pub fn terminal(
     };
     let mut tell = Over::new(rt.stderr());
     let file = file.as_ref();
-    let answer = run_terminal(rt, rt.alloc(), host, port, tid, verdict, file, &mut tell);
+    let answer = run_terminal(
+        rt,
+        rt.alloc(),
+        host,
+        port,
+        tid,
+        verdict,
+        connections,
+        file,
+        &mut tell,
+    );
     finish_run(rt, &[], answer)
 }
 

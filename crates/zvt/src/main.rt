@@ -87,9 +87,10 @@ fn execute(rt: &HostRuntime, chosen: &Choice<'_>) -> io::Result<u8>
             port,
             host,
             tid,
+            connections,
             decline,
             trace,
-        } => ends::terminal(rt, host, *port, *tid, *decline, *trace),
+        } => ends::terminal(rt, host, *port, *tid, *connections, *decline, *trace),
     }
 }
 

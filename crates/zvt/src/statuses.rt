@@ -67,7 +67,7 @@ fn of_end_fault(fault: &EndFault) -> u8
 {
     match fault {
         EndFault::BadStep { .. } => WORDS,
-        EndFault::Net | EndFault::Write => DEVICE,
+        EndFault::Net(_) | EndFault::Trace | EndFault::Write => DEVICE,
         EndFault::Line(LineFault::Memory) | EndFault::Memory => MEMORY,
         EndFault::Line(_) => DEVICE,
     }

@@ -68,5 +68,5 @@ fn a_wrong_step_is_named(rt: HostRuntime) {
     let steps = ["register", "pay:0"];
     let fault = EndFault::BadStep { at: 1 };
     assert_eq!(rt; word_of(&fault, steps.as_slice()), Some("pay:0"));
-    assert_eq!(rt; word_of(&EndFault::Net, steps.as_slice()), None);
+    assert_eq!(rt; word_of(&EndFault::Trace, steps.as_slice()), None);
 }

@@ -20,7 +20,7 @@ till_has rows Audit said lacks = other_first (codes "till") (codes "audit") (λ 
 till_has rows Receipts said lacks = other_first (codes "till") (codes "receipts") (λ e. omega (arith, e)) said
 till_has rows (Loop trace steps) said lacks = other_first (codes "till") (codes "loop") (λ e. omega (arith, e)) said.0
 till_has rows (Till port host password config currency trace steps) said lacks = lacks port said.1
-till_has rows (Terminal port host tid decline trace) said lacks = other_second (codes "till") (codes "terminal") (λ e. omega (arith, e)) said.0
+till_has rows (Terminal port host tid connections decline trace) said lacks = other_second (codes "till") (codes "terminal") (λ e. omega (arith, e)) said.0
 
 till_has_host : (rows : List Row) (choice : Choice) → IsCommandOf (codes "till") rows choice → first_of (codes "host") rows ≢ None
 till_has_host rows Show said lacks = other_first (codes "till") (codes "show") (λ e. omega (arith, e)) said
@@ -29,7 +29,7 @@ till_has_host rows Audit said lacks = other_first (codes "till") (codes "audit")
 till_has_host rows Receipts said lacks = other_first (codes "till") (codes "receipts") (λ e. omega (arith, e)) said
 till_has_host rows (Loop trace steps) said lacks = other_first (codes "till") (codes "loop") (λ e. omega (arith, e)) said.0
 till_has_host rows (Till port host password config currency trace steps) said lacks = let bad : Some host.now ≡ None = sym said.2 ∙ lacks in cc
-till_has_host rows (Terminal port host tid decline trace) said lacks = other_second (codes "till") (codes "terminal") (λ e. omega (arith, e)) said.0
+till_has_host rows (Terminal port host tid connections decline trace) said lacks = other_second (codes "till") (codes "terminal") (λ e. omega (arith, e)) said.0
 
 terminal_has_host : (rows : List Row) (choice : Choice) → IsCommandOf (codes "terminal") rows choice → first_of (codes "host") rows ≢ None
 terminal_has_host rows Show said lacks = other_first (codes "terminal") (codes "show") (λ e. omega (arith, e)) said
@@ -38,17 +38,17 @@ terminal_has_host rows Audit said lacks = other_first (codes "terminal") (codes 
 terminal_has_host rows Receipts said lacks = other_first (codes "terminal") (codes "receipts") (λ e. omega (arith, e)) said
 terminal_has_host rows (Loop trace steps) said lacks = other_first (codes "terminal") (codes "loop") (λ e. omega (arith, e)) said.0
 terminal_has_host rows (Till port host password config currency trace steps) said lacks = other_second (codes "terminal") (codes "till") (λ e. omega (arith, e)) said.0
-terminal_has_host rows (Terminal port host tid decline trace) said lacks = let bad : Some host.now ≡ None = sym said.2 ∙ lacks in cc
+terminal_has_host rows (Terminal port host tid connections decline trace) said lacks = let bad : Some host.now ≡ None = sym said.2 ∙ lacks in cc
 
 terminal_has : (rows : List Row) (choice : Choice) → IsCommandOf (codes "terminal") rows choice
-    → ((port tid : ℕ) → GivesNumber (codes "port") rows 65535 port → GivesNumber (codes "tid") rows 99999999 tid → ⊥) → ⊥
+    → ((port tid connections : ℕ) → GivesNumber (codes "port") rows 65535 port → GivesNumber (codes "tid") rows 99999999 tid → GivesNumber (codes "connections") rows 65535 connections → ⊥) → ⊥
 terminal_has rows Show said lacks = other_first (codes "terminal") (codes "show") (λ e. omega (arith, e)) said
 terminal_has rows Join said lacks = other_first (codes "terminal") (codes "join") (λ e. omega (arith, e)) said
 terminal_has rows Audit said lacks = other_first (codes "terminal") (codes "audit") (λ e. omega (arith, e)) said
 terminal_has rows Receipts said lacks = other_first (codes "terminal") (codes "receipts") (λ e. omega (arith, e)) said
 terminal_has rows (Loop trace steps) said lacks = other_first (codes "terminal") (codes "loop") (λ e. omega (arith, e)) said.0
 terminal_has rows (Till port host password config currency trace steps) said lacks = other_second (codes "terminal") (codes "till") (λ e. omega (arith, e)) said.0
-terminal_has rows (Terminal port host tid decline trace) said lacks = lacks port tid said.1 said.3
+terminal_has rows (Terminal port host tid connections decline trace) said lacks = lacks port tid connections said.1 said.3 said.4
 
 pub till_without_port : (rows : List Row) → IsNumberOf (codes "port") rows 65535 None → HasNoChoice (Some (codes "till", rows))
 till_without_port rows lacks = λ choice said. till_has rows choice said lacks
@@ -57,13 +57,16 @@ pub till_without_host : (rows : List Row) → first_of (codes "host") rows ≡ N
 till_without_host rows lacks = λ choice said. till_has_host rows choice said lacks
 
 pub terminal_without_port : (rows : List Row) → IsNumberOf (codes "port") rows 65535 None → HasNoChoice (Some (codes "terminal", rows))
-terminal_without_port rows lacks = λ choice said. terminal_has rows choice said (λ port tid a b. lacks port a)
+terminal_without_port rows lacks = λ choice said. terminal_has rows choice said (λ port tid connections a b d. lacks port a)
 
 pub terminal_without_host : (rows : List Row) → first_of (codes "host") rows ≡ None → HasNoChoice (Some (codes "terminal", rows))
 terminal_without_host rows lacks = λ choice said. terminal_has_host rows choice said lacks
 
 pub terminal_without_tid : (rows : List Row) → IsNumberOf (codes "tid") rows 99999999 None → HasNoChoice (Some (codes "terminal", rows))
-terminal_without_tid rows lacks = λ choice said. terminal_has rows choice said (λ port tid a b. lacks tid b)
+terminal_without_tid rows lacks = λ choice said. terminal_has rows choice said (λ port tid connections a b d. lacks tid b)
+
+pub terminal_without_connections : (rows : List Row) → IsNumberOf (codes "connections") rows 65535 None → HasNoChoice (Some (codes "terminal", rows))
+terminal_without_connections rows lacks = λ choice said. terminal_has rows choice said (λ port tid connections a b d. lacks connections d)
 
 -- the name is none of a command
 pub no_command : (name : Text) (rows : List Row) → (name ≢ codes "show") → (name ≢ codes "join") → (name ≢ codes "audit")
@@ -78,4 +81,4 @@ no_command name rows show join audit receipts loop till terminal = no
     no Receipts said = receipts said
     no (Loop trace steps) said = loop said.0
     no (Till port host password config currency trace steps) said = till said.0
-    no (Terminal port host tid decline trace) said = terminal said.0
+    no (Terminal port host tid connections decline trace) said = terminal said.0

@@ -55,10 +55,11 @@ IsCommandOf name rows (Till port host password config currency trace steps) =
     × IsTextOf (codes "currency") rows currency
     × IsTextOf (codes "trace") rows trace
     × (map (λ step. step.now) steps.items ≡ steps_of rows)
-IsCommandOf name rows (Terminal port host tid decline trace) =
+IsCommandOf name rows (Terminal port host tid connections decline trace) =
     (name ≡ codes "terminal") × GivesNumber (codes "port") rows 65535 port
     × (first_of (codes "host") rows ≡ Some host.now)
     × GivesNumber (codes "tid") rows 99999999 tid
+    × GivesNumber (codes "connections") rows 65535 connections
     × IsTextOf (codes "decline") rows decline
     × IsTextOf (codes "trace") rows trace
 

@@ -30,6 +30,12 @@ tid_rule = record (option_rule (codes "tid")) {
   defaults = codes "12345678" ∷ [];
 }
 
+abbrev pub connections_rule : Rule
+connections_rule = record (option_rule (codes "connections")) {
+  parser = Some (parser.Signed (pos 0) (pos 65535));
+  defaults = codes "1" ∷ [];
+}
+
 -- options that have no default
 abbrev pub plain_option : App → Text → App
 plain_option app name = with_rule app (option_rule name)
@@ -46,7 +52,7 @@ till_app =
 abbrev pub terminal_app : App
 terminal_app =
     plain_option (plain_option
-    (with_rule (with_rule (with_rule (new_app (codes "terminal")) port_rule) host_rule) tid_rule)
+    (with_rule (with_rule (with_rule (with_rule (new_app (codes "terminal")) port_rule) host_rule) tid_rule) connections_rule)
     (codes "decline")) (codes "trace")
 
 -- a command of this line, whose options are its own

@@ -31,11 +31,12 @@ pub enum Choice<'a> {
         steps: Vec<&'a str>,
     },
     /// The host is 127.0.0.1 unless one is given. The terminal's number `tid` is at most 99,999,999, and 12345678
-    /// unless one is given.
+    /// unless one is given. Its connections are 1 unless another number is given, which may be 0.
     Terminal {
         port: u16,
         host: &'a str,
         tid: u32,
+        connections: u16,
         decline: Option<&'a str>,
         trace: Option<&'a str>,
     },

@@ -106,8 +106,9 @@ fn terminal<'a>(alloc: Global) -> Result<Command<'a>, AllocError>
     let at_port = and(named, options::port(alloc, help::TERMINAL_PORT));
     let at_host = and(at_port, options::host(alloc, help::TERMINAL_HOST));
     let numbered = and(at_host, options::tid(alloc));
+    let counted = and(numbered, options::connections(alloc));
     let decided = and(
-        numbered,
+        counted,
         options::text(alloc, "decline", "XX", help::DECLINE),
     );
     and(decided, options::text(alloc, "trace", "FILE", help::TRACE))

@@ -18,7 +18,7 @@ pub const LOOP: &str = "Runs steps between a till and a terminal that are both i
 
 pub const TILL: &str = "Connects to a terminal and runs steps as its till";
 
-pub const TERMINAL: &str = "Listens as a simulated terminal and serves one connection to its end";
+pub const TERMINAL: &str = "Listens as a simulated terminal and serves tills, one unless told otherwise";
 
 /// The names of the commands, as a usage line shows them.
 pub const NAMES: &str = "show|join|audit|receipts|loop|till|terminal";
@@ -99,5 +99,8 @@ pub const TRACE: &str =
     "Writes a trace of the line to this file while it runs, as the till sees it; what the file had is lost";
 
 pub const TID: &str = "The terminal's number, at most 99999999";
+
+pub const CONNECTIONS: &str =
+    "Serves so many tills one after another before it ends, at most 65535; the ledger goes on from till to till";
 
 pub const DECLINE: &str = "Declines every payment with this code: two hexadecimal digits, not 00";

@@ -1,7 +1,7 @@
 //! The options and steps of the commands.
 ghost use Rattle.std.specs.Prelude.{◌≡◌, false};
 ghost use Rattle.clap.specs.Words.{rule_of};
-ghost use Rattle.zvt_choice.specs.Commands.{host_rule, option_rule, port_rule, step_rule, tid_rule};
+ghost use Rattle.zvt_choice.specs.Commands.{connections_rule, host_rule, option_rule, port_rule, step_rule, tid_rule};
 
 use crate::help;
 use clap::{Arg, ArgAction, value_parser};
@@ -50,6 +50,18 @@ pub fn tid<'a>(alloc: Global) -> Arg<'a>
         .default_value("12345678")
         .value_name("TID")
         .help(help::TID)
+}
+
+pub fn connections<'a>(alloc: Global) -> Arg<'a>
+    ensures rule { rule_of result ≡ connections_rule }
+    ensures local { result.global ≡ false }
+{
+    Arg::new(alloc, "connections")
+        .long("connections")
+        .value_parser(value_parser!(u16))
+        .default_value("1")
+        .value_name("N")
+        .help(help::CONNECTIONS)
 }
 
 /// An option that has one value of this name, and no default.

@@ -54,7 +54,7 @@ fn refused(error: Error) -> ChoiceFault
 }
 
 /// The fault of a reading that says no choice. No words are known that lead here: `clap` wants a
-/// port, has a default for the host and the terminal's number, and checks both numbers.
+/// port, has a default for the host and the other numbers, and checks each number.
 fn incomplete(alloc: Global) -> ChoiceFault
     ensures { IsMissing result }
 {
@@ -96,7 +96,7 @@ fn chosen<'a>(
 fn till<'a>(alloc: Global, inner: &ArgMatches<'a>) -> Result<Option<Choice<'a>>, AllocError>
     ensures { IfOk result (MayBeChoiceOf (Some (codes "till", rows_of (found_of inner.now)))) }
 {
-    let Some(port) = port(inner) else {
+    let Some(port) = number(inner, "port") else {
         return Ok(None);
     };
     let Some(host) = text(inner, "host") else {
@@ -117,22 +117,25 @@ fn till<'a>(alloc: Global, inner: &ArgMatches<'a>) -> Result<Option<Choice<'a>>,
 fn terminal<'a>(inner: &ArgMatches<'a>) -> Option<Choice<'a>>
     ensures { MayBeChoiceOf (Some (codes "terminal", rows_of (found_of inner.now))) result }
 {
-    let port = port(inner)?;
+    let port = number(inner, "port")?;
     let host = text(inner, "host")?;
     let tid = tid(inner)?;
+    let connections = number(inner, "connections")?;
     Some(Choice::Terminal {
         port,
         host,
         tid,
+        connections,
         decline: text(inner, "decline"),
         trace: text(inner, "trace"),
     })
 }
 
-fn port(inner: &ArgMatches<'_>) -> Option<u16>
-    ensures { IsNumberOf (codes "port") (rows_of (found_of inner.now)) 65535 result }
+/// The number of the option of this name.
+fn number(inner: &ArgMatches<'_>, id: &str) -> Option<u16>
+    ensures { IsNumberOf id.now (rows_of (found_of inner.now)) 65535 result }
 {
-    inner.get_one::<u16>("port")
+    inner.get_one::<u16>(id)
 }
 
 fn tid(inner: &ArgMatches<'_>) -> Option<u32>

@@ -3,3 +3,5 @@ pub mod Runs
 pub mod NamedSteps
 pub mod Turns
 pub mod OverTcp
+pub mod Traced
+pub mod ManyTills

@@ -5,7 +5,7 @@ use Rattle.zvt_till.specs.Sending.{Settings}
 use Rattle.zvt_till.specs.Till.{new_till, step}
 use Rattle.zvt_till.specs.declared.happenings.Happening.TheVariants.{Connected}
 use Rattle.zvt_run.specs.declared.fault.EndFault.{EndFault}
-use Rattle.zvt_run.specs.declared.fault.EndFault.TheVariants.{BadStep, Line as LineBroke, Memory, Net, Write}
+use Rattle.zvt_run.specs.declared.fault.EndFault.TheVariants.{BadStep, Line as LineBroke, Memory, Net, Trace, Write}
 use Rattle.zvt_run.specs.declared.plans.Planned.{Planned}
 use Rattle.zvt_run.specs.Runs.{Answers, EndsEarly, Law, MakesAll, MakesTo, Standing, standing}
 use Rattle.zvt_run.specs.OverTcp.{RunsPlan}
@@ -82,7 +82,8 @@ answers_seen seen law plan before after old new (Err (LineBroke fault)) run = re
 answers_seen seen law plan before after old new (Err Write) run = early_seen seen law _ plan before after old new run
 answers_seen seen law plan before after old new (Err Memory) run = early_seen seen law _ plan before after old new run
 answers_seen seen law plan before after old new (Err (BadStep at)) run = absurd run
-answers_seen seen law plan before after old new (Err Net) run = absurd run
+answers_seen seen law plan before after old new (Err (Net why)) run = absurd run
+answers_seen seen law plan before after old new (Err Trace) run = absurd run
 
 -- ---- a run
 

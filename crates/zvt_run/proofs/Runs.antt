@@ -14,7 +14,7 @@ use Rattle.zvt_till.specs.declared.line.RunFault.{RunFault}
 use Rattle.zvt_till.specs.declared.line.RunFault.TheVariants.{Order, Line}
 use Rattle.zvt_till.specs.declared.outcomes.Outcome.{Outcome}
 use Rattle.zvt_run.specs.declared.fault.EndFault.{EndFault}
-use Rattle.zvt_run.specs.declared.fault.EndFault.TheVariants.{BadStep, Line as LineBroke, Memory, Net, Write}
+use Rattle.zvt_run.specs.declared.fault.EndFault.TheVariants.{BadStep, Line as LineBroke, Memory, Net, Trace, Write}
 use Rattle.zvt_run.specs.declared.plans.Planned.{Planned}
 use Rattle.zvt_run.specs.Outcomes.{ending_text, step_text, total_text}
 use Rattle.zvt_run.specs.Runs.{Answers, AnswersStep, AnswersText, BreaksIn, EndsEarly, IsMissing, Law, Makes, MakesAll, MakesTo, PartlySaid, Ran, Said, Standing, WritesPart, fault_of}
@@ -127,7 +127,8 @@ step_stops makes plan i planned before middle after old now new Write below is s
 step_stops makes plan i planned before middle after old now new Memory below is so step = stops_in_step makes IsMissing plan i planned before middle after old now new below is so step
 step_stops makes plan i planned before middle after old now new (LineBroke fault) below is so step = absurd step
 step_stops makes plan i planned before middle after old now new (BadStep at) below is so step = absurd step
-step_stops makes plan i planned before middle after old now new Net below is so step = absurd step
+step_stops makes plan i planned before middle after old now new (Net why) below is so step = absurd step
+step_stops makes plan i planned before middle after old now new Trace below is so step = absurd step
 
 -- the total
 stops_in_total : {L : Type 0} (makes : Law L) (plan : List Planned) (broken : Option LineFault) (said : List ℕ) (before after : Standing L) (old now new : Option (List ℕ)) (fault : EndFault)
@@ -136,7 +137,8 @@ stops_in_total makes plan broken said before after old now new Write made append
 stops_in_total makes plan broken said before after old now new Memory made appended text = inr (record { broken = broken; said = said; between = now; made = made; appended = appended; partly = text })
 stops_in_total makes plan broken said before after old now new (LineBroke fault) made appended text = absurd text
 stops_in_total makes plan broken said before after old now new (BadStep at) made appended text = absurd text
-stops_in_total makes plan broken said before after old now new Net made appended text = absurd text
+stops_in_total makes plan broken said before after old now new (Net why) made appended text = absurd text
+stops_in_total makes plan broken said before after old now new Trace made appended text = absurd text
 
 pub broken_total_stops : {L : Type 0} (makes : Law L) (plan : List Planned) (i : ℕ) (planned : Planned) (broken : Option LineFault) (fault : LineFault) (before middle after : Standing L) (old now next new : Option (List ℕ)) (stop : EndFault)
     → i < length plan → planned ≡ get_or plan i planned → broken ≡ Some fault → SoFar makes (take i plan) before middle old now → AnswersStep makes planned middle after now next (Ok broken)

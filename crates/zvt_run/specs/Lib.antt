@@ -10,3 +10,5 @@ pub mod Service
 pub mod Settings
 pub mod OverTcp
 pub mod Recording
+pub mod Traced
+pub mod Connecting

@@ -5,9 +5,10 @@ use Rattle.zvt_till.specs.Sending.{Settings}
 use Rattle.zvt_till.specs.Till.{new_till, step}
 use Rattle.zvt_till.specs.declared.happenings.Happening.TheVariants.{Connected}
 use Rattle.zvt_run.specs.declared.fault.EndFault.{EndFault}
-use Rattle.zvt_run.specs.declared.fault.EndFault.TheVariants.{BadStep, Line as LineBroke, Memory, Net, Write}
+use Rattle.zvt_run.specs.declared.fault.EndFault.TheVariants.{BadStep, Line as LineBroke, Memory, Net, Trace, Write}
 use Rattle.zvt_run.specs.Plans.{Plans, StopsAt, words_of}
 use Rattle.zvt_run.specs.Runs.{Answers, Law, Standing}
+use Rattle.zvt_run.specs.Traced.{AnswersTraced}
 use Rattle.zvt_run.specs.declared.plans.Planned.{Planned}
 use Rattle.zvt_run.specs.declared.words.Ends.{Ends}
 
@@ -19,17 +20,18 @@ pub record RunsPlan {L : Type 0} (makes : Law L) (begins : L → Type 0) (settin
   pub connected : before.till.state ≡ step (new_till settings) Connected
   pub answers : Answers makes plan before after old new result
 
--- Each word names a step, and these were run.
+-- Each word names a step, and these were run, with a trace perhaps.
 pub record Runs {L : Type 0} (makes : Law L) (begins : L → Type 0) (settings : Settings) (ends : Ends) (words : List (List ℕ)) (old new : Option (List ℕ)) (result : Result Unit EndFault) : Type 0 where
   pub plan : List Planned
   pub plans : Plans ends (words_of ends words) plan
-  pub runs : RunsPlan makes begins settings plan old new result
+  pub runs : AnswersTraced (RunsPlan makes begins settings plan old new) result
 
 -- What a run of these words answers. Where a word names no step or there is no connection nothing is written.
 abbrev pub AnswersRun : {L : Type 0} → Law L → (L → Type 0) → Settings → Ends → List (List ℕ) → (old new : Option (List ℕ)) → Result Unit EndFault → Type 0
 AnswersRun makes begins settings ends words old new (Ok done) = Runs makes begins settings ends words old new (Ok done)
 AnswersRun makes begins settings ends words old new (Err (LineBroke fault)) = Runs makes begins settings ends words old new (Err (LineBroke fault))
+AnswersRun makes begins settings ends words old new (Err Trace) = Runs makes begins settings ends words old new (Err Trace)
 AnswersRun makes begins settings ends words old new (Err Write) = Runs makes begins settings ends words old new (Err Write)
 AnswersRun makes begins settings ends words old new (Err Memory) = Keeps old new ⊎ Runs makes begins settings ends words old new (Err Memory)
 AnswersRun makes begins settings ends words old new (Err (BadStep at)) = StopsAt ends (words_of ends words) at × Keeps old new
-AnswersRun makes begins settings ends words old new (Err Net) = Keeps old new
+AnswersRun makes begins settings ends words old new (Err (Net why)) = Keeps old new

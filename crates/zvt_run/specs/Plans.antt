@@ -3,7 +3,7 @@ use Rattle.std.specs.Prelude.{◌≡◌, ℕ, List, [], ◌∷◌, ◌++◌, cod
 use Rattle.std.specs.String.{string_bytes}
 use Rattle.std.specs.Global.{Global}
 use Rattle.zvt_run.specs.declared.fault.EndFault.{EndFault}
-use Rattle.zvt_run.specs.declared.fault.EndFault.TheVariants.{BadStep, Line, Memory, Net, Write}
+use Rattle.zvt_run.specs.declared.fault.EndFault.TheVariants.{BadStep, Line, Memory, Net, Trace, Write}
 use Rattle.zvt_run.specs.declared.plans.Planned.{Planned}
 use Rattle.zvt_run.specs.declared.words.Ends.{Ends}
 use Rattle.zvt_run.specs.declared.words.Ends.TheVariants.{Both, Till}
@@ -45,4 +45,5 @@ PlansOrStops ends words (Err (BadStep at)) = StopsAt ends words at
 PlansOrStops ends words (Err Memory) = Unit {0}
 PlansOrStops ends words (Err Write) = ⊥
 PlansOrStops ends words (Err (Line broken)) = ⊥
-PlansOrStops ends words (Err Net) = ⊥
+PlansOrStops ends words (Err (Net why)) = ⊥
+PlansOrStops ends words (Err Trace) = ⊥

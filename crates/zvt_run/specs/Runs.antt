@@ -10,7 +10,7 @@ use Rattle.zvt_till.specs.declared.line.RunFault.{RunFault}
 use Rattle.zvt_till.specs.declared.line.RunFault.TheVariants.{Order, Line}
 use Rattle.zvt_till.specs.declared.outcomes.Outcome.{Outcome}
 use Rattle.zvt_run.specs.declared.fault.EndFault.{EndFault}
-use Rattle.zvt_run.specs.declared.fault.EndFault.TheVariants.{BadStep, Line as LineBroke, Memory, Net, Write}
+use Rattle.zvt_run.specs.declared.fault.EndFault.TheVariants.{BadStep, Line as LineBroke, Memory, Net, Trace, Write}
 use Rattle.zvt_run.specs.declared.plans.Planned.{Planned}
 use Rattle.zvt_run.specs.declared.words.Step.{Step}
 use Rattle.zvt_run.specs.Outcomes.{ending_text, step_text, total_text}
@@ -117,7 +117,8 @@ Answers makes plan before after old new (Err (LineBroke fault)) = Ran makes plan
 Answers makes plan before after old new (Err Write) = EndsEarly makes IsFront plan before after old new
 Answers makes plan before after old new (Err Memory) = EndsEarly makes IsMissing plan before after old new
 Answers makes plan before after old new (Err (BadStep at)) = ⊥
-Answers makes plan before after old new (Err Net) = ⊥
+Answers makes plan before after old new (Err (Net why)) = ⊥
+Answers makes plan before after old new (Err Trace) = ⊥
 
 -- A step was made, once, and its line was written.
 pub record Said {L : Type 0} (makes : Law L) (planned : Planned) (broken : Option LineFault) (before after : Standing L) (old new : Option (List ℕ)) : Type 0 where
@@ -141,7 +142,8 @@ AnswersStep makes planned before after old new (Err Write) = PartlySaid makes Is
 AnswersStep makes planned before after old new (Err Memory) = PartlySaid makes IsMissing planned before after old new
 AnswersStep makes planned before after old new (Err (LineBroke fault)) = ⊥
 AnswersStep makes planned before after old new (Err (BadStep at)) = ⊥
-AnswersStep makes planned before after old new (Err Net) = ⊥
+AnswersStep makes planned before after old new (Err (Net why)) = ⊥
+AnswersStep makes planned before after old new (Err Trace) = ⊥
 
 -- What writing a text answers.
 abbrev pub AnswersText : List ℕ → Option (List ℕ) → Option (List ℕ) → Result Unit EndFault → Type 0
@@ -150,4 +152,5 @@ AnswersText text old new (Err Write) = WritesPart IsFront text old new
 AnswersText text old new (Err Memory) = WritesPart IsMissing text old new
 AnswersText text old new (Err (LineBroke fault)) = ⊥
 AnswersText text old new (Err (BadStep at)) = ⊥
-AnswersText text old new (Err Net) = ⊥
+AnswersText text old new (Err (Net why)) = ⊥
+AnswersText text old new (Err Trace) = ⊥

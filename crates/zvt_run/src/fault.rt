@@ -1,7 +1,9 @@
 //! Why a run ends early.
-ghost use Rattle.std.specs.Prelude.{◌≡◌};
+ghost use Rattle.std.specs.Prelude.{◌≡◌, Bool};
+ghost use Rattle.zvt_run.specs.Traced.{by_trace};
 ghost use Rattle.zvt_run.specs.declared.fault.EndFault.TheVariants.{Memory};
 
+use crate::connecting::NetFault;
 use std::alloc::{AllocError, AllocFailed};
 use thiserror::Error;
 use zvt_stream::LineFault;
@@ -13,12 +15,16 @@ pub enum EndFault {
     /// made.
     #[error("the line broke: {0}")]
     Line(LineFault),
+    /// The trace of the line could not be written to its end, and the line was given up where that was found: after the
+    /// last step, or in the order that ran, which ended as where the line breaks. All of the text was written.
+    #[error("the trace of the line can't be written: see whether there is room where it goes; the line was given up, though it did not break")]
+    Trace,
     /// The word at this place, counted from 0, is no step. Nothing was sent, and nothing written.
-    #[error("word {at}, counted from 0, is no step: the steps are 'register', 'pay:N', 'reverse:N', 'close' and, where both ends run, 'decline:N:XX'")]
+    #[error("word {number} is no step: the steps are 'register', 'pay:N', 'reverse:N', 'close' and, where both ends run, 'decline:N:XX'", number = from_one(.at))]
     BadStep { at: usize },
     /// There was no connection. Nothing was written.
-    #[error("there is no connection: see whether the other end listens at that host and port, and whether the port is free where one is to be opened")]
-    Net,
+    #[error("there is no connection: {0}")]
+    Net(NetFault),
     /// Some front of the text was written.
     #[error("the text can't be written: see where standard output goes, and whether there is room")]
     Write,
@@ -27,10 +33,25 @@ pub enum EndFault {
     Memory,
 }
 
+/// The number of the word at this place.
+fn from_one(at: &usize) -> u128 {
+    *at as u128 + 1
+}
+
 impl From<AllocError> for EndFault {
     ghost from_gives = { λ _ fault. fault ≡ Memory };
 
     fn from(_refused: AllocError) -> EndFault {
         EndFault::Memory
+    }
+}
+
+/// What a run answers whose trace broke, or did not.
+pub(crate) fn by_trace(broken: bool, answer: Result<(), EndFault>) -> Result<(), EndFault>
+    ensures { result ≡ by_trace broken answer }
+{
+    match answer {
+        Ok(()) | Err(EndFault::Line(_)) if broken => Err(EndFault::Trace),
+        answer => answer,
     }
 }

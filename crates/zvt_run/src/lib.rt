@@ -6,6 +6,7 @@
 #![tactic(auto)]
 
 mod both_ends;
+mod connecting;
 mod fault;
 mod line_end;
 mod outcomes;
@@ -19,6 +20,7 @@ mod till_end;
 mod words;
 
 pub use both_ends::{BothEnds, run_both_ends};
+pub use connecting::NetFault;
 pub use fault::EndFault;
 pub use line_end::{End, LineEnd};
 pub use plans::{Planned, plan};

@@ -1,5 +1,5 @@
 //! Devices that write what goes through them to a trace.
-ghost use Rattle.std.specs.Prelude.{◌≡◌, ◌++◌, ◌∷◌, [], codes, IfOk, false};
+ghost use Rattle.std.specs.Prelude.{◌≡◌, ◌++◌, ◌∷◌, [], codes, IfOk, false, true};
 ghost use Rattle.std.specs.String.{string_bytes};
 ghost use Rattle.zvt_io.specs.Devices.{CountsFailure, Reads, Writes};
 ghost use Rattle.zvt_run.specs.Recording.{RecordsRead, RecordsWrite, piece_text, sign_of};
@@ -74,6 +74,7 @@ impl<R: Source, T: Sink> Source for Recorded<R, T> {
         ensures failures { CountsFailure (R.failures self.old.device + self.old.refused.count) (R.failures self.new.device + self.new.refused.count) result }
         ensures counted { R.reads self.new.device + self.new.refused.count ≡ R.reads self.old.device + self.old.refused.count + 1 }
         ensures recorded { RecordsRead self.old.way self.old.broken self.new.broken (T.written self.old.trace) (T.written self.new.trace) result buffer.new }
+        ensures unmade { self.old.broken ≡ true → self.new.device ≡ self.old.device }
         ensures way { self.new.way ≡ self.old.way }
     {
         if self.broken {
@@ -100,6 +101,7 @@ impl<W: Sink, T: Sink> Sink for Recorded<W, T> {
         ensures bytes { Writes (W.written self.old.device) (W.written self.new.device) result bytes.now }
         ensures failures { CountsFailure (W.failures self.old.device + self.old.refused.count) (W.failures self.new.device + self.new.refused.count) result }
         ensures recorded { RecordsWrite self.old.way self.new.broken (T.written self.old.trace) (T.written self.new.trace) result bytes.now }
+        ensures unmade { self.new.broken ≡ true → self.new.device ≡ self.old.device }
         ensures way { self.new.way ≡ self.old.way }
     {
         if self.broken {

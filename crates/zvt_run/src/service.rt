@@ -2,7 +2,6 @@
 ghost use Rattle.zvt_run.specs.LineEnd.{end_state};
 ghost use Rattle.zvt_run.specs.Service.{Serves};
 
-use crate::fault::EndFault;
 use crate::line_end::End;
 use std::alloc::Global;
 use zvt_io::{Sink, Source};
@@ -13,12 +12,12 @@ use zvt_term::Served;
 const READS_OF_A_SERVICE: u64 = 1_000_000;
 
 /// Lets the terminal hear and answer what comes, until the line breaks, of which it is told. The end of the line between
-/// two messages is no fault; each other end of it is `Line`.
+/// two messages is no fault, and each other end of it is one.
 pub fn serve<R: Source, W: Sink>(
     alloc: Global,
     end: &mut End<R, W>,
     served: &mut Served,
-) -> Result<(), EndFault>
+) -> Result<(), LineFault>
     ensures { Serves
         (end_state end.old.stream (R.remaining end.old.reader) (W.written end.old.writer) (R.reads end.old.reader) (R.failures end.old.reader) (W.failures end.old.writer)) served.old
         (end_state end.new.stream (R.remaining end.new.reader) (W.written end.new.writer) (R.reads end.new.reader) (R.failures end.new.reader) (W.failures end.new.writer)) served.new
@@ -35,6 +34,6 @@ pub fn serve<R: Source, W: Sink>(
     );
     match ended {
         Ok(()) | Err(LineFault::Ended { have: 0 }) => Ok(()),
-        Err(fault) => Err(EndFault::Line(fault)),
+        Err(fault) => Err(fault),
     }
 }

@@ -3,13 +3,15 @@ ghost use Rattle.std.specs.Prelude.{◌≡◌, ◌<◌, ◌≤◌, Err, map};
 ghost use Rattle.zvt_run.specs.BothEnds.{BeginsHere, MakesHereBy};
 ghost use Rattle.zvt_stream.specs.StreamState.{at_start};
 ghost use Rattle.zvt_till.specs.Events.{run_settings};
-ghost use Rattle.zvt_run.specs.OverTcp.{AnswersRun, RunsPlan};
+ghost use Rattle.zvt_run.specs.OverTcp.{AnswersRun};
 ghost use Rattle.zvt_run.specs.Settings.{settings_of};
-ghost use Rattle.zvt_run.specs.Service.{AnswersService};
+ghost use Rattle.zvt_run.specs.Service.{AnswersService, AnswersTill, AnswersTills, IsOffline};
 ghost use Rattle.zvt_run.specs.TillEnd.{BeginsThere, MakesThere};
+ghost use Rattle.zvt_term.specs.Terminal.{new_terminal};
 
 use crate::both_ends::{BothEnds, run_both_ends};
-use crate::fault::EndFault;
+use crate::connecting::{accept, both_ends, connect, listen};
+use crate::fault::{EndFault, by_trace};
 use crate::line_end::End;
 use crate::plans::{Planned, plan};
 use crate::recording::{Recorded, Way, end_trace};
@@ -19,19 +21,10 @@ use crate::till_end::run_till_end;
 use crate::words::Ends;
 use std::alloc::Global;
 use std::fs::File;
-use std::io;
-use std::net::{Net, TcpListener, TcpStream, ToSocketAddrs};
-use std::time::Duration;
+use std::net::{Net, TcpListener, TcpStream};
 use zvt_io::{Over, Sink, Source};
-use zvt_stream::Stream;
+use zvt_stream::{LineFault, Stream};
 use zvt_term::{Served, Terminal, Verdict};
-
-/// For so many seconds a till waits: to be connected, for each read and for each write. A terminal that is silent for
-/// longer counts as a read that failed.
-const SILENCE_SECONDS: u64 = 60;
-
-/// The address of this machine to itself.
-const HERE: &str = "127.0.0.1";
 
 /// The terminal's number in a run of both ends.
 const TID: u32 = 12_345_678;
@@ -55,49 +48,58 @@ where
     ensures write { result ≡ Err EndFault.Write → W.failures writer.old < W.failures writer.new }
 {
     let plan = plan(alloc, Ends::Both, steps)?;
-    let Ok((till_end, terminal_end)) = both_ends(rt) else {
-        return Err(EndFault::Net);
-    };
+    let (till_end, terminal_end) = both_ends(rt).map_err(EndFault::Net)?;
     match trace {
         None => {
             let till = plain_end(alloc, &till_end);
-            loop_over(alloc, till, &terminal_end, plan.as_slice(), writer)
+            let mut line = both_ends_of(alloc, till, &terminal_end);
+            run_both_ends(
+                alloc,
+                &mut line,
+                &TillSettings::usual(),
+                plan.as_slice(),
+                writer,
+            )
         }
         Some(file) => {
             let till = recorded_end(alloc, &till_end, Way::FromTerminal, Way::FromTill, file);
-            let answer = loop_over(alloc, till, &terminal_end, plan.as_slice(), writer);
-            let _ = end_trace(&mut Over::new(file));
-            answer
+            let mut line = both_ends_of(alloc, till, &terminal_end);
+            let answer = run_both_ends(
+                alloc,
+                &mut line,
+                &TillSettings::usual(),
+                plan.as_slice(),
+                writer,
+            );
+            by_trace(is_broken(&line.till, file), answer)
         }
     }
 }
 
-/// Runs both ends of this connection, whose till's end is given.
-fn loop_over<R: Source + Drop, W: Sink + Drop, T: Sink>(
+/// Both ends of this connection at their start, of which the till's is given, with a new terminal.
+fn both_ends_of<'a, R: Source, W: Sink>(
     alloc: Global,
     till: End<R, W>,
-    terminal_end: &TcpStream,
-    plan: &[Planned],
-    writer: &mut T,
-) -> Result<(), EndFault>
+    terminal_end: &'a TcpStream,
+) -> BothEnds<End<R, W>, PlainEnd<'a>>
     requires { till.stream ≡ at_start }
-    ensures run { RunsPlan MakesHereBy BeginsHere run_settings plan.now (T.written writer.old) (T.written writer.new) result }
-    ensures write { result ≡ Err EndFault.Write → T.failures writer.old < T.failures writer.new }
+    ensures till { result.till ≡ till }
+    ensures terminal { result.terminal.stream ≡ at_start }
+    ensures served { result.served.terminal ≡ new_terminal 12345678 }
 {
-    let mut line = BothEnds {
+    BothEnds {
         till,
         terminal: plain_end(alloc, terminal_end),
         served: Served {
             terminal: Terminal::new(alloc, TID),
             verdict: Verdict::Approve,
         },
-    };
-    run_both_ends(alloc, &mut line, &TillSettings::usual(), plan, writer)
+    }
 }
 
 /// Connects a till to a terminal at this host and port, and runs the steps that the words name, by no words `register
 /// close`. Each order has 100,000 reads. The trace has what the till heard and sent: each read and each write a line, and
-/// `!` at the end. One that can't be written breaks the line.
+/// `!` at the end. One that can't be written ends the run with `Trace`.
 ///
 /// `BadStep` comes before anything is opened, and `Net` before anything is written. Else see [`run_till_end`].
 pub fn run_till<R, W>(
@@ -117,9 +119,7 @@ where
     ensures write { result ≡ Err EndFault.Write → W.failures writer.old < W.failures writer.new }
 {
     let plan = plan(alloc, Ends::Till, steps)?;
-    let Ok(end) = connect(rt, host, port) else {
-        return Err(EndFault::Net);
-    };
+    let end = connect(rt, host, port).map_err(EndFault::Net)?;
     match trace {
         None => {
             let mut line = plain_end(alloc, &end);
@@ -128,17 +128,20 @@ where
         Some(file) => {
             let mut line = recorded_end(alloc, &end, Way::FromTerminal, Way::FromTill, file);
             let answer = run_till_end(alloc, &mut line, settings, plan.as_slice(), writer);
-            let _ = end_trace(&mut Over::new(file));
-            answer
+            by_trace(is_broken(&line, file), answer)
         }
     }
 }
 
-/// Listens at this port of this address, and serves the first connection to its end, with a terminal of this number and
-/// this verdict on each payment. It waits for its till as long as it takes. The end of the connection between two
-/// messages is no fault; each other is `Line`. Where the port can't be had it is `Net`. The trace has what the terminal
-/// heard and answered, seen from the till. Where it listens, and how many approvals the terminal's ledger has when the
-/// till has gone, is told by `tell`.
+/// Listens at this port of this address, and serves so many tills one after another, each to the end of its connection,
+/// with one terminal of this number and this verdict on each payment. It waits for each till as long as it takes. The
+/// terminal's ledger goes on from till to till, and each begins unregistered.
+///
+/// The end of a connection between two messages is no fault. One that breaks otherwise ends that till's service alone:
+/// the first such fault is answered, as `Line`, once all tills were served. `Net` ends the service where the port can't be
+/// had or no connection can be taken, and `Trace` where the trace can't be written. The trace has what the terminal heard
+/// and answered, seen from the till. Where it listens, and how many approvals the ledger has when a till has gone, is told
+/// by `tell`.
 pub fn run_terminal<R, W>(
     rt: &R,
     alloc: Global,
@@ -146,6 +149,7 @@ pub fn run_terminal<R, W>(
     port: u16,
     tid: u32,
     verdict: Verdict,
+    connections: u16,
     trace: Option<&File>,
     tell: &mut W,
 ) -> Result<(), EndFault>
@@ -153,33 +157,77 @@ where
     R: Net<Listener = TcpListener, Stream = TcpStream>,
     W: Sink,
     requires { tid ≤ 99999999 }
-    ensures { AnswersService tid verdict result }
+    ensures { AnswersService connections tid verdict result }
 {
-    let Ok(connection) = accept(rt, alloc, host, port, tell) else {
-        return Err(EndFault::Net);
-    };
+    let listener = listen(rt, host, port).map_err(EndFault::Net)?;
+    tell_address(alloc, &listener, tell);
     let mut served = Served {
         terminal: Terminal::new(alloc, tid),
         verdict,
     };
-    let answer = match trace {
-        None => serve(alloc, &mut plain_end(alloc, &connection), &mut served),
-        Some(file) => {
-            let mut end = recorded_end(alloc, &connection, Way::FromTill, Way::FromTerminal, file);
-            let answer = serve(alloc, &mut end, &mut served);
-            let _ = end_trace(&mut Over::new(file));
-            answer
-        }
-    };
-    let _ = tell_ledger(alloc, &served.terminal, tell);
-    answer
+    serve_tills(alloc, &listener, connections, &mut served, trace, tell)
 }
 
-/// An end of a line at its start.
-fn plain_end<'a>(
+/// Serves so many tills one after another.
+fn serve_tills<W: Sink>(
     alloc: Global,
-    connection: &'a TcpStream,
-) -> End<Over<&'a TcpStream>, Over<&'a TcpStream>>
+    listener: &TcpListener,
+    connections: u16,
+    served: &mut Served,
+    trace: Option<&File>,
+    tell: &mut W,
+) -> Result<(), EndFault>
+    requires { IsOffline served.old.terminal }
+    ensures { AnswersTills connections served.old served.new result }
+{
+    let mut first = None;
+    'tills: for gone in 0..connections {
+        let connection = accept(listener).map_err(EndFault::Net)?;
+        let broke = serve_till(alloc, &connection, served, trace)?;
+        tell_ledger(alloc, gone + 1, broke, &served.terminal, tell);
+        if first.is_none() {
+            first = broke;
+        }
+    }
+    match first {
+        None => Ok(()),
+        Some(fault) => Err(EndFault::Line(fault)),
+    }
+}
+
+/// Serves the till at the other end of this connection, and answers how the line broke, if it did. The one fault is
+/// `Trace`.
+fn serve_till(
+    alloc: Global,
+    connection: &TcpStream,
+    served: &mut Served,
+    trace: Option<&File>,
+) -> Result<Option<LineFault>, EndFault>
+    requires { IsOffline served.old.terminal }
+    ensures { AnswersTill served.old served.new result }
+{
+    let Some(file) = trace else {
+        return Ok(serve(alloc, &mut plain_end(alloc, connection), served).err());
+    };
+    let mut end = recorded_end(alloc, connection, Way::FromTill, Way::FromTerminal, file);
+    let broke = serve(alloc, &mut end, served).err();
+    if is_broken(&end, file) {
+        return Err(EndFault::Trace);
+    }
+    Ok(broke)
+}
+
+/// An end over a connection.
+type PlainEnd<'a> = End<Over<&'a TcpStream>, Over<&'a TcpStream>>;
+
+/// An end over a connection, whose reads and writes go to a trace.
+type RecordedEnd<'a> = End<
+    Recorded<Over<&'a TcpStream>, Over<&'a File>>,
+    Recorded<Over<&'a TcpStream>, Over<&'a File>>,
+>;
+
+/// An end of a line at its start.
+fn plain_end<'a>(alloc: Global, connection: &'a TcpStream) -> PlainEnd<'a>
     ensures { result.stream ≡ at_start }
 {
     End {
@@ -196,10 +244,7 @@ fn recorded_end<'a>(
     read: Way,
     written: Way,
     trace: &'a File,
-) -> End<
-    Recorded<Over<&'a TcpStream>, Over<&'a File>>,
-    Recorded<Over<&'a TcpStream>, Over<&'a File>>,
->
+) -> RecordedEnd<'a>
     ensures { result.stream ≡ at_start }
 {
     let trace_of_reads = Over::new(trace);
@@ -211,72 +256,44 @@ fn recorded_end<'a>(
     }
 }
 
-/// Tells how many approvals the terminal's ledger has.
-fn tell_ledger<W: Sink>(alloc: Global, terminal: &Terminal, tell: &mut W) -> Result<(), EndFault> {
+/// Ends the trace of the line, and answers whether some of it could not be written.
+fn is_broken(end: &RecordedEnd<'_>, trace: &File) -> bool {
+    let ended = end_trace(&mut Over::new(trace));
+    end.reader.broken || end.writer.broken || ended.is_err()
+}
+
+/// Tells where the terminal listens. That it can't be told is no fault of the service.
+fn tell_address<W: Sink>(alloc: Global, listener: &TcpListener, tell: &mut W) {
+    let Ok(address) = listener.local_addr() else {
+        return;
+    };
+    if let Ok(text) = format!(in alloc; "zvt: a terminal listens at {address}\n") {
+        let _ = tell.write_all(text.as_bytes());
+    }
+}
+
+/// Tells that the till of this number has gone, how its line broke, if it did, and how many approvals the terminal's
+/// ledger has.
+fn tell_ledger<W: Sink>(
+    alloc: Global,
+    till: u16,
+    broke: Option<LineFault>,
+    terminal: &Terminal,
+    tell: &mut W,
+) {
     let rows = terminal.ledger().iter();
     let approvals = rows.filter(|row| row.reverses.is_none()).count();
-    let text = format!(in alloc; "zvt: the till has gone; approvals in the ledger: {approvals}\n")?;
-    tell_text(&text, tell)
-}
-
-fn tell_text<W: Sink>(text: &String, tell: &mut W) -> Result<(), EndFault> {
-    match tell.write_all(text.as_bytes()) {
-        Ok(()) => Ok(()),
-        Err(_) => Err(EndFault::Write),
-    }
-}
-
-/// Both ends of a connection of this process to itself.
-fn both_ends<R>(rt: &R) -> io::Result<(TcpStream, TcpStream)>
-where
-    R: Net<Listener = TcpListener, Stream = TcpStream>,
-{
-    let listener = TcpListener::bind(rt, (HERE, 0))?;
-    let till_end = TcpStream::connect(rt, listener.local_addr()?)?;
-    let (terminal_end, _) = listener.accept()?;
-    limit(&till_end)?;
-    limit(&terminal_end)?;
-    Ok((till_end, terminal_end))
-}
-
-/// The till's end of a connection.
-fn connect<R>(rt: &R, host: &str, port: u16) -> io::Result<TcpStream>
-where
-    R: Net<Listener = TcpListener, Stream = TcpStream>,
-{
-    let mut last = io::Error::from(io::ErrorKind::NotFound);
-    for address in (host, port).to_socket_addrs(rt)? {
-        match TcpStream::connect_timeout(rt, &address, Duration::from_secs(SILENCE_SECONDS)) {
-            Ok(end) => {
-                limit(&end)?;
-                return Ok(end);
-            }
-            Err(error) => last = error,
+    let text = match broke {
+        None => {
+            format!(in alloc; "zvt: till {till} has gone; approvals in the ledger: {approvals}\n")
         }
+        Some(fault) => {
+            format!(in alloc;
+                "zvt: the line of till {till} broke: {fault}; approvals in the ledger: {approvals}\n"
+            )
+        }
+    };
+    if let Ok(text) = text {
+        let _ = tell.write_all(text.as_bytes());
     }
-    Err(last)
-}
-
-/// The terminal's end of the first connection. Where it listens is told.
-fn accept<R, W>(rt: &R, alloc: Global, host: &str, port: u16, tell: &mut W) -> io::Result<TcpStream>
-where
-    R: Net<Listener = TcpListener, Stream = TcpStream>,
-    W: Sink,
-{
-    let listener = TcpListener::bind(rt, (host, port))?;
-    let address = listener.local_addr()?;
-    if let Ok(text) = format!(in alloc; "zvt: a terminal listens at {address}\n") {
-        let _ = tell_text(&text, tell);
-    }
-    let (end, _) = listener.accept()?;
-    end.set_nodelay(true)?;
-    Ok(end)
-}
-
-/// Small messages go out at once, and no read or write waits for longer than the silence.
-fn limit(end: &TcpStream) -> io::Result<()> {
-    let silence = Some(Duration::from_secs(SILENCE_SECONDS));
-    end.set_nodelay(true)?;
-    end.set_read_timeout(silence)?;
-    end.set_write_timeout(silence)
 }

@@ -1,0 +1,79 @@
+-- Lines that a terminal served one after another.
+use Rattle.std.proofs.Common.{◌≡◌, ◌∙◌, ◌+◌, ◌<◌, ℕ, List, [], ◌∷◌, ◌++◌, length, Option, Some, None, Result, Ok, Err, ap, refl, subst, sym, arith}
+use Rattle.std.proofs.lemmas.List.{length-append}
+use Rattle.std.specs.Result.{result_err}
+use Rattle.zvt_stream.specs.Course.{Told}
+use Rattle.zvt_stream.specs.StreamState.{at_start}
+use Rattle.zvt_stream.specs.declared.line.LineFault.{LineFault}
+use Rattle.zvt_stream.specs.declared.line.LineFault.TheVariants.{Read, Write, Ended, Turns, Malformed, Memory, Stopped}
+use Rattle.zvt_term.specs.Served.{served_loses}
+use Rattle.zvt_term.specs.Terminal.{TerminalState, lost_terminal}
+use Rattle.zvt_term.specs.declared.served.Served.{Served}
+use Rattle.zvt_run.specs.LineEnd.{EndState}
+use Rattle.zvt_run.specs.declared.fault.EndFault.{EndFault}
+use Rattle.zvt_run.specs.declared.fault.EndFault.TheVariants.{BadStep, Line as LineBroke, Memory as NoMemory, Net, Trace, Write as NotWritten}
+use Rattle.zvt_run.specs.Service.{AnswersTill, AnswersTills, IsOffline, Serves, ServesLine, ServesLines, ServesMany, first_broken}
+
+lost_offline : (old new : TerminalState) → new ≡ lost_terminal old → IsOffline new
+lost_offline old new e = e ∙ sym (ap lost_terminal e)
+
+-- a terminal that was told of a fault has no line
+told_offline : (fault : LineFault) (old new : Served) → Told served_loses served_loses fault old new → IsOffline new.terminal
+told_offline Read old new t = lost_offline old.terminal new.terminal t.0
+told_offline Write old new t = lost_offline old.terminal new.terminal t.0
+told_offline (Ended have) old new t = lost_offline old.terminal new.terminal t.0
+told_offline Turns old new t = lost_offline old.terminal new.terminal t.0
+told_offline (Malformed place why) old new t = lost_offline old.terminal new.terminal t.0
+told_offline Memory old new t = lost_offline old.terminal new.terminal t.0
+told_offline Stopped old new t = lost_offline old.terminal new.terminal t.0
+
+pub left_offline : (old : Served) (broke : Option LineFault) (new : Served) → ServesLine old broke new → IsOffline new.terminal
+left_offline old None new line = told_offline (Ended 0) line.serves.middle new line.serves.told
+left_offline old (Some fault) new line = told_offline fault line.serves.1.middle new line.serves.1.told
+
+pub served_line : (result : Result Unit LineFault) (before after : EndState) (old new : Served) → before.stream ≡ at_start → IsOffline old.terminal
+    → Serves before old after new result → ServesLine old (result_err result) new
+served_line (Ok done) before after old new begins offline serves = record { before = before; after = after; begins = begins; offline = offline; serves = serves }
+served_line (Err fault) before after old new begins offline serves = record { before = before; after = after; begins = begins; offline = offline; serves = serves }
+
+-- ---- one line more
+
+one_more : (lines : List (Option LineFault)) (broke : Option LineFault) (old middle new : Served) → ServesLines lines old middle → ServesLine middle broke new
+    → ServesLines (lines ++ broke ∷ []) old new
+one_more [] broke old middle new e line = (new, subst (λ (s : Served). ServesLine s broke new) e line, refl)
+one_more (first ∷ lines) broke old middle new so line = (so.0, so.1, one_more lines broke so.0 middle new so.2 line)
+
+-- the first of both that broke
+abbrev pub or_later : Option LineFault → Option LineFault → Option LineFault
+or_later None later = later
+or_later (Some fault) later = Some fault
+
+still_first : (lines : List (Option LineFault)) (broke : Option LineFault) → first_broken (lines ++ broke ∷ []) ≡ or_later (first_broken lines) broke
+still_first [] None = refl
+still_first [] (Some fault) = refl
+still_first (None ∷ lines) broke = still_first lines broke
+still_first (Some fault ∷ lines) broke = refl
+
+many_more : (count : ℕ) (first broke : Option LineFault) (old middle new : Served) → ServesMany count first old middle → ServesLine middle broke new
+    → ServesMany (count + 1) (or_later first broke) old new
+many_more count first broke old middle new so line = record {
+  lines = so.lines ++ broke ∷ [];
+  serves = one_more so.lines broke old middle new so.serves line;
+  counted = length-append so.lines (broke ∷ []) ∙ ap (λ n. n + 1) so.counted;
+  is_first = still_first so.lines broke ∙ ap (λ f. or_later f broke) so.is_first;
+}
+
+-- a fault of the next line ends the service
+pub stopped : (count most : ℕ) (first : Option LineFault) (fault : EndFault) (old middle new : Served) → count < most → ServesMany count first old middle
+    → AnswersTill middle new (Err fault) → AnswersTills most old new (Err fault)
+stopped count most first Trace old middle new below so till = (count + 1, or_later first till.0, omega (arith, below), many_more count first till.0 old middle new so till.1)
+stopped count most first (LineBroke fault) old middle new below so till = absurd till
+stopped count most first (Net why) old middle new below so till = absurd till
+stopped count most first (BadStep at) old middle new below so till = absurd till
+stopped count most first NotWritten old middle new below so till = absurd till
+stopped count most first NoMemory old middle new below so till = absurd till
+
+-- the line that was served is one more
+pub goes_on : (count : ℕ) (first kept broke : Option LineFault) (old middle new : Served) → kept ≡ or_later first broke → ServesMany count first old middle
+    → ServesLine middle broke new → ServesMany (count + 1) kept old new
+goes_on count first kept broke old middle new e so line = subst (λ (f : Option LineFault). ServesMany (count + 1) f old new) (sym e) (many_more count first broke old middle new so line)
