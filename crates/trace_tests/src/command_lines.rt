@@ -38,12 +38,14 @@ fn refused(alloc: Global, line: &str) -> Result<(ErrorKind, String), Fail> {
 fn commands_and_their_options(rt: HostRuntime) -> Result<(), Fail> {
     let alloc = rt.alloc();
     let cases = [
-        ("", "Show"),
-        ("zvt", "Show"),
-        ("zvt show", "Show"),
-        ("zvt join", "Join"),
-        ("zvt audit", "Audit"),
-        ("zvt receipts", "Receipts"),
+        ("", "Show { file: None }"),
+        ("zvt", "Show { file: None }"),
+        ("zvt show", "Show { file: None }"),
+        ("zvt join", "Join { file: None }"),
+        ("zvt audit", "Audit { file: None }"),
+        ("zvt receipts", "Receipts { file: None }"),
+        ("zvt show -", r#"Show { file: Some("-") }"#),
+        ("zvt audit t.trace", r#"Audit { file: Some("t.trace") }"#),
         ("zvt loop", "Loop { trace: None, steps: [] }"),
         (
             "zvt loop register decline:500:6C",
@@ -81,7 +83,7 @@ fn wrong_words(rt: HostRuntime) -> Result<(), Fail> {
     let alloc = rt.alloc();
     let cases = [
         ("zvt pay", ErrorKind::InvalidSubcommand),
-        ("zvt show x", ErrorKind::UnknownArgument),
+        ("zvt show x y", ErrorKind::UnknownArgument),
         ("zvt --port 1", ErrorKind::UnknownArgument),
         ("zvt till close", ErrorKind::MissingRequiredArgument),
         ("zvt terminal", ErrorKind::MissingRequiredArgument),

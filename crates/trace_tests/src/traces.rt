@@ -254,7 +254,7 @@ fn faults_say_where_and_what_to_do(rt: HostRuntime) -> Result<(), Fail> {
         ),
         (
             &TraceFault::Read,
-            "the trace can't be read to its end: see where standard input comes from",
+            "the trace can't be read to its end: see where it comes from",
         ),
         (
             &TraceFault::Write,

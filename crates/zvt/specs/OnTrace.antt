@@ -10,10 +10,10 @@ use Rattle.zvt_trace.specs.declared.fault.TraceFault.{TraceFault}
 
 -- the command reads a trace
 abbrev pub IsOnTrace : Choice → Type 0
-IsOnTrace Show = Unit {0}
-IsOnTrace Join = Unit {0}
-IsOnTrace Audit = Unit {0}
-IsOnTrace Receipts = Unit {0}
+IsOnTrace (Show file) = Unit {0}
+IsOnTrace (Join file) = Unit {0}
+IsOnTrace (Audit file) = Unit {0}
+IsOnTrace (Receipts file) = Unit {0}
 IsOnTrace (Loop trace steps) = ⊥
 IsOnTrace (Till port host password config currency trace steps) = ⊥
 IsOnTrace (Terminal port host tid connections decline trace) = ⊥
@@ -25,10 +25,10 @@ AnswersMarked mark trace old new result = (style : _) × (mark_of style ≡ mark
 -- What the command answers for a trace of known bytes. Of the three styles `show` writes its faults as they are, `join`
 -- as remarks, and `receipts` none.
 abbrev pub AnswersOnTrace : Choice → (trace : List ℕ) → (old new : Option (List ℕ)) → Result Tally TraceFault → Type 0
-AnswersOnTrace Show trace old new result = AnswersMarked (Some []) trace old new result
-AnswersOnTrace Join trace old new result = AnswersMarked (Some (codes "# ")) trace old new result
-AnswersOnTrace Receipts trace old new result = AnswersMarked None trace old new result
-AnswersOnTrace Audit trace old new result = AnswersAudit trace old new result
+AnswersOnTrace (Show file) trace old new result = AnswersMarked (Some []) trace old new result
+AnswersOnTrace (Join file) trace old new result = AnswersMarked (Some (codes "# ")) trace old new result
+AnswersOnTrace (Receipts file) trace old new result = AnswersMarked None trace old new result
+AnswersOnTrace (Audit file) trace old new result = AnswersAudit trace old new result
 AnswersOnTrace (Loop file steps) trace old new result = ⊥
 AnswersOnTrace (Till port host password config currency file steps) trace old new result = ⊥
 AnswersOnTrace (Terminal port host tid connections decline file) trace old new result = ⊥

@@ -1,7 +1,8 @@
 //! The runs of either end of a line, as the command line asks for them.
 ghost use Rattle.std.specs.Prelude.{◌≤◌};
 
-use crate::finish_run;
+use crate::finish::finish_run;
+use crate::output::Output;
 use crate::statuses::{DEVICE, WORDS};
 use std::fs::File;
 use std::io;
@@ -26,9 +27,9 @@ pub fn both_ends(rt: &HostRuntime, trace: Option<&str>, steps: &[&str]) -> io::R
         Ok(file) => file,
         Err(status) => return Ok(status),
     };
-    let mut writer = Over::new(io::writer(rt));
+    let mut writer = Over::new(Output::new(io::writer(rt)));
     let answer = run_loop(rt, rt.alloc(), steps, file.as_ref(), &mut writer);
-    finish_run(rt, steps, answer)
+    finish_run(rt, steps, writer.inner.has_gone, answer)
 }
 
 /// Runs a till, and answers the exit status.
@@ -52,7 +53,7 @@ pub fn till(
         Err(status) => return Ok(status),
     };
     let file = file.as_ref();
-    let mut writer = Over::new(io::writer(rt));
+    let mut writer = Over::new(Output::new(io::writer(rt)));
     let answer = run_till(
         rt,
         rt.alloc(),
@@ -63,7 +64,7 @@ pub fn till(
         file,
         &mut writer,
     );
-    finish_run(rt, steps, answer)
+    finish_run(rt, steps, writer.inner.has_gone, answer)
 }
 
 /// Serves so many tills as a terminal, and answers the exit status.
@@ -111,7 +112,7 @@ pub fn terminal(
         file,
         &mut tell,
     );
-    finish_run(rt, &[], answer)
+    finish_run(rt, &[], false, answer)
 }
 
 /// The settings that the words name, and the usual ones for those that are not given. A wrong word is said.
@@ -150,7 +151,7 @@ fn trace_file(
 ) -> io::Result<Result<Option<File>, u8>> {
     match plan(rt.alloc(), ends, steps) {
         Ok(_) => opened(rt, trace),
-        Err(fault) => Ok(Err(finish_run(rt, steps, Err(fault))?)),
+        Err(fault) => Ok(Err(finish_run(rt, steps, false, Err(fault))?)),
     }
 }
 
@@ -162,7 +163,7 @@ fn opened(rt: &HostRuntime, trace: Option<&str>) -> io::Result<Result<Option<Fil
     match File::create(rt, path) {
         Ok(file) => Ok(Ok(Some(file))),
         Err(error) => {
-            eprintln!(rt; "zvt: the trace '{path}' can't be written: {error}")?;
+            eprintln!(rt; "zvt: '{path}': the trace can't be written: {error}")?;
             Ok(Err(DEVICE))
         }
     }

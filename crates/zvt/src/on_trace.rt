@@ -19,10 +19,10 @@ pub fn work_on_trace<R: Source, W: Sink>(
     ensures write { result ≡ Err TraceFault.Write → W.failures writer.old < W.failures writer.new }
 {
     match chosen {
-        Choice::Show => zvt_tool::show(alloc, reader, writer),
-        Choice::Join => zvt_tool::join(alloc, reader, writer),
-        Choice::Audit => zvt_tool::audit(alloc, reader, writer),
-        Choice::Receipts => zvt_tool::receipts(alloc, reader, writer),
+        Choice::Show { .. } => zvt_tool::show(alloc, reader, writer),
+        Choice::Join { .. } => zvt_tool::join(alloc, reader, writer),
+        Choice::Audit { .. } => zvt_tool::audit(alloc, reader, writer),
+        Choice::Receipts { .. } => zvt_tool::receipts(alloc, reader, writer),
         Choice::Loop { .. } | Choice::Till { .. } | Choice::Terminal { .. } => unreachable!(),
     }
 }

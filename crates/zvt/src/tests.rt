@@ -1,8 +1,9 @@
 //! Each command on a trace, and a wrong step's name.
 ghost use Rattle.zvt.specs.OnTrace.{IsOnTrace};
 
+use crate::finish::word_of;
 use crate::on_trace::work_on_trace;
-use crate::{statuses, word_of};
+use crate::statuses;
 use std::alloc::Global;
 use zvt_io::Over;
 use zvt_tool::{Choice, EndFault};
@@ -48,16 +49,16 @@ fn writes(alloc: Global, chosen: &Choice<'_>) -> (u8, Vec<u8>)
 
 #[test]
 fn each_command_reads_a_trace(rt: HostRuntime) {
-    let (status, text) = writes(rt.alloc(), &Choice::Show);
+    let (status, text) = writes(rt.alloc(), &Choice::Show { file: None });
     assert_eq!(rt; status, 1);
     assert_eq!(rt; text.as_slice(), SHOWN.as_bytes());
-    let (status, text) = writes(rt.alloc(), &Choice::Join);
+    let (status, text) = writes(rt.alloc(), &Choice::Join { file: None });
     assert_eq!(rt; status, 1);
     assert_eq!(rt; text.as_slice(), JOINED.as_bytes());
-    let (status, text) = writes(rt.alloc(), &Choice::Receipts);
+    let (status, text) = writes(rt.alloc(), &Choice::Receipts { file: None });
     assert_eq!(rt; status, 1);
     assert_eq!(rt; text.as_slice(), b"OK\n".as_slice());
-    let (status, text) = writes(rt.alloc(), &Choice::Audit);
+    let (status, text) = writes(rt.alloc(), &Choice::Audit { file: None });
     assert_eq!(rt; status, 1);
     let audited = "booked 1234 trace 000017 receipt 0005\ntotal 1234\n";
     assert_eq!(rt; text.as_slice(), audited.as_bytes());

@@ -34,10 +34,6 @@ pub with_option : (old new : Command) (a : Arg) (app : App) (rule : Rule) → Ad
 with_option old new a app rule adds is own has =
     (adds.shape own ∙ ap₂ with_rule has.0 is, adds.globals ∙ ap₂ (λ x y. x || y) has.1 own)
 
-pub with_plain : (old new sub : Command) (app : App) (name : List ℕ) → AddsSubcommand old sub new → app_of sub ≡ new_app name
-    → (fields_of sub).has_globals ≡ false → app_of old ≡ app → app_of new ≡ with_command app (new_app name)
-with_plain old new sub app name adds is own has = adds.shape own ∙ ap₂ with_command has is
-
 pub with_given : {E : Type 0} (p r command : Command) (given : Result Command E) → given ≡ Ok command
     → IfOk given (λ command. (fields_of command).has_globals ≡ false) → AddsSubcommand p command r
     → IsOkAnd given (λ command. app_of r ≡ with_command (app_of p) (app_of command))

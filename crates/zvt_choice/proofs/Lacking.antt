@@ -14,38 +14,38 @@ other_second name text differ e = differ (ap (λ (t : Text). slice_index t 1) e)
 
 till_has : (rows : List Row) (choice : Choice) → IsCommandOf (codes "till") rows choice
     → ((port : ℕ) → GivesNumber (codes "port") rows 65535 port → ⊥) → ⊥
-till_has rows Show said lacks = other_first (codes "till") (codes "show") (λ e. omega (arith, e)) said
-till_has rows Join said lacks = other_first (codes "till") (codes "join") (λ e. omega (arith, e)) said
-till_has rows Audit said lacks = other_first (codes "till") (codes "audit") (λ e. omega (arith, e)) said
-till_has rows Receipts said lacks = other_first (codes "till") (codes "receipts") (λ e. omega (arith, e)) said
+till_has rows (Show file) said lacks = other_first (codes "till") (codes "show") (λ e. omega (arith, e)) said.0
+till_has rows (Join file) said lacks = other_first (codes "till") (codes "join") (λ e. omega (arith, e)) said.0
+till_has rows (Audit file) said lacks = other_first (codes "till") (codes "audit") (λ e. omega (arith, e)) said.0
+till_has rows (Receipts file) said lacks = other_first (codes "till") (codes "receipts") (λ e. omega (arith, e)) said.0
 till_has rows (Loop trace steps) said lacks = other_first (codes "till") (codes "loop") (λ e. omega (arith, e)) said.0
 till_has rows (Till port host password config currency trace steps) said lacks = lacks port said.1
 till_has rows (Terminal port host tid connections decline trace) said lacks = other_second (codes "till") (codes "terminal") (λ e. omega (arith, e)) said.0
 
 till_has_host : (rows : List Row) (choice : Choice) → IsCommandOf (codes "till") rows choice → first_of (codes "host") rows ≢ None
-till_has_host rows Show said lacks = other_first (codes "till") (codes "show") (λ e. omega (arith, e)) said
-till_has_host rows Join said lacks = other_first (codes "till") (codes "join") (λ e. omega (arith, e)) said
-till_has_host rows Audit said lacks = other_first (codes "till") (codes "audit") (λ e. omega (arith, e)) said
-till_has_host rows Receipts said lacks = other_first (codes "till") (codes "receipts") (λ e. omega (arith, e)) said
+till_has_host rows (Show file) said lacks = other_first (codes "till") (codes "show") (λ e. omega (arith, e)) said.0
+till_has_host rows (Join file) said lacks = other_first (codes "till") (codes "join") (λ e. omega (arith, e)) said.0
+till_has_host rows (Audit file) said lacks = other_first (codes "till") (codes "audit") (λ e. omega (arith, e)) said.0
+till_has_host rows (Receipts file) said lacks = other_first (codes "till") (codes "receipts") (λ e. omega (arith, e)) said.0
 till_has_host rows (Loop trace steps) said lacks = other_first (codes "till") (codes "loop") (λ e. omega (arith, e)) said.0
 till_has_host rows (Till port host password config currency trace steps) said lacks = let bad : Some host.now ≡ None = sym said.2 ∙ lacks in cc
 till_has_host rows (Terminal port host tid connections decline trace) said lacks = other_second (codes "till") (codes "terminal") (λ e. omega (arith, e)) said.0
 
 terminal_has_host : (rows : List Row) (choice : Choice) → IsCommandOf (codes "terminal") rows choice → first_of (codes "host") rows ≢ None
-terminal_has_host rows Show said lacks = other_first (codes "terminal") (codes "show") (λ e. omega (arith, e)) said
-terminal_has_host rows Join said lacks = other_first (codes "terminal") (codes "join") (λ e. omega (arith, e)) said
-terminal_has_host rows Audit said lacks = other_first (codes "terminal") (codes "audit") (λ e. omega (arith, e)) said
-terminal_has_host rows Receipts said lacks = other_first (codes "terminal") (codes "receipts") (λ e. omega (arith, e)) said
+terminal_has_host rows (Show file) said lacks = other_first (codes "terminal") (codes "show") (λ e. omega (arith, e)) said.0
+terminal_has_host rows (Join file) said lacks = other_first (codes "terminal") (codes "join") (λ e. omega (arith, e)) said.0
+terminal_has_host rows (Audit file) said lacks = other_first (codes "terminal") (codes "audit") (λ e. omega (arith, e)) said.0
+terminal_has_host rows (Receipts file) said lacks = other_first (codes "terminal") (codes "receipts") (λ e. omega (arith, e)) said.0
 terminal_has_host rows (Loop trace steps) said lacks = other_first (codes "terminal") (codes "loop") (λ e. omega (arith, e)) said.0
 terminal_has_host rows (Till port host password config currency trace steps) said lacks = other_second (codes "terminal") (codes "till") (λ e. omega (arith, e)) said.0
 terminal_has_host rows (Terminal port host tid connections decline trace) said lacks = let bad : Some host.now ≡ None = sym said.2 ∙ lacks in cc
 
 terminal_has : (rows : List Row) (choice : Choice) → IsCommandOf (codes "terminal") rows choice
     → ((port tid connections : ℕ) → GivesNumber (codes "port") rows 65535 port → GivesNumber (codes "tid") rows 99999999 tid → GivesNumber (codes "connections") rows 65535 connections → ⊥) → ⊥
-terminal_has rows Show said lacks = other_first (codes "terminal") (codes "show") (λ e. omega (arith, e)) said
-terminal_has rows Join said lacks = other_first (codes "terminal") (codes "join") (λ e. omega (arith, e)) said
-terminal_has rows Audit said lacks = other_first (codes "terminal") (codes "audit") (λ e. omega (arith, e)) said
-terminal_has rows Receipts said lacks = other_first (codes "terminal") (codes "receipts") (λ e. omega (arith, e)) said
+terminal_has rows (Show file) said lacks = other_first (codes "terminal") (codes "show") (λ e. omega (arith, e)) said.0
+terminal_has rows (Join file) said lacks = other_first (codes "terminal") (codes "join") (λ e. omega (arith, e)) said.0
+terminal_has rows (Audit file) said lacks = other_first (codes "terminal") (codes "audit") (λ e. omega (arith, e)) said.0
+terminal_has rows (Receipts file) said lacks = other_first (codes "terminal") (codes "receipts") (λ e. omega (arith, e)) said.0
 terminal_has rows (Loop trace steps) said lacks = other_first (codes "terminal") (codes "loop") (λ e. omega (arith, e)) said.0
 terminal_has rows (Till port host password config currency trace steps) said lacks = other_second (codes "terminal") (codes "till") (λ e. omega (arith, e)) said.0
 terminal_has rows (Terminal port host tid connections decline trace) said lacks = lacks port tid connections said.1 said.3 said.4
@@ -75,10 +75,10 @@ pub no_command : (name : Text) (rows : List Row) → (name ≢ codes "show") →
 no_command name rows show join audit receipts loop till terminal = no
   where
     no : HasNoChoice (Some (name, rows))
-    no Show said = show said
-    no Join said = join said
-    no Audit said = audit said
-    no Receipts said = receipts said
+    no (Show file) said = show said.0
+    no (Join file) said = join said.0
+    no (Audit file) said = audit said.0
+    no (Receipts file) said = receipts said.0
     no (Loop trace steps) said = loop said.0
     no (Till port host password config currency trace steps) said = till said.0
     no (Terminal port host tid connections decline trace) said = terminal said.0

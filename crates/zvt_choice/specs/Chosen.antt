@@ -40,10 +40,10 @@ IsTextOf id rows text = first_of id rows ≡ option_map (λ text. text.now) text
 
 -- the command of this name, given these, is the choice
 abbrev pub IsCommandOf : Text → List Row → Choice → Type 0
-IsCommandOf name rows Show = name ≡ codes "show"
-IsCommandOf name rows Join = name ≡ codes "join"
-IsCommandOf name rows Audit = name ≡ codes "audit"
-IsCommandOf name rows Receipts = name ≡ codes "receipts"
+IsCommandOf name rows (Show file) = (name ≡ codes "show") × IsTextOf (codes "file") rows file
+IsCommandOf name rows (Join file) = (name ≡ codes "join") × IsTextOf (codes "file") rows file
+IsCommandOf name rows (Audit file) = (name ≡ codes "audit") × IsTextOf (codes "file") rows file
+IsCommandOf name rows (Receipts file) = (name ≡ codes "receipts") × IsTextOf (codes "file") rows file
 IsCommandOf name rows (Loop trace steps) =
     (name ≡ codes "loop") × IsTextOf (codes "trace") rows trace
     × (map (λ step. step.now) steps.items ≡ steps_of rows)

@@ -11,6 +11,10 @@ use Rattle.clap.specs.declared.builder.value_parser.ValueParser.TheVariants as p
 abbrev pub step_rule : Rule
 step_rule = record (new_rule (codes "step")) { action = Some Append; value_names = 1 }
 
+-- a word that may be left out
+abbrev pub file_rule : Rule
+file_rule = record (new_rule (codes "file")) { value_names = 1 }
+
 -- an option that has one value
 abbrev pub option_rule : Text → Rule
 option_rule name = record (new_rule name) { long = Some name; value_names = 1 }
@@ -67,12 +71,16 @@ program_app = on_top (λ top. record top { has_version = true }) (new_app (codes
 abbrev pub with_command : App → App → App
 with_command app command = with_subcommand app command.top
 
--- with the commands that read a trace, which have no options
+-- a command that reads a trace
+abbrev pub on_trace_app : Text → App
+on_trace_app name = with_rule (new_app name) file_rule
+
+-- with the commands that read a trace
 abbrev pub trace_app : App
 trace_app =
     with_command (with_command
-    (with_command (with_command program_app (new_app (codes "show"))) (new_app (codes "join")))
-    (new_app (codes "audit"))) (new_app (codes "receipts"))
+    (with_command (with_command program_app (on_trace_app (codes "show"))) (on_trace_app (codes "join")))
+    (on_trace_app (codes "audit"))) (on_trace_app (codes "receipts"))
 
 -- the program with its commands and their options
 abbrev pub zvt_app : App

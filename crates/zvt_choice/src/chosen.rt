@@ -7,15 +7,23 @@ use thiserror::Error;
 
 /// A command of the program, with what was given to it.
 ///
-/// Steps, hosts, codes, settings and the file of a trace are the words as they were given: whoever uses them checks
+/// Steps, hosts, codes, settings and files are the words as they were given: whoever uses them checks
 /// their form.
 #[derive(Debug, Drop)]
 pub enum Choice<'a> {
-    /// Also where no command is given.
-    Show,
-    Join,
-    Audit,
-    Receipts,
+    /// Also where no command is given. A file is named, or none or `-` for standard input.
+    Show {
+        file: Option<&'a str>,
+    },
+    Join {
+        file: Option<&'a str>,
+    },
+    Audit {
+        file: Option<&'a str>,
+    },
+    Receipts {
+        file: Option<&'a str>,
+    },
     Loop {
         trace: Option<&'a str>,
         steps: Vec<&'a str>,

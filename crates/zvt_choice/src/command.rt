@@ -2,7 +2,7 @@
 ghost use Rattle.std.specs.Prelude.{◌≡◌, IfOk, IsOkAnd, false};
 ghost use Rattle.clap.specs.Words.{App, Rule, app_of, new_app, rule_of, with_rule};
 ghost use Rattle.clap.specs.declared.builder.command.Command.TheViews.{out-Command as fields_of};
-ghost use Rattle.zvt_choice.specs.Commands.{IsLocalAppOf, loop_app, program_app, terminal_app, till_app, trace_app, with_command, zvt_app};
+ghost use Rattle.zvt_choice.specs.Commands.{IsLocalAppOf, loop_app, on_trace_app, program_app, terminal_app, till_app, trace_app, with_command, zvt_app};
 
 use crate::{help, options};
 use clap::{Arg, Command};
@@ -23,11 +23,28 @@ pub fn zvt<'a>(alloc: Global) -> Result<Command<'a>, AllocError>
 fn trace_commands<'a>(alloc: Global) -> Result<Command<'a>, AllocError>
     ensures { IfOk result (λ r. app_of r ≡ trace_app) }
 {
-    program(alloc)
-        .subcommand(plain(alloc, "show", help::SHOW, help::SHOW_EXAMPLE))?
-        .subcommand(plain(alloc, "join", help::JOIN, help::JOIN_EXAMPLE))?
-        .subcommand(plain(alloc, "audit", help::AUDIT, help::AUDIT_EXAMPLE))?
-        .subcommand(plain(alloc, "receipts", help::RECEIPTS, help::RECEIPTS_EXAMPLE))
+    let show = on_trace(alloc, "show", help::SHOW, help::SHOW_EXAMPLE);
+    let showing = with(program(alloc), show)?;
+    let join = on_trace(alloc, "join", help::JOIN, help::JOIN_EXAMPLE);
+    let joining = with(showing, join)?;
+    let audit = on_trace(alloc, "audit", help::AUDIT, help::AUDIT_EXAMPLE);
+    let auditing = with(joining, audit)?;
+    let receipts = on_trace(alloc, "receipts", help::RECEIPTS, help::RECEIPTS_EXAMPLE);
+    with(auditing, receipts)
+}
+
+/// A command that reads a trace, with the texts before and after its usage.
+fn on_trace<'a>(
+    alloc: Global,
+    name: &'a str,
+    about: &'a str,
+    more: &'a str,
+) -> Result<Command<'a>, AllocError>
+    ensures app { IfOk result (λ r. app_of r ≡ on_trace_app name.entry.now) }
+    ensures local { IfOk result (λ r. (fields_of r).has_globals ≡ false) }
+{
+    let named = Ok(plain(alloc, name, about, more));
+    and(named, options::file(alloc))
 }
 
 /// The program without a command.

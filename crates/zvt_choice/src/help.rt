@@ -18,13 +18,18 @@ pub const LOOP: &str = "Runs steps between a till and a terminal that are both i
 
 pub const TILL: &str = "Connects to a terminal and runs steps as its till";
 
-pub const TERMINAL: &str = "Listens as a simulated terminal and serves tills, one unless told otherwise";
+pub const TERMINAL: &str =
+    "Listens as a simulated terminal and serves tills, one unless told otherwise";
+
+pub const FILE: &str =
+    "The file that the trace is read from; without it, or with '-', standard input";
 
 /// The names of the commands, as a usage line shows them.
 pub const NAMES: &str = "show|join|audit|receipts|loop|till|terminal";
 
 /// What follows the commands.
-pub const MORE: &str = "show, join, audit and receipts read a trace from standard input.
+pub const MORE: &str =
+    "show, join, audit and receipts read a trace from a file, or from standard input where none or '-' is named.
 
 Steps, which run in the order in which they are given:
   register      Registers the till at the terminal
@@ -53,16 +58,16 @@ Example:
   echo '> 06 01 0A 04 00 00 00 00 12 34 49 09 78' | zvt show";
 
 pub const SHOW_EXAMPLE: &str = "Example:
-  zvt show < payment.trace";
+  zvt show payment.trace";
 
 pub const JOIN_EXAMPLE: &str = "Example:
-  zvt join < payment.trace";
+  zvt join payment.trace";
 
 pub const AUDIT_EXAMPLE: &str = "Example:
-  zvt audit < payment.trace";
+  zvt audit payment.trace";
 
 pub const RECEIPTS_EXAMPLE: &str = "Example:
-  zvt receipts < payment.trace";
+  zvt receipts payment.trace";
 
 pub const LOOP_EXAMPLE: &str = "Without a step: register pay:1000 decline:500:6C reverse:1 close
 

@@ -1,7 +1,7 @@
 //! The options and steps of the commands.
 ghost use Rattle.std.specs.Prelude.{◌≡◌, false};
 ghost use Rattle.clap.specs.Words.{rule_of};
-ghost use Rattle.zvt_choice.specs.Commands.{connections_rule, host_rule, option_rule, port_rule, step_rule, tid_rule};
+ghost use Rattle.zvt_choice.specs.Commands.{connections_rule, file_rule, host_rule, option_rule, port_rule, step_rule, tid_rule};
 
 use crate::help;
 use clap::{Arg, ArgAction, value_parser};
@@ -15,6 +15,13 @@ pub fn step<'a>(alloc: Global, text: &'a str) -> Arg<'a>
         .action(ArgAction::Append)
         .value_name("STEP")
         .help(text)
+}
+
+pub fn file<'a>(alloc: Global) -> Arg<'a>
+    ensures rule { rule_of result ≡ file_rule }
+    ensures local { result.global ≡ false }
+{
+    Arg::new(alloc, "file").value_name("FILE").help(help::FILE)
 }
 
 pub fn port<'a>(alloc: Global, text: &'a str) -> Arg<'a>

@@ -21,7 +21,7 @@ pub fn choice<'a>(alloc: Global, words: &'a [&'a str]) -> Result<Choice<'a>, Cho
 {
     let matches = matches(alloc, words)?;
     match matches.subcommand() {
-        None => Ok(Choice::Show),
+        None => Ok(Choice::Show { file: None }),
         Some((name, inner)) => match chosen(alloc, name, inner)? {
             Some(choice) => Ok(choice),
             None => Err(incomplete(alloc)),
@@ -79,10 +79,18 @@ fn chosen<'a>(
     ensures { IfOk result (MayBeChoiceOf (Some (name.now, rows_of (found_of inner.now)))) }
 {
     Ok(match name {
-        "show" => Some(Choice::Show),
-        "join" => Some(Choice::Join),
-        "audit" => Some(Choice::Audit),
-        "receipts" => Some(Choice::Receipts),
+        "show" => Some(Choice::Show {
+            file: text(inner, "file"),
+        }),
+        "join" => Some(Choice::Join {
+            file: text(inner, "file"),
+        }),
+        "audit" => Some(Choice::Audit {
+            file: text(inner, "file"),
+        }),
+        "receipts" => Some(Choice::Receipts {
+            file: text(inner, "file"),
+        }),
         "loop" => Some(Choice::Loop {
             trace: text(inner, "trace"),
             steps: steps(alloc, inner)?,

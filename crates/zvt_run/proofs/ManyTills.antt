@@ -1,5 +1,5 @@
 -- Lines that a terminal served one after another.
-use Rattle.std.proofs.Common.{◌≡◌, ◌∙◌, ◌+◌, ◌<◌, ℕ, List, [], ◌∷◌, ◌++◌, length, Option, Some, None, Result, Ok, Err, ap, refl, subst, sym, arith}
+use Rattle.std.proofs.Common.{◌≡◌, ◌∙◌, ◌+◌, ◌<◌, ℕ, List, [], ◌∷◌, ◌++◌, Option, Some, None, Result, Ok, Err, ap, refl, subst, sym, arith}
 use Rattle.std.proofs.lemmas.List.{length-append}
 use Rattle.std.specs.Result.{result_err}
 use Rattle.zvt_stream.specs.Course.{Told}
@@ -12,7 +12,7 @@ use Rattle.zvt_term.specs.declared.served.Served.{Served}
 use Rattle.zvt_run.specs.LineEnd.{EndState}
 use Rattle.zvt_run.specs.declared.fault.EndFault.{EndFault}
 use Rattle.zvt_run.specs.declared.fault.EndFault.TheVariants.{BadStep, Line as LineBroke, Memory as NoMemory, Net, Trace, Write as NotWritten}
-use Rattle.zvt_run.specs.Service.{AnswersTill, AnswersTills, IsOffline, Serves, ServesLine, ServesLines, ServesMany, first_broken}
+use Rattle.zvt_run.specs.Service.{AnswersTill, AnswersTills, IsOffline, Serves, ServesLine, ServesLines, ServesMany, ServesSome, first_broken}
 
 lost_offline : (old new : TerminalState) → new ≡ lost_terminal old → IsOffline new
 lost_offline old new e = e ∙ sym (ap lost_terminal e)
@@ -77,3 +77,7 @@ stopped count most first NoMemory old middle new below so till = absurd till
 pub goes_on : (count : ℕ) (first kept broke : Option LineFault) (old middle new : Served) → kept ≡ or_later first broke → ServesMany count first old middle
     → ServesLine middle broke new → ServesMany (count + 1) kept old new
 goes_on count first kept broke old middle new e so line = subst (λ (f : Option LineFault). ServesMany (count + 1) f old new) (sym e) (many_more count first broke old middle new so line)
+
+-- no line was served
+pub none_served : (most : ℕ) (served : Served) → ServesSome most served served
+none_served most served = (0, None, omega arith, record { lines = []; serves = refl; counted = refl; is_first = refl })

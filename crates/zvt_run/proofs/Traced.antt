@@ -1,5 +1,11 @@
 -- A run whose trace broke, or did not.
-use Rattle.std.proofs.Common.{Bool, true, false, Result, Ok, Err}
+use Rattle.std.proofs.Common.{◌≡◌, ℕ, List, Option, Bool, true, false, Result, Ok, Err, inr, subst, sym}
+use Rattle.zvt_till.specs.Sending.{Settings}
+use Rattle.zvt_run.specs.OverTcp.{AnswersRun, RunsPlan}
+use Rattle.zvt_run.specs.Plans.{Plans, words_of}
+use Rattle.zvt_run.specs.Runs.{Law}
+use Rattle.zvt_run.specs.declared.plans.Planned.{Planned}
+use Rattle.zvt_run.specs.declared.words.Ends.{Ends}
 use Rattle.zvt_run.specs.Traced.{AnswersTraced, by_trace}
 use Rattle.zvt_run.specs.declared.fault.EndFault.{EndFault}
 use Rattle.zvt_run.specs.declared.fault.EndFault.TheVariants.{BadStep, Line, Memory, Net, Trace, Write}
@@ -13,7 +19,7 @@ whole Answers (Err Memory) never a = a
 whole Answers (Err (BadStep at)) never a = a
 whole Answers (Err (Net why)) never a = a
 
-pub traced : (Answers : Result Unit EndFault → Type 0) (broken : Bool) (result : Result Unit EndFault) → (Answers (Err Trace) → ⊥) → Answers result
+traced : (Answers : Result Unit EndFault → Type 0) (broken : Bool) (result : Result Unit EndFault) → (Answers (Err Trace) → ⊥) → Answers result
     → AnswersTraced Answers (by_trace broken result)
 traced Answers false result never a = whole Answers result never a
 traced Answers true (Ok done) never a = (Ok done, tt, a)
@@ -23,3 +29,22 @@ traced Answers true (Err Write) never a = a
 traced Answers true (Err Memory) never a = a
 traced Answers true (Err (BadStep at)) never a = a
 traced Answers true (Err (Net why)) never a = a
+
+-- what a run of words answers
+answers : {L : Type 0} (makes : Law L) (begins : L → Type 0) (settings : Settings) (ends : Ends) (words : List (List ℕ)) (plan : List Planned) (old new : Option (List ℕ)) (result : Result Unit EndFault)
+    → Plans ends (words_of ends words) plan → AnswersTraced (RunsPlan makes begins settings plan old new) result → AnswersRun makes begins settings ends words old new result
+answers makes begins settings ends words plan old new (Ok done) plans runs = record { plan = plan; plans = plans; runs = runs }
+answers makes begins settings ends words plan old new (Err (Line fault)) plans runs = record { plan = plan; plans = plans; runs = runs }
+answers makes begins settings ends words plan old new (Err Trace) plans runs = record { plan = plan; plans = plans; runs = runs }
+answers makes begins settings ends words plan old new (Err Write) plans runs = record { plan = plan; plans = plans; runs = runs }
+answers makes begins settings ends words plan old new (Err Memory) plans runs = inr (record { plan = plan; plans = plans; runs = runs })
+answers makes begins settings ends words plan old new (Err (BadStep at)) plans runs = absurd runs.answers
+answers makes begins settings ends words plan old new (Err (Net why)) plans runs = absurd runs.answers
+
+pub traced_run : {L : Type 0} (makes : Law L) (begins : L → Type 0) (settings given : Settings) (ends : Ends) (words : List (List ℕ)) (plan made : List Planned) (broken : Bool) (old new : Option (List ℕ)) (answer result : Result Unit EndFault)
+    → given ≡ settings → made ≡ plan → result ≡ by_trace broken answer → Plans ends (words_of ends words) plan → RunsPlan makes begins given made old new answer
+    → AnswersRun makes begins settings ends words old new result
+traced_run makes begins settings given ends words plan made broken old new answer result set same is plans runs =
+    let run : RunsPlan makes begins settings plan old new answer = subst (λ (p : List Planned). RunsPlan makes begins settings p old new answer) same (subst (λ (s : Settings). RunsPlan makes begins s made old new answer) set runs) in
+    subst (λ (r : Result Unit EndFault). AnswersRun makes begins settings ends words old new r) (sym is)
+    (answers makes begins settings ends words plan old new (by_trace broken answer) plans (traced (RunsPlan makes begins settings plan old new) broken answer (λ r. r.answers) run))

@@ -159,7 +159,10 @@ where
     requires { tid ≤ 99999999 }
     ensures { AnswersService connections tid verdict result }
 {
-    let listener = listen(rt, host, port).map_err(EndFault::Net)?;
+    let listener = match listen(rt, host, port) {
+        Ok(listener) => listener,
+        Err(why) => return Err(EndFault::Net(why)),
+    };
     tell_address(alloc, &listener, tell);
     let mut served = Served {
         terminal: Terminal::new(alloc, tid),

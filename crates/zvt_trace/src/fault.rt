@@ -60,7 +60,7 @@ pub enum TraceFault {
     #[error("the trace has more than 16777216 bytes: cut it at a line, and give the parts one by one")]
     TooLong,
     /// Nothing was written.
-    #[error("the trace can't be read to its end: see where standard input comes from")]
+    #[error("the trace can't be read to its end: see where it comes from")]
     Read,
     /// Some front of the text was written.
     #[error("the text can't be written: see where standard output goes, and whether there is room")]

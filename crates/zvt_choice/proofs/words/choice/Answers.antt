@@ -12,7 +12,7 @@ pub returns-in-None-clause-chosen : goal.returns-in-None-clause-chosen
 returns-in-None-clause-chosen c =
     let m = c.in_ok-matches.matches in
     let none : subcommand_rows_of m ≡ None = no_rows (out-ArgMatches m).subcommand (sym c.in-None.ensures.name) in
-    subst (λ (o : Option (Text × List Row)). IsChoiceOf o Show) (sym none ∙ c.in_ok-matches.ensures.read) refl
+    subst (λ (o : Option (Text × List Row)). IsChoiceOf o (Show None)) (sym none ∙ c.in_ok-matches.ensures.read) (refl, refl)
 
 pub returns-in-Some-2-clause-chosen : goal.returns-in-Some-2-clause-chosen
 returns-in-Some-2-clause-chosen c =

@@ -1,4 +1,3 @@
-use Rattle.std.proofs.Common.{◌≡◌}
 use Rattle.zvt_run.specs.Service.{IsOffline, ServesMany}
 use Rattle.zvt_run.proofs.tcp.serve_tills.Given as goal
 

@@ -1,0 +1,35 @@
+//! Standard output, whose reader may go away.
+use std::io::{self, ErrorKind, Write};
+
+/// A writer that remembers whether its reader has gone, as that of a pipe may.
+#[derive(Drop)]
+pub struct Output<W> {
+    inner: W,
+    pub has_gone: bool,
+}
+
+impl<W> Output<W> {
+    /// This writer, whose reader is there.
+    pub fn new(inner: W) -> Output<W> {
+        Output {
+            inner,
+            has_gone: false,
+        }
+    }
+}
+
+impl<W: Write> Write for Output<W> {
+    ghost contents = { λ output. W.contents output.inner };
+
+    fn write(&mut self, bytes: &[u8]) -> io::Result<usize> {
+        let written = self.inner.write(bytes);
+        if let Err(error) = &written {
+            self.has_gone = error.kind() == ErrorKind::BrokenPipe;
+        }
+        written
+    }
+
+    fn flush(&mut self) -> io::Result<()> {
+        self.inner.flush()
+    }
+}
