@@ -44,6 +44,7 @@ fn commands_and_their_options(rt: HostRuntime) -> Result<(), Fail> {
         ("zvt join", "Join { file: None }"),
         ("zvt audit", "Audit { file: None }"),
         ("zvt receipts", "Receipts { file: None }"),
+        ("zvt vectors v.txt", "Vectors { file: Some(\"v.txt\") }"),
         ("zvt show -", r#"Show { file: Some("-") }"#),
         ("zvt audit t.trace", r#"Audit { file: Some("t.trace") }"#),
         ("zvt loop", "Loop { trace: None, steps: [] }"),
@@ -119,7 +120,7 @@ fn texts_of_refused_words(rt: HostRuntime) -> Result<(), Fail> {
 
   tip: a similar subcommand exists: 'receipts'
 
-Usage: zvt [show|join|audit|receipts|loop|till|terminal]
+Usage: zvt [show|join|audit|receipts|vectors|loop|till|terminal]
 
 For more information, try '--help'.
 ",
@@ -128,7 +129,7 @@ For more information, try '--help'.
             "zvt xyz",
             "error: unrecognized subcommand 'xyz'
 
-Usage: zvt [show|join|audit|receipts|loop|till|terminal]
+Usage: zvt [show|join|audit|receipts|vectors|loop|till|terminal]
 
 For more information, try '--help'.
 ",
@@ -155,6 +156,7 @@ fn help_of_the_program(rt: HostRuntime) -> Result<(), Fail> {
         "\n  join ",
         "\n  audit ",
         "\n  receipts ",
+        "\n  vectors ",
         "\n  loop ",
         "\n  till ",
         "\n  terminal ",
@@ -175,7 +177,7 @@ fn help_of_the_program(rt: HostRuntime) -> Result<(), Fail> {
 fn help_of_each_command(rt: HostRuntime) -> Result<(), Fail> {
     let alloc = rt.alloc();
     for name in [
-        "show", "join", "audit", "receipts", "loop", "till", "terminal",
+        "show", "join", "audit", "receipts", "vectors", "loop", "till", "terminal",
     ] {
         let line = format!(in alloc; "zvt {name} --help")?;
         let (_, text) = refused(alloc, line.as_str())?;

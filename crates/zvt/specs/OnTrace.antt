@@ -1,19 +1,21 @@
 -- What the commands on a trace answer.
 use Rattle.std.specs.Prelude.{◌≡◌, ℕ, List, [], Option, None, Some, Result, codes}
 use Rattle.zvt_choice.specs.declared.chosen.Choice.{Choice}
-use Rattle.zvt_choice.specs.declared.chosen.Choice.TheVariants.{Audit, Join, Loop, Receipts, Show, Terminal, Till}
+use Rattle.zvt_choice.specs.declared.chosen.Choice.TheVariants.{Audit, Join, Loop, Receipts, Show, Terminal, Till, Vectors}
 use Rattle.zvt_audit.specs.Audited.{AnswersAudit}
+use Rattle.zvt_vectors.specs.Checked.{AnswersVectors}
 use Rattle.zvt_show.specs.Lines.{mark_of}
 use Rattle.zvt_show.specs.Written.{AnswersTrace}
 use Rattle.zvt_trace.specs.declared.fault.Tally.{Tally}
 use Rattle.zvt_trace.specs.declared.fault.TraceFault.{TraceFault}
 
--- the command reads a trace
+-- the command reads a trace, or vectors
 abbrev pub IsOnTrace : Choice → Type 0
 IsOnTrace (Show file) = Unit {0}
 IsOnTrace (Join file) = Unit {0}
 IsOnTrace (Audit file) = Unit {0}
 IsOnTrace (Receipts file) = Unit {0}
+IsOnTrace (Vectors file) = Unit {0}
 IsOnTrace (Loop trace steps) = ⊥
 IsOnTrace (Till port host password config currency trace steps) = ⊥
 IsOnTrace (Terminal port host tid connections decline trace) = ⊥
@@ -29,6 +31,7 @@ AnswersOnTrace (Show file) trace old new result = AnswersMarked (Some []) trace 
 AnswersOnTrace (Join file) trace old new result = AnswersMarked (Some (codes "# ")) trace old new result
 AnswersOnTrace (Receipts file) trace old new result = AnswersMarked None trace old new result
 AnswersOnTrace (Audit file) trace old new result = AnswersAudit trace old new result
+AnswersOnTrace (Vectors file) trace old new result = AnswersVectors trace old new result
 AnswersOnTrace (Loop file steps) trace old new result = ⊥
 AnswersOnTrace (Till port host password config currency file steps) trace old new result = ⊥
 AnswersOnTrace (Terminal port host tid connections decline file) trace old new result = ⊥

@@ -63,7 +63,8 @@ fn execute(rt: &HostRuntime, chosen: &Choice<'_>) -> io::Result<u8>
         Choice::Show { file }
         | Choice::Join { file }
         | Choice::Audit { file }
-        | Choice::Receipts { file } => inputs::work_on(rt, chosen, *file),
+        | Choice::Receipts { file }
+        | Choice::Vectors { file } => inputs::work_on(rt, chosen, *file),
         Choice::Loop { trace, steps } => ends::both_ends(rt, *trace, steps.as_slice()),
         Choice::Till {
             port,

@@ -23,6 +23,7 @@ pub fn work_on_trace<R: Source, W: Sink>(
         Choice::Join { .. } => zvt_tool::join(alloc, reader, writer),
         Choice::Audit { .. } => zvt_tool::audit(alloc, reader, writer),
         Choice::Receipts { .. } => zvt_tool::receipts(alloc, reader, writer),
+        Choice::Vectors { .. } => zvt_tool::vectors(alloc, reader, writer),
         Choice::Loop { .. } | Choice::Till { .. } | Choice::Terminal { .. } => unreachable!(),
     }
 }

@@ -7,7 +7,7 @@ use Rattle.clap.specs.declared.error.Error.{Error}
 use Rattle.clap.specs.declared.error.kind.ErrorKind.TheVariants.{MissingRequiredArgument, OutOfMemory}
 use Rattle.zvt_choice.specs.Commands.{zvt_app}
 use Rattle.zvt_choice.specs.declared.chosen.Choice.{Choice}
-use Rattle.zvt_choice.specs.declared.chosen.Choice.TheVariants.{Audit, Join, Loop, Receipts, Show, Terminal, Till}
+use Rattle.zvt_choice.specs.declared.chosen.Choice.TheVariants.{Audit, Join, Loop, Receipts, Show, Terminal, Till, Vectors}
 use Rattle.zvt_choice.specs.declared.chosen.ChoiceFault.{ChoiceFault}
 use Rattle.zvt_choice.specs.declared.chosen.ChoiceFault.TheVariants.{Memory, Words}
 
@@ -44,6 +44,7 @@ IsCommandOf name rows (Show file) = (name ≡ codes "show") × IsTextOf (codes "
 IsCommandOf name rows (Join file) = (name ≡ codes "join") × IsTextOf (codes "file") rows file
 IsCommandOf name rows (Audit file) = (name ≡ codes "audit") × IsTextOf (codes "file") rows file
 IsCommandOf name rows (Receipts file) = (name ≡ codes "receipts") × IsTextOf (codes "file") rows file
+IsCommandOf name rows (Vectors file) = (name ≡ codes "vectors") × IsTextOf (codes "file") rows file
 IsCommandOf name rows (Loop trace steps) =
     (name ≡ codes "loop") × IsTextOf (codes "trace") rows trace
     × (map (λ step. step.now) steps.items ≡ steps_of rows)

@@ -75,12 +75,12 @@ with_command app command = with_subcommand app command.top
 abbrev pub on_trace_app : Text → App
 on_trace_app name = with_rule (new_app name) file_rule
 
--- with the commands that read a trace
+-- with the commands that read a trace, or vectors
 abbrev pub trace_app : App
 trace_app =
-    with_command (with_command
+    with_command (with_command (with_command
     (with_command (with_command program_app (on_trace_app (codes "show"))) (on_trace_app (codes "join")))
-    (on_trace_app (codes "audit"))) (on_trace_app (codes "receipts"))
+    (on_trace_app (codes "audit"))) (on_trace_app (codes "receipts"))) (on_trace_app (codes "vectors"))
 
 -- the program with its commands and their options
 abbrev pub zvt_app : App

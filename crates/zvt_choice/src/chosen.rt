@@ -24,6 +24,10 @@ pub enum Choice<'a> {
     Receipts {
         file: Option<&'a str>,
     },
+    /// Vectors are read from the file in place of a trace.
+    Vectors {
+        file: Option<&'a str>,
+    },
     Loop {
         trace: Option<&'a str>,
         steps: Vec<&'a str>,

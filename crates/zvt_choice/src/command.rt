@@ -19,7 +19,7 @@ pub fn zvt<'a>(alloc: Global) -> Result<Command<'a>, AllocError>
     with(paying, terminal(alloc))
 }
 
-/// The program with the commands that read a trace.
+/// The program with the commands that read a trace, or vectors.
 fn trace_commands<'a>(alloc: Global) -> Result<Command<'a>, AllocError>
     ensures { IfOk result (λ r. app_of r ≡ trace_app) }
 {
@@ -30,7 +30,9 @@ fn trace_commands<'a>(alloc: Global) -> Result<Command<'a>, AllocError>
     let audit = on_trace(alloc, "audit", help::AUDIT, help::AUDIT_EXAMPLE);
     let auditing = with(joining, audit)?;
     let receipts = on_trace(alloc, "receipts", help::RECEIPTS, help::RECEIPTS_EXAMPLE);
-    with(auditing, receipts)
+    let printing = with(auditing, receipts)?;
+    let vectors = on_trace(alloc, "vectors", help::VECTORS, help::VECTORS_EXAMPLE);
+    with(printing, vectors)
 }
 
 /// A command that reads a trace, with the texts before and after its usage.

@@ -21,11 +21,14 @@ pub const TILL: &str = "Connects to a terminal and runs steps as its till";
 pub const TERMINAL: &str =
     "Listens as a simulated terminal and serves tills, one unless told otherwise";
 
+pub const VECTORS: &str =
+    "Checks the reader of messages against test vectors, and writes those that it answers otherwise";
+
 pub const FILE: &str =
     "The file that the trace is read from; without it, or with '-', standard input";
 
 /// The names of the commands, as a usage line shows them.
-pub const NAMES: &str = "show|join|audit|receipts|loop|till|terminal";
+pub const NAMES: &str = "show|join|audit|receipts|vectors|loop|till|terminal";
 
 /// What follows the commands.
 pub const MORE: &str =
@@ -68,6 +71,13 @@ pub const AUDIT_EXAMPLE: &str = "Example:
 
 pub const RECEIPTS_EXAMPLE: &str = "Example:
   zvt receipts payment.trace";
+
+pub const VECTORS_EXAMPLE: &str = "Lines of vectors:
+  HEX = ANSWER  Bytes, and what a reader answers to them: whole N, more, or refused at P: REASON
+  # TEXT        A remark; an empty line says nothing either
+
+Example:
+  zvt vectors examples/vectors.txt";
 
 pub const LOOP_EXAMPLE: &str = "Without a step: register pay:1000 decline:500:6C reverse:1 close
 

@@ -91,6 +91,9 @@ fn chosen<'a>(
         "receipts" => Some(Choice::Receipts {
             file: text(inner, "file"),
         }),
+        "vectors" => Some(Choice::Vectors {
+            file: text(inner, "file"),
+        }),
         "loop" => Some(Choice::Loop {
             trace: text(inner, "trace"),
             steps: steps(alloc, inner)?,

@@ -12,6 +12,8 @@ returns c =
     let show = added c.on_trace-show.result c.in_ok-showing.showing c.program.result program_app (on_trace_app (codes "show")) c.program.ensures c.on_trace-show.ensures.app c.in_ok-showing.ensures in
     let join = added c.on_trace-join.result c.in_ok-joining.joining c.in_ok-showing.showing first (on_trace_app (codes "join")) show c.on_trace-join.ensures.app c.in_ok-joining.ensures in
     let audit = added c.on_trace-audit.result c.in_ok-auditing.auditing c.in_ok-joining.joining second (on_trace_app (codes "audit")) join c.on_trace-audit.ensures.app c.in_ok-auditing.ensures in
-    IfOk-weaker c.with-4.result _ _
-    (λ r is. added c.on_trace-receipts.result r c.in_ok-auditing.auditing third (on_trace_app (codes "receipts")) audit c.on_trace-receipts.ensures.app is)
-    c.with-4.ensures
+    let fourth = with_command third (on_trace_app (codes "receipts")) in
+    let receipts = added c.on_trace-receipts.result c.in_ok-printing.printing c.in_ok-auditing.auditing third (on_trace_app (codes "receipts")) audit c.on_trace-receipts.ensures.app c.in_ok-printing.ensures in
+    IfOk-weaker c.with-5.result _ _
+    (λ r is. added c.on_trace-vectors.result r c.in_ok-printing.printing fourth (on_trace_app (codes "vectors")) receipts c.on_trace-vectors.ensures.app is)
+    c.with-5.ensures
