@@ -239,7 +239,10 @@ fn a_payment_whose_read_or_write_fails(rt: HostRuntime) {
     }
     for write in 1..=2 {
         let fault = Err(RunFault::Line(LineFault::Write));
-        assert_eq!(rt; pays_over(&rt, rt.alloc(), 0, write), (fault, unclear, 0, 1));
+        assert_eq!(rt;
+            pays_over(&rt, rt.alloc(), 0, write),
+            (fault, unclear, 0, 1)
+        );
     }
     let paid = Some(Outcome::Paid {
         trace: Trace::new(17).expect(&rt, "a trace number"),

@@ -5,8 +5,8 @@ use std::net::TcpListener;
 use std::test::Fail;
 use zvt_io::{Over, Sink, Source};
 use zvt_run::{
-    BothEnds, End, EndFault, Ends, NetFault, Recorded, TillSettings, Way, config_of, currency_of, password_of, plan,
-    run_both_ends, run_loop, run_terminal, run_till, run_till_end, serve,
+    BothEnds, End, EndFault, Ends, NetFault, Recorded, TillSettings, Way, config_of, currency_of,
+    password_of, plan, run_both_ends, run_loop, run_terminal, run_till, run_till_end, serve,
 };
 use zvt_spelling::Why;
 use zvt_stream::{LineFault, Stream};

@@ -16,7 +16,12 @@ fn checked(alloc: Global, text: &str) -> (Result<Tally, TraceFault>, Vec<u8>) {
 fn right_and_wrong_vectors(rt: HostRuntime) {
     let rows: [(&str, &str, u64, u64); 5] = [
         ("", "", 0, 0),
-        ("# a remark\n\n06 0F 03 06 = refused at 3: DoesNotFit\n", "", 1, 0),
+        (
+            "# a remark\n\n06 0F 03 06 = refused at 3: DoesNotFit\n",
+            "",
+            1,
+            0,
+        ),
         ("80 00 00 80 = whole 3\n80 = more\n = more", "", 3, 0),
         (
             "800000 = more\n#\n80 00 = whole 2\n06 01 02 d0 = refused at 3: DoesNotFit",
@@ -46,7 +51,10 @@ fn lines_that_are_no_vectors(rt: HostRuntime) {
     ];
     for (line, wanted) in rows {
         let (answer, found) = checked(rt.alloc(), line);
-        assert!(rt; matches!(answer, Err(TraceFault::Trace { line: 1, what }) if what == wanted), "{line}");
+        assert!(rt;
+            matches!(answer, Err(TraceFault::Trace { line: 1, what }) if what == wanted),
+            "{line}"
+        );
         assert!(rt; found.is_empty());
     }
 }

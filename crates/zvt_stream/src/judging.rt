@@ -241,10 +241,12 @@ fn pass_field(left: usize, bytes: &[u8]) -> Option<Passed>
     let [name, ..] = bytes else {
         return None;
     };
-    let Ok(Move::Within {
-        at: At::Content { digits, more },
-        left: within,
-    }) = judge_field(left, *name)
+    let Ok(
+        Move::Within {
+            at: At::Content { digits, more },
+            left: within,
+        },
+    ) = judge_field(left, *name)
     else {
         return None;
     };

@@ -13,5 +13,5 @@ pub use zvt_run::{
     run_terminal, run_till, run_till_end, serve, step_of,
 };
 pub use zvt_show::{join, receipts, show};
-pub use zvt_vectors::vectors;
 pub use zvt_trace::{Tally, TraceFault, What};
+pub use zvt_vectors::vectors;
