@@ -1,5 +1,5 @@
 -- What is written for each report is a spelling of its message.
-use Rattle.std.proofs.Common.{◌≡◌, ℕ, ◌<◌, ◌≤◌, ◌^◌, Option, Some, None, List, [], ◌∷◌, ◌++◌, length, true, false, get_or, refl, sym, subst, arith}
+use Rattle.std.proofs.Common.{◌≡◌, ℕ, ◌<◌, ◌≤◌, ◌^◌, Option, Some, List, [], ◌∷◌, ◌++◌, length, true, false, get_or, refl, sym, subst, arith}
 use Rattle.zvt_spelling.specs.Reading.{AreBytes, shortest}
 use Rattle.zvt_tlv.specs.Sizes.{Puts}
 use Rattle.zvt_field.specs.Grammar.{Field, plain, FieldOf, FieldList, IsHead}
