@@ -22,7 +22,7 @@ fn runs_say_why_they_ended(rt: HostRuntime) -> Result<(), Fail> {
         ),
         (
             &EndFault::Trace,
-            "the trace of the line can't be written: see whether there is room where it goes; the line was given up, though it did not break",
+            "the trace of the line can't be written: see whether there is room where it goes; the run ended there",
         ),
         (
             &EndFault::Write,

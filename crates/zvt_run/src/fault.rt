@@ -17,7 +17,7 @@ pub enum EndFault {
     Line(LineFault),
     /// The trace of the line could not be written to its end, and the line was given up where that was found: after the
     /// last step, or in the order that ran, which ended as where the line breaks. All of the text was written.
-    #[error("the trace of the line can't be written: see whether there is room where it goes; the line was given up, though it did not break")]
+    #[error("the trace of the line can't be written: see whether there is room where it goes; the run ended there")]
     Trace,
     /// The word at this place, counted from 0, is no step. Nothing was sent, and nothing written.
     #[error("word {number} is no step: the steps are 'register', 'pay:N', 'reverse:N', 'close' and, where both ends run, 'decline:N:XX'", number = from_one(.at))]
