@@ -8,7 +8,7 @@ use Rattle.zvt_trace.specs.Written.{ReadsTrace, limit}
 use Rattle.zvt_trace.specs.declared.fault.Tally.{Tally}
 use Rattle.zvt_trace.specs.declared.fault.TraceFault.{TraceFault}
 use Rattle.zvt_trace.specs.declared.fault.TraceFault.TheVariants.{Memory, Read, TooLong, Trace, Write}
-use Rattle.zvt_vectors.specs.Checked.{AnswersLines, AnswersVectors, ChecksLine, Leading, LineSays, LinesSay, Part, both, nothing}
+use Rattle.zvt_vectors.specs.Checked.{AnswersLines, AnswersVectors, ChecksLine, Counts, Leading, LineSays, LinesSay, Part, both, nothing}
 use Rattle.zvt_vectors.specs.Vectors.{Meaning, Means}
 
 both-nothing : (p : Part) → both p nothing ≡ p
