@@ -19,3 +19,5 @@ mod runs;
 mod traces;
 #[cfg(test)]
 mod vectors;
+#[cfg(test)]
+mod walks;
