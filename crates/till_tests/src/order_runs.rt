@@ -231,23 +231,29 @@ fn pays_over(
 }
 
 #[test]
-fn a_payment_whose_read_or_write_fails(rt: HostRuntime) {
-    let unclear = Some(Outcome::Unclear(Cause::Line));
+fn a_payment_whose_read_fails(rt: HostRuntime) {
     for read in 1..=25 {
-        let fault = Err(RunFault::Line(LineFault::Read));
-        assert_eq!(rt; pays_over(&rt, rt.alloc(), read, 0), (fault, unclear, 0, 1));
+        let (fault, last, booked, unclear) = pays_over(&rt, rt.alloc(), read, 0);
+        assert_eq!(rt; fault, Err(RunFault::Line(LineFault::Read)));
+        assert_eq!(rt; last, Some(Outcome::Unclear(Cause::Line)));
+        assert_eq!(rt; (booked, unclear), (0, 1));
     }
+}
+
+#[test]
+fn a_payment_whose_write_fails(rt: HostRuntime) {
     for write in 1..=2 {
-        let fault = Err(RunFault::Line(LineFault::Write));
-        assert_eq!(rt;
-            pays_over(&rt, rt.alloc(), 0, write),
-            (fault, unclear, 0, 1)
-        );
+        let (fault, last, booked, unclear) = pays_over(&rt, rt.alloc(), 0, write);
+        assert_eq!(rt; fault, Err(RunFault::Line(LineFault::Write)));
+        assert_eq!(rt; last, Some(Outcome::Unclear(Cause::Line)));
+        assert_eq!(rt; (booked, unclear), (0, 1));
     }
-    let paid = Some(Outcome::Paid {
+    let (fault, last, booked, unclear) = pays_over(&rt, rt.alloc(), 0, 3);
+    assert_eq!(rt; fault, Err(RunFault::Line(LineFault::Write)));
+    let paid = Outcome::Paid {
         trace: Trace::new(17).expect(&rt, "a trace number"),
         receipt: Some([0, 5]),
-    });
-    let fault = Err(RunFault::Line(LineFault::Write));
-    assert_eq!(rt; pays_over(&rt, rt.alloc(), 0, 3), (fault, paid, 1, 0));
+    };
+    assert_eq!(rt; last, Some(paid));
+    assert_eq!(rt; (booked, unclear), (1, 0));
 }
