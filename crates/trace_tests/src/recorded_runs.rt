@@ -5,12 +5,13 @@ use std::cell::RefCell;
 use std::fmt::Write as FmtWrite;
 use std::io::{self, Read, Write};
 use std::test::Fail;
+use zvt_audit::audit;
 use zvt_bcd::{Amount, Currency};
 use zvt_io::Over;
 use zvt_run::{Recorded, Way, end_trace};
+use zvt_show::show;
 use zvt_stream::Stream;
 use zvt_till::{Order, Till, run_order};
-use zvt_trace::{audit, show};
 
 const ACK: &[u8] = &[0x80, 0x00, 0x00];
 
