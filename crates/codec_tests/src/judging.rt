@@ -176,11 +176,12 @@ fn every_byte() -> [u8; 256] {
     bytes
 }
 
-/// The bytes with each of their first `count` replaced by each of these values, fed at cuts so far apart.
+/// The bytes with each of so many behind the first ones replaced by each of these values, fed at cuts so far apart.
 fn each_change(
     rt: &impl Abort,
     alloc: Global,
     bytes: &[u8],
+    first: usize,
     count: usize,
     values: &[u8],
     step: usize,
@@ -189,7 +190,7 @@ fn each_change(
 {
     let mut changed = Vec::new(alloc);
     changed.extend_from_slice(bytes)?;
-    for at in 0..bytes.len().min(count) {
+    for at in first..bytes.len().min(first.saturating_add(count)) {
         let before = changed[at];
         for value in values {
             changed[at] = *value;
@@ -236,16 +237,35 @@ fn rows_at_every_cut(rt: HostRuntime) -> Result<(), Fail> {
 #[test]
 fn changed_rows(rt: HostRuntime) -> Result<(), Fail> {
     for &row in &ROWS {
-        each_change(&rt, rt.alloc(), row, 24, &ROLES, 3)?;
+        each_change(&rt, rt.alloc(), row, 0, 24, &ROLES, 3)?;
     }
     let all = every_byte();
     for row in [ROWS[0], ROWS[8], &NESTED] {
-        each_change(&rt, rt.alloc(), row, row.len(), &all, 1)?;
+        each_change(&rt, rt.alloc(), row, 0, row.len(), &all, 1)?;
     }
-    // What stands behind the first eight bytes is a content of any bytes: the cuts within it are fewer.
-    let (first, byte, size) = LONG_ROWS[0];
-    let row = filled(rt.alloc(), first, byte, size)?;
-    each_change(&rt, rt.alloc(), &row, 10, &all, 13)
+    Ok(())
+}
+
+/// A message that is mostly the content of one object, with so many of its bytes replaced by each other one.
+fn long_row_changed(
+    rt: &impl Abort,
+    alloc: Global,
+    first: usize,
+    count: usize,
+) -> Result<(), Fail> {
+    let (front, byte, size) = LONG_ROWS[0];
+    let row = filled(alloc, front, byte, size)?;
+    each_change(rt, alloc, &row, first, count, &every_byte(), 1)
+}
+
+#[test]
+fn a_long_row_changed_in_its_first_half(rt: HostRuntime) -> Result<(), Fail> {
+    long_row_changed(&rt, rt.alloc(), 0, 67)
+}
+
+#[test]
+fn a_long_row_changed_in_its_second_half(rt: HostRuntime) -> Result<(), Fail> {
+    long_row_changed(&rt, rt.alloc(), 67, 67)
 }
 
 /// Feeds each front of the bytes but the empty one: none ends a message, and all of it is held where the line ends.
