@@ -96,28 +96,26 @@ fn registered_till(rt: &impl Abort, alloc: Global) -> Till {
     till
 }
 
-/// What a status says of that many cents under the trace number, with a receipt number.
-fn approval(units: u64, number: u32, receipt: u8) -> Heard {
+/// What a status says that names no currency.
+fn status(units: u64, number: u32, receipt: Option<[u8; 2]>, original: Original) -> Heard {
     Heard::Status(StatusFacts {
         result: Some(0),
         amount: Amount::new(units),
         trace: Trace::new(number),
-        receipt: Some([0, receipt]),
-        original: Original::Absent,
+        receipt,
+        original,
         currency: CurrencyFact::Absent,
     })
 }
 
+/// What a status says of that many cents under the trace number, with a receipt number.
+fn approval(units: u64, number: u32, receipt: u8) -> Heard {
+    status(units, number, Some([0, receipt]), Original::Absent)
+}
+
 /// What a status says of the worked price, as number 18, taken back from number 17.
 fn reversal(receipt: Option<[u8; 2]>) -> Heard {
-    Heard::Status(StatusFacts {
-        result: Some(0),
-        amount: Amount::new(PRICE),
-        trace: Trace::new(18),
-        receipt,
-        original: Original::Once([0x00, 0x00, 0x17]),
-        currency: CurrencyFact::Absent,
-    })
+    status(PRICE, 18, receipt, Original::Once([0x00, 0x00, 0x17]))
 }
 
 /// The row of a payment of the worked price.
@@ -373,14 +371,7 @@ fn other_orders_end_too(rt: HostRuntime) {
 #[test]
 fn a_payment_without_a_receipt_is_not_taken_back(rt: HostRuntime) {
     let mut till = registered_till(&rt, rt.alloc());
-    let silent = Heard::Status(StatusFacts {
-        result: Some(0),
-        amount: Amount::new(PRICE),
-        trace: Trace::new(17),
-        receipt: None,
-        original: Original::Absent,
-        currency: CurrencyFact::Absent,
-    });
+    let silent = status(PRICE, 17, None, Original::Absent);
     pays(&rt, &mut till, &[silent, Heard::Completion]);
     let refused = Told::Refused(Order::Reverse(0), OrderRefusal::NoReceipt);
     goes(&rt, &mut till, &[refused]);

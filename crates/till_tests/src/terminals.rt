@@ -38,22 +38,11 @@ const TAKEN_BACK: [u8; 29] = [
     0x00, 0x00, 0x02, 0x37, 0x00, 0x00, 0x01, 0x87, 0x00, 0x02, 0x49, 0x09, 0x78,
 ];
 
-/// `APPROVED 1000`.
-const APPROVED_LINE: [u8; 17] = [
-    0x06, 0xD1, 0x0E, 0x00, 0x41, 0x50, 0x50, 0x52, 0x4F, 0x56, 0x45, 0x44, 0x20, 0x31, 0x30, 0x30,
-    0x30,
-];
+const APPROVED_LINE: &[u8] = b"\x06\xD1\x0E\x00APPROVED 1000";
 
-/// `REVERSED 1000`.
-const REVERSED_LINE: [u8; 17] = [
-    0x06, 0xD1, 0x0E, 0x00, 0x52, 0x45, 0x56, 0x45, 0x52, 0x53, 0x45, 0x44, 0x20, 0x31, 0x30, 0x30,
-    0x30,
-];
+const REVERSED_LINE: &[u8] = b"\x06\xD1\x0E\x00REVERSED 1000";
 
-/// `DAY CLOSED`.
-const DAY_CLOSED_LINE: [u8; 14] = [
-    0x06, 0xD1, 0x0B, 0x00, 0x44, 0x41, 0x59, 0x20, 0x43, 0x4C, 0x4F, 0x53, 0x45, 0x44,
-];
+const DAY_CLOSED_LINE: &[u8] = b"\x06\xD1\x0B\x00DAY CLOSED";
 
 /// What the terminal answers under the verdict to the message that these bytes spell.
 fn step(
@@ -134,7 +123,7 @@ fn approved_terminal(rt: &impl Abort, alloc: Global) -> Result<Terminal, Fail> {
     let mut terminal = registered_terminal(rt, alloc)?;
     let course: [(&[u8], &[u8]); 5] = [
         (&AUTHORISATION, &APPROVED),
-        (&ACK, &APPROVED_LINE),
+        (&ACK, APPROVED_LINE),
         (&ACK, &COMPLETION),
         (&ACK, &[]),
         (&ACK, &[]),
@@ -148,7 +137,7 @@ fn reversed_terminal(rt: &impl Abort, alloc: Global) -> Result<Terminal, Fail> {
     let mut terminal = approved_terminal(rt, alloc)?;
     let course: [(&[u8], &[u8]); 4] = [
         (&REVERSAL, &TAKEN_BACK),
-        (&ACK, &REVERSED_LINE),
+        (&ACK, REVERSED_LINE),
         (&ACK, &COMPLETION),
         (&ACK, &[]),
     ];
@@ -282,7 +271,7 @@ fn asks_no_currency_without_one_of_its_own(rt: HostRuntime) -> Result<(), Fail> 
         (&bare, &completion),
         (&ACK, &[]),
         (&IN_DOLLARS, &approved),
-        (&ACK, &APPROVED_LINE),
+        (&ACK, APPROVED_LINE),
         (&ACK, &COMPLETION),
         (&ACK, &[]),
         (&REVERSAL, &taken_back),
@@ -340,7 +329,7 @@ fn closes_days(rt: HostRuntime) -> Result<(), Fail> {
     let nack = [0x84, 0x6C, 0x00];
     let course: [(&[u8], &[u8]); 4] = [
         (&END_OF_DAY, &closed),
-        (&ACK, &DAY_CLOSED_LINE),
+        (&ACK, DAY_CLOSED_LINE),
         (&nack, &COMPLETION),
         (&nack, &[]),
     ];
@@ -363,7 +352,7 @@ fn goes_on_with_the_running_order(rt: HostRuntime) -> Result<(), Fail> {
         (&COMPLETION, &NOT_POSSIBLE),
         (&[0x06, 0x02, 0x00], &NOT_POSSIBLE),
         (&ABORT_ORDER, &ACK),
-        (&ACK, &APPROVED_LINE),
+        (&ACK, APPROVED_LINE),
     ];
     answers(&rt, rt.alloc(), &mut terminal, &course)?;
     assert_eq!(rt; terminal.ledger(), [row(&rt, 1, None)].as_slice());

@@ -26,7 +26,8 @@ use Rattle.zvt_term.specs.Orderly.{Line, no_line, is_orderly, line_after, are_or
 use Rattle.zvt_term.specs.Terminal.{TerminalState, turn_of, reports_of}
 use Rattle.zvt_term.specs.World.{Ends, new_ends, move as ends_move, world, FitMove, FitMoves}
 use Rattle.zvt_term.proofs.Facts.{Facts, heard_of, asked_out, answer_to, orders, reaches_terminal, reaches_till, move}
-use Rattle.zvt_term.proofs.Accounts.{orders_in, is_order, is_word, words, Accounts, Covered, Dialogue, Talks, Down, till-hears, line_up-heard, till-loses, dialogue-front, till-accepts, line_up-accepted}
+use Rattle.zvt_term.proofs.Accounts.{orders_in, is_order, is_word, words, Accounts, Covered, Dialogue}
+use Rattle.zvt_term.proofs.Talking.{Talks, Down, till-hears, line_up-heard, till-loses, dialogue-front, till-accepts, line_up-accepted}
 use Rattle.zvt_term.proofs.Answering.{script_of, speech, ledger_after, decided-covered, terminal-hears-talks}
 use Rattle.zvt_term.proofs.WorldMeans.{meaning, Fit, move-means, move-fit, new-fit}
 

@@ -28,7 +28,8 @@ use Rattle.zvt_term.specs.declared.turns.Turn.{Turn}
 use Rattle.zvt_term.specs.Ledger.{approval_by, is_taken_back}
 use Rattle.zvt_term.specs.Orderly.{approvals, entries_of_amount, unclear_of_amount, pays_amount}
 use Rattle.zvt_term.specs.Terminal.{TerminalState, has_room, next_number, is_idle, is_ready, aborts, refuses, registers, takes_currency, decides, authorises, takes_back_row, reverses_found, reverses, closes, goes_on, when, turn_of, reports_of}
-use Rattle.zvt_term.proofs.Accounts.{asks_amount, on_the_way, on_the_way-first, approvals-push, orders_in, words, Accounts, Covered, EndsLast, IsClaimed, Keeps, Pledges, Fits, Stage, Asking, TakenUp, Dialogue, Talks, nothing-first, nothing-last}
+use Rattle.zvt_term.proofs.Accounts.{asks_amount, on_the_way, on_the_way-first, approvals-push, orders_in, words, Accounts, Covered, EndsLast, IsClaimed, Keeps, Pledges, Fits, Stage, Asking, TakenUp, Dialogue}
+use Rattle.zvt_term.proofs.Talking.{Talks, nothing-first, nothing-last}
 use Rattle.zvt_term.proofs.Facts.{heard_of, fact_of, approval_status}
 use Rattle.zvt_term.proofs.TurnLemmas.{taken_back}
 

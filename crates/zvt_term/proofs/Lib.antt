@@ -7,6 +7,7 @@ pub mod FactsMatch
 pub mod Meanings
 pub mod WorldMeans
 pub mod Accounts
+pub mod Talking
 pub mod Answering
 pub mod Accounting
 mod Rows
