@@ -1,5 +1,5 @@
 //! Tells a listener what one side of the line sends.
-ghost use Rattle.std.specs.Prelude.{◌≡◌, ◌≤◌, length, false, Some, IfOk, MatchResult};
+ghost use Rattle.std.specs.Prelude.{◌≡◌, ◌≤◌, length, false, true, Some, IfOk, MatchResult};
 ghost use Rattle.zvt_apdu.specs.Message.{Message};
 ghost use Rattle.zvt_trace.specs.Told.{on};
 ghost use Rattle.zvt_trace.specs.Told as told;
@@ -30,6 +30,17 @@ fn going(messages: u64) -> Hearing
     Hearing {
         tally: Tally { messages, bad: 0 },
         stopped: false,
+    }
+}
+
+/// So many messages came, and nothing more is read.
+#[inline(always)]
+fn stopped(messages: u64, bad: u64) -> Hearing
+    ensures { (result.tally.messages ≡ messages) × (result.tally.bad ≡ bad) × (result.stopped ≡ true) }
+{
+    Hearing {
+        tally: Tally { messages, bad },
+        stopped: true,
     }
 }
 
@@ -95,17 +106,11 @@ pub(crate) fn tell_piece<D, L: Listener<D>>(
                     why,
                 };
                 listener.hear(device, line, &told)?;
-                return Ok(Hearing {
-                    tally: Tally { messages, bad: 1 },
-                    stopped: true,
-                });
+                return Ok(stopped(messages, 1));
             }
             Err(FeedError::Stopped) => {
                 listener.hear(device, line, &Told::Unread { from })?;
-                return Ok(Hearing {
-                    tally: Tally { messages, bad: 0 },
-                    stopped: true,
-                });
+                return Ok(stopped(messages, 0));
             }
             Err(FeedError::Memory) => return Err(Failure::Memory),
         }

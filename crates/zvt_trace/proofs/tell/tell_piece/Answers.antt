@@ -65,10 +65,11 @@ returns-in-Ok-Refused-clause-tells g c = λ side follows.
     let lends = fed_as c.messages.stream c.feed_view.new.self c.messages.rest.now c.in-Ok-Refused.field-0 (fed.Refused c.in-Ok-Refused.place c.in-Ok-Refused.why) c.in-Ok-Refused.field-0-is c.in-Ok-Refused.ensures.fed in
     let feeds = lends.0 in
     let so_far = c.messages.invariant.so_far in
+    let ended = c.stopped.ensures in
     let byte = slice_index c.messages.rest.now (c.in-Ok-Refused.place - c.messages.held) in
     let told = is_refused c.args.line c.args.from c.messages.stream.held c.messages.rest.now c.before-in-Ok-Refused.result c.messages.held byte c.in-Ok-Refused.place c.in-Ok-Refused.why so_far.is_held (c.before-in-Ok-Refused.ensures c.messages.stream.held so_far.is_head) (omega (arith, feeds.1, so_far.is_held)) refl in
     ends g.L.Listener.hears _ _ side _ c.messages.rest.now _ c.messages.stream c.feed_view.new.self _ _ _ _ _ _ (refused c.in-Ok-Refused.place c.in-Ok-Refused.why) _ so_far
-    (going _ _ _ c.in-Ok-Refused.is c.feed_view.ensures.stopped) feeds.0.0 (feeds.0.1, feeds.0.2) feeds.2 (hears_told g.L.Listener.hears _ _ _ _ told c.in_ok-hear-in-Ok-Refused.ensures) refl refl refl follows
+    (going _ _ _ c.in-Ok-Refused.is c.feed_view.ensures.stopped) feeds.0.0 (feeds.0.1, feeds.0.2) feeds.2 (hears_told g.L.Listener.hears _ _ _ _ told c.in_ok-hear-in-Ok-Refused.ensures) ended.0 ended.1 ended.2 follows
 
 pub returns-in_err-hear-in-Err-Stopped-clause-tells :
     goal.returns-in_err-hear-in-Err-Stopped-clause-tells
@@ -79,8 +80,9 @@ returns-in_err-hear-in-Err-Stopped-clause-tells g c = λ side follows.
 
 pub returns-in-Err-Stopped-clause-tells : goal.returns-in-Err-Stopped-clause-tells
 returns-in-Err-Stopped-clause-tells g c = λ side follows.
+    let ended = c.stopped-in-Err-Stopped.ensures in
     stays g.L.Listener.hears _ _ side _ c.messages.rest.now _ c.messages.stream c.feed_view.new.self _ _ _ _ _ _ _ c.messages.invariant.so_far
-    (c.in-Err-Stopped.ensures.only (ap Err c.in-Err-Stopped.field-0-is)) c.in-Err-Stopped.ensures.err c.in_ok-hear-in-Err-Stopped.ensures refl refl refl follows
+    (c.in-Err-Stopped.ensures.only (ap Err c.in-Err-Stopped.field-0-is)) c.in-Err-Stopped.ensures.err c.in_ok-hear-in-Err-Stopped.ensures ended.0 ended.1 ended.2 follows
 
 pub returns-in-Err-Memory-clause-tells : goal.returns-in-Err-Memory-clause-tells
 returns-in-Err-Memory-clause-tells g c = λ side follows.
