@@ -1,7 +1,6 @@
 //! The books of a whole trace.
 ghost use Rattle.std.specs.Prelude.{◌≡◌, ◌<◌, Err, IfErr, IfSome, OnErr, OnOk};
 ghost use Rattle.std.specs.Io.KnownBytes.{Appends};
-ghost use Rattle.std.specs.String.{string_bytes};
 ghost use Rattle.zvt_io.specs.Devices.{CountsFailure};
 ghost use Rattle.zvt_trace.specs.Written.{AppendsFront};
 ghost use Rattle.zvt_audit.specs.Audited.{AnswersAudit};
@@ -10,7 +9,7 @@ use crate::auditor::Auditor;
 use crate::booked;
 use std::alloc::Global;
 use zvt_io::{Failed, Sink, Source};
-use zvt_text::Scribe;
+use zvt_text::Text;
 use zvt_till::Happening;
 use zvt_till::books::Bookkeeping;
 use zvt_trace::{Scope, Tally, TraceFault, read_trace, walk};
@@ -46,21 +45,20 @@ pub fn audit<R: Source, W: Sink>(
         trace.as_slice(),
     )?;
     let found = auditor.books.close()?;
-    let mut text = String::new(alloc);
-    let mut scribe = Scribe::new(alloc);
-    booked::write(&mut scribe, &mut text, &found)?;
+    let mut text = Text::new(alloc);
+    booked::write(&mut text, &found)?;
     put(&text, writer)?;
     Ok(tally)
 }
 
 /// Writes the text to the device.
-fn put<W: Sink>(text: &String, writer: &mut W) -> Result<(), TraceFault>
-    ensures bytes { OnOk result (Appends (W.written writer.old) (W.written writer.new) (string_bytes text.now)) }
+fn put<W: Sink>(text: &Text, writer: &mut W) -> Result<(), TraceFault>
+    ensures bytes { OnOk result (Appends (W.written writer.old) (W.written writer.new) text.now) }
     ensures fault { IfErr result (λ fault. fault ≡ TraceFault.Write) }
     ensures failures { CountsFailure (W.failures writer.old) (W.failures writer.new) result }
-    ensures front { OnErr result (AppendsFront (W.written writer.old) (W.written writer.new) (string_bytes text.now)) }
+    ensures front { OnErr result (AppendsFront (W.written writer.old) (W.written writer.new) text.now) }
 {
-    match writer.write_all(text.as_bytes()) {
+    match writer.write_all(text.bytes()) {
         Ok(()) => Ok(()),
         Err(Failed) => Err(TraceFault::Write),
     }

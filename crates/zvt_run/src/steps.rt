@@ -1,6 +1,5 @@
 //! Steps made one after another on a line, and what is written of them.
 ghost use Rattle.std.specs.Prelude.{◌≡◌, ◌<◌, ◌++◌, Err, IfErr, IfOk, OnOk, Result};
-ghost use Rattle.std.specs.String.{string_bytes};
 ghost use Rattle.zvt_io.specs.Devices.{CountsFailure, Writes};
 ghost use Rattle.zvt_till.specs.Line.{IsOver};
 ghost use Rattle.zvt_till.specs.Marks.{total};
@@ -20,10 +19,9 @@ use crate::plans::Planned;
 use crate::settings::TillSettings;
 use crate::words::Step;
 use std::alloc::{AllocError, Global};
-use std::fmt::Write;
 use zvt_io::{Failed, Sink};
 use zvt_stream::LineFault;
-use zvt_text::Scribe;
+use zvt_text::Text;
 use zvt_till::{Outcome, RunFault, Till};
 
 /// A line on which each step of a till is made from end to end.
@@ -84,34 +82,31 @@ fn make_step<L: StepLine, W: Sink>(
     ensures count { IfOk result (λ _. W.failures writer.new ≡ W.failures writer.old) }
 {
     let made = line.make(alloc, till, &planned.step);
-    let mut text = String::new(alloc);
-    text.push_str(planned.word.as_str())?;
-    text.push_str(" -> ")?;
-    say_ending(
-        &mut Scribe::new(alloc),
-        &mut text,
-        &made,
-        till.last_outcome(),
-    )?;
-    text.push('\n')?;
+    let mut text = Text::new(alloc);
+    text.word(planned.word.as_bytes())?;
+    text.word(b" -> ")?;
+    say_ending(&mut text, &made, till.last_outcome())?;
+    text.push(b'\n')?;
     put(&text, writer)?;
     Ok(fault_of(&made))
 }
 
 /// Writes what became of a step, where the till says this of the order that ended last.
 fn say_ending(
-    scribe: &mut Scribe,
-    text: &mut String,
+    text: &mut Text,
     made: &Result<Outcome, RunFault>,
     last: Option<Outcome>,
 ) -> Result<(), AllocError>
-    ensures { OnOk result (string_bytes text.new ≡ string_bytes text.old ++ ending_text made.now last) }
+    ensures { OnOk result (text.new ≡ text.old ++ ending_text made.now last) }
 {
     match made {
-        Ok(outcome) => outcome_text(scribe, text, outcome),
-        Err(RunFault::Order(why)) => write!(text, "not sent: {why}"),
+        Ok(outcome) => outcome_text(text, outcome),
+        Err(RunFault::Order(why)) => {
+            text.word(b"not sent: ")?;
+            text.word(why.name().as_bytes())
+        }
         Err(RunFault::Line(_)) => match &last {
-            Some(outcome) => outcome_text(scribe, text, outcome),
+            Some(outcome) => outcome_text(text, outcome),
             None => Ok(()),
         },
     }
@@ -134,17 +129,27 @@ fn write_total<W: Sink>(alloc: Global, till: &Till, writer: &mut W) -> Result<()
     ensures write { result ≡ Err EndFault.Write → W.failures writer.old < W.failures writer.new }
 {
     let total = till.total();
-    let text = format!(in alloc; "total {total}\n")?;
+    let mut text = Text::new(alloc);
+    say_total(&mut text, total)?;
     put(&text, writer)
 }
 
+/// The line of a total.
+fn say_total(text: &mut Text, total: u64) -> Result<(), AllocError>
+    ensures { OnOk result (text.new ≡ text.old ++ total_text total) }
+{
+    text.word(b"total ")?;
+    text.number(total)?;
+    text.push(b'\n')
+}
+
 /// Writes the text to the device.
-fn put<W: Sink>(text: &String, writer: &mut W) -> Result<(), EndFault>
-    ensures bytes { Writes (W.written writer.old) (W.written writer.new) result (string_bytes text.now) }
+fn put<W: Sink>(text: &Text, writer: &mut W) -> Result<(), EndFault>
+    ensures bytes { Writes (W.written writer.old) (W.written writer.new) result text.now }
     ensures fault { IfErr result (λ fault. fault ≡ EndFault.Write) }
     ensures failures { CountsFailure (W.failures writer.old) (W.failures writer.new) result }
 {
-    match writer.write_all(text.as_bytes()) {
+    match writer.write_all(text.bytes()) {
         Ok(()) => Ok(()),
         Err(Failed) => Err(EndFault::Write),
     }

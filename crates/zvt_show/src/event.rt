@@ -1,30 +1,22 @@
 //! The text of what is told.
 ghost use Rattle.std.specs.Prelude.{OnOk};
-ghost use Rattle.std.specs.String.{string_bytes};
 ghost use Rattle.zvt_trace.specs.Told.{HasItsBytes, told_of};
 ghost use Rattle.zvt_show.specs.Written.{AddsEvent};
 
 use crate::style::Style;
 use crate::{message, style};
 use std::alloc::AllocError;
-use zvt_text::Scribe;
+use zvt_text::Text;
 use zvt_trace::Told;
 
 /// Writes a message, or what becomes of the line.
 #[inline(always)]
-pub(crate) fn write(
-    scribe: &mut Scribe,
-    text: &mut String,
-    style: Style,
-    told: &Told<'_>,
-) -> Result<(), AllocError>
+pub(crate) fn write(text: &mut Text, style: Style, told: &Told<'_>) -> Result<(), AllocError>
     requires { HasItsBytes told.now }
-    ensures { OnOk result (AddsEvent style (told_of told.now) (string_bytes text.old) (string_bytes text.new)) }
+    ensures { OnOk result (AddsEvent style (told_of told.now) text.old text.new) }
 {
     match told {
-        Told::Message { from, apdu, bytes } => {
-            message::write(scribe, text, style, *from, apdu, bytes)
-        }
+        Told::Message { from, apdu, bytes } => { message::write(text, style, *from, apdu, bytes) }
         Told::Refused {
             from,
             place,

@@ -1,11 +1,11 @@
 //! How what a trace tells is written.
 ghost use Rattle.std.specs.Prelude.{◌≡◌, ◌++◌, OnOk};
-ghost use Rattle.std.specs.String.{string_bytes};
+ghost use Rattle.zvt_trace.specs.Lines.{direction_text};
 ghost use Rattle.zvt_show.specs.Lines.{lost_text, refused_text, stopped_text, truncated_text};
 
 use std::alloc::AllocError;
-use std::fmt::Write;
 use zvt_spelling::Why;
+use zvt_text::Text;
 use zvt_trace::Direction;
 
 /// How what a trace tells is written.
@@ -35,54 +35,69 @@ impl Style {
     }
 }
 
+/// The beginning of a line that is no part of a trace.
+fn begin(text: &mut Text, mark: &str, from: Direction, words: &[u8]) -> Result<(), AllocError>
+    ensures { OnOk result (text.new ≡ text.old ++ mark.now ++ direction_text from ++ words.now) }
+{
+    text.word(mark.as_bytes())?;
+    text.word(from.sign().as_bytes())?;
+    text.word(words)
+}
+
 /// The line of a refused stream.
 pub(crate) fn refused(
-    text: &mut String,
+    text: &mut Text,
     style: Style,
     from: Direction,
     place: usize,
     why: Why,
 ) -> Result<(), AllocError>
-    ensures { OnOk result (string_bytes text.new ≡ string_bytes text.old ++ refused_text style from place why) }
+    ensures { OnOk result (text.new ≡ text.old ++ refused_text style from place why) }
 {
     let Some(mark) = style.mark() else {
         return Ok(());
     };
-    writeln!(text, "{mark}{from} refused at {place}: {why}")
+    begin(text, mark, from, b" refused at ")?;
+    text.number(place as u64)?;
+    text.word(b": ")?;
+    text.word(why.name().as_bytes())?;
+    text.push(b'\n')
 }
 
 /// The line of a stream that ends inside a message.
 pub(crate) fn truncated(
-    text: &mut String,
+    text: &mut Text,
     style: Style,
     from: Direction,
     have: usize,
 ) -> Result<(), AllocError>
-    ensures { OnOk result (string_bytes text.new ≡ string_bytes text.old ++ truncated_text style from have) }
+    ensures { OnOk result (text.new ≡ text.old ++ truncated_text style from have) }
 {
     let Some(mark) = style.mark() else {
         return Ok(());
     };
-    writeln!(text, "{mark}{from} truncated after {have}")
+    begin(text, mark, from, b" truncated after ")?;
+    text.number(have as u64)?;
+    text.push(b'\n')
 }
 
 /// The line of a loss.
-pub(crate) fn lost(text: &mut String, style: Style) -> Result<(), AllocError>
-    ensures { OnOk result (string_bytes text.new ≡ string_bytes text.old ++ lost_text style) }
+pub(crate) fn lost(text: &mut Text, style: Style) -> Result<(), AllocError>
+    ensures { OnOk result (text.new ≡ text.old ++ lost_text style) }
 {
     match style {
-        Style::Show => text.push_str("! line lost\n"),
-        Style::Join => text.push_str("!\n"),
+        Style::Show => text.word(b"! line lost\n"),
+        Style::Join => text.word(b"!\n"),
         Style::Receipts => Ok(()),
     }
 }
 
 /// The line of a piece behind a refusal.
-pub(crate) fn stopped(text: &mut String, style: Style, from: Direction) -> Result<(), AllocError>
-    ensures { OnOk result (string_bytes text.new ≡ string_bytes text.old ++ stopped_text style from) }
+pub(crate) fn stopped(text: &mut Text, style: Style, from: Direction) -> Result<(), AllocError>
+    ensures { OnOk result (text.new ≡ text.old ++ stopped_text style from) }
 {
     let Some(mark) = style.mark() else {
         return Ok(());
     };
-    writeln!(text, "{mark}{from} stopped")
+    begin(text, mark, from, b" stopped\n")
 }

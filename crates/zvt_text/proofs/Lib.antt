@@ -1,5 +1,4 @@
 pub mod HexText
-pub mod Padded
 pub mod Rows
 pub mod Secrets
 pub mod DetailLemmas

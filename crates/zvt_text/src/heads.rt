@@ -1,17 +1,17 @@
 //! The heads of messages.
 ghost use Rattle.std.specs.Prelude.{◌≡◌, ◌++◌, OnOk};
-ghost use Rattle.std.specs.String.{string_bytes};
 ghost use Rattle.zvt_text.specs.Said.{detail_text, head_text, kind_text};
 
 use crate::details::{byte_part, config, control, currency, data, outcome, printed};
+use crate::text::Text;
 use std::alloc::AllocError;
 use zvt_apdu::{ApduView, Kind};
 
 /// The name of a message's kind, and what it says behind it.
-pub(crate) fn head(text: &mut String, message: &ApduView<'_>) -> Result<(), AllocError>
-    ensures { OnOk result (string_bytes text.new ≡ string_bytes text.old ++ head_text message.now) }
+pub(crate) fn head(text: &mut Text, message: &ApduView<'_>) -> Result<(), AllocError>
+    ensures { OnOk result (text.new ≡ text.old ++ head_text message.now) }
 {
-    text.push_str(kind(message))?;
+    text.word(kind(message).as_bytes())?;
     detail(text, message)
 }
 
@@ -38,8 +38,8 @@ fn kind(message: &ApduView<'_>) -> &'static str
 }
 
 /// What the head says behind the name.
-fn detail(text: &mut String, message: &ApduView<'_>) -> Result<(), AllocError>
-    ensures { OnOk result (string_bytes text.new ≡ string_bytes text.old ++ detail_text message.now) }
+fn detail(text: &mut Text, message: &ApduView<'_>) -> Result<(), AllocError>
+    ensures { OnOk result (text.new ≡ text.old ++ detail_text message.now) }
 {
     match message.kind() {
         Kind::Ack => data(text, message.payload()),

@@ -3,6 +3,7 @@
 
 mod bytes;
 mod details;
+mod drafts;
 mod heads;
 mod kept;
 pub mod laws;
@@ -10,8 +11,9 @@ mod lines;
 mod objects;
 mod results;
 mod said;
-mod scribe;
+mod text;
 mod values;
 
 pub use bytes::hexadecimal;
-pub use scribe::Scribe;
+pub use drafts::{escaped, message, numbers, result_words};
+pub use text::Text;

@@ -1,23 +1,23 @@
 //! The words of result codes.
 ghost use Rattle.std.specs.Prelude.{◌≡◌, ◌++◌, OnOk, option_map};
-ghost use Rattle.std.specs.String.{string_bytes};
 ghost use Rattle.zvt_text.specs.Results.{meaning_of, result_words};
 
 use crate::bytes::byte;
+use crate::text::Text;
 use std::alloc::AllocError;
-use std::fmt::Write;
 
 /// A result code and what it means. Where memory is refused the text ends anywhere.
-pub(crate) fn put_result(text: &mut String, code: u8) -> Result<(), AllocError>
-    ensures { OnOk result (string_bytes text.new ≡ string_bytes text.old ++ result_words code) }
+pub(crate) fn put_result(text: &mut Text, code: u8) -> Result<(), AllocError>
+    ensures { OnOk result (text.new ≡ text.old ++ result_words code) }
 {
     match meaning(code) {
         Some(meaning) => {
             byte(text, code)?;
-            write!(text, " {meaning}")
+            text.push(b' ')?;
+            text.word(meaning.as_bytes())
         }
         None => {
-            text.push_str("code ")?;
+            text.word(b"code ")?;
             byte(text, code)
         }
     }

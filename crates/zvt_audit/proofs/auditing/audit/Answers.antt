@@ -18,7 +18,7 @@ returns-clause-writes g c =
     let few : length c.in_ok-trace.trace.items ≤ limit = omega (arith, c.in_ok-trace.ensures.bound, c.as_slice.ensures.len, ap length c.as_slice.ensures.value) in
     audited (λ s. s.0.books) _ c.in_ok-trace.trace.items c.in_ok-tally.tally _ _ c.new-books.result _ _ (books_value c.in_ok-found.found) _ c.in_ok-trace.ensures.trace few
     c.new-books.ensures c.in_ok-take.ensures walked c.in_ok-found.ensures
-    (c.in_ok-write.ensures ∙ ap (λ t. t ++ books_text (books_value c.in_ok-found.found)) c.new-text.ensures.bytes) c.in_ok-put.ensures.bytes
+    (c.in_ok-write.ensures ∙ ap (λ t. t ++ books_text (books_value c.in_ok-found.found)) c.new-text.ensures) c.in_ok-put.ensures.bytes
 
 pub returns-in_err-put-clause-writes : goal.returns-in_err-put-clause-writes
 returns-in_err-put-clause-writes g c =
@@ -27,4 +27,4 @@ returns-in_err-put-clause-writes g c =
     let few : length c.in_ok-trace.trace.items ≤ limit = omega (arith, c.in_ok-trace.ensures.bound, c.as_slice.ensures.len, ap length c.as_slice.ensures.value) in
     rw (p.1, p.2, c.in_err-put.ensures.fault) (audit_failed (λ s. s.0.books) _ c.in_ok-trace.trace.items c.in_ok-tally.tally _ _ c.new-books.result _ _ (books_value c.in_ok-found.found) _ c.in_ok-trace.ensures.trace few
     c.new-books.ensures c.in_ok-take.ensures walked c.in_ok-found.ensures
-    (c.in_ok-write.ensures ∙ ap (λ t. t ++ books_text (books_value c.in_ok-found.found)) c.new-text.ensures.bytes) c.in_err-put.ensures.front)
+    (c.in_ok-write.ensures ∙ ap (λ t. t ++ books_text (books_value c.in_ok-found.found)) c.new-text.ensures) c.in_err-put.ensures.front)

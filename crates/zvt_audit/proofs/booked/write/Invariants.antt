@@ -1,12 +1,11 @@
 use Rattle.std.proofs.Common.{◌≡◌, ◌++◌, take}
 use Rattle.std.specs.List.{flat_map}
-use Rattle.std.specs.String.{string_bytes}
 use Rattle.zvt_till.specs.Judging.{rows_value}
 use Rattle.zvt_audit.specs.Booked.{booked_line, unclear_line}
 use Rattle.zvt_audit.proofs.booked.write.Given as goal
 
 abbrev pub invariant-loop-row : goal.invariant-loop-row
-invariant-loop-row l = string_bytes l.text ≡ string_bytes l.initial.text ++ flat_map booked_line (rows_value (take l.row-index l.row-items))
+invariant-loop-row l = l.text ≡ l.initial.text ++ flat_map booked_line (rows_value (take l.row-index l.row-items))
 
 abbrev pub invariant-loop-row-2 : goal.invariant-loop-row-2
-invariant-loop-row-2 l = string_bytes l.text ≡ string_bytes l.initial.text ++ flat_map unclear_line (take l.row-index l.row-items)
+invariant-loop-row-2 l = l.text ≡ l.initial.text ++ flat_map unclear_line (take l.row-index l.row-items)

@@ -1,5 +1,4 @@
 use Rattle.std.proofs.Common.{◌≡◌, ◌∙◌, ◌++◌, sym, ap, length, arith, rules, append-nil, length-append}
-use Rattle.std.specs.String.{string_bytes}
 use Rattle.std.proofs.lemmas.Result.{err_from_is_err_and}
 use Rattle.std.proofs.lemmas.List.{nil_from_length, take-append-drop}
 use Rattle.hex.specs.Hex.{encode_upper}
@@ -10,9 +9,9 @@ pub chunks-preserved : goal.chunks-preserved
 chunks-preserved c =
     let grown = c.in_ok-chunk_text.ensures in
     record {
-      digits = encodes_more _ (string_bytes c.chunks.text) _ c.chunks.rest.now c.split_at.result.0.now c.split_at.result.1.now
+      digits = encodes_more _ c.chunks.text _ c.chunks.rest.now c.split_at.result.0.now c.split_at.result.1.now
           (rw (c.split_at.ensures.front, c.split_at.ensures.back) (sym (take-append-drop _ c.chunks.rest.now))) grown c.chunks.invariant.digits;
-      longer = omega (arith, c.chunks.invariant.longer, ap length grown, length-append (string_bytes c.chunks.text) (encode_upper c.split_at.result.0.now));
+      longer = omega (arith, c.chunks.invariant.longer, ap length grown, length-append c.chunks.text (encode_upper c.split_at.result.0.now));
     }
 
 pub returns-in_err-chunk_text : goal.returns-in_err-chunk_text
@@ -24,5 +23,5 @@ returns-in_err-chunk_text c =
 pub returns : goal.returns
 returns c =
     let none : length c.chunks.rest.now ≡ 0 = search rules in
-    let done = ap (λ rest. string_bytes c.chunks.text ++ rest) (ap encode_upper (nil_from_length c.chunks.rest.now none) ∙ encodes_none) ∙ append-nil (string_bytes c.chunks.text) in
+    let done = ap (λ rest. c.chunks.text ++ rest) (ap encode_upper (nil_from_length c.chunks.rest.now none) ∙ encodes_none) ∙ append-nil c.chunks.text in
     sym done ∙ c.chunks.invariant.digits

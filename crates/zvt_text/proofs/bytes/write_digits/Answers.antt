@@ -5,7 +5,7 @@ use Rattle.zvt_text.proofs.bytes.write_digits.Goals as goal
 
 pub bytes-preserved : goal.bytes-preserved
 bytes-preserved c =
-    encode_step upper_digits c.args.bytes.now c.bytes.room c.bytes.at _ _ (omega arith) (omega arith) c.digit.ensures.value c.digit-in-bytes.ensures.value c.bytes.invariant
+    encode_step upper_digits c.args.bytes.now c.bytes.room c.bytes.at _ _ (omega arith) (omega arith) c.digit.ensures c.digit-in-bytes.ensures c.bytes.invariant
 
 pub returns : goal.returns
 returns c = encode_done upper_digits _ _ c.bytes.at (omega arith) (omega arith) c.bytes.invariant

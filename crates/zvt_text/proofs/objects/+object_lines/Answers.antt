@@ -1,5 +1,4 @@
 use Rattle.std.proofs.Common.{arith}
-use Rattle.std.specs.String.{string_bytes}
 use Rattle.zvt_text.proofs.ObjectLines.{constructed_lines, constructed_written, children_shallow, others_shallow}
 use Rattle.zvt_text.proofs.objects.+object_lines.Goals as goal
 
@@ -12,7 +11,7 @@ pub loop-object-preserved : goal.loop-object-preserved
 loop-object-preserved t c = record {
   shallow = others_shallow c.args.depth c.loop-object.object-iterator c.next.new.self c.in-Some.object c.in-Some.ensures.steps c.loop-object.invariant.shallow;
   lines =
-      constructed_written _ (string_bytes c.loop-object.text) (string_bytes c.head.new.text) (string_bytes c.push_str.new.self) (string_bytes c.object_lines.new.text) _ _ _ _
-      c.loop-object.invariant.lines c.in_ok-head.ensures c.in_ok-push_str-in-Some-children.ensures.bytes c.in_ok-object_lines-in-Some-children.ensures
+      constructed_written _ c.loop-object.text c.head.new.text c.word.new.self c.object_lines.new.text _ _ _ _
+      c.loop-object.invariant.lines c.in_ok-head.ensures c.in_ok-word-in-Some-children.ensures c.in_ok-object_lines-in-Some-children.ensures
       (constructed_lines c.args.depth c.loop-object.object-iterator c.next.new.self c.in-Some-children.inner c.in-Some.object c.in-Some.ensures.steps c.in-Some-children.ensures);
 }

@@ -1,5 +1,4 @@
 use Rattle.std.proofs.Common.{◌≡◌, ◌-◌, ◌++◌, true}
-use Rattle.std.specs.String.{string_bytes}
 use Rattle.zvt_tlv.specs.Checks.{is_shallow}
 use Rattle.zvt_text.specs.Lines.{object_lines}
 use Rattle.zvt_text.proofs.objects.+object_lines.Given as goal
@@ -10,5 +9,5 @@ decreases-object_lines l = 7 - l.depth
 abbrev pub invariant-loop-object : goal.invariant-loop-object
 invariant-loop-object l = record {
   shallow : is_shallow l.depth l.object-iterator ≡ true;
-  lines : string_bytes l.text ++ object_lines l.depth l.object-iterator ≡ string_bytes l.initial.text ++ object_lines l.depth l.initial.object-iterator;
+  lines : l.text ++ object_lines l.depth l.object-iterator ≡ l.initial.text ++ object_lines l.depth l.initial.object-iterator;
 }

@@ -1,0 +1,126 @@
+//! Bytes of text, written one behind another.
+ghost use Rattle.std.specs.Prelude.{◌≡◌, ◌+◌, ◌≤◌, [], ◌∷◌, ◌++◌, length, replicate, take, OnErr, OnOk};
+ghost use Rattle.zvt_text.specs.Whole.{Adds};
+
+use itoa::{Buffer, Integer};
+use std::alloc::{AllocError, Global};
+use std::marker::Model;
+
+/// The room of the first text that is written.
+const FIRST_ROOM: usize = 128;
+
+/// Text that grows. Where memory is refused nothing of what was to be written stands in it.
+#[derive(Drop)]
+pub struct Text {
+    /// The text, and room behind it.
+    room: Vec<u8>,
+    size: usize,
+}
+
+impl Model for Text {
+    ghost use Rattle.std.specs.Prelude.{ℕ, ◌≤◌, List, length, take};
+    ghost use Rattle.std.specs.Coded.{coded_list, coded_ℕ};
+
+    ghost Value = { List ℕ };
+
+    ghost coded = { coded_list coded_ℕ };
+
+    ghost view = { λ t. take t.size t.room.items };
+
+    ghost invariant = { λ t. t.size ≤ length t.room.items };
+}
+
+impl Text {
+    /// No text.
+    pub fn new(alloc: Global) -> Text
+        ensures { result ≡ [] }
+    {
+        Text {
+            room: Vec::new(alloc),
+            size: 0,
+        }
+    }
+
+    /// Its bytes.
+    #[inline(always)]
+    pub fn bytes(&self) -> &[u8]
+        ensures { result.now ≡ self.now }
+    {
+        &self.room[..self.size]
+    }
+
+    /// How many bytes it has.
+    #[inline(always)]
+    pub fn size(&self) -> usize
+        ensures { result ≡ length self.now }
+    {
+        self.size
+    }
+
+    /// Takes all of it away.
+    #[inline(always)]
+    pub fn clear(&mut self)
+        ensures { self.new ≡ [] }
+    {
+        self.size = 0;
+    }
+
+    /// Writes one character, an ASCII one.
+    #[inline(always)]
+    pub fn push(&mut self, character: u8) -> Result<(), AllocError>
+        ensures { Adds result self.old self.new (character ∷ []) }
+    {
+        let at = self.size;
+        if at == self.room.len() {
+            grow(&mut self.room, 1)?;
+        }
+        self.room[at] = character;
+        self.size = at + 1;
+        Ok(())
+    }
+
+    /// Writes a word.
+    #[inline(always)]
+    pub fn word(&mut self, word: &[u8]) -> Result<(), AllocError>
+        ensures { Adds result self.old self.new word.now }
+    {
+        let at = self.size;
+        if self.room.len() - at < word.len() {
+            grow(&mut self.room, word.len())?;
+        }
+        let end = at + word.len();
+        self.room[at..end].copy_from_slice(word);
+        self.size = end;
+        Ok(())
+    }
+
+    /// Writes a number in decimal digits.
+    pub fn number<I: Integer>(&mut self, number: I) -> Result<(), AllocError>
+        ensures { Adds result self.old self.new (I.text number) }
+    {
+        self.word(Buffer::new().format(number).as_bytes())
+    }
+
+    /// Writes a character so many times. Where memory is refused, some of them stand.
+    pub(crate) fn repeat(&mut self, character: u8, count: usize) -> Result<(), AllocError>
+        ensures { OnOk result (self.new ≡ self.old ++ replicate count character) }
+    {
+        for _ in 0..count {
+            self.push(character)?;
+        }
+        Ok(())
+    }
+}
+
+/// Adds room for so many bytes at least, and for as many as there are.
+#[cold]
+fn grow(room: &mut Vec<u8>, more: usize) -> Result<(), AllocError>
+    ensures ok { OnOk result ((length room.old.items + more ≤ length room.new.items) × (take (length room.old.items) room.new.items ≡ room.old.items)) }
+    ensures err { OnErr result (room.new.items ≡ room.old.items) }
+{
+    let size = room.len();
+    let Some(least) = size.checked_add(more) else {
+        return Err(AllocError);
+    };
+    room.resize(least.max(FIRST_ROOM).max(size.saturating_mul(2)), 0)
+}
