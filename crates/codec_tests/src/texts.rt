@@ -5,14 +5,14 @@ use std::alloc::Global;
 use std::process::Abort;
 use std::test::Fail;
 use zvt_bcd::Trace;
-use zvt_text::Scribe;
+use zvt_text::{Text, escaped, message, numbers, result_words};
 
 /// The message that stands first, as text.
-fn said(rt: &impl Abort, alloc: Global, bytes: &[u8]) -> Result<String, Fail> {
+fn said(rt: &impl Abort, alloc: Global, bytes: &[u8]) -> Result<Text, Fail> {
     let apdu = viewed(rt, alloc, bytes)?;
     assert_eq!(rt; apdu.bytes().len(), bytes.len());
-    let mut text = String::new(alloc);
-    Scribe::new(alloc).message(&mut text, &apdu)?;
+    let mut text = Text::new(alloc);
+    message(&mut text, &apdu)?;
     Ok(text)
 }
 
@@ -20,7 +20,7 @@ fn said(rt: &impl Abort, alloc: Global, bytes: &[u8]) -> Result<String, Fail> {
 fn says(rt: &impl Abort, alloc: Global, rows: &[(&[u8], &str)]) -> Result<(), Fail> {
     for &(bytes, wanted) in rows {
         let text = said(rt, alloc, bytes)?;
-        assert_eq!(rt; text.as_str(), wanted);
+        assert_eq!(rt; text.bytes(), wanted.as_bytes());
     }
     Ok(())
 }
@@ -159,9 +159,9 @@ fn words_of_results(rt: HostRuntime) -> Result<(), Fail> {
         (0xFF, "FF system error"),
         (0x0A, "code 0A"),
     ] {
-        let mut text = String::new(alloc);
-        Scribe::new(alloc).result_words(&mut text, code)?;
-        assert_eq!(rt; text.as_str(), words);
+        let mut text = Text::new(alloc);
+        result_words(&mut text, code)?;
+        assert_eq!(rt; text.bytes(), words.as_bytes());
     }
     Ok(())
 }
@@ -169,10 +169,10 @@ fn words_of_results(rt: HostRuntime) -> Result<(), Fail> {
 #[test]
 fn escapes(rt: HostRuntime) -> Result<(), Fail> {
     let alloc = rt.alloc();
-    let mut text = String::new(alloc);
-    text.push_str("a")?;
-    Scribe::new(alloc).escaped(&mut text, b"b \"\\~\x7F\n".as_slice())?;
-    assert_eq!(rt; text.as_str(), "ab \\x22\\x5C~\\x7F\\x0A");
+    let mut text = Text::new(alloc);
+    text.push(b'a')?;
+    escaped(&mut text, b"b \"\\~\x7F\n".as_slice())?;
+    assert_eq!(rt; text.bytes(), b"ab \\x22\\x5C~\\x7F\\x0A".as_slice());
     Ok(())
 }
 
@@ -184,10 +184,10 @@ fn numbers_of_a_payment(rt: HostRuntime) -> Result<(), Fail> {
         (0, Some([0xFF, 0xFF]), "trace 000000 receipt FFFF"),
         (999_999, None, "trace 999999 receipt -"),
     ] {
-        let mut text = String::new(alloc);
+        let mut text = Text::new(alloc);
         let trace = Trace::new(trace).ok_or("a trace number")?;
-        Scribe::new(alloc).numbers(&mut text, trace, receipt)?;
-        assert_eq!(rt; text.as_str(), expected);
+        numbers(&mut text, trace, receipt)?;
+        assert_eq!(rt; text.bytes(), expected.as_bytes());
     }
     Ok(())
 }
