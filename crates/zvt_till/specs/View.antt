@@ -1,5 +1,5 @@
 -- What contracts see of a till.
-use Rattle.std.specs.Prelude.{◌≡◌, ℕ, ◌<◌, Option, Some, None}
+use Rattle.std.specs.Prelude.{◌≡◌, ℕ, ◌-◌, ◌<◌, ◌≤◌, Option, Some, None}
 use Rattle.zvt_till.specs.declared.orders.Order.{Order}
 use Rattle.zvt_till.specs.declared.orders.Order.TheVariants.{Register, Pay, Reverse, CloseDay, Cancel}
 use Rattle.zvt_till.specs.declared.orders.OrderRefusal.{OrderRefusal}
@@ -33,3 +33,23 @@ CanEnd Cancel booked unclear spare = Unit {0}
 abbrev pub CanEndRunning : Option Running → ℕ → ℕ → ℕ → Type 0
 CanEndRunning None booked unclear spare = Unit {0}
 CanEndRunning (Some r) booked unclear spare = CanEnd r.order booked unclear spare
+
+-- the places that an order may take: a payment one, in the book or among those that are unclear
+abbrev pub claimed_by : Order → ℕ
+claimed_by Register = 0
+claimed_by (Pay a) = 1
+claimed_by (Reverse e) = 0
+claimed_by CloseDay = 0
+claimed_by Cancel = 0
+
+abbrev pub claimed : Option Running → ℕ
+claimed None = 0
+claimed (Some r) = claimed_by r.order
+
+-- the payments besides the running one that can surely be written down without more memory
+abbrev pub unclaimed : TillValue → ℕ
+unclaimed till = till.spare - claimed till.state.running
+
+-- no such place is lost: what is heard takes no more than the one that the running payment has
+abbrev pub KeepsRoom : TillValue → TillValue → Type 0
+KeepsRoom old new = unclaimed old ≤ unclaimed new

@@ -1,16 +1,18 @@
-//! The till: which orders it takes, what it makes of what it hears, and its book.
-ghost use Rattle.std.specs.Prelude.{◌≡◌, ◌+◌, ◌-◌, ◌<◌, ◌≤◌, ◌↔◌, ℕ, length, IsTrue, IsSome, IfOk, IfErr, is_ok, if◌then◌else◌, OnOk, OnErr, cond, slice_get, option_copied, option_map, vec_len, vec_capacity, min};
+//! The till: its state, its book, and what it makes of what it hears.
+ghost use Rattle.std.specs.Prelude.{◌≡◌, ◌+◌, ◌≤◌, length, if◌then◌else◌, option_map};
+
+mod ordering;
+mod room;
 
 use crate::entries::Entry;
 use crate::happenings::{Happening, ends};
 use crate::messages::{Heard, reply_to};
-use crate::orders::{Order, OrderRefusal, Outgoing, Reply};
+use crate::orders::{Order, Reply};
 use crate::outcomes::{Cause, Outcome, outcome_by};
-use crate::statuses::{Running, Statuses, demand_of, listened};
+use crate::statuses::{Running, demand_of, listened};
 use crate::used_traces::UsedTraces;
-use std::alloc::{AllocError, Global};
+use std::alloc::Global;
 use std::marker::Model;
-use zvt_apdu::Brief;
 use zvt_bcd::{Amount, Currency};
 
 /// The rows that the book, and the list of unclear payments, can have at most.
@@ -49,10 +51,9 @@ impl Model for Till {
 }
 
 impl Till {
-    ghost use Rattle.zvt_till.specs.Refusals.{cancel_refusal, room_refusal, row_refusal, line_refusal, refusal};
-    ghost use Rattle.zvt_till.specs.Sending.{reply_to, receipt_at, message_of};
-    ghost use Rattle.zvt_till.specs.Till.{new_till, accept, meet, step, line_down, finish, outcome_at, facts_of};
-    ghost use Rattle.zvt_till.specs.View.{IsRefusedAs, CanEnd};
+    ghost use Rattle.zvt_till.specs.Sending.{reply_to};
+    ghost use Rattle.zvt_till.specs.Till.{new_till, meet, step, line_down, finish, outcome_at};
+    ghost use Rattle.zvt_till.specs.View.{CanEnd, KeepsRoom, claimed_by};
     ghost use Rattle.zvt_till.specs.Marks.{total};
     ghost use Rattle.zvt_till.specs.Events.{run_settings};
 
@@ -87,7 +88,8 @@ impl Till {
 
     /// The line is up. Nothing changes where it was up before.
     pub fn connected(&mut self)
-        ensures { self.new.state ≡ step self.old.state Happening.Connected }
+        ensures state { self.new.state ≡ step self.old.state Happening.Connected }
+        ensures room { KeepsRoom self.old self.new }
     {
         self.line_up = true;
     }
@@ -164,6 +166,7 @@ impl Till {
     fn finish(&mut self, order: &Order, outcome: &Outcome)
         requires { CanEnd order.now (length self.old.state.book) (length self.old.state.unclear) self.old.spare }
         ensures state { self.new.state ≡ finish self.old.state order.now outcome.now }
+        ensures room { self.old.spare ≤ self.new.spare + claimed_by order.now }
     {
         self.running = None;
         self.last_outcome = Some(*outcome);
@@ -197,6 +200,7 @@ impl Till {
     /// What the running order makes of this, and how it ended by it, if it did.
     fn meet(&mut self, happening: &Happening) -> Option<Outcome>
         ensures state { self.new.state ≡ meet self.old.state happening.now }
+        ensures room { KeepsRoom self.old self.new }
         ensures outcome { result ≡ outcome_at self.old.state happening.now }
     {
         let running = self.running?;
@@ -213,6 +217,7 @@ impl Till {
     /// Takes a message of the terminal. While the line is down nothing is heard.
     pub fn hear(&mut self, heard: Heard) -> Reply
         ensures state { self.new.state ≡ step self.old.state (Happening.Heard heard) }
+        ensures room { KeepsRoom self.old self.new }
         ensures send { result.send ≡ (if self.old.state.line_up then reply_to heard else None) }
         ensures outcome { result.outcome ≡ (if self.old.state.line_up then outcome_at self.old.state (Happening.Heard heard) else None) }
     {
@@ -230,7 +235,8 @@ impl Till {
 
     /// The line is down, and nobody is registered on it.
     fn line_down(&mut self)
-        ensures { self.new.state ≡ line_down self.old.state }
+        ensures state { self.new.state ≡ line_down self.old.state }
+        ensures room { self.new.spare ≡ self.old.spare }
     {
         self.line_up = false;
         self.registered = false;
@@ -239,6 +245,7 @@ impl Till {
     /// The line was lost, and with it a running order.
     pub fn lost(&mut self) -> Option<Outcome>
         ensures state { self.new.state ≡ step self.old.state Happening.Lost }
+        ensures room { KeepsRoom self.old self.new }
         ensures outcome { result ≡ outcome_at self.old.state Happening.Lost }
     {
         let outcome = self.meet(&Happening::Lost);
@@ -249,152 +256,11 @@ impl Till {
     /// What came on the line is no message, and the line is given up.
     pub fn malformed(&mut self) -> Option<Outcome>
         ensures state { self.new.state ≡ step self.old.state Happening.Malformed }
+        ensures room { KeepsRoom self.old self.new }
         ensures outcome { result ≡ outcome_at self.old.state Happening.Malformed }
     {
         let outcome = self.meet(&Happening::Malformed);
         self.line_down();
         outcome
-    }
-
-    /// Why a Cancel is not sent, if so.
-    fn cancel_refusal(&self) -> Option<OrderRefusal>
-        ensures { result ≡ cancel_refusal (facts_of self.now.state).awaited }
-    {
-        match self.running {
-            Some(running) if running.positive => None,
-            _ => Some(OrderRefusal::NothingToCancel),
-        }
-    }
-
-    /// Why there is no room for one more payment, if so.
-    fn room_refusal(&self) -> Option<OrderRefusal>
-        ensures { result ≡ room_refusal (facts_of self.now.state) }
-    {
-        if self.book.len() < MOST_ROWS && self.unclear.len() < MOST_ROWS {
-            None
-        } else {
-            Some(OrderRefusal::BookFull)
-        }
-    }
-
-    /// The receipt number by which this entry is taken back, or why it is not.
-    fn receipt_at(&self, entry: usize) -> Result<[u8; 2], OrderRefusal>
-        ensures ok { IfOk result (λ receipt. (row_refusal (slice_get self.now.state.book entry) ≡ None) × (receipt_at (slice_get self.now.state.book entry) ≡ Some receipt)) }
-        ensures err { IfErr result (λ why. row_refusal (slice_get self.now.state.book entry) ≡ Some why) }
-    {
-        match self.book.get(entry) {
-            None => Err(OrderRefusal::UnknownEntry),
-            Some(row) if row.reversed => Err(OrderRefusal::AlreadyReversed),
-            Some(row) => match row.receipt {
-                None => Err(OrderRefusal::NoReceipt),
-                Some(receipt) => Ok(receipt),
-            },
-        }
-    }
-
-    /// Why the order is not sent, by the line and the running order alone.
-    fn line_refusal(&self, order: &Order) -> Option<OrderRefusal>
-        ensures { result ≡ line_refusal (facts_of self.now.state) order.now }
-    {
-        if !self.line_up {
-            return Some(OrderRefusal::Offline);
-        }
-        if let Order::Cancel = order {
-            return self.cancel_refusal();
-        }
-        let registers = matches!(order, Order::Register);
-        if !registers && !self.registered {
-            return Some(OrderRefusal::NotRegistered);
-        }
-        if self.running.is_some() {
-            return Some(OrderRefusal::Busy);
-        }
-        None
-    }
-
-    /// The message that the order sends, or why it is not sent, want of memory left aside.
-    fn message_of(&self, order: &Order) -> Result<Outgoing, OrderRefusal>
-        ensures ok { IfOk result (λ message. (refusal (facts_of self.now.state) order.now ≡ None) × (message_of self.now.state.settings self.now.state.book order.now ≡ Some message)) }
-        ensures err { IfErr result (λ why. refusal (facts_of self.now.state) order.now ≡ Some why) }
-    {
-        if let Some(why) = self.line_refusal(order) {
-            return Err(why);
-        }
-        let brief = match order {
-            Order::Register => Brief::Register {
-                password: self.password,
-                config: self.config,
-                currency: self.currency,
-            },
-            Order::Pay(amount) => match self.room_refusal() {
-                Some(why) => return Err(why),
-                None => Brief::Pay(*amount, self.currency),
-            },
-            Order::Reverse(entry) => match self.receipt_at(*entry) {
-                Err(why) => return Err(why),
-                Ok(receipt) => Brief::Reverse {
-                    password: self.password,
-                    receipt,
-                },
-            },
-            Order::CloseDay => Brief::CloseDay {
-                password: self.password,
-            },
-            Order::Cancel => Brief::AbortOrder,
-        };
-        Ok(Outgoing { brief })
-    }
-
-    /// Sees to it that one more payment can be written down without more memory.
-    fn make_room(&mut self) -> Result<(), AllocError>
-        ensures ok { OnOk result (0 < self.new.spare) }
-        ensures full { OnErr result (self.old.spare ≡ 0) }
-        ensures unchanged { OnErr result (self.new ≡ self.old) }
-        ensures state { self.new.state ≡ self.old.state }
-    {
-        self.used.make_room()?;
-        self.book.reserve(1)?;
-        self.unclear.reserve(1)?;
-        Ok(())
-    }
-
-    /// The order runs.
-    fn begin(&mut self, order: Order)
-        requires { CanEnd order (length self.old.state.book) (length self.old.state.unclear) self.old.spare }
-        ensures { self.new.state ≡ accept self.old.state order }
-    {
-        if let Order::Cancel = &order {
-            return;
-        }
-        if let Order::Register = &order {
-            self.registered = false;
-        }
-        self.running = Some(Running {
-            order,
-            positive: false,
-            statuses: Statuses::Nothing,
-        });
-    }
-
-    /// Takes an order, where nothing refuses it, and answers the message to send. A refused order
-    /// changes nothing.
-    pub fn order(&mut self, order: Order) -> Result<Outgoing, OrderRefusal>
-        ensures taken { IfOk result (λ message. refusal (facts_of self.old.state) order ≡ None) }
-        ensures sent { IfOk result (λ message. message_of self.old.state.settings self.old.state.book order ≡ Some message) }
-        ensures runs { OnOk result (self.new.state ≡ accept self.old.state order) }
-        ensures refused { IfErr result (λ why. IsRefusedAs (facts_of self.old.state) self.old.spare order why) }
-        ensures unchanged { OnErr result (self.new ≡ self.old) }
-    {
-        let message = match self.message_of(&order) {
-            Err(why) => return Err(why),
-            Ok(message) => message,
-        };
-        if let Order::Pay(_) = &order {
-            if let Err(AllocError) = self.make_room() {
-                return Err(OrderRefusal::Memory);
-            }
-        }
-        self.begin(order);
-        Ok(message)
     }
 }

@@ -36,6 +36,13 @@ impl UsedTraces {
         }
     }
 
+    /// Whether any number can be inserted without more memory.
+    pub fn has_room(&self) -> bool
+        ensures { result ≡ has_room self.now }
+    {
+        WORDS <= self.words.len()
+    }
+
     /// Sees to it that any number can be inserted without more memory.
     pub fn make_room(&mut self) -> Result<(), AllocError>
         ensures room { OnOk result (has_room self.new ≡ true) }

@@ -1,0 +1,146 @@
+//! Which orders a till takes.
+ghost use Rattle.std.specs.Prelude.{◌≡◌, ◌≤◌, length, IfOk, IfErr, OnOk, OnErr, slice_get};
+
+use super::{MOST_ROWS, Till};
+use crate::orders::{Order, OrderRefusal, Outgoing};
+use crate::statuses::{Running, Statuses};
+use std::alloc::AllocError;
+use zvt_apdu::Brief;
+
+impl Till {
+    ghost use Rattle.zvt_till.specs.Refusals.{cancel_refusal, room_refusal, row_refusal, line_refusal, refusal};
+    ghost use Rattle.zvt_till.specs.Sending.{receipt_at, message_of};
+    ghost use Rattle.zvt_till.specs.Till.{accept, facts_of};
+    ghost use Rattle.zvt_till.specs.View.{IsRefusedAs, CanEnd};
+
+    /// Why a Cancel is not sent, if so.
+    fn cancel_refusal(&self) -> Option<OrderRefusal>
+        ensures { result ≡ cancel_refusal (facts_of self.now.state).awaited }
+    {
+        match self.running {
+            Some(running) if running.positive => None,
+            _ => Some(OrderRefusal::NothingToCancel),
+        }
+    }
+
+    /// Why there is no room for one more payment, if so.
+    fn room_refusal(&self) -> Option<OrderRefusal>
+        ensures { result ≡ room_refusal (facts_of self.now.state) }
+    {
+        if self.book.len() < MOST_ROWS && self.unclear.len() < MOST_ROWS {
+            None
+        } else {
+            Some(OrderRefusal::BookFull)
+        }
+    }
+
+    /// The receipt number by which this entry is taken back, or why it is not.
+    fn receipt_at(&self, entry: usize) -> Result<[u8; 2], OrderRefusal>
+        ensures ok { IfOk result (λ receipt. (row_refusal (slice_get self.now.state.book entry) ≡ None) × (receipt_at (slice_get self.now.state.book entry) ≡ Some receipt)) }
+        ensures err { IfErr result (λ why. row_refusal (slice_get self.now.state.book entry) ≡ Some why) }
+    {
+        match self.book.get(entry) {
+            None => Err(OrderRefusal::UnknownEntry),
+            Some(row) if row.reversed => Err(OrderRefusal::AlreadyReversed),
+            Some(row) => match row.receipt {
+                None => Err(OrderRefusal::NoReceipt),
+                Some(receipt) => Ok(receipt),
+            },
+        }
+    }
+
+    /// Why the order is not sent, by the line and the running order alone.
+    fn line_refusal(&self, order: &Order) -> Option<OrderRefusal>
+        ensures { result ≡ line_refusal (facts_of self.now.state) order.now }
+    {
+        if !self.line_up {
+            return Some(OrderRefusal::Offline);
+        }
+        if let Order::Cancel = order {
+            return self.cancel_refusal();
+        }
+        let registers = matches!(order, Order::Register);
+        if !registers && !self.registered {
+            return Some(OrderRefusal::NotRegistered);
+        }
+        if self.running.is_some() {
+            return Some(OrderRefusal::Busy);
+        }
+        None
+    }
+
+    /// The message that the order sends, or why it is not sent, want of memory left aside.
+    fn message_of(&self, order: &Order) -> Result<Outgoing, OrderRefusal>
+        ensures ok { IfOk result (λ message. (refusal (facts_of self.now.state) order.now ≡ None) × (message_of self.now.state.settings self.now.state.book order.now ≡ Some message)) }
+        ensures err { IfErr result (λ why. refusal (facts_of self.now.state) order.now ≡ Some why) }
+    {
+        if let Some(why) = self.line_refusal(order) {
+            return Err(why);
+        }
+        let brief = match order {
+            Order::Register => Brief::Register {
+                password: self.password,
+                config: self.config,
+                currency: self.currency,
+            },
+            Order::Pay(amount) => match self.room_refusal() {
+                Some(why) => return Err(why),
+                None => Brief::Pay(*amount, self.currency),
+            },
+            Order::Reverse(entry) => match self.receipt_at(*entry) {
+                Err(why) => return Err(why),
+                Ok(receipt) => Brief::Reverse {
+                    password: self.password,
+                    receipt,
+                },
+            },
+            Order::CloseDay => Brief::CloseDay {
+                password: self.password,
+            },
+            Order::Cancel => Brief::AbortOrder,
+        };
+        Ok(Outgoing { brief })
+    }
+
+    /// The order runs.
+    fn begin(&mut self, order: Order)
+        requires { CanEnd order (length self.old.state.book) (length self.old.state.unclear) self.old.spare }
+        ensures state { self.new.state ≡ accept self.old.state order }
+        ensures room { self.new.spare ≡ self.old.spare }
+    {
+        if let Order::Cancel = &order {
+            return;
+        }
+        if let Order::Register = &order {
+            self.registered = false;
+        }
+        self.running = Some(Running {
+            order,
+            positive: false,
+            statuses: Statuses::Nothing,
+        });
+    }
+
+    /// Takes an order, where nothing refuses it, and answers the message to send. A refused order
+    /// changes nothing. A payment asks for memory where `spare` is 0, and fails for want of it there alone.
+    pub fn order(&mut self, order: Order) -> Result<Outgoing, OrderRefusal>
+        ensures taken { IfOk result (λ message. refusal (facts_of self.old.state) order ≡ None) }
+        ensures sent { IfOk result (λ message. message_of self.old.state.settings self.old.state.book order ≡ Some message) }
+        ensures runs { OnOk result (self.new.state ≡ accept self.old.state order) }
+        ensures room { OnOk result (self.old.spare ≤ self.new.spare) }
+        ensures refused { IfErr result (λ why. IsRefusedAs (facts_of self.old.state) self.old.spare order why) }
+        ensures unchanged { OnErr result (self.new ≡ self.old) }
+    {
+        let message = match self.message_of(&order) {
+            Err(why) => return Err(why),
+            Ok(message) => message,
+        };
+        if let Order::Pay(_) = &order {
+            if let Err(AllocError) = self.reserve(1) {
+                return Err(OrderRefusal::Memory);
+            }
+        }
+        self.begin(order);
+        Ok(message)
+    }
+}

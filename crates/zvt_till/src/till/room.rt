@@ -1,0 +1,39 @@
+//! The room that a till has for the payments to come.
+ghost use Rattle.std.specs.Prelude.{◌≡◌, ◌<◌, ◌≤◌, OnOk, OnErr};
+
+use super::{MOST_ROWS, Till};
+use std::alloc::AllocError;
+
+impl Till {
+    /// How many payments can be taken and written down, each booked or unclear, without more memory. One that runs
+    /// still has its place among them.
+    pub fn spare(&self) -> usize
+        ensures { result ≡ self.now.spare }
+    {
+        let booked = self.book.capacity() - self.book.len();
+        let unclear = self.unclear.capacity() - self.unclear.len();
+        if self.used.has_room() {
+            booked.min(unclear)
+        } else {
+            0
+        }
+    }
+
+    /// Sees to it that so many payments can be taken and written down without more memory: `spare` is at least so many
+    /// then. Where memory is refused it is less, though it may have risen; nothing else changes.
+    pub fn reserve(&mut self, pays: usize) -> Result<(), AllocError>
+        requires { pays ≤ MOST_ROWS }
+        ensures room { OnOk result (pays ≤ self.new.spare) }
+        ensures wanted { OnErr result (self.new.spare < pays) }
+        ensures kept { self.old.spare ≤ self.new.spare }
+        ensures state { self.new.state ≡ self.old.state }
+    {
+        if pays <= self.spare() {
+            return Ok(());
+        }
+        self.used.make_room()?;
+        self.book.reserve(pays)?;
+        self.unclear.reserve(pays)?;
+        Ok(())
+    }
+}
