@@ -99,13 +99,13 @@ malformed-over old new e k = let o = over-malformed old old.running refl k in su
 
 -- a till that was told of a fault
 pub told-over : (fault : LineFault) (old new : TillValue) → Told till_loses till_malforms fault old new → IsKnown old.state → IsOver (Line fault) new.state
-told-over faults.Read old new t k = lost-over old.state new.state t k
-told-over (faults.Ended have) old new t k = lost-over old.state new.state t k
-told-over faults.Turns old new t k = lost-over old.state new.state t k
-told-over (faults.Malformed place why) old new t k = malformed-over old.state new.state t k
-told-over faults.Memory old new t k = lost-over old.state new.state t k
-told-over faults.Write old new t k = lost-over old.state new.state t k
-told-over faults.Stopped old new t k = malformed-over old.state new.state t k
+told-over faults.Read old new t k = lost-over old.state new.state t.0 k
+told-over (faults.Ended have) old new t k = lost-over old.state new.state t.0 k
+told-over faults.Turns old new t k = lost-over old.state new.state t.0 k
+told-over (faults.Malformed place why) old new t k = malformed-over old.state new.state t.0 k
+told-over faults.Memory old new t k = lost-over old.state new.state t.0 k
+told-over faults.Write old new t k = lost-over old.state new.state t.0 k
+told-over faults.Stopped old new t k = malformed-over old.state new.state t.0 k
 
 idle-none : (run : Option Running) → is_idle run ≡ true → run ≡ None
 idle-none None e = refl

@@ -86,13 +86,13 @@ heard-before faults.Write before after read written old new b = record { message
 heard-before faults.Stopped before after read written old new b = record { messages = []; answers = []; rest = _; spelled = refl; heard = b.1 }
 
 told-step : (fault : LineFault) (old new : TillValue) → Told till_loses till_malforms fault old new → new.state ≡ step old.state (told_of fault)
-told-step faults.Read old new t = t
-told-step (faults.Ended have) old new t = t
-told-step faults.Turns old new t = t
-told-step (faults.Malformed place why) old new t = t
-told-step faults.Memory old new t = t
-told-step faults.Write old new t = t
-told-step faults.Stopped old new t = t
+told-step faults.Read old new t = t.0
+told-step (faults.Ended have) old new t = t.0
+told-step faults.Turns old new t = t.0
+told-step (faults.Malformed place why) old new t = t.0
+told-step faults.Memory old new t = t.0
+told-step faults.Write old new t = t.0
+told-step faults.Stopped old new t = t.0
 
 can-be-told : (settings : Settings) (fault : LineFault) (log : List Happening) → line_up log ≡ true → CanFollow settings (facts_in log) (told_of fault)
 can-be-told settings faults.Read log up = tt

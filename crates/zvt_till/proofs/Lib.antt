@@ -21,3 +21,4 @@ pub mod Carrying
 pub mod Ordering
 pub mod BooksLemmas
 mod Rows
+mod Room

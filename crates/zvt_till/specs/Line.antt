@@ -1,5 +1,5 @@
 -- A till on a line: what it answers to a message, and one order from end to end.
-use Rattle.std.specs.Prelude.{◌≡◌, ◌⊎◌, ℕ, Bool, true, false, cond, List, [], Option, Some, None, IsSome}
+use Rattle.std.specs.Prelude.{◌≡◌, ◌⊎◌, ℕ, ◌+◌, ◌≤◌, Bool, true, false, cond, List, [], Option, Some, None, IsSome}
 use Rattle.std.specs.Io.KnownBytes.{Appends}
 use Rattle.zvt_apdu.specs.Message.{Message}
 use Rattle.zvt_stream.specs.Apdus.{Spells}
@@ -21,7 +21,7 @@ use Rattle.zvt_till.specs.Hearing.{heard_as}
 use Rattle.zvt_till.specs.Refusals.{refusal}
 use Rattle.zvt_till.specs.Sending.{message_of, reply_to}
 use Rattle.zvt_till.specs.Till.{TillState, step, accept, facts_of}
-use Rattle.zvt_till.specs.View.{TillValue, IsRefusedAs}
+use Rattle.zvt_till.specs.View.{TillValue, KeepsRoom, IsRefusedAs}
 use Rattle.zvt_till.specs.Events.{message_out}
 
 -- no message, or the spelling of one
@@ -32,13 +32,13 @@ Answers (Some outgoing) answered = Spells (message_out outgoing) answered.bytes 
 -- a message is heard while the line is up, and answered at once
 abbrev pub till_hears : TillValue → Message → Answered → TillValue → Type 0
 till_hears old message answered new =
-    (new.state ≡ step old.state (HeardIn (heard_as message))) × Answers (cond old.state.line_up (reply_to (heard_as message)) None) answered
+    (new.state ≡ step old.state (HeardIn (heard_as message))) × Answers (cond old.state.line_up (reply_to (heard_as message)) None) answered × KeepsRoom old new
 
 abbrev pub till_loses : TillValue → TillValue → Type 0
-till_loses old new = new.state ≡ step old.state Lost
+till_loses old new = (new.state ≡ step old.state Lost) × KeepsRoom old new
 
 abbrev pub till_malforms : TillValue → TillValue → Type 0
-till_malforms old new = new.state ≡ step old.state Malformed
+till_malforms old new = (new.state ≡ step old.state Malformed) × KeepsRoom old new
 
 abbrev pub is_idle : Option Running → Bool
 is_idle None = true
@@ -54,14 +54,16 @@ pub record Sends (order : Order) (old new : TillValue) (first last : Option (Lis
   pub bytes : List ℕ
   pub taken : refusal (facts_of old.state) order ≡ None
   pub runs : new.state ≡ accept old.state order
+  pub room : old.spare ≤ new.spare
   pub message : message_of old.state.settings old.state.book order ≡ Some outgoing
   pub spelled : Spells (message_out outgoing) bytes
   pub appended : Appends first last bytes
 
--- An order was refused, and nothing happened; or it was accepted and could not be written, and the till lost its line.
+-- An order was refused, and nothing happened; or it was accepted and could not be written, and the till lost its line:
+-- a payment took one place then.
 abbrev pub NotSent : RunFault → Order → (old new : TillValue) → (first last : Option (List ℕ)) → Type 0
 NotSent (OrderFault why) order old new first last = IsRefusedAs (facts_of old.state) old.spare order why × (new ≡ old) × (last ≡ first)
-NotSent (Line fault) order old new first last = (fault ≡ Write) × (refusal (facts_of old.state) order ≡ None) × (new.state ≡ step (accept old.state order) Lost)
+NotSent (Line fault) order old new first last = (fault ≡ Write) × (refusal (facts_of old.state) order ≡ None) × (new.state ≡ step (accept old.state order) Lost) × (old.spare ≤ new.spare + 1)
 
 -- An order was sent, and the line went on until the till rested: this became of the order.
 pub record Runs (order : Order) (outcome : Outcome) (before after : StreamState) (old new : TillValue) (coming left first last : Option (List ℕ)) (turns reads_before reads_after : ℕ) : Type 0 where

@@ -95,6 +95,8 @@ pub fn run_order<R: Source, W: Sink>(
         (R.remaining reader.old) (R.remaining reader.new) (W.written writer.old) (W.written writer.new) turns (R.reads reader.old) (R.reads reader.new)) }
     ensures err { IfErr result (λ fault. Fails fault order stream.old stream.new till.old till.new
         (R.remaining reader.old) (R.remaining reader.new) (W.written writer.old) (W.written writer.new) turns (R.reads reader.old) (R.reads reader.new)) }
+    // However it goes, it takes the place of one payment at most.
+    ensures room { till.old.spare ≤ till.new.spare + 1 }
     // After a broken line it is known what became of the order.
     ensures over { IfErr result (λ fault. IsOver fault till.new.state) }
     ensures reads { R.reads reader.new ≤ R.reads reader.old + turns }
