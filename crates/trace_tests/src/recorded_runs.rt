@@ -137,9 +137,9 @@ fn make_orders(
         Way::FromTerminal,
         Over::new(pieces),
         Over::new(trace),
-    );
+    )?;
     let sent = Over::new(Vec::new(alloc));
-    let mut writer = Recorded::new(alloc, Way::FromTill, sent, Over::new(trace));
+    let mut writer = Recorded::new(alloc, Way::FromTill, sent, Over::new(trace))?;
     let mut stream = Stream::new(alloc);
     till.connected();
     for made in 0..5 {

@@ -291,8 +291,8 @@ fn registers_recorded(
     let sent = Over::new(Vec::new(alloc));
     let reads = Over::new(Vec::new(alloc));
     let mut line = End {
-        reader: Recorded::new(alloc, Way::FromTerminal, Over::new(coming), reads),
-        writer: Recorded::new(alloc, Way::FromTill, sent, Over::new(Vec::new(alloc))),
+        reader: Recorded::new(alloc, Way::FromTerminal, Over::new(coming), reads)?,
+        writer: Recorded::new(alloc, Way::FromTill, sent, Over::new(Vec::new(alloc)))?,
         stream: Stream::new(alloc),
     };
     let mut writer = Over::new(Vec::new(alloc));
@@ -326,11 +326,11 @@ fn a_line_is_recorded(rt: HostRuntime) -> Result<(), Fail> {
 fn a_trace_that_cannot_be_written(rt: HostRuntime) -> Result<(), Fail> {
     let alloc = rt.alloc();
     let sent = Over::new(Vec::new(alloc));
-    let mut writer = Recorded::new(alloc, Way::FromTill, sent, Over::new(Full));
+    let mut writer = Recorded::new(alloc, Way::FromTill, sent, Over::new(Full))?;
     assert!(rt; writer.write_all([1].as_slice()).is_err());
     assert!(rt; writer.device.inner.is_empty());
     let coming = Over::new([1, 2].as_slice());
-    let mut reader = Recorded::new(alloc, Way::FromTerminal, coming, Over::new(Full));
+    let mut reader = Recorded::new(alloc, Way::FromTerminal, coming, Over::new(Full))?;
     let mut buffer = [0];
     assert_eq!(rt; Source::read(&mut reader, &mut buffer), Ok(1));
     assert!(rt; Source::read(&mut reader, &mut buffer).is_err());

@@ -16,6 +16,7 @@ mod tests;
 
 use crate::ends::SettingWords;
 use crate::statuses::{DEVICE, DONE, MEMORY, WORDS};
+use std::io::ErrorKind;
 use std::process::ExitCode;
 use std::{env, io};
 use zvt_tool::words::choice;
@@ -30,16 +31,17 @@ fn main(rt: HostRuntime) -> ExitCode {
 
 /// The exit status. An `Err` is a failed write of help or of a fault.
 fn run(rt: &HostRuntime) -> io::Result<u8> {
-    let Ok(arguments) = env::args(rt) else {
-        return Ok(MEMORY);
+    let arguments = match env::args(rt) {
+        Ok(arguments) => arguments,
+        Err(error) => return without_words(rt, &error),
     };
     let words: Vec<String> = match arguments.collect(rt.alloc()) {
         Ok(words) => words,
-        Err(_) => return Ok(MEMORY),
+        Err(_) => return without_memory(rt),
     };
     let texts: Vec<&str> = match words.iter().map(String::as_str).collect(rt.alloc()) {
         Ok(texts) => texts,
-        Err(_) => return Ok(MEMORY),
+        Err(_) => return without_memory(rt),
     };
     match choice(rt.alloc(), texts.as_slice()) {
         Ok(chosen) => execute(rt, &chosen),
@@ -47,12 +49,24 @@ fn run(rt: &HostRuntime) -> io::Result<u8> {
             error.print(rt)?;
             Ok(if error.use_stderr() { WORDS } else { DONE })
         }
-        Err(ChoiceFault::Memory) => {
-            let fault = ChoiceFault::Memory;
-            eprintln!(rt; "zvt: {fault}")?;
-            Ok(MEMORY)
-        }
+        Err(ChoiceFault::Memory) => without_memory(rt),
     }
+}
+
+/// The exit status where the words of the command line can't be had: for want of memory, or since one is no text.
+fn without_words(rt: &HostRuntime, error: &io::Error) -> io::Result<u8> {
+    if error.kind() == ErrorKind::OutOfMemory {
+        return without_memory(rt);
+    }
+    eprintln!(rt; "zvt: a word of the command line is no text in UTF-8")?;
+    Ok(WORDS)
+}
+
+/// The exit status where memory is wanted for the command line.
+fn without_memory(rt: &HostRuntime) -> io::Result<u8> {
+    let fault = ChoiceFault::Memory;
+    eprintln!(rt; "zvt: {fault}")?;
+    Ok(MEMORY)
 }
 
 /// Does what was chosen, and answers the exit status.

@@ -71,7 +71,12 @@ stopped count most first (LineBroke fault) old middle new below so till = absurd
 stopped count most first (Net why) old middle new below so till = absurd till
 stopped count most first (BadStep at) old middle new below so till = absurd till
 stopped count most first NotWritten old middle new below so till = absurd till
-stopped count most first NoMemory old middle new below so till = absurd till
+stopped count most first NoMemory old middle new below so till = (count, first, omega (arith, below), subst (λ (s : Served). ServesMany count first old s) (sym till) so)
+
+-- that a line was served could not be told, which ends the service
+pub untold : (count most : ℕ) (first broke : Option LineFault) (old middle new : Served) → count < most → ServesMany count first old middle
+    → ServesLine middle broke new → ServesSome most old new
+untold count most first broke old middle new below so line = (count + 1, or_later first broke, omega (arith, below), many_more count first broke old middle new so line)
 
 -- the line that was served is one more
 pub goes_on : (count : ℕ) (first kept broke : Option LineFault) (old middle new : Served) → kept ≡ or_later first broke → ServesMany count first old middle

@@ -66,7 +66,7 @@ abbrev pub ServesSome : ℕ → Served → Served → Type 0
 ServesSome most old new = (count : ℕ) × (first : Option LineFault) × (count ≤ most) × ServesMany count first old new
 
 -- What is answered of so many tills: all were served, whatever broke; or the next could not be, or a trace could not be
--- written.
+-- written, or there was too little memory to begin with one or to tell of it.
 abbrev pub AnswersTills : ℕ → Served → Served → Result Unit EndFault → Type 0
 AnswersTills count old new (Ok done) = ServesMany count None old new
 AnswersTills count old new (Err (LineBroke fault)) = ServesMany count (Some fault) old new
@@ -74,7 +74,7 @@ AnswersTills count old new (Err (Net why)) = ServesSome count old new
 AnswersTills count old new (Err Trace) = ServesSome count old new
 AnswersTills count old new (Err (BadStep at)) = ⊥
 AnswersTills count old new (Err Write) = ⊥
-AnswersTills count old new (Err Memory) = ⊥
+AnswersTills count old new (Err Memory) = ServesSome count old new
 
 -- by a new terminal of this number and verdict
 abbrev pub AnswersService : ℕ → ℕ → Verdict → Result Unit EndFault → Type 0
@@ -88,4 +88,4 @@ AnswersTill old new (Err (LineBroke fault)) = ⊥
 AnswersTill old new (Err (Net why)) = ⊥
 AnswersTill old new (Err (BadStep at)) = ⊥
 AnswersTill old new (Err Write) = ⊥
-AnswersTill old new (Err Memory) = ⊥
+AnswersTill old new (Err Memory) = new ≡ old

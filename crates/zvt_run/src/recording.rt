@@ -1,11 +1,12 @@
 //! Devices that write what goes through them to a trace.
-ghost use Rattle.std.specs.Prelude.{◌≡◌, ◌++◌, ◌∷◌, [], codes, IfOk, false, true};
+ghost use Rattle.std.specs.Prelude.{◌≡◌, ◌++◌, ◌∷◌, [], codes, IfOk, OnOk, false, true};
 ghost use Rattle.std.specs.String.{string_bytes};
 ghost use Rattle.zvt_io.specs.Devices.{CountsFailure, Reads, Writes};
 ghost use Rattle.zvt_run.specs.Recording.{RecordsRead, RecordsWrite, piece_text, sign_of};
 
 use std::alloc::{AllocError, Global};
 use zvt_io::{Failed, GhostCount, Sink, Source};
+use zvt_text::hexadecimal;
 
 /// The way that bytes go, as a trace marks it.
 #[derive(Clone, Copy, Debug, PartialEq, Eq)]
@@ -28,35 +29,41 @@ impl Way {
     }
 }
 
+/// The bytes of the line of a piece of 1,024 bytes, of which a line's devices read and write no more at once.
+const LINE: usize = 2 + 2 * 1024 + 1;
+
 /// A device, and the trace of what goes through it: each read that brings bytes, and each write, is a line of its own.
 /// What the device tells of its bytes is what it told without a trace. Once the trace can't be written, for want of
-/// memory too, it is broken, and each call fails: a write before it is made, a read from the next one on.
+/// memory too, it is broken, and each call fails: a write before it is made, a read from the next one on. Memory is
+/// asked for at once: only a piece of more than 1,024 bytes can want it.
 #[derive(Drop)]
 pub struct Recorded<D, T> {
     pub device: D,
     pub trace: T,
     pub way: Way,
     pub broken: bool,
-    alloc: Global,
+    /// Room for the line of a piece.
+    text: String,
     refused: GhostCount,
 }
 
-impl<D, T> Recorded<D, T> {
+impl<D: Drop, T: Drop> Recorded<D, T> {
     /// This device, whose bytes go this way, with its trace.
-    pub fn new(alloc: Global, way: Way, device: D, trace: T) -> Recorded<D, T>
-        ensures device { result.device ≡ device }
-        ensures trace { result.trace ≡ trace }
-        ensures way { result.way ≡ way }
-        ensures whole { result.broken ≡ false }
+    pub fn new(alloc: Global, way: Way, device: D, trace: T) -> Result<Recorded<D, T>, AllocError>
+        ensures device { IfOk result (λ recorded. recorded.device ≡ device) }
+        ensures trace { IfOk result (λ recorded. recorded.trace ≡ trace) }
+        ensures way { IfOk result (λ recorded. recorded.way ≡ way) }
+        ensures whole { IfOk result (λ recorded. recorded.broken ≡ false) }
     {
-        Recorded {
+        let text = String::with_capacity(alloc, LINE)?;
+        Ok(Recorded {
             device,
             trace,
             way,
             broken: false,
-            alloc,
+            text,
             refused: GhostCount::zero(),
-        }
+        })
     }
 }
 
@@ -83,7 +90,7 @@ impl<R: Source, T: Sink> Source for Recorded<R, T> {
         }
         let count = self.device.read(buffer)?;
         if count > 0 {
-            let written = write_piece(self.alloc, self.way, &buffer[..count], &mut self.trace);
+            let written = write_piece(&mut self.text, self.way, &buffer[..count], &mut self.trace);
             self.broken = written.is_err();
         }
         Ok(count)
@@ -108,7 +115,7 @@ impl<W: Sink, T: Sink> Sink for Recorded<W, T> {
             self.refused = self.refused.next();
             return Err(Failed);
         }
-        if write_piece(self.alloc, self.way, bytes, &mut self.trace).is_err() {
+        if write_piece(&mut self.text, self.way, bytes, &mut self.trace).is_err() {
             self.broken = true;
             self.refused = self.refused.next();
             return Err(Failed);
@@ -117,27 +124,30 @@ impl<W: Sink, T: Sink> Sink for Recorded<W, T> {
     }
 }
 
-/// Writes the line of a piece to the trace. Where it fails, some front of the line was written.
-fn write_piece<T: Sink>(alloc: Global, way: Way, bytes: &[u8], trace: &mut T) -> Result<(), Failed>
+/// Writes the line of a piece to the trace, made in this room. Where it fails, some front of the line was written.
+fn write_piece<T: Sink>(
+    text: &mut String,
+    way: Way,
+    bytes: &[u8],
+    trace: &mut T,
+) -> Result<(), Failed>
     ensures { Writes (T.written trace.old) (T.written trace.new) result (piece_text way bytes.now) }
 {
-    match piece(alloc, way, bytes) {
-        Ok(text) => trace.write_all(text.as_bytes()),
-        Err(_) => Err(Failed),
+    match spell_piece(text, way, bytes) {
+        Ok(()) => trace.write_all(text.as_bytes()),
+        Err(AllocError) => Err(Failed),
     }
 }
 
-/// The line of a piece.
-fn piece(alloc: Global, way: Way, bytes: &[u8]) -> Result<String, AllocError>
-    ensures { IfOk result (λ text. string_bytes text ≡ piece_text way bytes.now) }
+/// Makes the line of a piece in this room.
+fn spell_piece(text: &mut String, way: Way, bytes: &[u8]) -> Result<(), AllocError>
+    ensures { OnOk result (string_bytes text.new ≡ piece_text way bytes.now) }
 {
-    let digits = hex::encode_upper(alloc, bytes)?;
-    let mut text = String::new(alloc);
+    text.clear();
     text.push_str(way.sign())?;
     text.push_str(" ")?;
-    text.push_str(digits.as_str())?;
-    text.push('\n')?;
-    Ok(text)
+    hexadecimal(text, bytes)?;
+    text.push('\n')
 }
 
 /// Writes to the trace that the connection has ended.

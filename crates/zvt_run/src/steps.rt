@@ -22,7 +22,7 @@ use std::alloc::{AllocError, Global};
 use zvt_io::{Failed, Sink};
 use zvt_stream::LineFault;
 use zvt_text::Text;
-use zvt_till::{Outcome, RunFault, Till};
+use zvt_till::{OrderRefusal, Outcome, RunFault, Till};
 
 /// A line on which each step of a till is made from end to end.
 pub(crate) trait StepLine {
@@ -39,8 +39,9 @@ pub(crate) trait StepLine {
 
 /// Makes the steps one after another, and writes a line for each when it ends: its word and what became of it. The last
 /// line is the till's total. After a broken line no further step is made, and the fault is `Line`; an order that is not
-/// sent is no fault. The other faults are `Write` and `Memory`: no step is made again, nor one behind that whose line is
-/// missing. The lines of all steps before it were written, after `Write` a part of its own perhaps.
+/// sent is no fault, but where that was for want of memory. The other faults are `Write` and `Memory`: no step is made
+/// again, nor one behind that whose line is missing. The lines of all steps before it were written, after `Write` a part
+/// of its own perhaps.
 pub(crate) fn run_steps<L: StepLine, W: Sink>(
     alloc: Global,
     line: &mut L,
@@ -82,6 +83,9 @@ fn make_step<L: StepLine, W: Sink>(
     ensures count { IfOk result (λ _. W.failures writer.new ≡ W.failures writer.old) }
 {
     let made = line.make(alloc, till, &planned.step);
+    if let Err(RunFault::Order(OrderRefusal::Memory)) = &made {
+        return Err(EndFault::Memory);
+    }
     let mut text = Text::new(alloc);
     text.word(planned.word.as_bytes())?;
     text.word(b" -> ")?;

@@ -1,5 +1,5 @@
 //! Runs over TCP.
-ghost use Rattle.std.specs.Prelude.{◌≡◌, ◌<◌, ◌≤◌, Err, map};
+ghost use Rattle.std.specs.Prelude.{◌≡◌, ◌<◌, ◌≤◌, Err, IfOk, map};
 ghost use Rattle.zvt_run.specs.BothEnds.{BeginsHere, MakesHereBy};
 ghost use Rattle.zvt_stream.specs.StreamState.{at_start};
 ghost use Rattle.zvt_till.specs.Events.{run_settings};
@@ -19,7 +19,7 @@ use crate::service::serve;
 use crate::settings::TillSettings;
 use crate::till_end::run_till_end;
 use crate::words::Ends;
-use std::alloc::Global;
+use std::alloc::{AllocError, Global};
 use std::fs::File;
 use std::net::{Net, TcpListener, TcpStream};
 use zvt_io::{Over, Sink, Source};
@@ -62,7 +62,7 @@ where
             )
         }
         Some(file) => {
-            let till = recorded_end(alloc, &till_end, Way::FromTerminal, Way::FromTill, file);
+            let till = recorded_end(alloc, &till_end, Way::FromTerminal, Way::FromTill, file)?;
             let mut line = both_ends_of(alloc, till, &terminal_end);
             let answer = run_both_ends(
                 alloc,
@@ -126,7 +126,7 @@ where
             run_till_end(alloc, &mut line, settings, plan.as_slice(), writer)
         }
         Some(file) => {
-            let mut line = recorded_end(alloc, &end, Way::FromTerminal, Way::FromTill, file);
+            let mut line = recorded_end(alloc, &end, Way::FromTerminal, Way::FromTill, file)?;
             let answer = run_till_end(alloc, &mut line, settings, plan.as_slice(), writer);
             by_trace(is_broken(&line, file), answer)
         }
@@ -139,9 +139,9 @@ where
 ///
 /// The end of a connection between two messages is no fault. One that breaks otherwise ends that till's service alone:
 /// the first such fault is answered, as `Line`, once all tills were served. `Net` ends the service where the port can't be
-/// had or no connection can be taken, and `Trace` where the trace can't be written. The trace has what the terminal heard
-/// and answered, seen from the till. Where it listens, and how many approvals the ledger has when a till has gone, is told
-/// by `tell`.
+/// had or no connection can be taken, `Trace` where the trace can't be written, and `Memory` where there is too little to
+/// begin with a till or to tell of it. The trace has what the terminal heard and answered, seen from the till. Where it
+/// listens, and how many approvals the ledger has when a till has gone, is told by `tell`.
 pub fn run_terminal<R, W>(
     rt: &R,
     alloc: Global,
@@ -163,7 +163,7 @@ where
         Ok(listener) => listener,
         Err(why) => return Err(EndFault::Net(why)),
     };
-    tell_address(alloc, &listener, tell);
+    tell_address(alloc, &listener, tell)?;
     let mut served = Served {
         terminal: Terminal::new(alloc, tid),
         verdict,
@@ -187,7 +187,7 @@ fn serve_tills<W: Sink>(
     'tills: for gone in 0..connections {
         let connection = accept(listener).map_err(EndFault::Net)?;
         let broke = serve_till(alloc, &connection, served, trace)?;
-        tell_ledger(alloc, gone + 1, broke, &served.terminal, tell);
+        tell_ledger(alloc, gone + 1, broke, &served.terminal, tell)?;
         if first.is_none() {
             first = broke;
         }
@@ -198,8 +198,8 @@ fn serve_tills<W: Sink>(
     }
 }
 
-/// Serves the till at the other end of this connection, and answers how the line broke, if it did. The one fault is
-/// `Trace`.
+/// Serves the till at the other end of this connection, and answers how the line broke, if it did. The faults are
+/// `Trace`, and `Memory` where there was none to begin with.
 fn serve_till(
     alloc: Global,
     connection: &TcpStream,
@@ -212,7 +212,7 @@ fn serve_till(
     let Some(file) = trace else {
         return Ok(serve(alloc, &mut plain_end(alloc, connection), served).err());
     };
-    let mut end = recorded_end(alloc, connection, Way::FromTill, Way::FromTerminal, file);
+    let mut end = recorded_end(alloc, connection, Way::FromTill, Way::FromTerminal, file)?;
     let broke = serve(alloc, &mut end, served).err();
     if is_broken(&end, file) {
         return Err(EndFault::Trace);
@@ -247,16 +247,16 @@ fn recorded_end<'a>(
     read: Way,
     written: Way,
     trace: &'a File,
-) -> RecordedEnd<'a>
-    ensures { result.stream ≡ at_start }
+) -> Result<RecordedEnd<'a>, AllocError>
+    ensures { IfOk result (λ end. end.stream ≡ at_start) }
 {
     let trace_of_reads = Over::new(trace);
     let trace_of_writes = Over::new(trace);
-    End {
-        reader: Recorded::new(alloc, read, Over::new(connection), trace_of_reads),
-        writer: Recorded::new(alloc, written, Over::new(connection), trace_of_writes),
+    Ok(End {
+        reader: Recorded::new(alloc, read, Over::new(connection), trace_of_reads)?,
+        writer: Recorded::new(alloc, written, Over::new(connection), trace_of_writes)?,
         stream: Stream::new(alloc),
-    }
+    })
 }
 
 /// Ends the trace of the line, and answers whether some of it could not be written.
@@ -265,14 +265,18 @@ fn is_broken(end: &RecordedEnd<'_>, trace: &File) -> bool {
     end.reader.broken || end.writer.broken || ended.is_err()
 }
 
-/// Tells where the terminal listens. That it can't be told is no fault of the service.
-fn tell_address<W: Sink>(alloc: Global, listener: &TcpListener, tell: &mut W) {
+/// Tells where the terminal listens. That its device fails is no fault of the service.
+fn tell_address<W: Sink>(
+    alloc: Global,
+    listener: &TcpListener,
+    tell: &mut W,
+) -> Result<(), AllocError> {
     let Ok(address) = listener.local_addr() else {
-        return;
+        return Ok(());
     };
-    if let Ok(text) = format!(in alloc; "zvt: a terminal listens at {address}\n") {
-        let _ = tell.write_all(text.as_bytes());
-    }
+    let text = format!(in alloc; "zvt: a terminal listens at {address}\n")?;
+    let _ = tell.write_all(text.as_bytes());
+    Ok(())
 }
 
 /// Tells that the till of this number has gone, how its line broke, if it did, and how many approvals the terminal's
@@ -283,20 +287,19 @@ fn tell_ledger<W: Sink>(
     broke: Option<LineFault>,
     terminal: &Terminal,
     tell: &mut W,
-) {
+) -> Result<(), AllocError> {
     let rows = terminal.ledger().iter();
     let approvals = rows.filter(|row| row.reverses.is_none()).count();
     let text = match broke {
         None => {
-            format!(in alloc; "zvt: till {till} has gone; approvals in the ledger: {approvals}\n")
+            format!(in alloc; "zvt: till {till} has gone; approvals in the ledger: {approvals}\n")?
         }
         Some(fault) => {
             format!(in alloc;
                 "zvt: the line of till {till} broke: {fault}; approvals in the ledger: {approvals}\n"
-            )
+            )?
         }
     };
-    if let Ok(text) = text {
-        let _ = tell.write_all(text.as_bytes());
-    }
+    let _ = tell.write_all(text.as_bytes());
+    Ok(())
 }

@@ -41,8 +41,9 @@ impl<R: Source, W: Sink> StepLine for End<R, W> {
 /// Makes the steps one after another, with a new till of these settings at this end of a line, which is at its start.
 ///
 /// A line is written for each step when it ends: its word and what became of it. The last line is the till's total.
-/// After a broken line no further step is made, and the fault is `Line`; an order that is not sent is no fault. The
-/// other faults are `Write` and `Memory`: no step is made again, and none behind the one whose line is missing.
+/// After a broken line no further step is made, and the fault is `Line`; an order that is not sent is no fault, but for
+/// want of memory. The other faults are `Write` and `Memory`: no step is made again, and none behind the one whose line
+/// is missing.
 pub fn run_till_end<R: Source, W: Sink, T: Sink>(
     alloc: Global,
     end: &mut End<R, W>,

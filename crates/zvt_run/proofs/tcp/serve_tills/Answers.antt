@@ -1,12 +1,17 @@
 use Rattle.std.proofs.Common.{rules}
 use Rattle.std.proofs.lemmas.Result.{err_from_is_err_and}
-use Rattle.zvt_run.proofs.ManyTills.{goes_on, left_offline, stopped}
+use Rattle.zvt_run.proofs.ManyTills.{goes_on, left_offline, stopped, untold}
 use Rattle.zvt_run.proofs.tcp.serve_tills.Goals as goal
 
 pub returns-in_err-broke : goal.returns-in_err-broke
 returns-in_err-broke g c =
     let p = err_from_is_err_and c.from_residual-in_err-broke.result c.from_residual-in_err-broke.ensures.1 in
     rw (p.1, p.2) (stopped c.tills.gone c.args.connections c.tills.first c.in_err-broke.field-0.0 c.args.served.now c.tills.served c.serve_till.new.served c.tills-test.true c.tills.invariant.served c.in_err-broke.ensures)
+
+pub returns-in_err-tell_ledger : goal.returns-in_err-tell_ledger
+returns-in_err-tell_ledger g c =
+    let p = err_from_is_err_and c.from_residual-in_err-tell_ledger.result c.from_residual-in_err-tell_ledger.ensures.1 in
+    rw (p.1, p.2) (untold c.tills.gone c.args.connections c.tills.first c.in_ok-broke.broke c.args.served.now c.tills.served c.serve_till.new.served c.tills-test.true c.tills.invariant.served c.in_ok-broke.ensures)
 
 pub tills-preserved : goal.tills-preserved
 tills-preserved g c = record {

@@ -1,0 +1,11 @@
+use Rattle.std.proofs.Common.{map, refl, Bor, List, ℕ}
+use Rattle.zvt_run.specs.Settings.{settings_of}
+use Rattle.zvt_run.specs.TillEnd.{BeginsThere, MakesThere}
+use Rattle.zvt_run.specs.declared.words.Ends.TheVariants.{Till}
+use Rattle.zvt_run.proofs.Traced.{traced_run}
+use Rattle.zvt_run.proofs.tcp.run_till.Goals as goal
+
+pub returns-clause-run : goal.returns-clause-run
+returns-clause-run g c =
+    traced_run MakesThere BeginsThere (settings_of c.args.settings.now) (settings_of c.args.settings.now) Till (map (λ (step : Bor (List ℕ)). step.now) c.args.steps.now) c.in_ok-plan.plan.items c.as_slice-in-Some.result.now c.is_broken.result _ _ c.run_till_end-answer.result c.by_trace.result
+    refl c.as_slice-in-Some.ensures.value c.by_trace.ensures c.in_ok-plan.ensures c.run_till_end-answer.ensures.run
