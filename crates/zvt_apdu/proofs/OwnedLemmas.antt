@@ -4,7 +4,7 @@ use Rattle.std.proofs.lemmas.Bool.{cases_lt}
 use Rattle.zvt_spelling.specs.Reading.{Reading, shortest, padded}
 use Rattle.zvt_field.specs.Grammar.{Field}
 use Rattle.zvt_field.specs.Bodies.{HaveSpelling}
-use Rattle.zvt_field.proofs.OwnedLemmas.{fields_shortened}
+use Rattle.zvt_field.proofs.Shortening.{fields_shortened}
 use Rattle.zvt_apdu.specs.Message.{Message, ack, nack, registration, authorisation, reversal, end_of_day, abort_order, status, intermediate, print_line, text_block, completion, abort, other}
 use Rattle.zvt_apdu.specs.Grammar.{IsFrameLength, Listed, Data, Spells}
 use Rattle.zvt_apdu.specs.Messages.{HasSpelling}

@@ -6,7 +6,7 @@ use Rattle.std.proofs.Math.Seq.{take-suc}
 use Rattle.zvt_spelling.specs.declared.why.Why.{Why}
 use Rattle.zvt_spelling.specs.declared.answer.Scan.{Scan}
 use Rattle.zvt_spelling.specs.declared.answer.Scan.TheVariants.{Whole, More, Refused}
-use Rattle.zvt_spelling.specs.Reading.{Reading, shortest}
+use Rattle.zvt_spelling.specs.Reading.{Reading}
 use Rattle.zvt_tlv.specs.Grammar.{Objects}
 use Rattle.zvt_spelling.specs.Beginnings.{Alive, NoneWhole, Unfinished, Place}
 use Rattle.zvt_tlv.specs.Sized.{SizedIn, WhySized, SizedFound, AnswersSized}
@@ -18,6 +18,7 @@ use Rattle.zvt_field.specs.Judging.{AliveIn, PlaceIn, WhyIn, in_container}
 use Rattle.zvt_field.specs.Answers.{FieldFound, AnswersOne, InContainer}
 use Rattle.zvt_field.specs.Bodies.{HasSpelling}
 use Rattle.zvt_field.proofs.Fit.{alive_container, container_alive}
+use Rattle.zvt_field.proofs.Shortening.{field_small}
 
 -- what is open has room for a byte
 open_room : (r : Reading) (level : ℕ) (c rest : List ℕ) (f : Objects) → SizedIn r level f (c ++ rest) → (SizedIn r level f c → ⊥) → length c < level
@@ -67,37 +68,37 @@ container_refused r bmp level p inside why is (none, place, reason) =
       },
     )
 
-abbrev Inner : (room : ℕ) (bytes : List ℕ) → Scan (Objects × ℕ) → Type 0
-Inner room bytes q = AnswersSized shortest (room - 1) (take (length bytes - 1) (drop 1 bytes)) q
+abbrev Inner : (r : Reading) (room : ℕ) (bytes : List ℕ) → Scan (Objects × ℕ) → Type 0
+Inner r room bytes q = AnswersSized r (room - 1) (take (length bytes - 1) (drop 1 bytes)) q
 
-inner_at : (room : ℕ) (bytes : List ℕ) (c : InContainer room bytes) (q q' : Scan (Objects × ℕ)) → q ≡ q' → Inner room bytes q → AnswersSized shortest c.level c.inside q'
-inner_at room bytes c q q' e h =
+inner_at : (r : Reading) (room : ℕ) (bytes : List ℕ) (c : InContainer r room bytes) (q q' : Scan (Objects × ℕ)) → q ≡ q' → Inner r room bytes q → AnswersSized r c.level c.inside q'
+inner_at r room bytes c q q' e h =
     let level : room - 1 ≡ c.level = omega (arith, c.filled) in
     let rest : take (length bytes - 1) (drop 1 bytes) ≡ c.inside = take_rest bytes 1 ∙ ap (drop 1) c.whole in
-    subst (λ (m : ℕ). AnswersSized shortest m c.inside q') level (subst (λ (s : List ℕ). AnswersSized shortest (room - 1) s q') rest (subst (Inner room bytes) e h))
+    subst (λ (m : ℕ). AnswersSized r m c.inside q') level (subst (λ (s : List ℕ). AnswersSized r (room - 1) s q') rest (subst (Inner r room bytes) e h))
 
-abbrev Field' : (room : ℕ) (bytes : List ℕ) → Scan (Field × ℕ) → Type 0
-Field' room bytes q = AnswersOne shortest room bytes q
+abbrev Field' : (r : Reading) (room : ℕ) (bytes : List ℕ) → Scan (Field × ℕ) → Type 0
+Field' r room bytes q = AnswersOne r room bytes q
 
-out_at : (room : ℕ) (bytes : List ℕ) (c : InContainer room bytes) (q : Scan (Field × ℕ)) → Field' (suc c.level) (c.bmp ∷ c.inside) q → Field' room bytes q
-out_at room bytes c q h =
-    subst (λ (m : ℕ). Field' m bytes q) c.filled (subst (λ (s : List ℕ). Field' (suc c.level) s q) (sym c.whole) h)
+out_at : (r : Reading) (room : ℕ) (bytes : List ℕ) (c : InContainer r room bytes) (q : Scan (Field × ℕ)) → Field' r (suc c.level) (c.bmp ∷ c.inside) q → Field' r room bytes q
+out_at r room bytes c q h =
+    subst (λ (m : ℕ). Field' r m bytes q) c.filled (subst (λ (s : List ℕ). Field' r (suc c.level) s q) (sym c.whole) h)
 
-pub one_whole : (room : ℕ) (bytes : List ℕ) (c : InContainer room bytes) (f : Objects) (n : ℕ) (q : Scan (Objects × ℕ)) → q ≡ Whole (f, n) → Inner room bytes q → AnswersOne shortest room bytes (Whole (tree (slice_index_or bytes 0 0) f, n + 1))
-one_whole room bytes c f n q e h =
-    let w = out_at room bytes c (Whole (tree c.bmp f, suc n)) (container_whole shortest c.bmp c.level n c.inside f c.is_tree (inner_at room bytes c q (Whole (f, n)) e h)) in
+pub one_whole : (r : Reading) (room : ℕ) (bytes : List ℕ) (c : InContainer r room bytes) (f : Objects) (n : ℕ) (q : Scan (Objects × ℕ)) → q ≡ Whole (f, n) → Inner r room bytes q → AnswersOne r room bytes (Whole (tree (slice_index_or bytes 0 0) f, n + 1))
+one_whole r room bytes c f n q e h =
+    let w = out_at r room bytes c (Whole (tree c.bmp f, suc n)) (container_whole r c.bmp c.level n c.inside f c.is_tree (inner_at r room bytes c q (Whole (f, n)) e h)) in
     let first : c.bmp ≡ slice_index_or bytes 0 0 = ap (λ (s : List ℕ). slice_index_or s 0 0) (sym c.whole) in
     let size : suc n ≡ n + 1 = omega arith in
-    subst (λ (m : ℕ). AnswersOne shortest room bytes (Whole (tree (slice_index_or bytes 0 0) f, m))) size (subst (λ (b : ℕ). AnswersOne shortest room bytes (Whole (tree b f, suc n))) first w)
+    subst (λ (m : ℕ). AnswersOne r room bytes (Whole (tree (slice_index_or bytes 0 0) f, m))) size (subst (λ (b : ℕ). AnswersOne r room bytes (Whole (tree b f, suc n))) first w)
 
-pub one_more : (room : ℕ) (bytes : List ℕ) (c : InContainer room bytes) (q : Scan (Objects × ℕ)) → q ≡ More → Inner room bytes q → AnswersOne shortest room bytes More
-one_more room bytes c q e h = out_at room bytes c More (container_more shortest c.bmp c.level c.inside c.is_tree (inner_at room bytes c q More e h))
+pub one_more : (r : Reading) (room : ℕ) (bytes : List ℕ) (c : InContainer r room bytes) (q : Scan (Objects × ℕ)) → q ≡ More → Inner r room bytes q → AnswersOne r room bytes More
+one_more r room bytes c q e h = out_at r room bytes c More (container_more r c.bmp c.level c.inside c.is_tree (inner_at r room bytes c q More e h))
 
-pub one_refused : (room : ℕ) (bytes : List ℕ) (c : InContainer room bytes) (p : ℕ) (why : Why) (q : Scan (Objects × ℕ)) → q ≡ Refused p why → Inner room bytes q → AnswersOne shortest room bytes (Refused (p + 1) why)
-one_refused room bytes c p why q e h =
-    let w = out_at room bytes c (Refused (suc p) why) (container_refused shortest c.bmp c.level p c.inside why c.is_tree (inner_at room bytes c q (Refused p why) e h)) in
+pub one_refused : (r : Reading) (room : ℕ) (bytes : List ℕ) (c : InContainer r room bytes) (p : ℕ) (why : Why) (q : Scan (Objects × ℕ)) → q ≡ Refused p why → Inner r room bytes q → AnswersOne r room bytes (Refused (p + 1) why)
+one_refused r room bytes c p why q e h =
+    let w = out_at r room bytes c (Refused (suc p) why) (container_refused r c.bmp c.level p c.inside why c.is_tree (inner_at r room bytes c q (Refused p why) e h)) in
     let size : suc p ≡ p + 1 = omega arith in
-    subst (λ (m : ℕ). AnswersOne shortest room bytes (Refused m why)) size w
+    subst (λ (m : ℕ). AnswersOne r room bytes (Refused m why)) size w
 
-pub found_spelling : (room : ℕ) (bytes : List ℕ) (f : Field) (n : ℕ) → room < 2 ^ 16 → FieldFound shortest room bytes f n → HasSpelling f
-found_spelling room bytes f n small h = record { bytes = take n bytes; spelled = h.spelled; small = omega (arith, small, h.filled, length-take-le n bytes h.present) }
+pub found_spelling : (r : Reading) (room : ℕ) (bytes : List ℕ) (f : Field) (n : ℕ) → room < 2 ^ 16 → FieldFound r room bytes f n → HasSpelling f
+found_spelling r room bytes f n small h = field_small r f (take n bytes) h.spelled (omega (arith, small, h.filled, length-take-le n bytes h.present))

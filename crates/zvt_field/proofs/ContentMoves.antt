@@ -8,7 +8,7 @@ use Rattle.std.proofs.lemmas.Bool.{ltb-true, ltb-false, not-true}
 use Rattle.zvt_bcd.specs.Digits.{AreDigits, IsDigitPair, is_digit_pair}
 use Rattle.zvt_bcd.proofs.PairTests.{is_pair}
 use Rattle.zvt_spelling.specs.declared.why.Why.TheVariants.{NotDigit}
-use Rattle.zvt_spelling.specs.Reading.{shortest, AreBytes}
+use Rattle.zvt_spelling.specs.Reading.{Reading, AreBytes}
 use Rattle.zvt_spelling.specs.Tests.{check}
 use Rattle.zvt_tlv.proofs.Alive.{bytes_front}
 use Rattle.zvt_tlv.proofs.Levels.{take_from, are_bytes}
@@ -86,37 +86,37 @@ inner_bytes start end bytes are =
     let rest = drop start bytes in
     bytes_front (inner start end bytes) (drop (end - start) rest) (subst AreBytes (sym (take-append-drop (end - start) rest)) (behind start bytes (are_bytes bytes are)))
 
-begun : (room : ℕ) (bytes : List ℕ) (head : Head) (h : HeadFound room bytes head) → Content head.digits head.size (h.bmp ∷ h.size) [] room
-begun room bytes head h =
+begun : (r : Reading) (room : ℕ) (bytes : List ℕ) (head : Head) (h : HeadFound r room bytes head) → Content head.digits head.size (h.bmp ∷ h.size) [] room
+begun r room bytes head h =
     let e : h.bmp ∷ h.size ≡ h.bmp ∷ (h.size ++ []) = ap (λ (s : List ℕ). h.bmp ∷ s) (sym (append-nil h.size)) in
-    alive_content shortest h.bmp head.size head.digits h.size [] room h.is_head (omega arith) (subst (AliveIn shortest room) (h.whole ∙ e) h.alive)
+    alive_content r h.bmp head.size head.digits h.size [] room h.is_head (omega arith) (subst (AliveIn r room) (h.whole ∙ e) h.alive)
 
-start_size : (room : ℕ) (bytes : List ℕ) (head : Head) (h : HeadFound room bytes head) → head.start ≡ suc (length h.size)
-start_size room bytes head h = omega (arith, ap length h.whole, length-take-le head.start bytes h.present)
+start_size : (r : Reading) (room : ℕ) (bytes : List ℕ) (head : Head) (h : HeadFound r room bytes head) → head.start ≡ suc (length h.size)
+start_size r room bytes head h = omega (arith, ap length h.whole, length-take-le head.start bytes h.present)
 
-pub content_small : (room : ℕ) (bytes : List ℕ) (head : Head) → HeadFound room bytes head → head.start + head.size ≤ room
-content_small room bytes head h = omega (arith, (begun room bytes head h).sized, start_size room bytes head h)
+pub content_small : (r : Reading) (room : ℕ) (bytes : List ℕ) (head : Head) → HeadFound r room bytes head → head.start + head.size ≤ room
+content_small r room bytes head h = omega (arith, (begun r room bytes head h).sized, start_size r room bytes head h)
 
 -- the head and so many bytes
-taken : (room k : ℕ) (bytes : List ℕ) (head : Head) (h : HeadFound room bytes head) → take (head.start + k) bytes ≡ h.bmp ∷ (h.size ++ take k (drop head.start bytes))
-taken room k bytes head h = take_from head.start k bytes ∙ ap (λ (s : List ℕ). s ++ take k (drop head.start bytes)) h.whole
+taken : (r : Reading) (room k : ℕ) (bytes : List ℕ) (head : Head) (h : HeadFound r room bytes head) → take (head.start + k) bytes ≡ h.bmp ∷ (h.size ++ take k (drop head.start bytes))
+taken r room k bytes head h = take_from head.start k bytes ∙ ap (λ (s : List ℕ). s ++ take k (drop head.start bytes)) h.whole
 
 -- alive with so many bytes of the content
-alive_with : (room k : ℕ) (bytes : List ℕ) (head : Head) (h : HeadFound room bytes head) → k ≤ head.size → IsContent head.digits (take k (drop head.start bytes)) → AliveIn shortest room (take (head.start + k) bytes)
-alive_with room k bytes head h le is =
-    let c = begun room bytes head h in
+alive_with : (r : Reading) (room k : ℕ) (bytes : List ℕ) (head : Head) (h : HeadFound r room bytes head) → k ≤ head.size → IsContent head.digits (take k (drop head.start bytes)) → AliveIn r room (take (head.start + k) bytes)
+alive_with r room k bytes head h le is =
+    let c = begun r room bytes head h in
     let part = take k (drop head.start bytes) in
     let short : length part ≤ head.size = omega (arith, length-take k (drop head.start bytes)) in
-    subst (AliveIn shortest room) (sym (taken room k bytes head h))
-    (content_alive shortest h.bmp head.size head.digits h.size part room h.is_head short (record { over = c.over; sized = c.sized; apart = c.apart; is_content = is }))
+    subst (AliveIn r room) (sym (taken r room k bytes head h))
+    (content_alive r h.bmp head.size head.digits h.size part room h.is_head short (record { over = c.over; sized = c.sized; apart = c.apart; is_content = is }))
 
 inner_size : (start n end : ℕ) (bytes : List ℕ) → start ≤ length bytes → end ≡ min (start + n) (length bytes) → length (inner start end bytes) ≡ end - start
 inner_size start n end bytes present e =
     let le : end - start ≤ length (drop start bytes) = omega (arith, length-drop start bytes, e) in length-take-le (end - start) (drop start bytes) le
 
-pub content_refused : (room end at : ℕ) (bytes : List ℕ) (head : Head) (h : HeadFound room bytes head) → end ≡ min (head.start + head.size) (length bytes) →
-    stop head.digits (inner head.start end bytes) ≡ Some at → ((i : ℕ) → get_or bytes i 0 < 256) → PlaceIn shortest room bytes (head.start + at) × WhyIn shortest room bytes (head.start + at) NotDigit
-content_refused room end at bytes head h e found are =
+pub content_refused : (r : Reading) (room end at : ℕ) (bytes : List ℕ) (head : Head) (h : HeadFound r room bytes head) → end ≡ min (head.start + head.size) (length bytes) →
+    stop head.digits (inner head.start end bytes) ≡ Some at → ((i : ℕ) → get_or bytes i 0 < 256) → PlaceIn r room bytes (head.start + at) × WhyIn r room bytes (head.start + at) NotDigit
+content_refused r room end at bytes head h e found are =
     let content = inner head.start end bytes in
     let (digits, found) = stopped head.digits content at found in
     let rest = drop head.start bytes in
@@ -128,44 +128,44 @@ content_refused room end at bytes head h e found are =
     let part = length-take-le at rest (omega arith) in
     let are_digits = pairs (take at rest)
     (λ k lt. let k' : k < at = omega (arith, lt, part) in ap is_digit_pair (get_or-take at rest k 0 k' ∙ sym (same k (omega arith))) ∙ f.before k k') in
-    let alive = alive_with room at bytes head h (omega (arith, e)) (subst (λ (d : Bool). IsContent d (take at rest)) (sym digits) are_digits) in
+    let alive = alive_with r room at bytes head h (omega (arith, e)) (subst (λ (d : Bool). IsContent d (take at rest)) (sym digits) are_digits) in
     let bad : is_digit_pair (get_or bytes (head.start + at) 0) ≡ false = ap is_digit_pair (sym (get_or-drop head.start bytes at 0) ∙ sym (same at below)) ∙ f.fails in
-    failed room (in_content true) bytes (head.start + at) NotDigit
-    (h.bmp, h.size, take at rest, head.size, taken room at bytes head h, subst (λ (d : Bool). IsHead (shape_of h.bmp) d head.size h.size) digits h.is_head, omega (arith, part, e, below))
-    alive (omega (arith, content_small room bytes head h, e, below)) (omega (arith, behind', length-drop head.start bytes)) (are (head.start + at))
+    failed r room (in_content true) bytes (head.start + at) NotDigit
+    (h.bmp, h.size, take at rest, head.size, taken r room at bytes head h, subst (λ (d : Bool). IsHead (shape_of h.bmp) d head.size h.size) digits h.is_head, omega (arith, part, e, below))
+    alive (omega (arith, content_small r room bytes head h, e, below)) (omega (arith, behind', length-drop head.start bytes)) (are (head.start + at))
     (ap (λ (b : Bool). check b NotDigit None) bad)
 
-pub content_more : (room end : ℕ) (bytes : List ℕ) (head : Head) (h : HeadFound room bytes head) → end ≡ min (head.start + head.size) (length bytes) → stop head.digits (inner head.start end bytes) ≡ None →
-    length (inner head.start end bytes) < head.size → ((i : ℕ) → get_or bytes i 0 < 256) → (length bytes < room) × AliveIn shortest room bytes
-content_more room end bytes head h e tested few are =
+pub content_more : (r : Reading) (room end : ℕ) (bytes : List ℕ) (head : Head) (h : HeadFound r room bytes head) → end ≡ min (head.start + head.size) (length bytes) → stop head.digits (inner head.start end bytes) ≡ None →
+    length (inner head.start end bytes) < head.size → ((i : ℕ) → get_or bytes i 0 < 256) → (length bytes < room) × AliveIn r room bytes
+content_more r room end bytes head h e tested few are =
     let content = inner head.start end bytes in
     let rest = drop head.start bytes in
     let size = inner_size head.start head.size end bytes h.present e in
     let short : length bytes < head.start + head.size = omega (arith, few, size, e) in
     let all : end - head.start ≡ length bytes - head.start = omega (arith, e) in
     let whole : head.start + (end - head.start) ≡ length bytes = omega (arith, e, h.present) in (
-      omega (arith, content_small room bytes head h),
-      subst (AliveIn shortest room) (ap (λ (k : ℕ). take k bytes) whole ∙ take_all (length bytes) bytes (omega arith))
-          (alive_with room (end - head.start) bytes head h (omega (arith, few, size)) (kind head.digits content tested (inner_bytes head.start end bytes are))),
+      omega (arith, content_small r room bytes head h),
+      subst (AliveIn r room) (ap (λ (k : ℕ). take k bytes) whole ∙ take_all (length bytes) bytes (omega arith))
+          (alive_with r room (end - head.start) bytes head h (omega (arith, few, size)) (kind head.digits content tested (inner_bytes head.start end bytes are))),
     )
 
-pub content_whole : (room end : ℕ) (bytes : List ℕ) (head : Head) (h : HeadFound room bytes head) → end ≡ min (head.start + head.size) (length bytes) → stop head.digits (inner head.start end bytes) ≡ None →
-    head.size ≤ length (inner head.start end bytes) → ((i : ℕ) → get_or bytes i 0 < 256) → FieldFound shortest room bytes (plain (get_or bytes 0 0) (inner head.start end bytes)) end
-content_whole room end bytes head h e tested enough are =
+pub content_whole : (r : Reading) (room end : ℕ) (bytes : List ℕ) (head : Head) (h : HeadFound r room bytes head) → end ≡ min (head.start + head.size) (length bytes) → stop head.digits (inner head.start end bytes) ≡ None →
+    head.size ≤ length (inner head.start end bytes) → ((i : ℕ) → get_or bytes i 0 < 256) → FieldFound r room bytes (plain (get_or bytes 0 0) (inner head.start end bytes)) end
+content_whole r room end bytes head h e tested enough are =
     let content = inner head.start end bytes in
     let size = inner_size head.start head.size end bytes h.present e in
     let filled : end ≡ head.start + head.size = omega (arith, enough, size, e) in
     let reach : end ≡ head.start + (end - head.start) = omega (arith, filled) in
-    let start = start_size room bytes head h in
+    let start = start_size r room bytes head h in
     let long : length content ≡ head.size = omega (arith, size, filled) in
-    let c = begun room bytes head h in
+    let c = begun r room bytes head h in
     let name : h.bmp ≡ get_or bytes 0 0 = sym (ap (λ (s : List ℕ). get_or s 0 0) h.whole) ∙ get_or-take head.start bytes 0 0 (omega (arith, start)) in
     record {
       present = omega (arith, e);
       spelled = record {
         digits = head.digits;
         size = h.size;
-        whole = ap (λ (k : ℕ). take k bytes) reach ∙ taken room (end - head.start) bytes head h ∙ ap (λ (b : ℕ). b ∷ (h.size ++ content)) name;
+        whole = ap (λ (k : ℕ). take k bytes) reach ∙ taken r room (end - head.start) bytes head h ∙ ap (λ (b : ℕ). b ∷ (h.size ++ content)) name;
         is_head = subst (λ (b : ℕ). IsHead (shape_of b) head.digits (length content) h.size) name (subst (λ (k : ℕ). IsHead (shape_of h.bmp) head.digits k h.size) (sym long) h.is_head);
         is_content = kind head.digits content tested (inner_bytes head.start end bytes are);
       };

@@ -4,7 +4,7 @@ use Rattle.std.proofs.lemmas.List.{length-take-le}
 use Rattle.std.proofs.Math.Seq.{take-suc, take-length}
 use Rattle.zvt_bcd.specs.LengthDigits.{AreLengthDigits, counted}
 use Rattle.zvt_spelling.specs.declared.why.Why.{Why}
-use Rattle.zvt_spelling.specs.Reading.{shortest}
+use Rattle.zvt_spelling.specs.Reading.{Reading}
 use Rattle.zvt_spelling.specs.Tests.{check}
 use Rattle.zvt_field.specs.Shapes.{shape_of}
 use Rattle.zvt_field.specs.Judging.{AliveIn, PlaceIn, WhyIn, digit, count_digits, Begins, is_length_digit, fault}
@@ -13,7 +13,7 @@ use Rattle.zvt_field.proofs.Counts.{alive_least, count_head, length_digit, digit
 use Rattle.zvt_field.proofs.HeadMoves.{failed, passed}
 
 -- so many digits of a length are read, and spell that number
-pub record CountTo (room : ℕ) (bytes : List ℕ) (digits number k : ℕ) : Type 0 where
+pub record CountTo (r : Reading) (room : ℕ) (bytes : List ℕ) (digits number k : ℕ) : Type 0 where
   pub bmp : ℕ
   pub size : List ℕ
   pub present : k ≤ length bytes
@@ -21,46 +21,46 @@ pub record CountTo (room : ℕ) (bytes : List ℕ) (digits number k : ℕ) : Typ
   pub counts : count_digits (shape_of bmp) ≡ digits
   pub are : AreLengthDigits size
   pub spells : counted 0 size ≡ number
-  pub alive : AliveIn shortest room (take k bytes)
+  pub alive : AliveIn r room (take k bytes)
 
-long : (room : ℕ) (bytes : List ℕ) (digits number k : ℕ) → (c : CountTo room bytes digits number k) → suc (length c.size) ≡ k
-long room bytes digits number k c = omega (arith, ap length c.whole, length-take-le k bytes c.present)
+long : (r : Reading) (room : ℕ) (bytes : List ℕ) (digits number k : ℕ) → (c : CountTo r room bytes digits number k) → suc (length c.size) ≡ k
+long r room bytes digits number k c = omega (arith, ap length c.whole, length-take-le k bytes c.present)
 
 some_digits : (digits k : ℕ) → k < suc digits → 0 < k → digits ≡ suc (digits - 1)
 some_digits digits k lt some = omega arith
 
-pub count_within : (room : ℕ) (bytes : List ℕ) (digits number k : ℕ) → CountTo room bytes digits number k → k < digits + 1 → k < room
-count_within room bytes digits number k c lt =
-    let size = long room bytes digits number k c in
+pub count_within : (r : Reading) (room : ℕ) (bytes : List ℕ) (digits number k : ℕ) → CountTo r room bytes digits number k → k < digits + 1 → k < room
+count_within r room bytes digits number k c lt =
+    let size = long r room bytes digits number k c in
     let is : count_digits (shape_of c.bmp) ≡ suc (digits - 1) = c.counts ∙ some_digits digits k (omega arith) (omega (arith, size)) in
-    let low = alive_least shortest c.bmp (digits - 1) (digits - k) c.size room is (omega (arith, size)) (subst (AliveIn shortest room) c.whole c.alive) in
+    let low = alive_least r c.bmp (digits - 1) (digits - k) c.size room is (omega (arith, size)) (subst (AliveIn r room) c.whole c.alive) in
     omega (arith, low)
 
-begins : (room : ℕ) (bytes : List ℕ) (digits number k : ℕ) → CountTo room bytes digits number k → k < digits + 1 → Begins (digit (digits - k) number) (take k bytes)
-begins room bytes digits number k c lt =
-    (c.bmp, c.size, c.whole, (let total : length c.size + suc (digits - k) ≡ digits = omega (arith, long room bytes digits number k c) in total ∙ sym c.counts), c.are, c.spells)
+begins : (r : Reading) (room : ℕ) (bytes : List ℕ) (digits number k : ℕ) → CountTo r room bytes digits number k → k < digits + 1 → Begins (digit (digits - k) number) (take k bytes)
+begins r room bytes digits number k c lt =
+    (c.bmp, c.size, c.whole, (let total : length c.size + suc (digits - k) ≡ digits = omega (arith, long r room bytes digits number k c) in total ∙ sym c.counts), c.are, c.spells)
 
-pub count_more : (room : ℕ) (bytes : List ℕ) (digits number k : ℕ) → CountTo room bytes digits number k → k < digits + 1 → length bytes ≤ k → (length bytes < room) × AliveIn shortest room bytes
-count_more room bytes digits number k c lt ended =
+pub count_more : (r : Reading) (room : ℕ) (bytes : List ℕ) (digits number k : ℕ) → CountTo r room bytes digits number k → k < digits + 1 → length bytes ≤ k → (length bytes < room) × AliveIn r room bytes
+count_more r room bytes digits number k c lt ended =
     let same : k ≡ length bytes = omega (arith, c.present) in
-    (omega (arith, count_within room bytes digits number k c lt), subst (AliveIn shortest room) (ap (λ (n : ℕ). take n bytes) same ∙ take-length bytes) c.alive)
+    (omega (arith, count_within r room bytes digits number k c lt), subst (AliveIn r room) (ap (λ (n : ℕ). take n bytes) same ∙ take-length bytes) c.alive)
 
-pub count_refused : (room : ℕ) (bytes : List ℕ) (digits number k : ℕ) (why : Why) → CountTo room bytes digits number k → k < digits + 1 → k < length bytes → get_or bytes k 0 < 256 →
-    fault shortest (digit (digits - k) number) (room - k - 1) (get_or bytes k 0) ≡ Some why → PlaceIn shortest room bytes k × WhyIn shortest room bytes k why
-count_refused room bytes digits number k why c lt present byte e =
-    failed room (digit (digits - k) number) bytes k why (begins room bytes digits number k c lt) c.alive (count_within room bytes digits number k c lt) present byte e
+pub count_refused : (r : Reading) (room : ℕ) (bytes : List ℕ) (digits number k : ℕ) (why : Why) → CountTo r room bytes digits number k → k < digits + 1 → k < length bytes → get_or bytes k 0 < 256 →
+    fault r (digit (digits - k) number) (room - k - 1) (get_or bytes k 0) ≡ Some why → PlaceIn r room bytes k × WhyIn r room bytes k why
+count_refused r room bytes digits number k why c lt present byte e =
+    failed r room (digit (digits - k) number) bytes k why (begins r room bytes digits number k c lt) c.alive (count_within r room bytes digits number k c lt) present byte e
 
 first_passed : (b : Bool) (w v : Why) (c : Bool) → check b w (check c v None) ≡ None → b ≡ true
 first_passed true w v c e = refl
 first_passed false w v c e = absurd (cc (e))
 
-pub count_next : (room : ℕ) (bytes : List ℕ) (digits number k longer : ℕ) → CountTo room bytes digits number k → k < digits + 1 → k < length bytes → get_or bytes k 0 < 256 →
-    fault shortest (digit (digits - k) number) (room - k - 1) (get_or bytes k 0) ≡ None → longer ≡ 10 * number + (get_or bytes k 0 - 0xF0) → CountTo room bytes digits longer (k + 1)
-count_next room bytes digits number k longer c lt present byte e is =
+pub count_next : (r : Reading) (room : ℕ) (bytes : List ℕ) (digits number k longer : ℕ) → CountTo r room bytes digits number k → k < digits + 1 → k < length bytes → get_or bytes k 0 < 256 →
+    fault r (digit (digits - k) number) (room - k - 1) (get_or bytes k 0) ≡ None → longer ≡ 10 * number + (get_or bytes k 0 - 0xF0) → CountTo r room bytes digits longer (k + 1)
+count_next r room bytes digits number k longer c lt present byte e is =
     let x = get_or bytes k 0 in
     let d = length_digit x (first_passed (is_length_digit x) _ _ _ e) in
     let one : suc k ≡ k + 1 = omega arith in
-    let alive = passed room (digit (digits - k) number) bytes k (begins room bytes digits number k c lt) c.alive (count_within room bytes digits number k c lt) present byte e in
+    let alive = passed r room (digit (digits - k) number) bytes k (begins r room bytes digits number k c lt) c.alive (count_within r room bytes digits number k c lt) present byte e in
     record {
       bmp = c.bmp;
       size = c.size ++ x ∷ [];
@@ -69,12 +69,12 @@ count_next room bytes digits number k longer c lt present byte e is =
       counts = c.counts;
       are = digits_joined c.size (x ∷ []) c.are (d.0, d.1, tt);
       spells = counted_joined 0 c.size (x ∷ []) ∙ ap (λ (v : ℕ). 10 * v + (x - 0xF0)) c.spells ∙ sym is;
-      alive = subst (λ (n : ℕ). AliveIn shortest room (take n bytes)) one alive;
+      alive = subst (λ (n : ℕ). AliveIn r room (take n bytes)) one alive;
     }
 
-pub count_done : (room : ℕ) (bytes : List ℕ) (digits number : ℕ) → 1 ≤ digits → CountTo room bytes digits number (digits + 1) → HeadFound room bytes (record { start = digits + 1; size = number; digits = false })
-count_done room bytes digits number some c =
-    let size = long room bytes digits number (digits + 1) c in
+pub count_done : (r : Reading) (room : ℕ) (bytes : List ℕ) (digits number : ℕ) → 1 ≤ digits → CountTo r room bytes digits number (digits + 1) → HeadFound r room bytes (record { start = digits + 1; size = number; digits = false })
+count_done r room bytes digits number some c =
+    let size = long r room bytes digits number (digits + 1) c in
     let is : digits ≡ suc (digits - 1) = omega arith in
     let total : length c.size ≡ suc (digits - 1) = omega (arith, size) in
     record {

@@ -20,3 +20,4 @@ pub mod NamedLemmas
 pub mod Exists
 pub mod SizedSpelling
 pub mod OwnedLemmas
+pub mod Shortening

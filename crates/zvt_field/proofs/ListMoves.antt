@@ -10,15 +10,17 @@ use Rattle.zvt_tlv.proofs.Levels.{byte_from, take_from}
 use Rattle.zvt_field.specs.Grammar.{Field, FieldList}
 use Rattle.zvt_field.specs.Judging.{AliveIn, PlaceIn, WhyIn, Role, name, digit, in_content, in_container, Here, Position}
 use Rattle.zvt_field.specs.Answers.{AnswersOne}
+use Rattle.zvt_field.specs.Bodies.{HaveSpelling}
 use Rattle.zvt_field.specs.Lists.{HaveSize}
+use Rattle.zvt_field.proofs.Shortening.{fields_small}
 use Rattle.zvt_field.proofs.FieldLists.{list_joined, alive_joined, alive_apart, field_size}
 
 -- fields are read up to here
-pub record ReadTo (room : ℕ) (bytes : List ℕ) (fs : List Field) (k : ℕ) : Type 0 where
+pub record ReadTo (r : Reading) (room : ℕ) (bytes : List ℕ) (fs : List Field) (k : ℕ) : Type 0 where
   pub present : k ≤ length bytes
   pub within : k ≤ room
   pub apart : room - k ≢ 1
-  pub spelled : FieldList shortest fs (take k bytes)
+  pub spelled : FieldList r fs (take k bytes)
 
 here_after : (r : Reading) (room : ℕ) (fs : List Field) (a b : List ℕ) (role : Role) (left : ℕ) → FieldList r fs a → Here r room b role left → Here r (length a + room) (a ++ b) role left
 here_after r room fs a b role left p h = record {
@@ -55,48 +57,48 @@ later k p bytes = let e : suc (k + p) ≡ k + suc p = omega arith in ap (λ (m :
 abbrev from : ℕ → List ℕ → List ℕ
 from k bytes = take (length bytes - k) (drop k bytes)
 
-one_at : (n k : ℕ) (bytes : List ℕ) (q q' : Scan (Field × ℕ)) → q ≡ q' → AnswersOne shortest n (from k bytes) q → AnswersOne shortest n (drop k bytes) q'
-one_at n k bytes q q' e h = subst (λ (s : List ℕ). AnswersOne shortest n s q') (take_rest bytes k) (subst (AnswersOne shortest n (from k bytes)) e h)
+one_at : (r : Reading) (n k : ℕ) (bytes : List ℕ) (q q' : Scan (Field × ℕ)) → q ≡ q' → AnswersOne r n (from k bytes) q → AnswersOne r n (drop k bytes) q'
+one_at r n k bytes q q' e h = subst (λ (s : List ℕ). AnswersOne r n s q') (take_rest bytes k) (subst (AnswersOne r n (from k bytes)) e h)
 
-pub next_field : (room : ℕ) (bytes : List ℕ) (ts us : List Field) (k n : ℕ) (t : Field) (q : Scan (Field × ℕ)) → ReadTo room bytes ts k → q ≡ Whole (t, n) → AnswersOne shortest (room - k) (from k bytes) q → us ≡ ts ++ t ∷ [] →
-    ReadTo room bytes us (k + n) × (0 < n)
-next_field room bytes ts us k n t q i is h e =
-    let o = one_at (room - k) k bytes q (Whole (t, n)) is h in
+pub next_field : (r : Reading) (room : ℕ) (bytes : List ℕ) (ts us : List Field) (k n : ℕ) (t : Field) (q : Scan (Field × ℕ)) → ReadTo r room bytes ts k → q ≡ Whole (t, n) → AnswersOne r (room - k) (from k bytes) q → us ≡ ts ++ t ∷ [] →
+    ReadTo r room bytes us (k + n) × (0 < n)
+next_field r room bytes ts us k n t q i is h e =
+    let o = one_at r (room - k) k bytes q (Whole (t, n)) is h in
     let size : length (take n (drop k bytes)) ≡ n = length-take-le n (drop k bytes) o.present in
-    let one : FieldList shortest (t ∷ []) (take n (drop k bytes)) = (take n (drop k bytes), [], sym (append-nil (take n (drop k bytes))), o.spelled, refl) in (
+    let one : FieldList r (t ∷ []) (take n (drop k bytes)) = (take n (drop k bytes), [], sym (append-nil (take n (drop k bytes))), o.spelled, refl) in (
       record {
         present = omega (arith, o.present, length-drop k bytes, i.present);
         within = omega (arith, o.filled, i.within);
         apart = λ z. o.apart (omega (arith, o.filled, i.within));
-        spelled = subst (λ (x : List Field). FieldList shortest x (take (k + n) bytes)) (sym e) (subst (FieldList shortest (ts ++ t ∷ [])) (sym (take_from k n bytes)) (list_joined shortest ts (t ∷ []) (take k bytes) (take n (drop k bytes)) i.spelled one));
+        spelled = subst (λ (x : List Field). FieldList r x (take (k + n) bytes)) (sym e) (subst (FieldList r (ts ++ t ∷ [])) (sym (take_from k n bytes)) (list_joined r ts (t ∷ []) (take k bytes) (take n (drop k bytes)) i.spelled one));
       },
-      omega (arith, field_size shortest t (take n (drop k bytes)) o.spelled, size),
+      omega (arith, field_size r t (take n (drop k bytes)) o.spelled, size),
     )
 
-pub next_more : (room : ℕ) (bytes : List ℕ) (ts : List Field) (k : ℕ) (q : Scan (Field × ℕ)) → ReadTo room bytes ts k → q ≡ More → AnswersOne shortest (room - k) (from k bytes) q → (length bytes < room) × AliveIn shortest room bytes
-next_more room bytes ts k q i is h =
-    let a = one_at (room - k) k bytes q More is h in
+pub next_more : (r : Reading) (room : ℕ) (bytes : List ℕ) (ts : List Field) (k : ℕ) (q : Scan (Field × ℕ)) → ReadTo r room bytes ts k → q ≡ More → AnswersOne r (room - k) (from k bytes) q → (length bytes < room) × AliveIn r room bytes
+next_more r room bytes ts k q i is h =
+    let a = one_at r (room - k) k bytes q More is h in
     let total : length (take k bytes) + (room - k) ≡ room = omega (arith, length-take-le k bytes i.present, i.within) in (
       omega (arith, a.0, length-drop k bytes),
-      subst (λ (m : ℕ). AliveIn shortest m bytes) total
-          (subst (AliveIn shortest (length (take k bytes) + (room - k))) (take-append-drop k bytes) (alive_joined shortest (room - k) ts (take k bytes) (drop k bytes) i.spelled a.1)),
+      subst (λ (m : ℕ). AliveIn r m bytes) total
+          (subst (AliveIn r (length (take k bytes) + (room - k))) (take-append-drop k bytes) (alive_joined r (room - k) ts (take k bytes) (drop k bytes) i.spelled a.1)),
     )
 
-pub next_refused : (room : ℕ) (bytes : List ℕ) (ts : List Field) (k p : ℕ) (why : Why) (q : Scan (Field × ℕ)) → ReadTo room bytes ts k → q ≡ Refused p why → AnswersOne shortest (room - k) (from k bytes) q →
-    PlaceIn shortest room bytes (k + p) × WhyIn shortest room bytes (k + p) why
-next_refused room bytes ts k p why q i is h =
-    let a = one_at (room - k) k bytes q (Refused p why) is h in
+pub next_refused : (r : Reading) (room : ℕ) (bytes : List ℕ) (ts : List Field) (k p : ℕ) (why : Why) (q : Scan (Field × ℕ)) → ReadTo r room bytes ts k → q ≡ Refused p why → AnswersOne r (room - k) (from k bytes) q →
+    PlaceIn r room bytes (k + p) × WhyIn r room bytes (k + p) why
+next_refused r room bytes ts k p why q i is h =
+    let a = one_at r (room - k) k bytes q (Refused p why) is h in
     let place = a.0.0 in
     let reason = a.1 in
     let total : length (take k bytes) + (room - k) ≡ room = omega (arith, length-take-le k bytes i.present, i.within) in
-    let position = position_after shortest (room - k) ts (take k bytes) reason.openers (take p (drop k bytes)) reason.role reason.left i.spelled reason.stands in (
+    let position = position_after r (room - k) ts (take k bytes) reason.openers (take p (drop k bytes)) reason.role reason.left i.spelled reason.stands in (
       (
         record {
           present = omega (arith, place.present, length-drop k bytes);
-          alive = subst (λ (m : ℕ). AliveIn shortest m (take (k + p) bytes)) total
-              (subst (AliveIn shortest (length (take k bytes) + (room - k))) (sym (take_from k p bytes)) (alive_joined shortest (room - k) ts (take k bytes) (take p (drop k bytes)) i.spelled place.alive));
-          dead = λ d. place.dead (alive_apart shortest (room - k) ts (take k bytes) (take (suc p) (drop k bytes)) i.spelled
-              (subst (λ (m : ℕ). AliveIn shortest m (take k bytes ++ take (suc p) (drop k bytes))) (sym total) (subst (AliveIn shortest room) (later k p bytes) d)));
+          alive = subst (λ (m : ℕ). AliveIn r m (take (k + p) bytes)) total
+              (subst (AliveIn r (length (take k bytes) + (room - k))) (sym (take_from k p bytes)) (alive_joined r (room - k) ts (take k bytes) (take p (drop k bytes)) i.spelled place.alive));
+          dead = λ d. place.dead (alive_apart r (room - k) ts (take k bytes) (take (suc p) (drop k bytes)) i.spelled
+              (subst (λ (m : ℕ). AliveIn r m (take k bytes ++ take (suc p) (drop k bytes))) (sym total) (subst (AliveIn r room) (later k p bytes) d)));
         },
         omega (arith, a.0.1),
       ),
@@ -105,13 +107,16 @@ next_refused room bytes ts k p why q i is h =
         role = reason.role;
         left = reason.left;
         byte = reason.byte;
-        stands = subst (λ (m : ℕ). Position shortest m reason.openers (take (k + p) bytes) reason.role reason.left) total
-            (subst (λ (b : List ℕ). Position shortest (length (take k bytes) + (room - k)) reason.openers b reason.role reason.left) (sym (take_from k p bytes)) position);
+        stands = subst (λ (m : ℕ). Position r m reason.openers (take (k + p) bytes) reason.role reason.left) total
+            (subst (λ (b : List ℕ). Position r (length (take k bytes) + (room - k)) reason.openers b reason.role reason.left) (sym (take_from k p bytes)) position);
         is_byte = byte_from k p reason.byte bytes place.present reason.is_byte;
         fails = reason.fails;
       },
     )
 
-pub have_size : (room k : ℕ) (bytes : List ℕ) (fs : List Field) → room < 2 ^ 16 → ReadTo room bytes fs k → room ≤ k → HaveSize fs room
+pub have_size : (room k : ℕ) (bytes : List ℕ) (fs : List Field) → room < 2 ^ 16 → ReadTo shortest room bytes fs k → room ≤ k → HaveSize fs room
 have_size room k bytes fs small i ended =
     record { bytes = take k bytes; spelled = i.spelled; sized = omega (arith, i.within, length-take-le k bytes i.present); small = small }
+
+pub have_spelling : (r : Reading) (room k : ℕ) (bytes : List ℕ) (fs : List Field) → room < 2 ^ 16 → ReadTo r room bytes fs k → HaveSpelling fs
+have_spelling r room k bytes fs small i = fields_small r fs (take k bytes) i.spelled (omega (arith, small, i.within, length-take-le k bytes i.present))

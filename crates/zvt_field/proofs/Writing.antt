@@ -41,7 +41,7 @@ puts_tree f body objects bmp k m old mid sub same is name p w =
     subst (λ (s : List ℕ). PutAll s k m old mid sub) whole (puts_after (bmp ∷ []) w.bytes old mid sub k m p (w.front, w.size))
 
 -- one more field
-all_more : (fs : List Field) (i : ℕ) (f : Field) → i < length fs → f ≡ get_or fs i f → spelling_of_all (take (i + 1) fs) ≡ spelling_of_all (take i fs) ++ spelling_of f
+pub all_more : (fs : List Field) (i : ℕ) (f : Field) → i < length fs → f ≡ get_or fs i f → spelling_of_all (take (i + 1) fs) ≡ spelling_of_all (take i fs) ++ spelling_of f
 all_more fs i f lt is =
     ap spelling_of_all (take_more fs i f lt ∙ ap (λ (x : Field). take i fs ++ x ∷ []) (sym is)) ∙ all_joined (take i fs) (f ∷ []) ∙ ap (λ (s : List ℕ). spelling_of_all (take i fs) ++ s) (append-nil (spelling_of f))
 

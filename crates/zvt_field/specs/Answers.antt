@@ -4,7 +4,8 @@ use Rattle.zvt_spelling.specs.declared.why.Why.{Why}
 use Rattle.zvt_spelling.specs.declared.answer.Scan.{Scan}
 use Rattle.zvt_spelling.specs.declared.answer.Scan.TheVariants.{Whole, More, Refused}
 use Rattle.zvt_spelling.specs.Reading.{Reading, shortest}
-use Rattle.zvt_tlv.specs.Sized.{SizedTakesMemory}
+use Rattle.zvt_spelling.specs.Beginnings.{Alive}
+use Rattle.zvt_tlv.specs.Sized.{SizedIn, SizedTakesMemory}
 use Rattle.zvt_field.specs.Grammar.{Field, FieldOf, FieldList, IsHead}
 use Rattle.zvt_field.specs.declared.shapes.Shape.{Shape}
 use Rattle.zvt_field.specs.declared.shapes.Shape.TheVariants.{Tree}
@@ -32,41 +33,42 @@ AnswersOne r room bytes More = (length bytes < room) × AliveIn r room bytes
 AnswersOne r room bytes (Refused place why) = PlaceIn r room bytes place × WhyIn r room bytes place why
 
 -- What stands before a content stands first, and the bytes are alive behind it.
-pub record HeadFound (room : ℕ) (bytes : List ℕ) (head : Head) : Type 0 where
+pub record HeadFound (r : Reading) (room : ℕ) (bytes : List ℕ) (head : Head) : Type 0 where
   pub bmp : ℕ
   pub size : List ℕ
   pub present : head.start ≤ length bytes
   pub whole : take head.start bytes ≡ bmp ∷ size
   pub is_head : IsHead (shape_of bmp) head.digits head.size size
-  pub alive : AliveIn shortest room (take head.start bytes)
+  pub alive : AliveIn r room (take head.start bytes)
 
-abbrev pub AnswersHead : (room : ℕ) → (bytes : List ℕ) → Scan Head → Type 0
-AnswersHead room bytes (Whole head) = HeadFound room bytes head
-AnswersHead room bytes More = (length bytes < room) × AliveIn shortest room bytes
-AnswersHead room bytes (Refused place why) = PlaceIn shortest room bytes place × WhyIn shortest room bytes place why
+abbrev pub AnswersHead : Reading → (room : ℕ) → (bytes : List ℕ) → Scan Head → Type 0
+AnswersHead r room bytes (Whole head) = HeadFound r room bytes head
+AnswersHead r room bytes More = (length bytes < room) × AliveIn r room bytes
+AnswersHead r room bytes (Refused place why) = PlaceIn r room bytes place × WhyIn r room bytes place why
 
 -- A name whose length has so many digits stands first, and is alive.
-pub record InName (room : ℕ) (bytes : List ℕ) (digits : ℕ) : Type 0 where
+pub record InName (r : Reading) (room : ℕ) (bytes : List ℕ) (digits : ℕ) : Type 0 where
   pub bmp : ℕ
   pub whole : take 1 bytes ≡ bmp ∷ []
   pub counts : count_digits (shape_of bmp) ≡ digits
-  pub alive : AliveIn shortest room (bmp ∷ [])
+  pub alive : AliveIn r room (bmp ∷ [])
 
 -- A container's name stands first, and is alive.
-pub record InContainer (room : ℕ) (bytes : List ℕ) : Type 0 where
+pub record InContainer (r : Reading) (room : ℕ) (bytes : List ℕ) : Type 0 where
   pub bmp : ℕ
   pub inside : List ℕ
   pub whole : bytes ≡ bmp ∷ inside
   pub is_tree : shape_of bmp ≡ Some Tree
   pub level : ℕ
   pub filled : suc level ≡ room
-  pub some : level ≢ 0
-  pub apart : level ≢ 2
+  pub begun : Alive (SizedIn r level) []
 
 -- A byte's tests, and what they let through.
-abbrev pub JudgesName : (left byte : ℕ) → Result Shape Why → Type 0
-JudgesName left byte (Ok shape) = (fault shortest name left byte ≡ None) × (shape_of byte ≡ Some shape)
-JudgesName left byte (Err why) = fault shortest name left byte ≡ Some why
+abbrev pub JudgesName : Reading → (left byte : ℕ) → Result Shape Why → Type 0
+JudgesName r left byte (Ok shape) = (fault r name left byte ≡ None) × (shape_of byte ≡ Some shape)
+JudgesName r left byte (Err why) = fault r name left byte ≡ Some why
+
+-- A digit and a content of bytes have the same tests in both readings.
 
 abbrev pub JudgesDigit : (more before left byte : ℕ) → Result ℕ Why → Type 0
 JudgesDigit more before left byte (Ok number) = (fault shortest (digit more before) left byte ≡ None) × (number ≡ 10 * before + (byte - 0xF0))

@@ -2,12 +2,14 @@
 
 ghost use Rattle.std.specs.Prelude.{◌≡◌, ◌≤◌, ◌<◌, ◌^◌};
 ghost use Rattle.zvt_spelling.specs.Tests.{fits};
+ghost use Rattle.zvt_tlv.specs.Lengths.{reading_of};
 ghost use Rattle.zvt_field.specs.Answers.{JudgesName, JudgesDigit, JudgesContent};
 
 use crate::Shape;
 use crate::table::shape;
 use zvt_bcd::ll_digit;
 use zvt_spelling::Why;
+use zvt_tlv::Lengths;
 
 /// Whether an item of `size` more bytes ends its level or leaves room for another one.
 fn fits(size: usize, left: usize) -> bool
@@ -18,8 +20,8 @@ fn fits(size: usize, left: usize) -> bool
 }
 
 /// Judges a BMP. `left` counts the bytes of the fields after it.
-pub fn judge_name(left: usize, byte: u8) -> Result<Shape, Why>
-    ensures { JudgesName left byte result }
+pub fn judge_name(left: usize, byte: u8, lengths: Lengths) -> Result<Shape, Why>
+    ensures { JudgesName (reading_of lengths) left byte result }
 {
     let Some(shape) = shape(byte) else {
         return Err(Why::UnknownField);
@@ -28,7 +30,10 @@ pub fn judge_name(left: usize, byte: u8) -> Result<Shape, Why>
         Shape::Fixed(size) | Shape::Digits(size) => fits(size, left),
         Shape::Ll => left >= 2,
         Shape::Lll => left >= 3,
-        Shape::Tree => left != 2,
+        Shape::Tree => match lengths {
+            Lengths::Shortest => left != 2,
+            Lengths::Padded => true,
+        },
     };
     if enough {
         Ok(shape)

@@ -20,7 +20,7 @@ pub use lists::{Fields, PushRefusal};
 pub use named::{amount, count, currency, only, original, receipt, result, trace};
 pub use names::name;
 pub use owning::{owned, owned_field};
-pub use reader::scan;
+pub use reader::{scan, scan_fields, scan_loose};
 pub use shapes::Shape;
 pub use sizes::size;
 pub use table::shape;

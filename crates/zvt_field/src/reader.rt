@@ -1,15 +1,18 @@
 //! The reader of a room of fields.
 
 ghost use Rattle.std.specs.Prelude.{◌≡◌, ◌≢◌, ◌≤◌, ◌<◌, ◌^◌, not, if◌then◌else◌, MatchResult, position};
-ghost use Rattle.zvt_spelling.specs.Reading.{shortest};
+ghost use Rattle.zvt_spelling.specs.Reading.{shortest, padded};
 ghost use Rattle.zvt_bcd.specs.Digits.{is_digit_pair};
+ghost use Rattle.zvt_tlv.specs.Lengths.{reading_of};
 ghost use Rattle.zvt_field.specs.Answers.{Answers, AnswersOne, AnswersHead, InName, InContainer, HeadFound, HoldsSome, TakesMemory};
 
 use crate::judging::{judge_digit, judge_name};
+use crate::sizes::list_size;
 use crate::{Field, FieldBody, Fields, Shape};
 use std::alloc::{AllocError, Global};
 use zvt_spelling::{Scan, Why};
-use zvt_tlv::reader::scan_sized;
+use zvt_tlv::Lengths;
+use zvt_tlv::reader::scan_sized_forest;
 
 /// What stands before a content: how many bytes, how many follow, and whether these are digits.
 #[derive(Clone, Copy)]
@@ -20,11 +23,11 @@ pub struct Head {
 }
 
 /// Reads the digits of a length behind a BMP.
-fn scan_count(bytes: &[u8], room: usize, digits: usize) -> Scan<Head>
+fn scan_count(bytes: &[u8], room: usize, digits: usize, lengths: Lengths) -> Scan<Head>
     requires digits { 1 ≤ digits }
     requires few { digits ≤ 3 }
-    requires begun { InName room bytes.now digits }
-    ensures { AnswersHead room bytes.now result }
+    requires begun { InName (reading_of lengths) room bytes.now digits }
+    ensures { AnswersHead (reading_of lengths) room bytes.now result }
 {
     let mut number = 0;
     for count in 1..digits + 1 {
@@ -66,10 +69,11 @@ fn scan_content(
     bytes: &[u8],
     room: usize,
     head: Head,
+    lengths: Lengths,
 ) -> Result<Scan<(Field, usize)>, AllocError>
     requires small { room < 2 ^ 16 }
-    requires begun { HeadFound room bytes.now head }
-    ensures { MatchResult result (AnswersOne shortest room bytes.now) (λ _. HoldsSome shortest bytes.now) }
+    requires begun { HeadFound (reading_of lengths) room bytes.now head }
+    ensures { MatchResult result (AnswersOne (reading_of lengths) room bytes.now) (λ _. HoldsSome (reading_of lengths) bytes.now) }
 {
     let end = (head.start + head.size).min(bytes.len());
     let content = &bytes[head.start..end];
@@ -93,15 +97,16 @@ fn scan_counted(
     bytes: &[u8],
     room: usize,
     digits: usize,
+    lengths: Lengths,
 ) -> Result<Scan<(Field, usize)>, AllocError>
     requires digits { 1 ≤ digits }
     requires few { digits ≤ 3 }
     requires small { room < 2 ^ 16 }
-    requires begun { InName room bytes.now digits }
-    ensures { MatchResult result (AnswersOne shortest room bytes.now) (λ _. HoldsSome shortest bytes.now) }
+    requires begun { InName (reading_of lengths) room bytes.now digits }
+    ensures { MatchResult result (AnswersOne (reading_of lengths) room bytes.now) (λ _. HoldsSome (reading_of lengths) bytes.now) }
 {
-    match scan_count(bytes, room, digits) {
-        Scan::Whole(head) => scan_content(alloc, bytes, room, head),
+    match scan_count(bytes, room, digits, lengths) {
+        Scan::Whole(head) => scan_content(alloc, bytes, room, head, lengths),
         Scan::More => Ok(Scan::More),
         Scan::Refused { place, why } => Ok(Scan::Refused { place, why }),
     }
@@ -112,36 +117,44 @@ fn scan_container(
     alloc: Global,
     bytes: &[u8],
     room: usize,
+    lengths: Lengths,
 ) -> Result<Scan<(Field, usize)>, AllocError>
     requires small { room < 2 ^ 16 }
-    requires begun { InContainer room bytes.now }
-    ensures { MatchResult result (AnswersOne shortest room bytes.now) (λ _. HoldsSome shortest bytes.now) }
+    requires begun { InContainer (reading_of lengths) room bytes.now }
+    ensures { MatchResult result (AnswersOne (reading_of lengths) room bytes.now) (λ _. HoldsSome (reading_of lengths) bytes.now) }
 {
-    Ok(match scan_sized(alloc, &bytes[1..], room - 1)? {
-        Scan::Whole((objects, size)) => Scan::Whole((
-            Field::of(bytes[0], FieldBody::Tree(objects)),
-            size + 1,
-        )),
-        Scan::More => Scan::More,
-        Scan::Refused { place, why } => Scan::Refused {
-            place: place + 1,
-            why,
+    Ok(
+        match scan_sized_forest(alloc, &bytes[1..], room - 1, lengths)? {
+            Scan::Whole((objects, size)) => Scan::Whole((
+                Field::of(bytes[0], FieldBody::Tree(objects)),
+                size + 1,
+            )),
+            Scan::More => Scan::More,
+            Scan::Refused { place, why } => Scan::Refused {
+                place: place + 1,
+                why,
+            },
         },
-    })
+    )
 }
 
 /// Reads one field, in a room of so many bytes: the field and its size.
 #[inline(always)]
-fn scan_field(alloc: Global, bytes: &[u8], room: usize) -> Result<Scan<(Field, usize)>, AllocError>
+fn scan_field(
+    alloc: Global,
+    bytes: &[u8],
+    room: usize,
+    lengths: Lengths,
+) -> Result<Scan<(Field, usize)>, AllocError>
     requires some { 0 < room }
     requires filled { room ≢ 1 }
     requires small { room < 2 ^ 16 }
-    ensures { MatchResult result (AnswersOne shortest room bytes.now) (λ _. HoldsSome shortest bytes.now) }
+    ensures { MatchResult result (AnswersOne (reading_of lengths) room bytes.now) (λ _. HoldsSome (reading_of lengths) bytes.now) }
 {
     let Some(first) = bytes.first() else {
         return Ok(Scan::More);
     };
-    match judge_name(room - 1, *first) {
+    match judge_name(room - 1, *first, lengths) {
         Err(why) => Ok(Scan::Refused { place: 0, why }),
         Ok(Shape::Fixed(size)) => scan_content(
             alloc,
@@ -152,6 +165,7 @@ fn scan_field(alloc: Global, bytes: &[u8], room: usize) -> Result<Scan<(Field, u
                 size,
                 digits: false,
             },
+            lengths,
         ),
         Ok(Shape::Digits(size)) => scan_content(
             alloc,
@@ -162,27 +176,52 @@ fn scan_field(alloc: Global, bytes: &[u8], room: usize) -> Result<Scan<(Field, u
                 size,
                 digits: true,
             },
+            lengths,
         ),
-        Ok(Shape::Ll) => scan_counted(alloc, bytes, room, 2),
-        Ok(Shape::Lll) => scan_counted(alloc, bytes, room, 3),
-        Ok(Shape::Tree) => scan_container(alloc, bytes, room),
+        Ok(Shape::Ll) => scan_counted(alloc, bytes, room, 2, lengths),
+        Ok(Shape::Lll) => scan_counted(alloc, bytes, room, 3, lengths),
+        Ok(Shape::Tree) => scan_container(alloc, bytes, room, lengths),
     }
 }
 
-/// Reads the fields whose bytes are exactly the first `room` bytes; bytes behind the room are not looked at.
-/// `More` where fewer are there and can be completed, `Refused` with the first byte after which no fields
-/// can fill the room, counted from 0. The only error is want of memory, and it comes only where a whole field stands
-/// first, or a container of which objects are kept (`TakesMemory`).
+/// Reads the fields whose bytes are exactly the first `room` bytes, each length of objects in its shortest form; bytes
+/// behind the room are not looked at. `More` where fewer are there and can be completed, `Refused` with the first byte
+/// after which no fields can fill the room, counted from 0. The only error is want of memory, and it comes only where a
+/// whole field stands first, or a container of which objects are kept (`TakesMemory`).
 #[inline(always)]
 pub fn scan(alloc: Global, bytes: &[u8], room: usize) -> Result<Scan<Fields>, AllocError>
     requires small { room < 2 ^ 16 }
     requires filled { room ≢ 1 }
     ensures { MatchResult result (Answers shortest room bytes.now) (λ _. TakesMemory shortest room bytes.now) }
 {
+    scan_fields(alloc, bytes, room, Lengths::Shortest)
+}
+
+/// The same, where each length of objects may stand in any form that holds it.
+pub fn scan_loose(alloc: Global, bytes: &[u8], room: usize) -> Result<Scan<Fields>, AllocError>
+    requires small { room < 2 ^ 16 }
+    requires filled { room ≢ 1 }
+    ensures { MatchResult result (Answers padded room bytes.now) (λ _. TakesMemory padded room bytes.now) }
+{
+    scan_fields(alloc, bytes, room, Lengths::Padded)
+}
+
+/// The same, of the lengths that the caller asks for.
+#[inline(always)]
+pub fn scan_fields(
+    alloc: Global,
+    bytes: &[u8],
+    room: usize,
+    lengths: Lengths,
+) -> Result<Scan<Fields>, AllocError>
+    requires small { room < 2 ^ 16 }
+    requires filled { room ≢ 1 }
+    ensures { MatchResult result (Answers (reading_of lengths) room bytes.now) (λ _. TakesMemory (reading_of lengths) room bytes.now) }
+{
     let mut list = Vec::new(alloc);
     let mut taken = 0;
     while taken < room {
-        match scan_field(alloc, &bytes[taken..], room - taken)? {
+        match scan_field(alloc, &bytes[taken..], room - taken, lengths)? {
             Scan::Whole((field, size)) => {
                 list.push(field)?;
                 taken += size;
@@ -194,5 +233,11 @@ pub fn scan(alloc: Global, bytes: &[u8], room: usize) -> Result<Scan<Fields>, Al
             }),
         }
     }
-    Ok(Scan::Whole(Fields::of(list, room)))
+    Ok(Scan::Whole(match lengths {
+        Lengths::Shortest => Fields::of(list, room),
+        Lengths::Padded => {
+            let size = list_size(&list);
+            Fields::of(list, size)
+        }
+    }))
 }

@@ -6,6 +6,7 @@ ghost use Rattle.zvt_tlv.specs.Sizes as tlv;
 ghost use Rattle.zvt_tlv.specs.Spelled as tlv_spelled;
 ghost use Rattle.zvt_field.specs.Grammar.{FieldList};
 ghost use Rattle.zvt_field.specs.Bodies.{HasSpelling, HaveSpelling};
+ghost use Rattle.zvt_field.specs.Lists.{HaveSize};
 ghost use Rattle.zvt_field.specs.Spelling.{size_of_field};
 
 use crate::table::{count_digits, shape};
@@ -35,6 +36,18 @@ pub(crate) fn field_size(field: &Field) -> usize
         FieldBody::Bytes(content) => 1 + count_digits(shape(field.bmp())) + content.len(),
         FieldBody::Tree(objects) => 1 + tree_size(objects),
     }
+}
+
+/// The size of the spelling of fields that stand together.
+pub(crate) fn list_size(fields: &[Field]) -> usize
+    requires { HaveSpelling fields.now }
+    ensures { HaveSize fields.now result }
+{
+    let mut total = 0;
+    for field in fields {
+        total += field_size(field);
+    }
+    total
 }
 
 /// The size of the fields' spelling, at most 65,535.

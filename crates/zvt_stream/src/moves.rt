@@ -187,7 +187,7 @@ pub(crate) fn judge_field(left: usize, byte: u8) -> Result<Move, Why>
     requires { 2 ≤ left }
     ensures { (depth : ℕ) → Judges At.Name left depth byte result }
 {
-    let shape = judge_name(left - 1, byte)?;
+    let shape = judge_name(left - 1, byte, Lengths::Shortest)?;
     let left = left - 1;
     match shape {
         Shape::Fixed(more) => Ok(Move::Within {

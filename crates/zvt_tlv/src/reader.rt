@@ -98,7 +98,8 @@ fn scan_forest(
     })
 }
 
-fn scan_sized_forest(
+/// The same, of the lengths that the caller asks for: some such bytes fit the room.
+pub fn scan_sized_forest(
     alloc: Global,
     bytes: &[u8],
     room: usize,

@@ -1,6 +1,6 @@
 use Rattle.std.proofs.Common.{subst, sym, ap, ◌∙◌, ◌+◌}
 use Rattle.std.proofs.lemmas.Result.{MatchResult-from_err}
-use Rattle.zvt_spelling.specs.Reading.{shortest}
+use Rattle.zvt_tlv.specs.Lengths.{reading_of}
 use Rattle.zvt_field.proofs.Memory.{objects_take}
 use Rattle.zvt_spelling.specs.declared.answer.Scan.TheVariants.{Whole}
 use Rattle.zvt_field.specs.Grammar.{Field}
@@ -11,21 +11,21 @@ use Rattle.zvt_field.proofs.reader.scan_container.Goals.{in-Whole, in-More, in-R
 
 pub of-requires : goal.of-requires
 of-requires c =
-    found_spelling c.args.room c.args.bytes.now _ _ c.requires.small
-    (one_whole c.args.room c.args.bytes.now c.requires.begun c.in-Whole.objects c.in-Whole.size c.in_ok-objects.field-0 c.in-Whole.is c.in_ok-objects.ensures)
+    found_spelling (reading_of c.args.lengths) c.args.room c.args.bytes.now _ _ c.requires.small
+    (one_whole (reading_of c.args.lengths) c.args.room c.args.bytes.now c.requires.begun c.in-Whole.objects c.in-Whole.size c.in_ok-objects.field-0 c.in-Whole.is c.in_ok-objects.ensures)
 
 pub returns : goal.returns
 returns c =
     elim c.match-branch-2.branch [
-      | in-Whole w ↦ subst (AnswersOne shortest c.args.room c.args.bytes.now) (ap (λ (f : Field). Whole (f, w.in-Whole.size + 1)) (sym w.of.ensures) ∙ sym w.result-is)
-          (one_whole c.args.room c.args.bytes.now c.requires.begun w.in-Whole.objects w.in-Whole.size c.in_ok-objects.field-0 w.in-Whole.is c.in_ok-objects.ensures)
-      | in-More w ↦ subst (AnswersOne shortest c.args.room c.args.bytes.now) (sym w.result-is)
-          (one_more c.args.room c.args.bytes.now c.requires.begun c.in_ok-objects.field-0 w.in-More.is c.in_ok-objects.ensures)
-      | in-Refused w ↦ subst (AnswersOne shortest c.args.room c.args.bytes.now) (sym w.result-is)
-          (one_refused c.args.room c.args.bytes.now c.requires.begun w.in-Refused.place w.in-Refused.why c.in_ok-objects.field-0 w.in-Refused.is c.in_ok-objects.ensures)
+      | in-Whole w ↦ subst (AnswersOne (reading_of c.args.lengths) c.args.room c.args.bytes.now) (ap (λ (f : Field). Whole (f, w.in-Whole.size + 1)) (sym w.of.ensures) ∙ sym w.result-is)
+          (one_whole (reading_of c.args.lengths) c.args.room c.args.bytes.now c.requires.begun w.in-Whole.objects w.in-Whole.size c.in_ok-objects.field-0 w.in-Whole.is c.in_ok-objects.ensures)
+      | in-More w ↦ subst (AnswersOne (reading_of c.args.lengths) c.args.room c.args.bytes.now) (sym w.result-is)
+          (one_more (reading_of c.args.lengths) c.args.room c.args.bytes.now c.requires.begun c.in_ok-objects.field-0 w.in-More.is c.in_ok-objects.ensures)
+      | in-Refused w ↦ subst (AnswersOne (reading_of c.args.lengths) c.args.room c.args.bytes.now) (sym w.result-is)
+          (one_refused (reading_of c.args.lengths) c.args.room c.args.bytes.now c.requires.begun w.in-Refused.place w.in-Refused.why c.in_ok-objects.field-0 w.in-Refused.is c.in_ok-objects.ensures)
     ]
 
 pub returns-in_err-objects : goal.returns-in_err-objects
 returns-in_err-objects c =
     MatchResult-from_err c.from_residual.result _ _ c.from_residual.ensures.0
-    (λ e. objects_take c.args.room c.args.bytes.now c.requires.begun c.in_err-objects.ensures)
+    (λ e. objects_take (reading_of c.args.lengths) c.args.room c.args.bytes.now c.requires.begun c.in_err-objects.ensures)
