@@ -33,6 +33,8 @@ mod objects;
 #[cfg(test)]
 mod owned;
 #[cfg(test)]
+mod padded;
+#[cfg(test)]
 mod rescan;
 #[cfg(test)]
 mod texts;

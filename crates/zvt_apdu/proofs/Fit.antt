@@ -7,10 +7,9 @@ use Rattle.zvt_bcd.specs.Digits.{AreDigits, IsDigitPair, is_digit_pair}
 use Rattle.zvt_bcd.proofs.PairTests.{is_pair, is_pair_test}
 use Rattle.zvt_spelling.specs.declared.why.Why.{Why}
 use Rattle.zvt_spelling.specs.declared.why.Why.TheVariants.{NotShortest, DoesNotFit, NotDigit}
-use Rattle.zvt_spelling.specs.Reading.{Reading, shortest, padded, AreBytes, least}
+use Rattle.zvt_spelling.specs.Reading.{Reading, AreBytes, least}
 use Rattle.zvt_spelling.specs.Tests.{check}
 use Rattle.zvt_spelling.specs.Beginnings.{Alive}
-use Rattle.zvt_spelling.proofs.CutLemmas.{fronts_alive}
 use Rattle.zvt_tlv.proofs.Spelling.{same_front}
 use Rattle.zvt_tlv.proofs.Alive.{front_of, bytes_front, bytes_joined}
 use Rattle.zvt_tlv.proofs.Room.{Says}
@@ -20,8 +19,8 @@ use Rattle.zvt_apdu.specs.Judging.{layout_of, head_size, can_fill, Role, first_c
 use Rattle.zvt_apdu.specs.Laws.{TestsDecide}
 use Rattle.zvt_apdu.proofs.Frames.{Tail}
 use Rattle.zvt_apdu.proofs.Within.{fit_fields}
-use Rattle.zvt_apdu.proofs.Opened.{begun, Goes, goes_alive, parts_fill, fills_long, alive_open, alive_free, alive_digits, alive_bytes}
-use Rattle.zvt_apdu.proofs.OpeningMoves.{long}
+use Rattle.zvt_apdu.proofs.Opened.{begun, Goes, goes_alive, parts_fill, alive_open, alive_free, alive_digits, alive_bytes}
+use Rattle.zvt_apdu.proofs.OpeningMoves.{alive_long, front, long}
 use Rattle.zvt_apdu.proofs.DataMoves.{digit_holds, front_digits}
 
 always : (P : Type 0) → P → Says None P
@@ -35,18 +34,6 @@ says_two : (a b : Bool) (first second : Why) (P : Type 0) → (a ≡ true → b 
 says_two true true v w P passes one two = (λ e. passes refl refl, λ u e p. absurd (cc (e)))
 says_two true false v w P passes one two = (λ e. absurd (cc (e)), λ u e p. two refl refl p)
 says_two false b v w P passes one two = (λ e. absurd (cc (e)), λ u e p. one refl p)
-
--- the beginnings of long lengths
-least_long : (r : Reading) (n : ℕ) → 255 ≤ n → least r 255 ≤ n
-least_long shortest n le = le
-least_long padded n le = omega arith
-
-alive_long : (r : Reading) (high low s : ℕ) → high < 256 → low < 256 → s < 256 → Alive (Spells r) (high ∷ low ∷ 0xFF ∷ s ∷ 255 ∷ [])
-alive_long r high low s h l lt =
-    alive_open r high low (256 * 255 + s) (0xFF ∷ s ∷ 255 ∷ []) (h, l) (refl, least_long r (256 * 255 + s) (omega arith), lt, omega arith, refl) (fills_long high low (256 * 255 + s) (omega arith))
-
-front : (r : Reading) (b rest : List ℕ) → Alive (Spells r) (b ++ rest) → Alive (Spells r) b
-front r = fronts_alive (Spells r)
 
 -- what goes with a beginning has data of its size
 fills_alive : (r : Reading) (high low n : ℕ) (size : List ℕ) → IsFrameLength r n size → Alive (Spells r) (begun high low size []) → can_fill (layout_of high low n) n ≡ true

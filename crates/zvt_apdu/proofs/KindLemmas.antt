@@ -2,7 +2,7 @@
 use Rattle.std.proofs.Common.{◌≡◌, ◌≢◌, ℕ, ◌+◌, ◌<◌, ◌≤◌, nat_le, cond, Bool, true, false, Option, Some, None, List, [], ◌∷◌, ◌++◌, length, drop, get_or, refl, sym, ◌∙◌, ap, subst, arith, ◌⊎◌, suc, inl, inr}
 use Rattle.std.proofs.lemmas.Bool.{false≢true, leb-true}
 use Rattle.zvt_bcd.specs.Digits.{AreDigits, number_of}
-use Rattle.zvt_spelling.specs.Reading.{shortest, AreBytes}
+use Rattle.zvt_spelling.specs.Reading.{Reading, AreBytes}
 use Rattle.zvt_field.specs.Grammar.{Field, FieldList}
 use Rattle.zvt_apdu.specs.Message.{ack, registration, reversal, end_of_day, status, intermediate, print_line, abort}
 use Rattle.zvt_apdu.specs.Grammar.{Form, BytesFrom, FieldsFrom, Registration, table, form_of}
@@ -110,38 +110,38 @@ bytes_apart : (a b : List ℕ) → AreBytes (a ++ b) → AreBytes a × AreBytes 
 bytes_apart [] b h = (tt, h)
 bytes_apart (x ∷ a) b h = let more = bytes_apart a b h.1 in ((h.0, more.0), more.1)
 
-pub is_ack : (high low : ℕ) (first payload : List ℕ) → length first < 1 → form_of high low ≡ Some (BytesFrom (length first)) → high ≢ 0x84 → AreBytes (first ++ payload) → IsMessage high low (first ++ payload) (ack payload)
-is_ack high low [] payload none e ne b =
+pub is_ack : (high low : ℕ) (first payload : List ℕ) → length first < 1 → form_of high low ≡ Some (BytesFrom (length first)) → high ≢ 0x84 → AreBytes (first ++ payload) → (r : Reading) → IsMessage r high low (first ++ payload) (ack payload)
+is_ack high low [] payload none e ne b r =
     let row = ack_row high low (bytes_rows high low 0 e) ne in
     let h : high ≡ 0x80 = row.0 in
     let l : low ≡ 0x00 = row.1 in
     record { is_control = cc (h, l); is_content = (refl, refl, tt, b) }
-is_ack high low (x ∷ first) payload none e ne b = absurd (omega arith)
+is_ack high low (x ∷ first) payload none e ne b r = absurd (omega arith)
 
-pub is_intermediate : (high low : ℕ) (first payload : List ℕ) → 1 ≤ length first → form_of high low ≡ Some (BytesFrom (length first)) → high ≡ 0x04 → AreBytes (first ++ payload) → IsMessage high low (first ++ payload) (intermediate (get_or first 0 0) payload)
-is_intermediate high low [] payload some e h b = absurd (omega arith)
-is_intermediate high low (x ∷ []) payload some e h b =
+pub is_intermediate : (high low : ℕ) (first payload : List ℕ) → 1 ≤ length first → form_of high low ≡ Some (BytesFrom (length first)) → high ≡ 0x04 → AreBytes (first ++ payload) → (r : Reading) → IsMessage r high low (first ++ payload) (intermediate (get_or first 0 0) payload)
+is_intermediate high low [] payload some e h b r = absurd (omega arith)
+is_intermediate high low (x ∷ []) payload some e h b r =
     let row = intermediate_row high low 0 (bytes_rows high low 1 e) h in
     let l : low ≡ 0xFF = row.0 in
     record { is_control = cc (h, l); is_content = (refl, refl, (b.0, tt), b.1) }
-is_intermediate high low (x ∷ y ∷ first) payload some e h b = absurd (omega (arith, (intermediate_row high low (suc (length first)) (bytes_rows high low (suc (suc (length first))) e) h).1))
+is_intermediate high low (x ∷ y ∷ first) payload some e h b r = absurd (omega (arith, (intermediate_row high low (suc (length first)) (bytes_rows high low (suc (suc (length first))) e) h).1))
 
-pub is_abort : (high low : ℕ) (first payload : List ℕ) → 1 ≤ length first → form_of high low ≡ Some (BytesFrom (length first)) → low ≡ 0x1E → AreBytes (first ++ payload) → IsMessage high low (first ++ payload) (abort (get_or first 0 0) payload)
-is_abort high low [] payload some e l b = absurd (omega arith)
-is_abort high low (x ∷ []) payload some e l b =
+pub is_abort : (high low : ℕ) (first payload : List ℕ) → 1 ≤ length first → form_of high low ≡ Some (BytesFrom (length first)) → low ≡ 0x1E → AreBytes (first ++ payload) → (r : Reading) → IsMessage r high low (first ++ payload) (abort (get_or first 0 0) payload)
+is_abort high low [] payload some e l b r = absurd (omega arith)
+is_abort high low (x ∷ []) payload some e l b r =
     let row = abort_row high low 0 (bytes_rows high low 1 e) l in
     let h : high ≡ 0x06 = row.0 in
     record { is_control = cc (h, l); is_content = (refl, refl, (b.0, tt), b.1) }
-is_abort high low (x ∷ y ∷ first) payload some e l b = absurd (omega (arith, (abort_row high low (suc (length first)) (bytes_rows high low (suc (suc (length first))) e) l).1))
+is_abort high low (x ∷ y ∷ first) payload some e l b r = absurd (omega (arith, (abort_row high low (suc (length first)) (bytes_rows high low (suc (suc (length first))) e) l).1))
 
-pub is_print_line : (high low : ℕ) (first payload : List ℕ) → 1 ≤ length first → form_of high low ≡ Some (BytesFrom (length first)) → high ≢ 0x04 → low ≢ 0x1E → AreBytes (first ++ payload) → IsMessage high low (first ++ payload) (print_line (get_or first 0 0) payload)
-is_print_line high low [] payload some e h l b = absurd (omega arith)
-is_print_line high low (x ∷ []) payload some e h l b =
+pub is_print_line : (high low : ℕ) (first payload : List ℕ) → 1 ≤ length first → form_of high low ≡ Some (BytesFrom (length first)) → high ≢ 0x04 → low ≢ 0x1E → AreBytes (first ++ payload) → (r : Reading) → IsMessage r high low (first ++ payload) (print_line (get_or first 0 0) payload)
+is_print_line high low [] payload some e h l b r = absurd (omega arith)
+is_print_line high low (x ∷ []) payload some e h l b r =
     let row = print_row high low 0 (bytes_rows high low 1 e) h l in
     let highs : high ≡ 0x06 = row.0 in
     let lows : low ≡ 0xD1 = row.1 in
     record { is_control = cc (highs, lows); is_content = (refl, refl, (b.0, tt), b.1) }
-is_print_line high low (x ∷ y ∷ first) payload some e h l b = absurd (omega (arith, (print_row high low (suc (length first)) (bytes_rows high low (suc (suc (length first))) e) h l).2))
+is_print_line high low (x ∷ y ∷ first) payload some e h l b r = absurd (omega (arith, (print_row high low (suc (length first)) (bytes_rows high low (suc (suc (length first))) e) h l).2))
 
 -- a registration
 registered_row : (high low : ℕ) (form : Form) → form ≡ Registration → InTable high low form table → high ∷ low ∷ [] ≡ 0x06 ∷ 0x00 ∷ []
@@ -175,8 +175,8 @@ long_lies true k e = (ap (λ (l : Layout). l.free) (sym e), refl)
 long_lies false k e = absurd (false≢true (sym (ap (λ (l : Layout). l.fields) e)))
 
 pub is_registration : (high low : ℕ) (first payload : List ℕ) → form_of high low ≡ Some Registration → layout_of high low (length first + length payload) ≡ bytes_after (length first) → AreBytes (first ++ payload) →
-    IsMessage high low (first ++ payload) (registration (get_or first 0 0 ∷ get_or first 1 0 ∷ get_or first 2 0 ∷ []) (get_or first 3 0) None)
-is_registration high low first payload e laid b =
+    (r : Reading) → IsMessage r high low (first ++ payload) (registration (get_or first 0 0 ∷ get_or first 1 0 ∷ get_or first 2 0 ∷ []) (get_or first 3 0) None)
+is_registration high low first payload e laid b r =
     let n = length first + length payload in
     let q = long_lies (nat_le n 4) (length first) (ap (λ (o : Option Form). layout o n) (sym e) ∙ laid) in
     by_first first q.0 (omega (arith, leb-true n 4 q.1, q.0)) b
@@ -185,7 +185,7 @@ is_registration high low first payload e laid b =
     none [] e = refl
     none (x ∷ s) e = absurd (omega arith)
 
-    by_first : (first : List ℕ) → length first ≡ 4 → length payload ≡ 0 → AreBytes (first ++ payload) → IsMessage high low (first ++ payload) (registration (get_or first 0 0 ∷ get_or first 1 0 ∷ get_or first 2 0 ∷ []) (get_or first 3 0) None)
+    by_first : (first : List ℕ) → length first ≡ 4 → length payload ≡ 0 → AreBytes (first ++ payload) → IsMessage r high low (first ++ payload) (registration (get_or first 0 0 ∷ get_or first 1 0 ∷ get_or first 2 0 ∷ []) (get_or first 3 0) None)
     by_first (x ∷ y ∷ z ∷ g ∷ []) four nothing b = record {
       is_control = registered_control high low e;
       is_content = (ap (λ (s : List ℕ). x ∷ y ∷ z ∷ g ∷ s) (none payload nothing), refl, (bytes_apart (x ∷ y ∷ z ∷ g ∷ []) payload b).0, tt);
@@ -197,42 +197,42 @@ is_registration high low first payload e laid b =
     by_first (x ∷ y ∷ z ∷ g ∷ h ∷ s) four nothing b = absurd (omega arith)
 
 -- the messages that end in fields
-pub is_reversal : (high low : ℕ) (first : List ℕ) (fs : List Field) → length first ≡ 3 → form_of high low ≡ Some (FieldsFrom (length first)) → low ≡ 0x30 → AreBytes first → (listed : List ℕ) → FieldList shortest fs listed →
-    IsMessage high low (first ++ listed) (reversal (get_or first 0 0 ∷ get_or first 1 0 ∷ get_or first 2 0 ∷ []) fs)
-is_reversal high low (a ∷ b ∷ c ∷ []) fs size e l are listed p =
+pub is_reversal : (high low : ℕ) (first : List ℕ) (fs : List Field) → length first ≡ 3 → form_of high low ≡ Some (FieldsFrom (length first)) → low ≡ 0x30 → AreBytes first → (r : Reading) (listed : List ℕ) → FieldList r fs listed →
+    IsMessage r high low (first ++ listed) (reversal (get_or first 0 0 ∷ get_or first 1 0 ∷ get_or first 2 0 ∷ []) fs)
+is_reversal high low (a ∷ b ∷ c ∷ []) fs size e l are r listed p =
     let h : high ≡ 0x06 = reversal_row high low (fields_rows high low 3 e) l in
     record { is_control = cc (h, l); is_content = (listed, refl, refl, are, p) }
-is_reversal high low [] fs size e l are listed p = absurd (omega arith)
-is_reversal high low (a ∷ []) fs size e l are listed p = absurd (omega arith)
-is_reversal high low (a ∷ b ∷ []) fs size e l are listed p = absurd (omega arith)
-is_reversal high low (a ∷ b ∷ c ∷ d ∷ first) fs size e l are listed p = absurd (omega arith)
+is_reversal high low [] fs size e l are r listed p = absurd (omega arith)
+is_reversal high low (a ∷ []) fs size e l are r listed p = absurd (omega arith)
+is_reversal high low (a ∷ b ∷ []) fs size e l are r listed p = absurd (omega arith)
+is_reversal high low (a ∷ b ∷ c ∷ d ∷ first) fs size e l are r listed p = absurd (omega arith)
 
-pub is_end_of_day : (high low : ℕ) (first : List ℕ) (fs : List Field) → length first ≡ 3 → form_of high low ≡ Some (FieldsFrom (length first)) → low ≢ 0x30 → AreBytes first → (listed : List ℕ) → FieldList shortest fs listed →
-    IsMessage high low (first ++ listed) (end_of_day (get_or first 0 0 ∷ get_or first 1 0 ∷ get_or first 2 0 ∷ []) fs)
-is_end_of_day high low (a ∷ b ∷ c ∷ []) fs size e ne are listed p =
+pub is_end_of_day : (high low : ℕ) (first : List ℕ) (fs : List Field) → length first ≡ 3 → form_of high low ≡ Some (FieldsFrom (length first)) → low ≢ 0x30 → AreBytes first → (r : Reading) (listed : List ℕ) → FieldList r fs listed →
+    IsMessage r high low (first ++ listed) (end_of_day (get_or first 0 0 ∷ get_or first 1 0 ∷ get_or first 2 0 ∷ []) fs)
+is_end_of_day high low (a ∷ b ∷ c ∷ []) fs size e ne are r listed p =
     let row = end_row high low (fields_rows high low 3 e) ne in
     let h : high ≡ 0x06 = row.0 in
     let l : low ≡ 0x50 = row.1 in
     record { is_control = cc (h, l); is_content = (listed, refl, refl, are, p) }
-is_end_of_day high low [] fs size e l are listed p = absurd (omega arith)
-is_end_of_day high low (a ∷ []) fs size e l are listed p = absurd (omega arith)
-is_end_of_day high low (a ∷ b ∷ []) fs size e l are listed p = absurd (omega arith)
-is_end_of_day high low (a ∷ b ∷ c ∷ d ∷ first) fs size e l are listed p = absurd (omega arith)
+is_end_of_day high low [] fs size e l are r listed p = absurd (omega arith)
+is_end_of_day high low (a ∷ []) fs size e l are r listed p = absurd (omega arith)
+is_end_of_day high low (a ∷ b ∷ []) fs size e l are r listed p = absurd (omega arith)
+is_end_of_day high low (a ∷ b ∷ c ∷ d ∷ first) fs size e l are r listed p = absurd (omega arith)
 
 -- fields alone
 pub listed_alone : (high low : ℕ) (first : List ℕ) → length first ≢ 3 → form_of high low ≡ Some (FieldsFrom (length first)) → (first ≡ []) × FieldsRow high low 0
 listed_alone high low [] ne e = (refl, fields_rows high low 0 e)
 listed_alone high low (x ∷ first) ne e = absurd (omega (arith, none_row high low (suc (length first)) (fields_rows high low (suc (length first)) e) ne))
 
-pub is_status : (high low : ℕ) (first : List ℕ) (fs : List Field) → length first ≢ 3 → form_of high low ≡ Some (FieldsFrom (length first)) → high ≡ 0x04 → (listed : List ℕ) → FieldList shortest fs listed → IsMessage high low (first ++ listed) (status fs)
-is_status high low first fs ne e h listed p =
+pub is_status : (high low : ℕ) (first : List ℕ) (fs : List Field) → length first ≢ 3 → form_of high low ≡ Some (FieldsFrom (length first)) → high ≡ 0x04 → (r : Reading) (listed : List ℕ) → FieldList r fs listed → IsMessage r high low (first ++ listed) (status fs)
+is_status high low first fs ne e h r listed p =
     let a = listed_alone high low first ne e in
     let l : low ≡ 0x0F = status_row high low a.1 h in
     record { is_control = cc (h, l); is_content = (listed, ap (λ (s : List ℕ). s ++ listed) a.0, refl, tt, p) }
 
-pub is_listed : (high low known : ℕ) (first : List ℕ) (fs : List Field) → length first ≢ 3 → form_of high low ≡ Some (FieldsFrom (length first)) → high ≢ 0x04 → low ≡ known → (listed : List ℕ) → FieldList shortest fs listed →
-    (high ∷ low ∷ [] ≡ 0x06 ∷ known ∷ []) × ((rest : List ℕ) × (first ++ listed ≡ [] ++ rest) × (length {A = ℕ} [] ≡ 0) × AreBytes [] × FieldList shortest fs rest)
-is_listed high low known first fs ne e h l listed p =
+pub is_listed : (high low known : ℕ) (first : List ℕ) (fs : List Field) → length first ≢ 3 → form_of high low ≡ Some (FieldsFrom (length first)) → high ≢ 0x04 → low ≡ known → (r : Reading) (listed : List ℕ) → FieldList r fs listed →
+    (high ∷ low ∷ [] ≡ 0x06 ∷ known ∷ []) × ((rest : List ℕ) × (first ++ listed ≡ [] ++ rest) × (length {A = ℕ} [] ≡ 0) × AreBytes [] × FieldList r fs rest)
+is_listed high low known first fs ne e h l r listed p =
     let a = listed_alone high low first ne e in
     let six : high ≡ 0x06 = six_row high low a.1 h in
     (cc (six, l), (listed, ap (λ (s : List ℕ). s ++ listed) a.0, refl, tt, p))
@@ -253,13 +253,13 @@ registered_head high low first e h =
     let q = long_tail (nat_le h.0 4) (layout_of high low h.0) (ap (λ (o : Option Form). layout o h.0) (sym e)) h.1 in
     (omega (arith, h.2, q.0, q.1), subst (λ (k : ℕ). AreDigits (drop k first)) q.0 h.3)
 
-pub is_registered : (high low : ℕ) (first : List ℕ) (currency : ℕ) (fs : List Field) → form_of high low ≡ Some Registration → HasFields high low first → AreBytes first → currency ≡ number_of (drop 4 first) → (listed : List ℕ) → FieldList shortest fs listed →
-    IsMessage high low (first ++ listed) (registration (get_or first 0 0 ∷ get_or first 1 0 ∷ get_or first 2 0 ∷ []) (get_or first 3 0) (Some (currency, fs)))
-is_registered high low first currency fs e h are is listed p =
+pub is_registered : (high low : ℕ) (first : List ℕ) (currency : ℕ) (fs : List Field) → form_of high low ≡ Some Registration → HasFields high low first → AreBytes first → currency ≡ number_of (drop 4 first) → (r : Reading) (listed : List ℕ) → FieldList r fs listed →
+    IsMessage r high low (first ++ listed) (registration (get_or first 0 0 ∷ get_or first 1 0 ∷ get_or first 2 0 ∷ []) (get_or first 3 0) (Some (currency, fs)))
+is_registered high low first currency fs e h are is r listed p =
     let q = registered_head high low first e h in by_first first q.0 q.1 are is
   where
     by_first : (first : List ℕ) → length first ≡ 6 → AreDigits (drop 4 first) → AreBytes first → currency ≡ number_of (drop 4 first) →
-        IsMessage high low (first ++ listed) (registration (get_or first 0 0 ∷ get_or first 1 0 ∷ get_or first 2 0 ∷ []) (get_or first 3 0) (Some (currency, fs)))
+        IsMessage r high low (first ++ listed) (registration (get_or first 0 0 ∷ get_or first 1 0 ∷ get_or first 2 0 ∷ []) (get_or first 3 0) (Some (currency, fs)))
     by_first (x ∷ y ∷ z ∷ g ∷ u ∷ v ∷ []) six digits are is = record {
       is_control = registered_control high low e;
       is_content = record {

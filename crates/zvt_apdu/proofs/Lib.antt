@@ -21,3 +21,5 @@ pub mod Staying
 pub mod ViewLemmas
 pub mod PartLemmas
 pub mod OwnedLemmas
+pub mod NormalLemmas
+pub mod PaddedWhys

@@ -1,16 +1,18 @@
 -- Laws of the grammar.
 use Rattle.std.specs.Prelude.{◌≡◌, ◌≢◌, ◌↔◌, ℕ, ◌<◌, None, List, [], ◌∷◌, ◌++◌, length}
 use Rattle.zvt_spelling.specs.declared.why.Why.{Why}
+use Rattle.zvt_spelling.specs.declared.why.Why.TheVariants.{NotShortest}
 use Rattle.zvt_spelling.specs.declared.answer.Scan.{Scan}
 use Rattle.zvt_spelling.specs.declared.answer.Scan.TheVariants.{Whole, More}
-use Rattle.zvt_spelling.specs.Reading.{Reading}
+use Rattle.zvt_spelling.specs.Reading.{Reading, shortest, padded}
 use Rattle.zvt_tlv.specs.Judging.{Opener}
 use Rattle.zvt_spelling.specs.Beginnings.{Alive, Unfinished, Place}
 use Rattle.zvt_apdu.specs.declared.messages.BadValue.{BadValue}
 use Rattle.zvt_apdu.specs.Message.{Message}
 use Rattle.zvt_apdu.specs.Messages.{HasSpelling, HasFault}
 use Rattle.zvt_apdu.specs.Grammar.{Spells}
-use Rattle.zvt_apdu.specs.Judging.{Role, Position, WhyOf, fault, Answers}
+use Rattle.zvt_apdu.specs.Judging.{Role, Position, WhyOf, fault, Found, Answers}
+use Rattle.zvt_apdu.specs.Normal.{IsNormal}
 
 -- No spelling begins another, and two messages share none.
 abbrev pub MessagesEndThemselves : Type 0
@@ -45,6 +47,26 @@ AnswersAreOne = (r : Reading) (b : List ℕ) (p q : Scan (Message × ℕ)) → A
 -- More bytes leave each answer but More as it is: nothing behind a whole, or behind the place of a refusal, counts.
 abbrev pub AnswersStay : Type 0
 AnswersStay = (r : Reading) (bytes more : List ℕ) (q : Scan (Message × ℕ)) → q ≢ More → Answers r bytes q → Answers r (bytes ++ more) q
+
+-- What spells a message strictly spells it with padded lengths too.
+abbrev pub StrictIsPadded : Type 0
+StrictIsPadded = (m : Message) (b : List ℕ) → Spells shortest m b → Spells padded m b
+
+-- What the strict reading finds, the padded one finds.
+abbrev pub StrictStays : Type 0
+StrictStays = (bytes : List ℕ) (m : Message) (n : ℕ) → Found shortest bytes m n → Found padded bytes m n
+
+-- The padded reading refuses no length for its form.
+abbrev pub NeverNotShortest : Type 0
+NeverNotShortest = (bytes : List ℕ) (place : ℕ) → WhyOf padded bytes place NotShortest → ⊥
+
+-- Bytes have one normal spelling.
+abbrev pub NormalsAreOne : Type 0
+NormalsAreOne = (bytes s t : List ℕ) (n k : ℕ) → IsNormal bytes s n → IsNormal bytes t k → (s ≡ t) × (n ≡ k)
+
+-- A normal spelling is its own, whatever stands behind it.
+abbrev pub NormalsStay : Type 0
+NormalsStay = (bytes rest s : List ℕ) (n : ℕ) → IsNormal bytes s n → IsNormal (s ++ rest) s (length s)
 
 -- A message has one fault at most, and none where it has a spelling.
 abbrev pub FaultsAreOne : Type 0

@@ -3,6 +3,7 @@ pub mod MessageCode
 pub mod Messages
 pub mod Grammar
 pub mod Judging
+pub mod Normal
 pub mod Laws
 pub mod Briefs
 pub mod Kinds

@@ -1,6 +1,6 @@
 -- The message that a value of the code stands for, and what it needs to have a spelling.
 use Rattle.std.specs.Prelude.{◌≡◌, ◌≢◌, ℕ, ◌<◌, ◌≤◌, ◌^◌, ◌/◌, ◌%◌, cond, nat_lt, Option, Some, None, Result, Ok, Err, List, [], ◌∷◌, ◌++◌, length, drop, slice_index_or}
-use Rattle.zvt_spelling.specs.Reading.{shortest}
+use Rattle.zvt_spelling.specs.Reading.{Reading, shortest}
 use Rattle.zvt_field.specs.Grammar.{Field, FieldList}
 use Rattle.zvt_apdu.specs.declared.messages.Message as declared
 use Rattle.zvt_apdu.specs.declared.messages.Message.TheVariants as code
@@ -36,9 +36,9 @@ pub record HasSpelling (message : Message) : Type 0 where
   pub spelled : Spells shortest message bytes
 
 -- The message of these control bytes whose data these bytes are.
-pub record IsMessage (high low : ℕ) (content : List ℕ) (message : Message) : Type 0 where
+pub record IsMessage (r : Reading) (high low : ℕ) (content : List ℕ) (message : Message) : Type 0 where
   pub is_control : IsControl message (high ∷ low ∷ [])
-  pub is_content : Data shortest message content
+  pub is_content : Data r message content
 
 -- Another message has these control bytes.
 abbrev pub TakesControl : Message → Type 0

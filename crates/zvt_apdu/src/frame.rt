@@ -1,11 +1,12 @@
 //! The frame of a message: control bytes, a length, and what stands behind them.
 
-ghost use Rattle.std.specs.Prelude.{◌≡◌, ◌≤◌};
-ghost use Rattle.zvt_spelling.specs.Reading.{shortest};
+ghost use Rattle.std.specs.Prelude.{◌≡◌, ◌≤◌, length, slice_index_or};
+ghost use Rattle.zvt_tlv.specs.Lengths.{reading_of};
 ghost use Rattle.zvt_apdu.specs.Grammar.{form_of};
 ghost use Rattle.zvt_apdu.specs.Judging.{AnswersOpening, JudgesSize, bytes_after, can_fill, head_size, layout_of};
 
 use zvt_spelling::{Scan, Why};
+use zvt_tlv::Lengths;
 
 /// What the data of a message is: so many bytes and then bytes of any number, so many bytes and fields, or a registration's.
 #[derive(Clone, Copy)]
@@ -116,31 +117,16 @@ pub fn judge_size(high: u8, low: u8, size: usize) -> Result<Layout, Why>
     }
 }
 
-/// Reads the control bytes and the length.
+/// Reads the control bytes and the length, in the forms that the caller asks for.
 #[inline(always)]
-pub(crate) fn scan_opening(bytes: &[u8]) -> Scan<Opening>
-    ensures { AnswersOpening shortest bytes.now result }
+pub(crate) fn scan_opening(bytes: &[u8], lengths: Lengths) -> Scan<Opening>
+    ensures { AnswersOpening (reading_of lengths) bytes.now result }
 {
     let [high, low, first, ..] = bytes else {
         return Scan::More;
     };
     if *first == 0xFF {
-        let [_, _, _, size_low, size_high, ..] = bytes else {
-            return Scan::More;
-        };
-        let size = usize::from(*size_low) + 256 * usize::from(*size_high);
-        if size < 255 {
-            return Scan::Refused {
-                place: 4,
-                why: Why::NotShortest,
-            };
-        }
-        return Scan::Whole(Opening {
-            high: *high,
-            low: *low,
-            start: 5,
-            size,
-        });
+        return scan_long_opening(bytes, lengths);
     }
     let size = usize::from(*first);
     if !can_fill(layout_of(*high, *low, size), size) {
@@ -153,6 +139,37 @@ pub(crate) fn scan_opening(bytes: &[u8]) -> Scan<Opening>
         high: *high,
         low: *low,
         start: 3,
+        size,
+    })
+}
+
+/// Reads the control bytes and a length of three bytes, whose first is FF.
+#[inline(always)]
+fn scan_long_opening(bytes: &[u8], lengths: Lengths) -> Scan<Opening>
+    requires some { 3 ≤ length bytes.now }
+    requires long { slice_index_or bytes.now 2 0 ≡ 0xFF }
+    ensures { AnswersOpening (reading_of lengths) bytes.now result }
+{
+    let [high, low, _, size_low, size_high, ..] = bytes else {
+        return Scan::More;
+    };
+    let size = usize::from(*size_low) + 256 * usize::from(*size_high);
+    if size < lengths.least(255) {
+        return Scan::Refused {
+            place: 4,
+            why: Why::NotShortest,
+        };
+    }
+    if !can_fill(layout_of(*high, *low, size), size) {
+        return Scan::Refused {
+            place: 4,
+            why: Why::DoesNotFit,
+        };
+    }
+    Scan::Whole(Opening {
+        high: *high,
+        low: *low,
+        start: 5,
         size,
     })
 }

@@ -2,7 +2,7 @@
 
 ghost use Rattle.std.specs.Prelude.{◌≡◌, ◌≤◌, ◌+◌, ◌++◌, ℕ, List, length, drop, Some, true};
 ghost use Rattle.zvt_bcd.specs.Digits.{AreDigits};
-ghost use Rattle.zvt_spelling.specs.Reading.{AreBytes, shortest};
+ghost use Rattle.zvt_spelling.specs.Reading.{AreBytes, Reading};
 ghost use Rattle.zvt_field.specs.Grammar.{FieldList};
 ghost use Rattle.zvt_apdu.specs.Grammar.{form_of, BytesFrom, FieldsFrom};
 ghost use Rattle.zvt_apdu.specs.Kinds.{kind_at};
@@ -71,7 +71,7 @@ pub(crate) fn kind_at(high: u8, low: u8) -> Kind
 pub(crate) fn bytes_message(high: u8, low: u8, first: &[u8], payload: Vec<u8>) -> Message
     requires laid { layout_of high low (length first.now + length payload.items) ≡ bytes_after (length first.now) }
     requires are_bytes { AreBytes (first.now ++ payload.items) }
-    ensures { IsMessage high low (first.now ++ payload.items) (message_of result) }
+    ensures { (r : Reading) → IsMessage r high low (first.now ++ payload.items) (message_of result) }
 {
     match form_of(high, low) {
         None => Message::Other {
@@ -91,7 +91,7 @@ pub(crate) fn bytes_message(high: u8, low: u8, first: &[u8], payload: Vec<u8>) -
 fn named_bytes(high: u8, low: u8, first: &[u8], payload: Vec<u8>) -> Message
     requires named { form_of high low ≡ Some (BytesFrom (length first.now)) }
     requires are_bytes { AreBytes (first.now ++ payload.items) }
-    ensures { IsMessage high low (first.now ++ payload.items) (message_of result) }
+    ensures { (r : Reading) → IsMessage r high low (first.now ++ payload.items) (message_of result) }
 {
     let [byte, ..] = first else {
         return if high == 0x84 {
@@ -123,7 +123,7 @@ fn named_bytes(high: u8, low: u8, first: &[u8], payload: Vec<u8>) -> Message
 pub(crate) fn fields_message(high: u8, low: u8, first: &[u8], fields: Fields) -> Message
     requires fields { (n : ℕ) × ((layout_of high low n).fields ≡ true) × (head_size (layout_of high low n) ≡ length first.now) × AreDigits (drop (layout_of high low n).free first.now) }
     requires are_bytes { AreBytes first.now }
-    ensures { (listed : List ℕ) → FieldList shortest fields listed → IsMessage high low (first.now ++ listed) (message_of result) }
+    ensures { (r : Reading) (listed : List ℕ) → FieldList r fields listed → IsMessage r high low (first.now ++ listed) (message_of result) }
 {
     let Some(Form::Registration) = form_of(high, low) else {
         return named_fields(high, low, first, fields);
@@ -142,7 +142,7 @@ pub(crate) fn fields_message(high: u8, low: u8, first: &[u8], fields: Fields) ->
 fn named_fields(high: u8, low: u8, first: &[u8], fields: Fields) -> Message
     requires named { form_of high low ≡ Some (FieldsFrom (length first.now)) }
     requires are_bytes { AreBytes first.now }
-    ensures { (listed : List ℕ) → FieldList shortest fields listed → IsMessage high low (first.now ++ listed) (message_of result) }
+    ensures { (r : Reading) (listed : List ℕ) → FieldList r fields listed → IsMessage r high low (first.now ++ listed) (message_of result) }
 {
     if first.len() == 3 {
         let password = [first[0], first[1], first[2]];

@@ -4,7 +4,7 @@ ghost use Rattle.std.specs.Prelude.{ℕ, List};
 ghost use Rattle.zvt_spelling.specs.Laws.{SpellingsAreOne, CutsAreOne, FrontsOfCut, Growth, FrontsAlive};
 ghost use Rattle.zvt_spelling.specs.Reading.{Reading, shortest};
 ghost use Rattle.zvt_apdu.specs.Grammar.{Spells};
-ghost use Rattle.zvt_apdu.specs.Laws.{AnswersAreOne, AnswersStay, EachBeginningStands, FaultsAreOne, MessagesEndThemselves, PositionsAreOne, RefusalsAreOne, SpelledIsFaultless, SpellingsAreRead, TestsDecide};
+ghost use Rattle.zvt_apdu.specs.Laws.{AnswersAreOne, AnswersStay, EachBeginningStands, FaultsAreOne, MessagesEndThemselves, NeverNotShortest, NormalsAreOne, NormalsStay, PositionsAreOne, RefusalsAreOne, SpelledIsFaultless, SpellingsAreRead, StrictIsPadded, StrictStays, TestsDecide};
 
 /// No spelling begins another, and two messages share none.
 pub fn messages_end_themselves()
@@ -68,4 +68,17 @@ pub fn answers_stay()
 pub fn faults_are_one()
     ensures faults { FaultsAreOne }
     ensures faultless { SpelledIsFaultless }
+{}
+
+/// The strict reading is a part of the padded one, with the same messages; that one refuses no length for its form.
+pub fn strict_is_padded()
+    ensures spelled { StrictIsPadded }
+    ensures found { StrictStays }
+    ensures forms { NeverNotShortest }
+{}
+
+/// A message of padded lengths has one strict spelling, and that is its own.
+pub fn normals_are_one()
+    ensures one { NormalsAreOne }
+    ensures stay { NormalsStay }
 {}

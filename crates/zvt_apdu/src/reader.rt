@@ -1,24 +1,46 @@
 //! The reader of messages.
 
 ghost use Rattle.std.specs.Prelude.{◌≡◌, ◌≤◌, ◌+◌, false, length, true, MatchResult};
-ghost use Rattle.zvt_spelling.specs.Reading.{shortest};
+ghost use Rattle.zvt_spelling.specs.Reading.{padded, shortest};
+ghost use Rattle.zvt_tlv.specs.Lengths.{reading_of};
 ghost use Rattle.zvt_apdu.specs.Judging.{Answers, FindsDigit, Headed, TakesMemory, head_size};
 
 use crate::apdu::Apdu;
 use crate::frame::{Layout, Opening, layout_of, scan_opening};
 use crate::kinds::{bytes_message, fields_message};
 use std::alloc::{AllocError, Global};
+use zvt_field::scan_fields;
 use zvt_spelling::{Scan, Why};
+use zvt_tlv::Lengths;
 
-/// Reads the message that stands first: the message and its size. Bytes behind it are not looked at. It answers `More`
-/// where the bytes begin a message and hold none, as the empty slice does, and refuses with the first byte after which
-/// no message can follow. The only error is want of memory, and it comes only behind the message's head, where its free
-/// bytes are all there or some of its fields are kept (`TakesMemory`).
+/// Reads the message that stands first: the message and its size, each length in its shortest form. Bytes behind it are
+/// not looked at. It answers `More` where the bytes begin a message and hold none, as the empty slice does, and refuses
+/// with the first byte after which no message can follow. The only error is want of memory, and it comes only behind the
+/// message's head, where its free bytes are all there or some of its fields are kept (`TakesMemory`).
 #[inline(always)]
 pub fn scan(alloc: Global, bytes: &[u8]) -> Result<Scan<(Apdu, usize)>, AllocError>
     ensures { MatchResult result (Answers shortest bytes.now) (λ _. TakesMemory shortest bytes.now) }
 {
-    let opening = match scan_opening(bytes) {
+    scan_message(alloc, bytes, Lengths::Shortest)
+}
+
+/// The same, where each length may stand in any form that holds it.
+pub fn scan_loose(alloc: Global, bytes: &[u8]) -> Result<Scan<(Apdu, usize)>, AllocError>
+    ensures { MatchResult result (Answers padded bytes.now) (λ _. TakesMemory padded bytes.now) }
+{
+    scan_message(alloc, bytes, Lengths::Padded)
+}
+
+/// Reads the message that stands first, of the lengths that the caller asks for.
+#[inline(always)]
+fn scan_message(
+    alloc: Global,
+    bytes: &[u8],
+    lengths: Lengths,
+) -> Result<Scan<(Apdu, usize)>, AllocError>
+    ensures { MatchResult result (Answers (reading_of lengths) bytes.now) (λ _. TakesMemory (reading_of lengths) bytes.now) }
+{
+    let opening = match scan_opening(bytes, lengths) {
         Scan::Whole(opening) => opening,
         Scan::More => return Ok(Scan::More),
         Scan::Refused { place, why } => return Ok(Scan::Refused { place, why }),
@@ -35,9 +57,9 @@ pub fn scan(alloc: Global, bytes: &[u8]) -> Result<Scan<(Apdu, usize)>, AllocErr
         return Ok(Scan::More);
     }
     if layout.fields {
-        scan_listed(alloc, bytes, &opening, &layout)
+        scan_listed(alloc, bytes, &opening, &layout, lengths)
     } else {
-        scan_bytes(alloc, bytes, &opening, &layout)
+        scan_bytes(alloc, bytes, &opening, &layout, lengths)
     }
 }
 
@@ -61,10 +83,11 @@ fn scan_bytes(
     bytes: &[u8],
     opening: &Opening,
     layout: &Layout,
+    lengths: Lengths,
 ) -> Result<Scan<(Apdu, usize)>, AllocError>
-    requires headed { Headed shortest bytes.now opening.now layout.now }
+    requires headed { Headed (reading_of lengths) bytes.now opening.now layout.now }
     requires kind { layout.now.fields ≡ false }
-    ensures { MatchResult result (Answers shortest bytes.now) (λ _. TakesMemory shortest bytes.now) }
+    ensures { MatchResult result (Answers (reading_of lengths) bytes.now) (λ _. TakesMemory (reading_of lengths) bytes.now) }
 {
     let data = &bytes[opening.start..];
     if data.len() < opening.size {
@@ -82,14 +105,15 @@ fn scan_listed(
     bytes: &[u8],
     opening: &Opening,
     layout: &Layout,
+    lengths: Lengths,
 ) -> Result<Scan<(Apdu, usize)>, AllocError>
-    requires headed { Headed shortest bytes.now opening.now layout.now }
+    requires headed { Headed (reading_of lengths) bytes.now opening.now layout.now }
     requires kind { layout.now.fields ≡ true }
-    ensures { MatchResult result (Answers shortest bytes.now) (λ _. TakesMemory shortest bytes.now) }
+    ensures { MatchResult result (Answers (reading_of lengths) bytes.now) (λ _. TakesMemory (reading_of lengths) bytes.now) }
 {
     let data = &bytes[opening.start..];
     let head = layout.free + layout.digits;
-    match zvt_field::scan(alloc, &data[head..], opening.size - head)? {
+    match scan_fields(alloc, &data[head..], opening.size - head, lengths)? {
         Scan::Whole(fields) => {
             let message = fields_message(opening.high, opening.low, &data[..head], fields);
             Ok(Scan::Whole((Apdu { message }, opening.start + opening.size)))

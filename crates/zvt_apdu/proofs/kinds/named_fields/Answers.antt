@@ -12,22 +12,22 @@ pub returns-then-high-eq4 : goal.returns-then-high-eq4
 returns-then-high-eq4 c = kinds.is_status c.args.high c.args.low c.args.first.now c.args.fields c.if-first-eq3.false c.requires.named c.if-high-eq4.true
 
 pub returns-in-1 : goal.returns-in-1
-returns-in-1 c listed p =
-    let q = kinds.is_listed c.args.high c.args.low 0x01 c.args.first.now c.args.fields c.if-first-eq3.false c.requires.named c.if-high-eq4.false c.in-1.is listed p in
+returns-in-1 c r listed p =
+    let q = kinds.is_listed c.args.high c.args.low 0x01 c.args.first.now c.args.fields c.if-first-eq3.false c.requires.named c.if-high-eq4.false c.in-1.is r listed p in
     record { is_control = q.0; is_content = q.1 }
 
 pub returns-in-15 : goal.returns-in-15
-returns-in-15 c listed p =
-    let q = kinds.is_listed c.args.high c.args.low 0x0F c.args.first.now c.args.fields c.if-first-eq3.false c.requires.named c.if-high-eq4.false c.in-15.is listed p in
+returns-in-15 c r listed p =
+    let q = kinds.is_listed c.args.high c.args.low 0x0F c.args.first.now c.args.fields c.if-first-eq3.false c.requires.named c.if-high-eq4.false c.in-15.is r listed p in
     record { is_control = q.0; is_content = q.1 }
 
 pub returns-in-176 : goal.returns-in-176
-returns-in-176 c listed p =
-    let q = kinds.is_listed c.args.high c.args.low 0xB0 c.args.first.now c.args.fields c.if-first-eq3.false c.requires.named c.if-high-eq4.false c.in-176.is listed p in
+returns-in-176 c r listed p =
+    let q = kinds.is_listed c.args.high c.args.low 0xB0 c.args.first.now c.args.fields c.if-first-eq3.false c.requires.named c.if-high-eq4.false c.in-176.is r listed p in
     record { is_control = q.0; is_content = q.1 }
 
 pub returns-in_default : goal.returns-in_default
-returns-in_default c listed p =
+returns-in_default c r listed p =
     let low = kinds.text_low c.args.high c.args.low c.args.first.now c.if-first-eq3.false c.requires.named c.if-high-eq4.false (λ e. omega (arith, e)) (λ e. omega (arith, e)) (λ e. omega (arith, e)) in
-    let q = kinds.is_listed c.args.high c.args.low 0xD3 c.args.first.now c.args.fields c.if-first-eq3.false c.requires.named c.if-high-eq4.false low listed p in
+    let q = kinds.is_listed c.args.high c.args.low 0xD3 c.args.first.now c.args.fields c.if-first-eq3.false c.requires.named c.if-high-eq4.false low r listed p in
     record { is_control = q.0; is_content = q.1 }
