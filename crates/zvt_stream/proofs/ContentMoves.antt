@@ -1,6 +1,6 @@
 -- The bytes of contents.
 use Rattle.std.proofs.Common.{◌≡◌, ◌≢◌, ℕ, ◌-◌, ◌<◌, Ok, List, [], ◌∷◌, ◌++◌, refl, sym, ◌∙◌, ap, subst, append_assoc, arith, length-append, suc}
-use Rattle.zvt_spelling.specs.Reading.{shortest}
+use Rattle.zvt_spelling.specs.Reading.{Reading}
 use Rattle.zvt_tlv.specs.Grammar.{Objects, none, primitive, Spells}
 use Rattle.zvt_tlv.proofs.Alive.{bytes_joined}
 use Rattle.zvt_stream.specs.declared.moves.At.TheVariants as stage
@@ -17,13 +17,13 @@ room_less more left h ne = (omega (arith, h.0, ne), (h.1.0, omega (arith, h.0, h
 pub room_over : (more left : ℕ) → HasRoom more left → more ≡ 1 → left - 1 ≢ 1
 room_over more left h e one = h.1.2 (omega (arith, h.1.1, e, one))
 
-pub between_objects : (left : ℕ) (outer b : List ℕ) → HoldsObjects outer → left ≢ 1 → AtObject shortest left outer b IsEmpty → Between shortest left outer b
-between_objects left [] b h ne a = absurd h
-between_objects left (k ∷ []) b h ne a = absurd h
-between_objects left (k ∷ j ∷ ks) b h ne a = (ne, a)
+pub between_objects : (r : Reading) (left : ℕ) (outer b : List ℕ) → HoldsObjects outer → left ≢ 1 → AtObject r left outer b IsEmpty → Between r left outer b
+between_objects r left [] b h ne a = absurd h
+between_objects r left (k ∷ []) b h ne a = absurd h
+between_objects r left (k ∷ j ∷ ks) b h ne a = (ne, a)
 
-part_more : (d more x : ℕ) → x < 256 → 0 < more → (s : List ℕ) → ObjectContent shortest d more s → ObjectContent shortest d (more - 1) (s ++ x ∷ [])
-part_more d more x lt some s (tag, size, part, n, w, t, l, e, are) =
+part_more : (r : Reading) (d more x : ℕ) → x < 256 → 0 < more → (s : List ℕ) → ObjectContent r d more s → ObjectContent r d (more - 1) (s ++ x ∷ [])
+part_more r d more x lt some s (tag, size, part, n, w, t, l, e, are) =
     (tag, size, part ++ x ∷ [], n, ap (λ (s : List ℕ). s ++ x ∷ []) w ∙ behind tag size part, t, l, omega (arith, length-append part (x ∷ []), e, some), bytes_joined part (x ∷ []) are (lt, tt))
   where
     behind : (tag size part : List ℕ) → (tag ++ (size ++ part)) ++ x ∷ [] ≡ tag ++ (size ++ (part ++ x ∷ []))
@@ -35,15 +35,15 @@ one_less left some = omega (arith, some)
 pub some_left : (more left : ℕ) → HasRoom more left → 0 < left
 some_left more left h = omega (arith, h.0, h.1.1)
 
-pub object_within : (more left depth x : ℕ) → x < 256 → more ≢ 1 → Judges (stage.Object more) left depth x (Ok (Within (stage.Object (more - 1)) (left - 1)))
-object_within more left depth x lt ne outer b e (deep, room, a) =
-    (refl, (deep, room_less more left room ne, object_more shortest left (left - 1) outer b x _ _ a (part_more (depth_of outer) more x lt room.0) (one_less left (some_left more left room))))
+pub object_within : (r : Reading) (more left depth x : ℕ) → x < 256 → more ≢ 1 → Judges r (stage.Object more) left depth x (Ok (Within (stage.Object (more - 1)) (left - 1)))
+object_within r more left depth x lt ne outer b e (deep, room, a) =
+    (refl, (deep, room_less more left room ne, object_more r left (left - 1) outer b x _ _ a (part_more r (depth_of outer) more x lt room.0) (one_less left (some_left more left room))))
 
-pub object_ends : (more left depth x : ℕ) → x < 256 → more ≡ 1 → Judges (stage.Object more) left depth x (Ok (Ends (left - 1)))
-object_ends more left depth x lt is outer b e (deep, room, a) =
-    let m = object_more shortest left (left - 1) outer b x _ (ObjectContent shortest (depth_of outer) (more - 1)) a (part_more (depth_of outer) more x lt room.0) (one_less left (some_left more left room)) in
-    (refl, between_objects (left - 1) outer (b ++ x ∷ []) deep (room_over more left room is) (object_done shortest (left - 1) outer (b ++ x ∷ []) _ m done))
+pub object_ends : (r : Reading) (more left depth x : ℕ) → x < 256 → more ≡ 1 → Judges r (stage.Object more) left depth x (Ok (Ends (left - 1)))
+object_ends r more left depth x lt is outer b e (deep, room, a) =
+    let m = object_more r left (left - 1) outer b x _ (ObjectContent r (depth_of outer) (more - 1)) a (part_more r (depth_of outer) more x lt room.0) (one_less left (some_left more left room)) in
+    (refl, between_objects r (left - 1) outer (b ++ x ∷ []) deep (room_over more left room is) (object_done r (left - 1) outer (b ++ x ∷ []) _ m done))
   where
-    done : (s : List ℕ) → ObjectContent shortest (depth_of outer) (more - 1) s → (f : Objects) × Spells shortest (depth_of outer) f s
+    done : (s : List ℕ) → ObjectContent r (depth_of outer) (more - 1) s → (f : Objects) × Spells r (depth_of outer) f s
     done s (tag, size, part, n, w, t, l, total, are) =
-        (primitive tag part none, subst (Spells shortest (depth_of outer) (primitive tag part none)) (sym w) (bytes_object shortest (depth_of outer) n tag size part t l (omega (arith, total, is)) are))
+        (primitive tag part none, subst (Spells r (depth_of outer) (primitive tag part none)) (sym w) (bytes_object r (depth_of outer) n tag size part t l (omega (arith, total, is)) are))

@@ -4,7 +4,7 @@ use Rattle.std.proofs.lemmas.Bool.{cond-true, cond-false, eq-eqb, ne_eqb, le-leb
 use Rattle.std.proofs.lemmas.List.{append-nil}
 use Rattle.zvt_spelling.specs.declared.why.Why.{Why}
 use Rattle.zvt_spelling.specs.declared.why.Why.TheVariants.{DoesNotFit, NotShortest}
-use Rattle.zvt_spelling.specs.Reading.{shortest}
+use Rattle.zvt_spelling.specs.Reading.{Reading, shortest, least}
 use Rattle.zvt_spelling.specs.Tests.{check}
 use Rattle.zvt_field.specs.Judging as field
 use Rattle.zvt_apdu.specs.declared.frame.Layout.{Layout}
@@ -19,8 +19,8 @@ use Rattle.zvt_stream.specs.Moves.{Leads, Judges, BeginsData}
 use Rattle.zvt_stream.proofs.LevelLemmas.{begun_more}
 
 -- fields begin
-abbrev fields_begin : (n left : ℕ) (head b : List ℕ) → (h : Begun shortest n head b) → (layout_in h).fields ≡ true → length head ≡ head_size (layout_in h) → length head + left ≡ n → Between shortest left (0 ∷ []) b
-fields_begin n left head b h some sized filled = (
+abbrev fields_begin : (r : Reading) (n left : ℕ) (head b : List ℕ) → (h : Begun r n head b) → (layout_in h).fields ≡ true → length head ≡ head_size (layout_in h) → length head + left ≡ n → Between r left (0 ∷ []) b
+fields_begin r n left head b h some sized filled = (
   refl,
   (λ one. (fills_out (layout_in h) n h.fills).1 some (omega (arith, one, filled, sized))),
   record {
@@ -45,20 +45,20 @@ fields_begin n left head b h some sized filled = (
 )
 
 -- data begins
-module _ (high low n : ℕ) (l : Layout) (e : l ≡ layout_of high low n) (fills : can_fill (layout_of high low n) n ≡ true) where
-  abbrev begun : (size b : List ℕ) → (high < 256) × (low < 256) → IsFrameLength shortest n size → b ≡ high ∷ low ∷ (size ++ []) → Begun shortest n [] b
+module _ (r : Reading) (high low n : ℕ) (l : Layout) (e : l ≡ layout_of high low n) (fills : can_fill (layout_of high low n) n ≡ true) where
+  abbrev begun : (size b : List ℕ) → (high < 256) × (low < 256) → IsFrameLength r n size → b ≡ high ∷ low ∷ (size ++ []) → Begun r n [] b
   begun size b small q w = record { high = high; low = low; size = size; whole = w; are_bytes = small; is_size = q; fills = fills }
 
-  pub data_none : n ≡ 0 → BeginsData high low n (Ok (Ends 0))
+  pub data_none : n ≡ 0 → BeginsData r high low n (Ok (Ends 0))
   data_none z = (fills, λ size b small q w. (refl, record { n = n; inside = []; begun = begun size b small q w; full = sym z }))
 
-  pub data_payload : n ≢ 0 → l.fields ≡ false → BeginsData high low n (Ok (Within stage.Payload n))
+  pub data_payload : n ≢ 0 → l.fields ≡ false → BeginsData r high low n (Ok (Within stage.Payload n))
   data_payload nz f = (fills, λ size b small q w. (refl, omega (arith, nz), record { n = n; inside = []; begun = begun size b small q w; no_fields = ap (λ (k : Layout). k.fields) (sym e) ∙ f; filled = omega arith }))
 
-  pub data_fields : l.fields ≡ true → l.free + l.digits ≡ 0 → BeginsData high low n (Ok (Opens 0 n))
-  data_fields f z = (fills, λ size b small q w. fields_begin n n [] b (begun size b small q w) (ap (λ (k : Layout). k.fields) (sym e) ∙ f) (sym (ap head_size (sym e) ∙ z)) (omega arith))
+  pub data_fields : l.fields ≡ true → l.free + l.digits ≡ 0 → BeginsData r high low n (Ok (Opens 0 n))
+  data_fields f z = (fills, λ size b small q w. fields_begin r n n [] b (begun size b small q w) (ap (λ (k : Layout). k.fields) (sym e) ∙ f) (sym (ap head_size (sym e) ∙ z)) (omega arith))
 
-  pub data_head : l.fields ≡ true → l.free + l.digits ≢ 0 → BeginsData high low n (Ok (Within (stage.Head l.free l.digits) n))
+  pub data_head : l.fields ≡ true → l.free + l.digits ≢ 0 → BeginsData r high low n (Ok (Within (stage.Head l.free l.digits) n))
   data_head f nz = (
     fills,
     λ size b small q w. (
@@ -79,80 +79,80 @@ module _ (high low n : ℕ) (l : Layout) (e : l ≡ layout_of high low n) (fills
   )
 
 -- lengths
-pub size_long : (high low left depth x : ℕ) → x ≡ 0xFF → Judges (stage.FirstSize high low) left depth x (Ok (Within (stage.LowSize high low) left))
-size_long high low left depth x is outer b d (o, w, h, l) =
+pub size_long : (r : Reading) (high low left depth x : ℕ) → x ≡ 0xFF → Judges r (stage.FirstSize high low) left depth x (Ok (Within (stage.LowSize high low) left))
+size_long r high low left depth x is outer b d (o, w, h, l) =
     (cond-true (x == 0xFF) None (check (can_fill (layout_of high low x) x) DoesNotFit None) (eq-eqb x 0xFF is), (o, ap (λ (s : List ℕ). s ++ x ∷ []) w ∙ ap (λ (y : ℕ). high ∷ low ∷ y ∷ []) is, h, l))
 
-leads_at : (move : Move) (outer b : List ℕ) → outer ≡ [] → Leads move [] b → Leads move outer b
-leads_at move outer b e h = subst (λ (o : List ℕ). Leads move o b) (sym e) h
+leads_at : (r : Reading) (move : Move) (outer b : List ℕ) → outer ≡ [] → Leads r move [] b → Leads r move outer b
+leads_at r move outer b e h = subst (λ (o : List ℕ). Leads r move o b) (sym e) h
 
-pub size_short : (high low left depth x n : ℕ) (result : Result Move Why) → n ≡ x → x < 256 → x ≢ 0xFF → BeginsData high low n result → Judges (stage.FirstSize high low) left depth x result
-size_short high low left depth x n result is lt ne h = by_number (subst (λ (m : ℕ). BeginsData high low m result) is h)
+pub size_short : (r : Reading) (high low left depth x n : ℕ) (result : Result Move Why) → n ≡ x → x < 256 → x ≢ 0xFF → BeginsData r high low n result → Judges r (stage.FirstSize high low) left depth x result
+size_short r high low left depth x n result is lt ne h = by_number (subst (λ (m : ℕ). BeginsData r high low m result) is h)
   where
-    tests : fault shortest (first_size high low) x ≡ check (can_fill (layout_of high low x) x) DoesNotFit None
+    tests : fault r (first_size high low) x ≡ check (can_fill (layout_of high low x) x) DoesNotFit None
     tests = cond-false _ _ _ (ne_eqb x 0xFF ne)
 
-    by_number : BeginsData high low x result → Judges (stage.FirstSize high low) left depth x result
+    by_number : BeginsData r high low x result → Judges r (stage.FirstSize high low) left depth x result
     by_number h = by_result result h
       where
-        by_result : (result : Result Move Why) → BeginsData high low x result → Judges (stage.FirstSize high low) left depth x result
+        by_result : (result : Result Move Why) → BeginsData r high low x result → Judges r (stage.FirstSize high low) left depth x result
         by_result (Ok move) (fills, f) outer b d (o, w, hs, ls) =
-            (tests ∙ ap (λ (t : Bool). check t DoesNotFit None) fills, leads_at move outer (b ++ x ∷ []) o (f (x ∷ []) (b ++ x ∷ []) (hs, ls) (omega (arith, lt, ne), refl) (ap (λ (s : List ℕ). s ++ x ∷ []) w)))
+            (tests ∙ ap (λ (t : Bool). check t DoesNotFit None) fills, leads_at r move outer (b ++ x ∷ []) o (f (x ∷ []) (b ++ x ∷ []) (hs, ls) (omega (arith, lt, ne), refl) (ap (λ (s : List ℕ). s ++ x ∷ []) w)))
         by_result (Err why) (same, fails) outer b d p = tests ∙ ap (λ (t : Bool). check t DoesNotFit None) fails ∙ ap (λ (y : Why). Some y) (sym same)
 
-pub size_padded : (high low size_low left depth x : ℕ) → 256 * x + size_low < 255 → Judges (stage.HighSize high low size_low) left depth x (Err NotShortest)
-size_padded high low s left depth x less outer b d p =
-    ap (λ (t : Bool). check t NotShortest (check (can_fill (layout_of high low (256 * x + s)) (256 * x + s)) DoesNotFit None)) (lt-leb 255 (256 * x + s) less)
+pub size_padded : (r : Reading) (high low size_low left depth x : ℕ) → 256 * x + size_low < least r 255 → Judges r (stage.HighSize high low size_low) left depth x (Err NotShortest)
+size_padded r high low s left depth x less outer b d p =
+    ap (λ (t : Bool). check t NotShortest (check (can_fill (layout_of high low (256 * x + s)) (256 * x + s)) DoesNotFit None)) (lt-leb (least r 255) (256 * x + s) less)
 
-pub size_high : (high low size_low left depth x n : ℕ) (result : Result Move Why) → n ≡ 256 * x + size_low → x < 256 → 255 ≤ n → BeginsData high low n result → Judges (stage.HighSize high low size_low) left depth x result
-size_high high low s left depth x n result is lt le h = by_result result (subst (λ (m : ℕ). BeginsData high low m result) is h)
+pub size_high : (r : Reading) (high low size_low left depth x n : ℕ) (result : Result Move Why) → n ≡ 256 * x + size_low → x < 256 → least r 255 ≤ n → BeginsData r high low n result → Judges r (stage.HighSize high low size_low) left depth x result
+size_high r high low s left depth x n result is lt le h = by_result result (subst (λ (m : ℕ). BeginsData r high low m result) is h)
   where
-    long : 255 ≤ 256 * x + s
+    long : least r 255 ≤ 256 * x + s
     long = omega (arith, is, le)
 
-    tests : fault shortest (high_size high low s) x ≡ check (can_fill (layout_of high low (256 * x + s)) (256 * x + s)) DoesNotFit None
-    tests = ap (λ (t : Bool). check t NotShortest (check (can_fill (layout_of high low (256 * x + s)) (256 * x + s)) DoesNotFit None)) (le-leb 255 (256 * x + s) long)
+    tests : fault r (high_size high low s) x ≡ check (can_fill (layout_of high low (256 * x + s)) (256 * x + s)) DoesNotFit None
+    tests = ap (λ (t : Bool). check t NotShortest (check (can_fill (layout_of high low (256 * x + s)) (256 * x + s)) DoesNotFit None)) (le-leb (least r 255) (256 * x + s) long)
 
-    by_result : (result : Result Move Why) → BeginsData high low (256 * x + s) result → Judges (stage.HighSize high low s) left depth x result
+    by_result : (result : Result Move Why) → BeginsData r high low (256 * x + s) result → Judges r (stage.HighSize high low s) left depth x result
     by_result (Ok move) (fills, f) outer b d (o, w, hs, ls, ss) =
-        (tests ∙ ap (λ (t : Bool). check t DoesNotFit None) fills, leads_at move outer (b ++ x ∷ []) o (f (0xFF ∷ s ∷ x ∷ []) (b ++ x ∷ []) (hs, ls) (refl, long, ss, lt, refl) (ap (λ (t : List ℕ). t ++ x ∷ []) w)))
+        (tests ∙ ap (λ (t : Bool). check t DoesNotFit None) fills, leads_at r move outer (b ++ x ∷ []) o (f (0xFF ∷ s ∷ x ∷ []) (b ++ x ∷ []) (hs, ls) (refl, long, ss, lt, refl) (ap (λ (t : List ℕ). t ++ x ∷ []) w)))
     by_result (Err why) (same, fails) outer b d p = tests ∙ ap (λ (t : Bool). check t DoesNotFit None) fails ∙ ap (λ (y : Why). Some y) (sym same)
 
 -- data without fields
-pub payload_within : (left depth x : ℕ) → left ≢ 1 → Judges stage.Payload left depth x (Ok (Within stage.Payload (left - 1)))
-payload_within left depth x ne outer b d (o, some, a) =
-    (refl, (o, omega (arith, some, ne), record { n = a.n; inside = a.inside ++ x ∷ []; begun = begun_more shortest a.n a.inside b x a.begun; no_fields = a.no_fields; filled = omega (arith, length-append a.inside (x ∷ []), a.filled, some) }))
+pub payload_within : (r : Reading) (left depth x : ℕ) → left ≢ 1 → Judges r stage.Payload left depth x (Ok (Within stage.Payload (left - 1)))
+payload_within r left depth x ne outer b d (o, some, a) =
+    (refl, (o, omega (arith, some, ne), record { n = a.n; inside = a.inside ++ x ∷ []; begun = begun_more r a.n a.inside b x a.begun; no_fields = a.no_fields; filled = omega (arith, length-append a.inside (x ∷ []), a.filled, some) }))
 
-pub payload_ends : (left depth x : ℕ) → left ≡ 1 → Judges stage.Payload left depth x (Ok (Ends 0))
-payload_ends left depth x one outer b d (o, some, a) =
-    (refl, subst (λ (k : List ℕ). Between shortest 0 k (b ++ x ∷ [])) (sym o) (refl, record { n = a.n; inside = a.inside ++ x ∷ []; begun = begun_more shortest a.n a.inside b x a.begun; full = omega (arith, length-append a.inside (x ∷ []), a.filled, one) }))
+pub payload_ends : (r : Reading) (left depth x : ℕ) → left ≡ 1 → Judges r stage.Payload left depth x (Ok (Ends 0))
+payload_ends r left depth x one outer b d (o, some, a) =
+    (refl, subst (λ (k : List ℕ). Between r 0 k (b ++ x ∷ [])) (sym o) (refl, record { n = a.n; inside = a.inside ++ x ∷ []; begun = begun_more r a.n a.inside b x a.begun; full = omega (arith, length-append a.inside (x ∷ []), a.filled, one) }))
 
 -- before the fields
 abbrev pub Tested : (free x : ℕ) → Option Why → Type 0
 Tested free x answer = (l : ℕ) → field.fault shortest (field.in_content (free == 0)) l x ≡ answer
 
-head_tested : (free digits left depth x : ℕ) (answer : Option Why) → Tested free x answer → fault shortest (role_of (stage.Head free digits) left depth) x ≡ answer
-head_tested zero digits left depth x answer h = h 0
-head_tested (suc free) digits left depth x answer h = free_byte (suc free == 0) (ne_eqb (suc free) 0 (λ e. omega (arith, e))) (h 0)
+head_tested : (r : Reading) (free digits left depth x : ℕ) (answer : Option Why) → Tested free x answer → fault r (role_of (stage.Head free digits) left depth) x ≡ answer
+head_tested r zero digits left depth x answer h = h 0
+head_tested r (suc free) digits left depth x answer h = free_byte (suc free == 0) (ne_eqb (suc free) 0 (λ e. omega (arith, e))) (h 0)
   where
     free_byte : (t : Bool) → t ≡ false → field.fault shortest (field.in_content t) 0 x ≡ answer → None ≡ answer
     free_byte false e h = h
     free_byte true e h = absurd (false≢true (sym e))
 
-pub head_refused : (free digits left depth x : ℕ) (why : Why) → Tested free x (Some why) → Judges (stage.Head free digits) left depth x (Err why)
-head_refused free digits left depth x why h outer b d p = head_tested free digits left _ x (Some why) h
+pub head_refused : (r : Reading) (free digits left depth x : ℕ) (why : Why) → Tested free x (Some why) → Judges r (stage.Head free digits) left depth x (Err why)
+head_refused r free digits left depth x why h outer b d p = head_tested r free digits left _ x (Some why) h
 
-pub head_ends : (free digits left depth x : ℕ) → Tested free x None → free + digits ≡ 1 → Judges (stage.Head free digits) left depth x (Ok (Opens 0 (left - 1)))
-head_ends free digits left depth x h one outer b d (o, some, le, a) = (
-  head_tested free digits left _ x None h,
-  subst (λ (k : List ℕ). Between shortest (left - 1) (0 ∷ k) (b ++ x ∷ [])) (sym o)
-      (fields_begin a.n (left - 1) (a.inside ++ x ∷ []) (b ++ x ∷ []) (begun_more shortest a.n a.inside b x a.begun) a.has_fields
+pub head_ends : (r : Reading) (free digits left depth x : ℕ) → Tested free x None → free + digits ≡ 1 → Judges r (stage.Head free digits) left depth x (Ok (Opens 0 (left - 1)))
+head_ends r free digits left depth x h one outer b d (o, some, le, a) = (
+  head_tested r free digits left _ x None h,
+  subst (λ (k : List ℕ). Between r (left - 1) (0 ∷ k) (b ++ x ∷ [])) (sym o)
+      (fields_begin r a.n (left - 1) (a.inside ++ x ∷ []) (b ++ x ∷ []) (begun_more r a.n a.inside b x a.begun) a.has_fields
       (omega (arith, length-append a.inside (x ∷ []), a.sized, one)) (omega (arith, length-append a.inside (x ∷ []), a.filled, le, one))),
 )
 
-pub head_free : (free digits left depth x : ℕ) → Tested free x None → free + digits ≢ 1 → 0 < free → Judges (stage.Head free digits) left depth x (Ok (Within (stage.Head (free - 1) digits) (left - 1)))
-head_free free digits left depth x h ne pos outer b d (o, some, le, a) = (
-  head_tested free digits left _ x None h,
+pub head_free : (r : Reading) (free digits left depth x : ℕ) → Tested free x None → free + digits ≢ 1 → 0 < free → Judges r (stage.Head free digits) left depth x (Ok (Within (stage.Head (free - 1) digits) (left - 1)))
+head_free r free digits left depth x h ne pos outer b d (o, some, le, a) = (
+  head_tested r free digits left _ x None h,
   (
     o,
     omega (arith, some, ne, pos),
@@ -160,7 +160,7 @@ head_free free digits left depth x h ne pos outer b d (o, some, le, a) = (
     record {
       n = a.n;
       inside = a.inside ++ x ∷ [];
-      begun = begun_more shortest a.n a.inside b x a.begun;
+      begun = begun_more r a.n a.inside b x a.begun;
       has_fields = a.has_fields;
       filled = omega (arith, length-append a.inside (x ∷ []), a.filled, le, pos);
       sized = omega (arith, length-append a.inside (x ∷ []), a.sized, pos);
@@ -170,9 +170,9 @@ head_free free digits left depth x h ne pos outer b d (o, some, le, a) = (
   ),
 )
 
-pub head_digit : (free digits left depth x : ℕ) → Tested free x None → free + digits ≢ 1 → free ≡ 0 → Judges (stage.Head free digits) left depth x (Ok (Within (stage.Head 0 (digits - 1)) (left - 1)))
-head_digit free digits left depth x h ne z outer b d (o, some, le, a) = (
-  head_tested free digits left _ x None h,
+pub head_digit : (r : Reading) (free digits left depth x : ℕ) → Tested free x None → free + digits ≢ 1 → free ≡ 0 → Judges r (stage.Head free digits) left depth x (Ok (Within (stage.Head 0 (digits - 1)) (left - 1)))
+head_digit r free digits left depth x h ne z outer b d (o, some, le, a) = (
+  head_tested r free digits left _ x None h,
   (
     o,
     omega (arith, some, ne, z),
@@ -180,7 +180,7 @@ head_digit free digits left depth x h ne z outer b d (o, some, le, a) = (
     record {
       n = a.n;
       inside = a.inside ++ x ∷ [];
-      begun = begun_more shortest a.n a.inside b x a.begun;
+      begun = begun_more r a.n a.inside b x a.begun;
       has_fields = a.has_fields;
       filled = omega (arith, length-append a.inside (x ∷ []), a.filled, le, some);
       sized = omega (arith, length-append a.inside (x ∷ []), a.sized, z, some);

@@ -2,20 +2,21 @@
 use Rattle.std.proofs.Common.{◌≡◌, ℕ, ◌+◌, ◌≤◌, min, Bool, true, false, Option, Some, None, IfSome, Result, Ok, Err, is_err, IsOk, OnOk, List, [], ◌++◌, length, take, sym, ◌∙◌, ap, subst, refl, arith}
 use Rattle.std.proofs.Math.Logic.{∥∥₁_elim}
 use Rattle.std.specs.Coded.{Coded-set}
-use Rattle.zvt_spelling.specs.Reading.{padded}
+use Rattle.zvt_spelling.specs.Reading.{Reading, shortest, padded}
 use Rattle.zvt_apdu.specs.Message.{Message}
 use Rattle.zvt_apdu.specs.MessageCode.{message_code}
 use Rattle.zvt_apdu.specs.Grammar as grammar
 use Rattle.zvt_apdu.specs.Views.{MessageBytes}
 use Rattle.zvt_apdu.proofs.ViewLemmas.{message_loosened, same_message, spelled_bytes}
 use Rattle.zvt_spelling.specs.declared.why.Why.{Why}
-use Rattle.zvt_stream.specs.Apdus.{Spells, Unfinished}
+use Rattle.zvt_stream.specs.Apdus.{Spells, Unfinished, UnfinishedIn}
 use Rattle.zvt_stream.specs.Feeds.{Feeds, Lends}
 use Rattle.zvt_stream.specs.Judge.{JudgeState, IsMessage, Ran, StandsFor, start}
 use Rattle.zvt_stream.specs.Lending.{LentBytes, lent_of, held_of}
 use Rattle.zvt_stream.specs.StreamState.{StreamState, IsSound, Keeps}
 use Rattle.zvt_stream.specs.declared.feeding.Fed.TheVariants as fed
 use Rattle.zvt_stream.specs.declared.feeding.FedView.TheVariants as view
+use Rattle.zvt_stream.specs.declared.judging.Run.{Run}
 use Rattle.zvt_stream.specs.declared.judging.Run.TheVariants as run
 use Rattle.zvt_stream.proofs.JudgedFeeds.{fresh, ran_out}
 
@@ -54,45 +55,54 @@ pub record Idle (lends : Bool) (bytes : List ℕ) (judge : JudgeState) (old : St
   pub is_held : bytes ≡ old.held
   pub unfinished : Unfinished bytes
   pub stands : StandsFor judge bytes
+  pub strict : judge.reading ≡ shortest
 
 pub idle : (lends stopped : Bool) (bytes : List ℕ) (s : LentBytes lends bytes) (room : ℕ) (judge : JudgeState) (old now : StreamState)
     → (let state : StreamState = record { held = held_of lends bytes; stopped = stopped; lent = lent_of lends bytes s; room = room } in state) ≡ now → Keeps old now
-    → IsSound (held_of lends bytes) stopped × StandsFor judge (held_of lends bytes) × (lends ≡ true → IsMessage bytes) → Idle lends bytes judge old
-idle false stopped bytes s room judge old now is keeps sound = record { idle = refl; is_held = ap (λ (t : StreamState). t.held) is ∙ keeps.0; unfinished = sound.0.unfinished; stands = sound.1 }
+    → IsSound (held_of lends bytes) stopped × StandsFor judge (held_of lends bytes) × (lends ≡ true → IsMessage bytes) × (judge.reading ≡ shortest) → Idle lends bytes judge old
+idle false stopped bytes s room judge old now is keeps sound = record { idle = refl; is_held = ap (λ (t : StreamState). t.held) is ∙ keeps.0; unfinished = sound.0.unfinished; stands = sound.1; strict = sound.3 }
 idle true stopped bytes s room judge old now is keeps sound = absurd (some_is_none (ap (λ (t : StreamState). t.lent) is ∙ keeps.2))
   where
     some_is_none : {m : Message} → Some m ≡ None → ⊥
     some_is_none e = cc
 
+-- a judge of the shortest lengths
+strictly_unfinished : (judge : JudgeState) (bytes : List ℕ) → StandsFor judge bytes × (judge.reading ≡ shortest) → Unfinished bytes
+strictly_unfinished judge bytes s = subst (λ (r : Reading). UnfinishedIn r bytes) s.1 s.0.unfinished
+
+pub strictly_ran : (judge : JudgeState) (bytes piece : List ℕ) (q : Run) (new : JudgeState) → judge.reading ≡ shortest → Ran judge.reading bytes piece q new → Ran shortest bytes piece q new
+strictly_ran judge bytes piece q new e = subst (λ (r : Reading). Ran r bytes piece q new) e
+
 -- a stream that holds nothing, with a new judge
-pub emptied : (lends stopped : Bool) (bytes : List ℕ) (judge : JudgeState) → lends ≡ false → judge ≡ start → bytes ≡ [] → IsSound (held_of lends bytes) stopped × StandsFor judge (held_of lends bytes) × (lends ≡ true → IsMessage bytes)
-emptied false stopped bytes judge is e f = let new = fresh judge bytes stopped e f in (new.0, new.1, λ lent. absurd cc)
+pub emptied : (lends stopped : Bool) (bytes : List ℕ) (judge : JudgeState) → lends ≡ false → judge ≡ start shortest → bytes ≡ [] → IsSound (held_of lends bytes) stopped × StandsFor judge (held_of lends bytes) × (lends ≡ true → IsMessage bytes) × (judge.reading ≡ shortest)
+emptied false stopped bytes judge is e f = let new = fresh judge bytes stopped e f in (new.0, new.1, (λ lent. absurd cc), ap (λ (j : JudgeState). j.reading) e)
 emptied true stopped bytes judge is e f = absurd (cc (is))
 
 -- a stream that holds more
-pub grown : (lends stopped : Bool) (bytes : List ℕ) (judge : JudgeState) → lends ≡ false → stopped ≡ false → StandsFor judge bytes → IsSound (held_of lends bytes) stopped × StandsFor judge (held_of lends bytes) × (lends ≡ true → IsMessage bytes)
-grown false stopped bytes judge is runs s = (record { unfinished = s.unfinished; none_held = λ e. absurd (true_is_false (sym e ∙ runs)) }, s, λ lent. absurd cc)
+pub grown : (lends stopped : Bool) (bytes : List ℕ) (judge : JudgeState) → lends ≡ false → stopped ≡ false → StandsFor judge bytes × (judge.reading ≡ shortest) → IsSound (held_of lends bytes) stopped × StandsFor judge (held_of lends bytes) × (lends ≡ true → IsMessage bytes) × (judge.reading ≡ shortest)
+grown false stopped bytes judge is runs s =
+    (record { unfinished = strictly_unfinished judge bytes s; none_held = λ e. absurd (true_is_false (sym e ∙ runs)) }, s.0, (λ lent. absurd cc), s.1)
   where
     true_is_false : true ≡ false → ⊥
     true_is_false e = cc
 grown true stopped bytes judge is runs s = absurd (cc (is))
 
 -- a stream that lends
-pub lending : (stopped : Bool) (bytes : List ℕ) (judge : JudgeState) → stopped ≡ false → judge ≡ start → IsMessage bytes → IsSound [] stopped × StandsFor judge [] × (true ≡ true → IsMessage bytes)
-lending stopped bytes judge runs e whole = let new = fresh judge [] stopped e refl in (new.0, new.1, λ lent. whole)
+pub lending : (stopped : Bool) (bytes : List ℕ) (judge : JudgeState) → stopped ≡ false → judge ≡ start shortest → IsMessage bytes → IsSound [] stopped × StandsFor judge [] × (true ≡ true → IsMessage bytes) × (judge.reading ≡ shortest)
+lending stopped bytes judge runs e whole = let new = fresh judge [] stopped e refl in (new.0, new.1, (λ lent. whole), ap (λ (j : JudgeState). j.reading) e)
 
 -- what a feed gives where no message ended
 pub feeds_more : (lends stopped : Bool) (bytes piece after : List ℕ) (lent : Option Message) (room : ℕ) (judge new : JudgeState) (old : StreamState)
-    → Idle lends bytes judge old → StandsFor new (bytes ++ piece) → after ≡ bytes ++ piece → stopped ≡ false
+    → Idle lends bytes judge old → StandsFor new (bytes ++ piece) × (new.reading ≡ shortest) → after ≡ bytes ++ piece → stopped ≡ false
     → Feeds old piece fed.More (let state : StreamState = record { held = held_of lends after; stopped = stopped; lent = lent; room = room } in state)
 feeds_more false stopped bytes piece after lent room judge new old i s is runs =
     let same : bytes ++ piece ≡ old.held ++ piece = ap (λ (b : List ℕ). b ++ piece) i.is_held in
-    (subst Unfinished same s.unfinished, (is ∙ same, runs))
+    (subst Unfinished same (strictly_unfinished new (bytes ++ piece) s), (is ∙ same, runs))
 feeds_more true stopped bytes piece after lent room judge new old i s is runs = absurd (cc (i.idle))
 
 -- and where bytes were refused
 pub feeds_refused : (lends : Bool) (bytes piece after : List ℕ) (lent : Option Message) (room at place : ℕ) (why : Why) (judge new : JudgeState) (old : StreamState)
-    → Idle lends bytes judge old → Ran bytes piece (run.Refused at why) new → place ≡ length bytes + at → after ≡ []
+    → Idle lends bytes judge old → Ran shortest bytes piece (run.Refused at why) new → place ≡ length bytes + at → after ≡ []
     → Feeds old piece (fed.Refused place why) (let state : StreamState = record { held = held_of lends after; stopped = true; lent = lent; room = room } in state)
 feeds_refused false bytes piece after lent room at place why judge new old i ran is none =
     let out = ran_out new bytes piece at why i.unfinished ran in
@@ -101,7 +111,7 @@ feeds_refused true bytes piece after lent room at place why judge new old i ran 
 
 -- and where a message ended, which is lent
 pub lends_message : (stopped : Bool) (bytes piece after : List ℕ) (s : LentBytes true after) (room taken : ℕ) (judge new : JudgeState) (lends : Bool) (old : StreamState)
-    → Idle lends bytes judge old → Ran bytes piece (run.Ended taken) new → after ≡ bytes ++ take taken piece → stopped ≡ false
+    → Idle lends bytes judge old → Ran shortest bytes piece (run.Ended taken) new → after ≡ bytes ++ take taken piece → stopped ≡ false
     → Lends old piece (view.Message taken) (let state : StreamState = record { held = []; stopped = stopped; lent = lent_of true after s; room = room } in state)
 lends_message stopped bytes piece after s room taken judge new lends old i ran is runs =
     let whole : IsMessage after = subst IsMessage (sym is) ran.2 in

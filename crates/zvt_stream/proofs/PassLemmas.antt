@@ -4,7 +4,7 @@ use Rattle.std.proofs.lemmas.List.{append-nil, length-take-le, take-take, take_r
 use Rattle.std.proofs.Math.Seq.{take-add}
 use Rattle.zvt_tlv.proofs.Spelling.{from}
 use Rattle.std.proofs.lemmas.List.Elements.{All-head, All-tail}
-use Rattle.zvt_spelling.specs.Reading.{AreBytes}
+use Rattle.zvt_spelling.specs.Reading.{Reading, AreBytes}
 use Rattle.zvt_spelling.specs.declared.why.Why.TheVariants.{NotDigit}
 use Rattle.zvt_spelling.specs.Tests.{check}
 use Rattle.zvt_bcd.specs.Digits.{AreDigits, IsDigitPair}
@@ -25,19 +25,19 @@ use Rattle.zvt_stream.proofs.ContentMoves.{object_within}
 use Rattle.zvt_stream.proofs.JudgeLemmas.{goes_on_fields, passes, unfinished}
 
 -- a byte that stays in its level
-one_more : (at to : At) (left less x : ℕ) (outer b : List ℕ) → x < 256 → StandsFor (record { at = at; left = left; outer = outer }) b → one.Moves at left outer b x (Ok (Within to less)) → StandsFor (record { at = to; left = less; outer = outer }) (b ++ x ∷ [])
-one_more at to left less x outer b lt s q = record { unfinished = unfinished to less outer (b ++ x ∷ []) (passes at left x outer b lt s.unfinished.alive s.stands q.0) q.1; stands = q.1 }
+one_more : (r : Reading) (at to : At) (left less x : ℕ) (outer b : List ℕ) → x < 256 → StandsFor (record { reading = r; at = at; left = left; outer = outer }) b → one.Moves r at left outer b x (Ok (Within to less)) → StandsFor (record { reading = r; at = to; left = less; outer = outer }) (b ++ x ∷ [])
+one_more r at to left less x outer b lt s q = record { unfinished = unfinished r to less outer (b ++ x ∷ []) (passes r at left x outer b lt s.unfinished.alive s.stands q.0) q.1; stands = q.1 }
 
-abbrev Stands : At → (left : ℕ) → (outer b : List ℕ) → Type 0
-Stands at left outer b = StandsFor (record { at = at; left = left; outer = outer }) b
+abbrev Stands : (r : Reading) → At → (left : ℕ) → (outer b : List ℕ) → Type 0
+Stands r at left outer b = StandsFor (record { reading = r; at = at; left = left; outer = outer }) b
 
-payload_pass : (s : List ℕ) (left less : ℕ) (outer b : List ℕ) → AreBytes s → 0 < less → left ≡ length s + less → Stands stage.Payload left outer b → Stands stage.Payload less outer (b ++ s)
-payload_pass [] left less outer b are some e h =
-    subst (λ (t : List ℕ). Stands stage.Payload less outer t) (sym (append-nil b)) (let same : left ≡ less = omega (arith, e) in subst (λ (n : ℕ). Stands stage.Payload n outer b) same h)
-payload_pass (x ∷ s) left less outer b are some e h =
+payload_pass : (r : Reading) (s : List ℕ) (left less : ℕ) (outer b : List ℕ) → AreBytes s → 0 < less → left ≡ length s + less → Stands r stage.Payload left outer b → Stands r stage.Payload less outer (b ++ s)
+payload_pass r [] left less outer b are some e h =
+    subst (λ (t : List ℕ). Stands r stage.Payload less outer t) (sym (append-nil b)) (let same : left ≡ less = omega (arith, e) in subst (λ (n : ℕ). Stands r stage.Payload n outer b) same h)
+payload_pass r (x ∷ s) left less outer b are some e h =
     let ne : left ≢ 1 = λ one. omega (arith, one, e, some) in
-    let more = one_more stage.Payload stage.Payload left (left - 1) x outer b are.0 h (payload_within left (depth_of outer) x ne outer b refl h.stands) in
-    subst (λ (t : List ℕ). Stands stage.Payload less outer t) (append_assoc b (x ∷ []) s) (payload_pass s (left - 1) less outer (b ++ x ∷ []) are.1 some (omega (arith, e)) more)
+    let more = one_more r stage.Payload stage.Payload left (left - 1) x outer b are.0 h (payload_within r left (depth_of outer) x ne outer b refl h.stands) in
+    subst (λ (t : List ℕ). Stands r stage.Payload less outer t) (append_assoc b (x ∷ []) s) (payload_pass r s (left - 1) less outer (b ++ x ∷ []) are.1 some (omega (arith, e)) more)
 
 -- bytes of a content, each of which passes its test
 tests : (digits : Bool) (x : ℕ) (s : List ℕ) → IsContent digits (x ∷ s) → (x < 256) × field.Passes digits x × IsContent digits s
@@ -46,28 +46,28 @@ tests true x s are =
     (omega (arith, pair.0), λ l. ap (λ (b : Bool). check b NotDigit None) (is_pair_test x pair), All-tail IsDigitPair x s are)
 tests false x s are = (are.0, λ l. refl, are.1)
 
-content_pass : (digits : Bool) (s : List ℕ) (more fewer left less : ℕ) (outer b : List ℕ) → IsContent digits s → 0 < fewer → more ≡ length s + fewer → left ≡ length s + less → Stands (stage.Content digits more) left outer b → Stands (stage.Content digits fewer) less outer (b ++ s)
-content_pass digits [] more fewer left less outer b are some m e h =
-    subst (λ (t : List ℕ). Stands (stage.Content digits fewer) less outer t) (sym (append-nil b))
-    (let same : left ≡ less = omega (arith, e) in let alike : more ≡ fewer = omega (arith, m) in subst (λ (n : ℕ). Stands (stage.Content digits fewer) n outer b) same (subst (λ (n : ℕ). Stands (stage.Content digits n) left outer b) alike h))
-content_pass digits (x ∷ s) more fewer left less outer b are some m e h =
+content_pass : (r : Reading) (digits : Bool) (s : List ℕ) (more fewer left less : ℕ) (outer b : List ℕ) → IsContent digits s → 0 < fewer → more ≡ length s + fewer → left ≡ length s + less → Stands r (stage.Content digits more) left outer b → Stands r (stage.Content digits fewer) less outer (b ++ s)
+content_pass r digits [] more fewer left less outer b are some m e h =
+    subst (λ (t : List ℕ). Stands r (stage.Content digits fewer) less outer t) (sym (append-nil b))
+    (let same : left ≡ less = omega (arith, e) in let alike : more ≡ fewer = omega (arith, m) in subst (λ (n : ℕ). Stands r (stage.Content digits fewer) n outer b) same (subst (λ (n : ℕ). Stands r (stage.Content digits n) left outer b) alike h))
+content_pass r digits (x ∷ s) more fewer left less outer b are some m e h =
     let t = tests digits x s are in
     let ne : more ≢ 1 = λ one. omega (arith, one, m, some) in
-    let next = one_more (stage.Content digits more) (stage.Content digits (more - 1)) left (left - 1) x outer b t.0 h (content_within digits more left (depth_of outer) x t.0 t.1 ne outer b refl h.stands) in
-    subst (λ (t : List ℕ). Stands (stage.Content digits fewer) less outer t) (append_assoc b (x ∷ []) s) (content_pass digits s (more - 1) fewer (left - 1) less outer (b ++ x ∷ []) t.2 some (omega (arith, m)) (omega (arith, e)) next)
+    let next = one_more r (stage.Content digits more) (stage.Content digits (more - 1)) left (left - 1) x outer b t.0 h (content_within r digits more left (depth_of outer) x t.0 t.1 ne outer b refl h.stands) in
+    subst (λ (t : List ℕ). Stands r (stage.Content digits fewer) less outer t) (append_assoc b (x ∷ []) s) (content_pass r digits s (more - 1) fewer (left - 1) less outer (b ++ x ∷ []) t.2 some (omega (arith, m)) (omega (arith, e)) next)
 
-object_pass : (s : List ℕ) (more fewer left less : ℕ) (outer b : List ℕ) → AreBytes s → 0 < fewer → more ≡ length s + fewer → left ≡ length s + less → Stands (stage.Object more) left outer b → Stands (stage.Object fewer) less outer (b ++ s)
-object_pass [] more fewer left less outer b are some m e h =
-    subst (λ (t : List ℕ). Stands (stage.Object fewer) less outer t) (sym (append-nil b))
-    (let same : left ≡ less = omega (arith, e) in let alike : more ≡ fewer = omega (arith, m) in subst (λ (n : ℕ). Stands (stage.Object fewer) n outer b) same (subst (λ (n : ℕ). Stands (stage.Object n) left outer b) alike h))
-object_pass (x ∷ s) more fewer left less outer b are some m e h =
+object_pass : (r : Reading) (s : List ℕ) (more fewer left less : ℕ) (outer b : List ℕ) → AreBytes s → 0 < fewer → more ≡ length s + fewer → left ≡ length s + less → Stands r (stage.Object more) left outer b → Stands r (stage.Object fewer) less outer (b ++ s)
+object_pass r [] more fewer left less outer b are some m e h =
+    subst (λ (t : List ℕ). Stands r (stage.Object fewer) less outer t) (sym (append-nil b))
+    (let same : left ≡ less = omega (arith, e) in let alike : more ≡ fewer = omega (arith, m) in subst (λ (n : ℕ). Stands r (stage.Object fewer) n outer b) same (subst (λ (n : ℕ). Stands r (stage.Object n) left outer b) alike h))
+object_pass r (x ∷ s) more fewer left less outer b are some m e h =
     let ne : more ≢ 1 = λ one. omega (arith, one, m, some) in
-    let next = one_more (stage.Object more) (stage.Object (more - 1)) left (left - 1) x outer b are.0 h (object_within more left (depth_of outer) x are.0 ne outer b refl h.stands) in
-    subst (λ (t : List ℕ). Stands (stage.Object fewer) less outer t) (append_assoc b (x ∷ []) s) (object_pass s (more - 1) fewer (left - 1) less outer (b ++ x ∷ []) are.1 some (omega (arith, m)) (omega (arith, e)) next)
+    let next = one_more r (stage.Object more) (stage.Object (more - 1)) left (left - 1) x outer b are.0 h (object_within r more left (depth_of outer) x are.0 ne outer b refl h.stands) in
+    subst (λ (t : List ℕ). Stands r (stage.Object fewer) less outer t) (append_assoc b (x ∷ []) s) (object_pass r s (more - 1) fewer (left - 1) less outer (b ++ x ∷ []) are.1 some (omega (arith, m)) (omega (arith, e)) next)
 
 -- what is left once they are taken
-pub payload_passed : (left count : ℕ) → 0 < left → count ≤ left - 1 → PassesOver stage.Payload left stage.Payload (left - count) count
-payload_passed left count some le outer b s are sized h = payload_pass s left (left - count) outer b are (omega (arith, le, some)) (omega (arith, le, some, sized)) h
+pub payload_passed : (r : Reading) (left count : ℕ) → 0 < left → count ≤ left - 1 → PassesOver r stage.Payload left stage.Payload (left - count) count
+payload_passed r left count some le outer b s are sized h = payload_pass r s left (left - count) outer b are (omega (arith, le, some)) (omega (arith, le, some, sized)) h
 
 pub digits_front : (digits : Bool) (count most : ℕ) (bytes : List ℕ) → digits ≡ true → count ≤ most → AreDigits (take count (take most bytes)) → IsContent digits (take count bytes)
 digits_front true count most bytes is le are = subst AreDigits (take-take count most bytes le) are
@@ -77,72 +77,72 @@ pub bytes_front : (digits : Bool) (count : ℕ) (bytes : List ℕ) → digits �
 bytes_front false count bytes is are = take_bytes count bytes are
 bytes_front true count bytes is are = absurd (cc (is))
 
-pub content_passed : (digits : Bool) (more left count : ℕ) (bytes : List ℕ) → 0 < more → count ≤ more - 1 → count ≤ length bytes → IsContent digits (take count bytes)
-    → Passes (stage.Content digits more) left (stage.Content digits (more - count)) (left - count) (take count bytes)
-content_passed digits more left count bytes some le within are outer b h =
+pub content_passed : (r : Reading) (digits : Bool) (more left count : ℕ) (bytes : List ℕ) → 0 < more → count ≤ more - 1 → count ≤ length bytes → IsContent digits (take count bytes)
+    → Passes r (stage.Content digits more) left (stage.Content digits (more - count)) (left - count) (take count bytes)
+content_passed r digits more left count bytes some le within are outer b h =
     let room = h.stands.1 in
     let sized = length-take-le count bytes within in
-    content_pass digits (take count bytes) more (more - count) left (left - count) outer b are (omega (arith, le, some)) (omega (arith, le, some, sized)) (omega (arith, le, some, sized, room.1.1)) h
+    content_pass r digits (take count bytes) more (more - count) left (left - count) outer b are (omega (arith, le, some)) (omega (arith, le, some, sized)) (omega (arith, le, some, sized, room.1.1)) h
 
-pub object_passed : (more left count : ℕ) → 0 < more → count ≤ more - 1 → PassesOver (stage.Object more) left (stage.Object (more - count)) (left - count) count
-object_passed more left count some le outer b s are sized h =
+pub object_passed : (r : Reading) (more left count : ℕ) → 0 < more → count ≤ more - 1 → PassesOver r (stage.Object more) left (stage.Object (more - count)) (left - count) count
+object_passed r more left count some le outer b s are sized h =
     let room = h.stands.1 in
-    object_pass s more (more - count) left (left - count) outer b are (omega (arith, le, some)) (omega (arith, le, some, sized)) (omega (arith, le, some, sized, room.1.1)) h
+    object_pass r s more (more - count) left (left - count) outer b are (omega (arith, le, some)) (omega (arith, le, some, sized)) (omega (arith, le, some, sized, room.1.1)) h
 
 -- of any bytes these at the front
-pub front_passes : (at : At) (left : ℕ) (found : Option Passed) (bytes : List ℕ) → AreBytes bytes
-    → IfSome found (λ passed. (passed.count ≤ length bytes) × PassesOver at left passed.at passed.left passed.count)
-    → IfSome found (λ passed. (passed.count ≤ length bytes) × Passes at left passed.at passed.left (take passed.count bytes))
-front_passes at left None bytes are told = tt
-front_passes at left (Some passed) bytes are told =
+pub front_passes : (r : Reading) (at : At) (left : ℕ) (found : Option Passed) (bytes : List ℕ) → AreBytes bytes
+    → IfSome found (λ passed. (passed.count ≤ length bytes) × PassesOver r at left passed.at passed.left passed.count)
+    → IfSome found (λ passed. (passed.count ≤ length bytes) × Passes r at left passed.at passed.left (take passed.count bytes))
+front_passes r at left None bytes are told = tt
+front_passes r at left (Some passed) bytes are told =
     (told.0, λ outer b h. told.1 outer b (take passed.count bytes) (take_bytes passed.count bytes are) (length-take-le passed.count bytes told.0) h)
 
 -- both control bytes
-pub control_passed : (left high low : ℕ) → high < 256 → low < 256 → Passes stage.FirstControl left (stage.FirstSize high low) left (high ∷ low ∷ [])
-control_passed left high low h l outer b s =
-    let first = one_more stage.FirstControl (stage.SecondControl high) left left high outer b h s (refl, (s.stands.0, ap (λ (t : List ℕ). t ++ high ∷ []) s.stands.1, h)) in
-    let second = one_more (stage.SecondControl high) (stage.FirstSize high low) left left low outer (b ++ high ∷ []) l first (refl, (first.stands.0, ap (λ (t : List ℕ). t ++ low ∷ []) first.stands.1, h, l)) in
-    subst (λ (t : List ℕ). Stands (stage.FirstSize high low) left outer t) (append_assoc b (high ∷ []) (low ∷ [])) second
+pub control_passed : (r : Reading) (left high low : ℕ) → high < 256 → low < 256 → Passes r stage.FirstControl left (stage.FirstSize high low) left (high ∷ low ∷ [])
+control_passed r left high low h l outer b s =
+    let first = one_more r stage.FirstControl (stage.SecondControl high) left left high outer b h s (refl, (s.stands.0, ap (λ (t : List ℕ). t ++ high ∷ []) s.stands.1, h)) in
+    let second = one_more r (stage.SecondControl high) (stage.FirstSize high low) left left low outer (b ++ high ∷ []) l first (refl, (first.stands.0, ap (λ (t : List ℕ). t ++ low ∷ []) first.stands.1, h, l)) in
+    subst (λ (t : List ℕ). Stands r (stage.FirstSize high low) left outer t) (append_assoc b (high ∷ []) (low ∷ [])) second
 
 two_first : (bytes : List ℕ) → 2 ≤ length bytes → take 2 bytes ≡ get_or bytes 0 0 ∷ get_or bytes 1 0 ∷ []
 two_first [] le = absurd (omega (arith, le))
 two_first (x ∷ []) le = absurd (omega (arith, le))
 two_first (x ∷ y ∷ s) le = refl
 
-pub control_front : (left : ℕ) (bytes : List ℕ) → 2 ≤ length bytes → ((i : ℕ) → get_or bytes i 0 < 256) → Passes stage.FirstControl left (stage.FirstSize (get_or bytes 0 0) (get_or bytes 1 0)) left (take 2 bytes)
-control_front left bytes le are =
-    subst (Passes stage.FirstControl left (stage.FirstSize (get_or bytes 0 0) (get_or bytes 1 0)) left) (sym (two_first bytes le)) (control_passed left (get_or bytes 0 0) (get_or bytes 1 0) (are 0) (are 1))
+pub control_front : (r : Reading) (left : ℕ) (bytes : List ℕ) → 2 ≤ length bytes → ((i : ℕ) → get_or bytes i 0 < 256) → Passes r stage.FirstControl left (stage.FirstSize (get_or bytes 0 0) (get_or bytes 1 0)) left (take 2 bytes)
+control_front r left bytes le are =
+    subst (Passes r stage.FirstControl left (stage.FirstSize (get_or bytes 0 0) (get_or bytes 1 0)) left) (sym (two_first bytes le)) (control_passed r left (get_or bytes 0 0) (get_or bytes 1 0) (are 0) (are 1))
 
 -- the last byte of a content, and another field behind it
-content_over : (digits : Bool) (x left : ℕ) (outer b : List ℕ) → (x < 256) × field.Passes digits x → 0 < left - 1 → Stands (stage.Content digits 1) left outer b → Stands stage.Name (left - 1) outer (b ++ x ∷ [])
-content_over digits x left outer b t some h =
-    let q = content_ends digits 1 left (depth_of outer) x t.0 t.1 refl outer b refl h.stands in
-    let goes = goes_on_fields (left - 1) outer (b ++ x ∷ []) q.1 some (ap (λ (l : List ℕ). length l) h.stands.0) in
-    record { unfinished = unfinished stage.Name (left - 1) outer (b ++ x ∷ []) (passes (stage.Content digits 1) left x outer b t.0 h.unfinished.alive h.stands q.0) goes; stands = goes }
+content_over : (r : Reading) (digits : Bool) (x left : ℕ) (outer b : List ℕ) → (x < 256) × field.Passes digits x → 0 < left - 1 → Stands r (stage.Content digits 1) left outer b → Stands r stage.Name (left - 1) outer (b ++ x ∷ [])
+content_over r digits x left outer b t some h =
+    let q = content_ends r digits 1 left (depth_of outer) x t.0 t.1 refl outer b refl h.stands in
+    let goes = goes_on_fields r (left - 1) outer (b ++ x ∷ []) q.1 some (ap (λ (l : List ℕ). length l) h.stands.0) in
+    record { unfinished = unfinished r stage.Name (left - 1) outer (b ++ x ∷ []) (passes r (stage.Content digits 1) left x outer b t.0 h.unfinished.alive h.stands q.0) goes; stands = goes }
 
-content_all : (digits : Bool) (s : List ℕ) (more left less : ℕ) (outer b : List ℕ) → IsContent digits s → 0 < more → more ≡ length s → left ≡ length s + less → 0 < less
-    → Stands (stage.Content digits more) left outer b → Stands stage.Name less outer (b ++ s)
-content_all digits [] more left less outer b are some m e behind h = absurd (omega (arith, some, m))
-content_all digits (x ∷ []) more left less outer b are some m e behind h =
+content_all : (r : Reading) (digits : Bool) (s : List ℕ) (more left less : ℕ) (outer b : List ℕ) → IsContent digits s → 0 < more → more ≡ length s → left ≡ length s + less → 0 < less
+    → Stands r (stage.Content digits more) left outer b → Stands r stage.Name less outer (b ++ s)
+content_all r digits [] more left less outer b are some m e behind h = absurd (omega (arith, some, m))
+content_all r digits (x ∷ []) more left less outer b are some m e behind h =
     let t = tests digits x [] are in
     let one : more ≡ 1 = omega (arith, m) in
     let same : left - 1 ≡ less = omega (arith, e) in
-    subst (λ (n : ℕ). Stands stage.Name n outer (b ++ x ∷ [])) same (content_over digits x left outer b (t.0, t.1) (omega (arith, e, behind)) (subst (λ (n : ℕ). Stands (stage.Content digits n) left outer b) one h))
-content_all digits (x ∷ y ∷ s) more left less outer b are some m e behind h =
+    subst (λ (n : ℕ). Stands r stage.Name n outer (b ++ x ∷ [])) same (content_over r digits x left outer b (t.0, t.1) (omega (arith, e, behind)) (subst (λ (n : ℕ). Stands r (stage.Content digits n) left outer b) one h))
+content_all r digits (x ∷ y ∷ s) more left less outer b are some m e behind h =
     let t = tests digits x (y ∷ s) are in
     let ne : more ≢ 1 = λ one. omega (arith, one, m) in
-    let next = one_more (stage.Content digits more) (stage.Content digits (more - 1)) left (left - 1) x outer b t.0 h (content_within digits more left (depth_of outer) x t.0 t.1 ne outer b refl h.stands) in
-    subst (λ (t : List ℕ). Stands stage.Name less outer t) (append_assoc b (x ∷ []) (y ∷ s)) (content_all digits (y ∷ s) (more - 1) (left - 1) less outer (b ++ x ∷ []) t.2 (omega (arith, m)) (omega (arith, m)) (omega (arith, e)) behind next)
+    let next = one_more r (stage.Content digits more) (stage.Content digits (more - 1)) left (left - 1) x outer b t.0 h (content_within r digits more left (depth_of outer) x t.0 t.1 ne outer b refl h.stands) in
+    subst (λ (t : List ℕ). Stands r stage.Name less outer t) (append_assoc b (x ∷ []) (y ∷ s)) (content_all r digits (y ∷ s) (more - 1) (left - 1) less outer (b ++ x ∷ []) t.2 (omega (arith, m)) (omega (arith, m)) (omega (arith, e)) behind next)
 
 -- a whole field, and another one behind it
-pub field_passed : (digits : Bool) (more left within name : ℕ) (content : List ℕ) → name < 256 → IsContent digits content → length content ≡ more → 0 < within - more
-    → ((depth : ℕ) → one.Judges stage.Name left depth name (Ok (Within (stage.Content digits more) within)))
-    → Passes stage.Name left stage.Name (within - more) (name ∷ content)
-field_passed digits more left within name content lt are sized behind judged outer b h =
-    let first = one_more stage.Name (stage.Content digits more) left within name outer b lt h (judged (depth_of outer) outer b refl h.stands) in
+pub field_passed : (r : Reading) (digits : Bool) (more left within name : ℕ) (content : List ℕ) → name < 256 → IsContent digits content → length content ≡ more → 0 < within - more
+    → ((depth : ℕ) → one.Judges r stage.Name left depth name (Ok (Within (stage.Content digits more) within)))
+    → Passes r stage.Name left stage.Name (within - more) (name ∷ content)
+field_passed r digits more left within name content lt are sized behind judged outer b h =
+    let first = one_more r stage.Name (stage.Content digits more) left within name outer b lt h (judged (depth_of outer) outer b refl h.stands) in
     let room = first.stands.1 in
-    subst (λ (t : List ℕ). Stands stage.Name (within - more) outer t) (append_assoc b (name ∷ []) content)
-    (content_all digits content more within (within - more) outer (b ++ name ∷ []) are room.0 (sym sized) (omega (arith, behind, sized)) behind first)
+    subst (λ (t : List ℕ). Stands r stage.Name (within - more) outer t) (append_assoc b (name ∷ []) content)
+    (content_all r digits content more within (within - more) outer (b ++ name ∷ []) are room.0 (sym sized) (omega (arith, behind, sized)) behind first)
 
 -- a field at the front
 first_and_more : (more : ℕ) (bytes : List ℕ) → more < length bytes → take (1 + more) bytes ≡ get_or bytes 0 0 ∷ take more (drop 1 bytes)
@@ -151,12 +151,12 @@ first_and_more more (x ∷ bytes) le =
     let next : 1 + more ≡ suc more = omega arith in
     ap (λ (n : ℕ). take n (x ∷ bytes)) next
 
-pub field_front : (digits : Bool) (more left within : ℕ) (bytes : List ℕ) → more < length bytes → ((i : ℕ) → get_or bytes i 0 < 256) → IsContent digits (take more (drop 1 bytes)) → 0 < within - more
-    → ((depth : ℕ) → one.Judges stage.Name left depth (get_or bytes 0 0) (Ok (Within (stage.Content digits more) within)))
-    → Passes stage.Name left stage.Name (within - more) (take (1 + more) bytes)
-field_front digits more left within bytes le are content behind judged =
-    subst (Passes stage.Name left stage.Name (within - more)) (sym (first_and_more more bytes le))
-    (field_passed digits more left within (get_or bytes 0 0) (take more (drop 1 bytes)) (are 0) content (length-take-le more (drop 1 bytes) (rw (length-drop 1 bytes) (omega (arith, le)))) behind judged)
+pub field_front : (r : Reading) (digits : Bool) (more left within : ℕ) (bytes : List ℕ) → more < length bytes → ((i : ℕ) → get_or bytes i 0 < 256) → IsContent digits (take more (drop 1 bytes)) → 0 < within - more
+    → ((depth : ℕ) → one.Judges r stage.Name left depth (get_or bytes 0 0) (Ok (Within (stage.Content digits more) within)))
+    → Passes r stage.Name left stage.Name (within - more) (take (1 + more) bytes)
+field_front r digits more left within bytes le are content behind judged =
+    subst (Passes r stage.Name left stage.Name (within - more)) (sym (first_and_more more bytes le))
+    (field_passed r digits more left within (get_or bytes 0 0) (take more (drop 1 bytes)) (are 0) content (length-take-le more (drop 1 bytes) (rw (length-drop 1 bytes) (omega (arith, le)))) behind judged)
 
 -- all of a content is digits, or needs to be none
 pub digits_all : (digits : Bool) (count size more : ℕ) (bytes : List ℕ) → digits ≡ true → size ≡ more → count ≡ more → AreDigits (take count (take size bytes)) → IsContent digits (take more bytes)
@@ -168,11 +168,24 @@ bytes_behind digits more [] is are = bytes_front digits more [] is are
 bytes_behind digits more (x ∷ bytes) is are = bytes_front digits more bytes is are.1
 
 -- one front after another
-pub passes_more : (at middle to : At) (left less fewer n m : ℕ) (bytes : List ℕ) → Passes at left middle less (take n bytes) → Passes middle less to fewer (take m (from n bytes)) → Passes at left to fewer (take (n + m) bytes)
-passes_more at middle to left less fewer n m bytes first second outer b h =
+pub passes_more : (r : Reading) (at middle to : At) (left less fewer n m : ℕ) (bytes : List ℕ) → Passes r at left middle less (take n bytes) → Passes r middle less to fewer (take m (from n bytes)) → Passes r at left to fewer (take (n + m) bytes)
+passes_more r at middle to left less fewer n m bytes first second outer b h =
     let q = second outer (b ++ take n bytes) (first outer b h) in
     let joined : take n bytes ++ take m (from n bytes) ≡ take (n + m) bytes = ap (λ (s : List ℕ). take n bytes ++ take m s) (take_rest bytes n) ∙ sym (take-add n m bytes) in
-    subst (λ (t : List ℕ). Stands to fewer outer t) (append_assoc b (take n bytes) (take m (from n bytes)) ∙ ap (λ (s : List ℕ). b ++ s) joined) q
+    subst (λ (t : List ℕ). Stands r to fewer outer t) (append_assoc b (take n bytes) (take m (from n bytes)) ∙ ap (λ (s : List ℕ). b ++ s) joined) q
 
-pub named : (left less : ℕ) (at : At) (bytes : List ℕ) → at ≡ stage.Name → Passes stage.Name left stage.Name less bytes → Passes stage.Name left at less bytes
-named left less at bytes is passes = subst (λ (to : At). Passes stage.Name left to less bytes) (sym is) passes
+pub named : (r : Reading) (left less : ℕ) (at : At) (bytes : List ℕ) → at ≡ stage.Name → Passes r stage.Name left stage.Name less bytes → Passes r stage.Name left at less bytes
+named r left less at bytes is h = subst (λ (to : At). Passes r stage.Name left to less bytes) (sym is) h
+
+-- what passes in both readings
+pub passes_by : (r : Reading) (at : At) (left : ℕ) (found : Option Passed) (bytes : List ℕ)
+    → IfSome found (λ passed. (passed.count ≤ length bytes) × ((s : Reading) → Passes s at left passed.at passed.left (take passed.count bytes)))
+    → IfSome found (λ passed. (passed.count ≤ length bytes) × Passes r at left passed.at passed.left (take passed.count bytes))
+passes_by r at left None bytes told = tt
+passes_by r at left (Some passed) bytes told = (told.0, told.1 r)
+
+pub passes_over_by : (r : Reading) (at : At) (left : ℕ) (found : Option Passed) (most : ℕ)
+    → IfSome found (λ passed. (passed.count ≤ most) × ((s : Reading) → PassesOver s at left passed.at passed.left passed.count))
+    → IfSome found (λ passed. (passed.count ≤ most) × PassesOver r at left passed.at passed.left passed.count)
+passes_over_by r at left None most told = tt
+passes_over_by r at left (Some passed) most told = (told.0, told.1 r)

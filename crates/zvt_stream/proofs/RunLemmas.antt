@@ -2,7 +2,8 @@
 use Rattle.std.proofs.Common.{◌≡◌, ◌≢◌, ℕ, ◌+◌, ◌<◌, ◌≤◌, suc, List, [], ◌∷◌, ◌++◌, length, take, get_or, sym, ◌∙◌, ap, subst, append_assoc, arith, length-drop}
 use Rattle.std.proofs.lemmas.List.{take_rest}
 use Rattle.std.proofs.Math.Seq.{take-add, take-suc}
-use Rattle.zvt_stream.specs.Judge.{JudgeState, StandsFor, IsMessage, Skips}
+use Rattle.zvt_spelling.specs.Reading.{Reading}
+use Rattle.zvt_stream.specs.Judge.{JudgeState, StandsFor, IsMessageIn, Skips}
 use Rattle.zvt_tlv.proofs.Spelling.{from}
 
 -- what is skipped is within the piece
@@ -13,7 +14,7 @@ pub skipped : (first middle : JudgeState) (held bytes : List ℕ) (taken n : ℕ
 skipped first middle held bytes taken n s k =
     let same : (held ++ take taken bytes) ++ take n (from taken bytes) ≡ held ++ take (taken + n) bytes =
     append_assoc held (take taken bytes) (take n (from taken bytes)) ∙ ap (λ (t : List ℕ). held ++ t) (ap (λ (t : List ℕ). take taken bytes ++ take n t) (take_rest bytes taken) ∙ sym (take-add taken n bytes)) in
-    subst (StandsFor middle) same (k (held ++ take taken bytes) s)
+    subst (StandsFor middle) same (k.1 (held ++ take taken bytes) s)
 
 byte_behind : (held bytes : List ℕ) (k : ℕ) → k < length bytes → (held ++ take k bytes) ++ get_or bytes k 0 ∷ [] ≡ held ++ take (k + 1) bytes
 byte_behind held bytes k lt =
@@ -23,5 +24,5 @@ byte_behind held bytes k lt =
 pub stands_behind : (judge : JudgeState) (held bytes : List ℕ) (k : ℕ) → k < length bytes → StandsFor judge ((held ++ take k bytes) ++ get_or bytes k 0 ∷ []) → StandsFor judge (held ++ take (k + 1) bytes)
 stands_behind judge held bytes k lt s = subst (StandsFor judge) (byte_behind held bytes k lt) s
 
-pub ends_behind : (held bytes : List ℕ) (k : ℕ) → k < length bytes → IsMessage ((held ++ take k bytes) ++ get_or bytes k 0 ∷ []) → IsMessage (held ++ take (k + 1) bytes)
-ends_behind held bytes k lt s = subst IsMessage (byte_behind held bytes k lt) s
+pub ends_behind : (r : Reading) (held bytes : List ℕ) (k : ℕ) → k < length bytes → IsMessageIn r ((held ++ take k bytes) ++ get_or bytes k 0 ∷ []) → IsMessageIn r (held ++ take (k + 1) bytes)
+ends_behind r held bytes k lt s = subst (IsMessageIn r) (byte_behind held bytes k lt) s

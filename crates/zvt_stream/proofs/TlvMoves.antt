@@ -3,7 +3,7 @@ use Rattle.std.proofs.Common.{◌≡◌, ◌≢◌, ℕ, ◌+◌, ◌*◌, ◌-�
 use Rattle.std.proofs.lemmas.Bool.{leb-true, leb-false, ltb-true, ltb-false, eqb-true, eqb-false, cond-true, cond-false, and_parts, or_cases, not-true, false≢true}
 use Rattle.zvt_spelling.specs.declared.why.Why.{Why}
 use Rattle.zvt_spelling.specs.declared.why.Why.TheVariants.{NotShortest, DoesNotFit, LengthForm, TooDeep, TagTooLong}
-use Rattle.zvt_spelling.specs.Reading.{Reading, shortest, least}
+use Rattle.zvt_spelling.specs.Reading.{Reading, shortest, padded, least}
 use Rattle.zvt_spelling.specs.Tests.{check, fits}
 use Rattle.zvt_tlv.specs.Grammar.{IsLength, holds_objects, continues}
 use Rattle.zvt_tlv.specs.Judging.{Role, first_tag, second_tag, third_tag, first_length, after_81, high_length, low_length, in_content, Tagged, Begins, byte, content, wrong, next, fault, content_fits, avoids, long_form}
@@ -179,8 +179,8 @@ fitting nests n left e =
     not_one true t one h = eqb-false n 1 h one
     not_one false t one h = false≢true t
 
-pub opened_fits : (d : ℕ) (role : Role) (nests : Bool) (n left x : ℕ) → next shortest d role x ≡ content nests n → fault shortest d role left x ≡ None → Fitting nests n left
-opened_fits d first_tag nests n left x e f = by_depth (cond_cases _ _ _ _ e)
+pub opened_fits : (r : Reading) (d : ℕ) (role : Role) (nests : Bool) (n left x : ℕ) → next r d role x ≡ content nests n → fault r d role left x ≡ None → Fitting nests n left
+opened_fits r d first_tag nests n left x e f = by_depth (cond_cases _ _ _ _ e)
   where
     by_more : ((continues x ≡ true) × (byte (second_tag (holds_objects x)) ≡ content nests n)) ⊎ ((continues x ≡ false) × (byte (first_length (holds_objects x)) ≡ content nests n)) → Fitting nests n left
     by_more (inl (more, is)) = absurd (cc (is))
@@ -189,17 +189,17 @@ opened_fits d first_tag nests n left x e f = by_depth (cond_cases _ _ _ _ e)
     by_depth : (((holds_objects x && nat_le 6 d) ≡ true) × (wrong TooDeep ≡ content nests n)) ⊎ (((holds_objects x && nat_le 6 d) ≡ false) × (cond (continues x) (byte (second_tag (holds_objects x))) (byte (first_length (holds_objects x))) ≡ content nests n)) → Fitting nests n left
     by_depth (inl (h, is)) = absurd (cc (is))
     by_depth (inr (h, is)) = by_more (cond_cases _ _ _ _ is)
-opened_fits d (second_tag nests') nests n left x e f = by_last (cond_cases _ _ _ _ e)
+opened_fits r d (second_tag nests') nests n left x e f = by_last (cond_cases _ _ _ _ e)
   where
     by_last : ((nat_lt x 128 ≡ true) × (byte (first_length nests') ≡ content nests n)) ⊎ ((nat_lt x 128 ≡ false) × (byte (third_tag nests') ≡ content nests n)) → Fitting nests n left
     by_last (inl (h, is)) = absurd (cc (is))
     by_last (inr (h, is)) = absurd (cc (is))
-opened_fits d (third_tag nests') nests n left x e f = by_last (cond_cases _ _ _ _ e)
+opened_fits r d (third_tag nests') nests n left x e f = by_last (cond_cases _ _ _ _ e)
   where
     by_last : ((nat_lt x 128 ≡ true) × (byte (first_length nests') ≡ content nests n)) ⊎ ((nat_lt x 128 ≡ false) × (wrong TagTooLong ≡ content nests n)) → Fitting nests n left
     by_last (inl (h, is)) = absurd (cc (is))
     by_last (inr (h, is)) = absurd (cc (is))
-opened_fits d (first_length nests') nests n left x e f = by_short (cond_cases _ _ _ _ e)
+opened_fits r d (first_length nests') nests n left x e f = by_short (cond_cases _ _ _ _ e)
   where
     by_82 : ((x == 0x82) ≡ true) × (byte (high_length nests') ≡ content nests n) ⊎ ((x == 0x82) ≡ false) × (wrong LengthForm ≡ content nests n) → Fitting nests n left
     by_82 (inl (h, is)) = absurd (cc (is))
@@ -216,48 +216,53 @@ opened_fits d (first_length nests') nests n left x e f = by_short (cond_cases _ 
         let tests = passed (content_fits nests' x left) DoesNotFit None (sym (cond-true _ _ _ h) ∙ f) in
         fitting nests n left (ap (λ (k : Bool). content_fits k n left) (sym kinds) ∙ ap (λ (m : ℕ). content_fits nests' m left) (sym numbers) ∙ tests.0)
     by_short (inr (h, is)) = by_81 (cond_cases _ _ _ _ is)
-opened_fits d (after_81 nests') nests n left x e f = by_test (cond_cases _ _ _ _ e)
+opened_fits r d (after_81 nests') nests n left x e f = by_test (cond_cases _ _ _ _ e)
   where
-    by_test : ((nat_le 128 x ≡ true) × (content nests' x ≡ content nests n)) ⊎ ((nat_le 128 x ≡ false) × (wrong NotShortest ≡ content nests n)) → Fitting nests n left
+    by_test : ((nat_le (least r 128) x ≡ true) × (content nests' x ≡ content nests n)) ⊎ ((nat_le (least r 128) x ≡ false) × (wrong NotShortest ≡ content nests n)) → Fitting nests n left
     by_test (inl (h, is)) =
         let kinds : nests' ≡ nests = cc (is) in
         let numbers : x ≡ n = cc (is) in
-        let tests = passed (content_fits nests' x left) DoesNotFit None ((passed (nat_le 128 x) NotShortest _ f).1) in
+        let tests = passed (content_fits nests' x left) DoesNotFit None ((passed (nat_le (least r 128) x) NotShortest _ f).1) in
         fitting nests n left (ap (λ (k : Bool). content_fits k n left) (sym kinds) ∙ ap (λ (m : ℕ). content_fits nests' m left) (sym numbers) ∙ tests.0)
     by_test (inr (h, is)) = absurd (cc (is))
-opened_fits d (high_length nests') nests n left x e f = by_test (cond_cases _ _ _ _ e)
+opened_fits r d (high_length nests') nests n left x e f = by_test (cond_cases _ _ _ _ e)
   where
-    by_test : ((nat_le 1 x ≡ true) × (byte (low_length nests' x) ≡ content nests n)) ⊎ ((nat_le 1 x ≡ false) × (wrong NotShortest ≡ content nests n)) → Fitting nests n left
+    by_test : ((nat_le (least r 1) x ≡ true) × (byte (low_length nests' x) ≡ content nests n)) ⊎ ((nat_le (least r 1) x ≡ false) × (wrong NotShortest ≡ content nests n)) → Fitting nests n left
     by_test (inl (h, is)) = absurd (cc (is))
     by_test (inr (h, is)) = absurd (cc (is))
-opened_fits d (low_length nests' high) nests n left x e f =
+opened_fits r d (low_length nests' high) nests n left x e f =
     let kinds : nests' ≡ nests = cc (e) in
     let numbers : 256 * high + x ≡ n = cc (e) in
     let tests = passed (content_fits nests' (256 * high + x) left) DoesNotFit None f in
     fitting nests n left (ap (λ (k : Bool). content_fits k n left) (sym kinds) ∙ ap (λ (m : ℕ). content_fits nests' m left) (sym numbers) ∙ tests.0)
-opened_fits d in_content nests n left x e f = absurd (cc (e))
+opened_fits r d in_content nests n left x e f = absurd (cc (e))
+
+-- a longer form has its bytes
+long_left : (r : Reading) (nests : Bool) (left from bytes : ℕ) → long_form r nests left from bytes ≡ None → bytes ≤ left
+long_left shortest nests left from bytes e = let le = leb-true (bytes + from) left (passed _ NotShortest None e).0 in omega (arith, le)
+long_left padded nests left from bytes e = leb-true bytes left (and_parts (nat_le bytes left) (not (nests && (left == bytes + 1))) (passed _ DoesNotFit None e).0).0
 
 -- another byte of a length is to come
-pub length_goes_on : (d : ℕ) (role : Role) (nests : Bool) (to : Role) (left x : ℕ) → (role ≡ first_length nests) ⊎ (role ≡ high_length nests) → next shortest d role x ≡ byte to → fault shortest d role left x ≡ None → 1 ≤ left
-length_goes_on d role nests to left x (inl is) e f = first (subst (λ (o : Role). next shortest d o x ≡ byte to) is e) (subst (λ (o : Role). fault shortest d o left x ≡ None) is f)
+pub length_goes_on : (r : Reading) (d : ℕ) (role : Role) (nests : Bool) (to : Role) (left x : ℕ) → (role ≡ first_length nests) ⊎ (role ≡ high_length nests) → next r d role x ≡ byte to → fault r d role left x ≡ None → 1 ≤ left
+length_goes_on r d role nests to left x (inl is) e f = first (subst (λ (o : Role). next r d o x ≡ byte to) is e) (subst (λ (o : Role). fault r d o left x ≡ None) is f)
   where
-    first : next shortest d (first_length nests) x ≡ byte to → fault shortest d (first_length nests) left x ≡ None → 1 ≤ left
+    first : next r d (first_length nests) x ≡ byte to → fault r d (first_length nests) left x ≡ None → 1 ≤ left
     first e f = by_short (cond_cases _ _ _ _ f)
       where
-        by_82 : ((x == 0x82) ≡ true) × (long_form shortest nests left 256 2 ≡ None) ⊎ ((x == 0x82) ≡ false) × (Some LengthForm ≡ None) → 1 ≤ left
-        by_82 (inl (h, is)) = let le = leb-true (2 + 256) left (passed (nat_le (2 + 256) left) NotShortest None is).0 in omega (arith, le)
+        by_82 : ((x == 0x82) ≡ true) × (long_form r nests left 256 2 ≡ None) ⊎ ((x == 0x82) ≡ false) × (Some LengthForm ≡ None) → 1 ≤ left
+        by_82 (inl (h, is)) = let le = long_left r nests left 256 2 is in omega (arith, le)
         by_82 (inr (h, is)) = absurd (cc (is))
 
-        by_81 : ((x == 0x81) ≡ true) × (long_form shortest nests left 128 1 ≡ None) ⊎ ((x == 0x81) ≡ false) × (cond (x == 0x82) (long_form shortest nests left 256 2) (Some LengthForm) ≡ None) → 1 ≤ left
-        by_81 (inl (h, is)) = let le = leb-true (1 + 128) left (passed (nat_le (1 + 128) left) NotShortest None is).0 in omega (arith, le)
+        by_81 : ((x == 0x81) ≡ true) × (long_form r nests left 128 1 ≡ None) ⊎ ((x == 0x81) ≡ false) × (cond (x == 0x82) (long_form r nests left 256 2) (Some LengthForm) ≡ None) → 1 ≤ left
+        by_81 (inl (h, is)) = let le = long_left r nests left 128 1 is in omega (arith, le)
         by_81 (inr (h, is)) = by_82 (cond_cases _ _ _ _ is)
 
-        by_short : ((nat_lt x 128 ≡ true) × (check (content_fits nests x left) DoesNotFit None ≡ None)) ⊎ ((nat_lt x 128 ≡ false) × (cond (x == 0x81) (long_form shortest nests left 128 1) (cond (x == 0x82) (long_form shortest nests left 256 2) (Some LengthForm)) ≡ None)) → 1 ≤ left
+        by_short : ((nat_lt x 128 ≡ true) × (check (content_fits nests x left) DoesNotFit None ≡ None)) ⊎ ((nat_lt x 128 ≡ false) × (cond (x == 0x81) (long_form r nests left 128 1) (cond (x == 0x82) (long_form r nests left 256 2) (Some LengthForm)) ≡ None)) → 1 ≤ left
         by_short (inl (h, is)) = absurd (cc (sym (cond-true _ _ _ h) ∙ e))
         by_short (inr (h, is)) = by_81 (cond_cases _ _ _ _ is)
-length_goes_on d role nests to left x (inr is) e f =
-    let g : fault shortest d (high_length nests) left x ≡ None = subst (λ (o : Role). fault shortest d o left x ≡ None) is f in
-    let tests = passed (nat_le (1 + 256 * x) left) DoesNotFit None (passed (nat_le 1 x) NotShortest _ g).1 in
+length_goes_on r d role nests to left x (inr is) e f =
+    let g : fault r d (high_length nests) left x ≡ None = subst (λ (o : Role). fault r d o left x ≡ None) is f in
+    let tests = passed (nat_le (1 + 256 * x) left) DoesNotFit None (passed (nat_le (least r 1) x) NotShortest _ g).1 in
     let le = leb-true (1 + 256 * x) left tests.0 in
     omega (arith, le)
 
@@ -273,8 +278,8 @@ IsTagRole (low_length nests high) = ⊥
 IsTagRole in_content = ⊥
 
 -- another byte of a tag is to come
-pub tag_goes_on : (d : ℕ) (role to : Role) (left x : ℕ) → ((nests : Bool) → to ≡ first_length nests → ⊥) → next shortest d role x ≡ byte to → fault shortest d role left x ≡ None → IsTagRole role → 2 ≤ left
-tag_goes_on d first_tag to left x ne e f t = by_depth (cond_cases _ _ _ _ e)
+pub tag_goes_on : (r : Reading) (d : ℕ) (role to : Role) (left x : ℕ) → ((nests : Bool) → to ≡ first_length nests → ⊥) → next r d role x ≡ byte to → fault r d role left x ≡ None → IsTagRole role → 2 ≤ left
+tag_goes_on r d first_tag to left x ne e f t = by_depth (cond_cases _ _ _ _ e)
   where
     by_more : ((continues x ≡ true) × (byte (second_tag (holds_objects x)) ≡ byte to)) ⊎ ((continues x ≡ false) × (byte (first_length (holds_objects x)) ≡ byte to)) → 2 ≤ left
     by_more (inl (more, is)) =
@@ -285,20 +290,20 @@ tag_goes_on d first_tag to left x ne e f t = by_depth (cond_cases _ _ _ _ e)
     by_depth : (((holds_objects x && nat_le 6 d) ≡ true) × (wrong TooDeep ≡ byte to)) ⊎ (((holds_objects x && nat_le 6 d) ≡ false) × (cond (continues x) (byte (second_tag (holds_objects x))) (byte (first_length (holds_objects x))) ≡ byte to)) → 2 ≤ left
     by_depth (inl (h, is)) = absurd (cc (is))
     by_depth (inr (h, is)) = by_more (cond_cases _ _ _ _ is)
-tag_goes_on d (second_tag nests) to left x ne e f t = by_last (cond_cases _ _ _ _ e)
+tag_goes_on r d (second_tag nests) to left x ne e f t = by_last (cond_cases _ _ _ _ e)
   where
     by_last : ((nat_lt x 128 ≡ true) × (byte (first_length nests) ≡ byte to)) ⊎ ((nat_lt x 128 ≡ false) × (byte (third_tag nests) ≡ byte to)) → 2 ≤ left
     by_last (inl (h, is)) = let same : to ≡ first_length nests = cc (is) in absurd (ne nests same)
     by_last (inr (h, is)) =
         let tests = passed _ DoesNotFit None f in
-        leb-true 2 left (and_parts (nat_le 2 left) (avoids shortest nests left 3) (sym (cond-false _ _ _ h) ∙ tests.0)).0
-tag_goes_on d (third_tag nests) to left x ne e f t = by_last (cond_cases _ _ _ _ e)
+        leb-true 2 left (and_parts (nat_le 2 left) (avoids r nests left 3) (sym (cond-false _ _ _ h) ∙ tests.0)).0
+tag_goes_on r d (third_tag nests) to left x ne e f t = by_last (cond_cases _ _ _ _ e)
   where
     by_last : ((nat_lt x 128 ≡ true) × (byte (first_length nests) ≡ byte to)) ⊎ ((nat_lt x 128 ≡ false) × (wrong TagTooLong ≡ byte to)) → 2 ≤ left
     by_last (inl (h, is)) = let same : to ≡ first_length nests = cc (is) in absurd (ne nests same)
     by_last (inr (h, is)) = absurd (cc (is))
-tag_goes_on d (first_length nests) to left x ne e f t = absurd t
-tag_goes_on d (after_81 nests) to left x ne e f t = absurd t
-tag_goes_on d (high_length nests) to left x ne e f t = absurd t
-tag_goes_on d (low_length nests high) to left x ne e f t = absurd t
-tag_goes_on d in_content to left x ne e f t = absurd t
+tag_goes_on r d (first_length nests) to left x ne e f t = absurd t
+tag_goes_on r d (after_81 nests) to left x ne e f t = absurd t
+tag_goes_on r d (high_length nests) to left x ne e f t = absurd t
+tag_goes_on r d (low_length nests high) to left x ne e f t = absurd t
+tag_goes_on r d in_content to left x ne e f t = absurd t

@@ -1,12 +1,32 @@
--- What all grammars share, said of messages in their one spelling.
+-- What all grammars share, said of messages: of a reading of lengths, and of their one spelling.
 use Rattle.std.specs.Prelude.{ℕ, List}
 use Rattle.zvt_spelling.specs.declared.why.Why.{Why}
-use Rattle.zvt_spelling.specs.Reading.{shortest}
+use Rattle.zvt_spelling.specs.Reading.{Reading, shortest}
 use Rattle.zvt_spelling.specs.Beginnings as beginnings
 use Rattle.zvt_spelling.specs.Cuts as cuts
 use Rattle.zvt_apdu.specs.Message.{Message}
 use Rattle.zvt_apdu.specs.Grammar as grammar
 use Rattle.zvt_apdu.specs.Judging.{WhyOf}
+
+-- Some message begins with the bytes, by that reading.
+abbrev pub AliveIn : Reading → List ℕ → Type 0
+AliveIn r = beginnings.Alive (grammar.Spells r)
+
+-- No message is a front of the bytes.
+abbrev pub NoneWholeIn : Reading → List ℕ → Type 0
+NoneWholeIn r = beginnings.NoneWhole (grammar.Spells r)
+
+-- The bytes begin a message and hold none.
+abbrev pub UnfinishedIn : Reading → List ℕ → Type 0
+UnfinishedIn r = beginnings.Unfinished (grammar.Spells r)
+
+-- The first byte after which no message can follow.
+abbrev pub PlaceIn : Reading → List ℕ → (place : ℕ) → Type 0
+PlaceIn r = beginnings.Place (grammar.Spells r)
+
+-- No message is a front of the bytes, and the first byte after which none can follow stands at the place, for that reason.
+abbrev pub IsRefusedIn : Reading → List ℕ → (place : ℕ) → Why → Type 0
+IsRefusedIn r bytes place why = NoneWholeIn r bytes × PlaceIn r bytes place × WhyOf r bytes place why
 
 -- The bytes are the spelling of the message.
 abbrev pub Spells : Message → List ℕ → Type 0
@@ -14,23 +34,23 @@ Spells = grammar.Spells shortest
 
 -- Some message begins with the bytes.
 abbrev pub Alive : List ℕ → Type 0
-Alive = beginnings.Alive Spells
+Alive = AliveIn shortest
 
 -- No message is a front of the bytes.
 abbrev pub NoneWhole : List ℕ → Type 0
-NoneWhole = beginnings.NoneWhole Spells
+NoneWhole = NoneWholeIn shortest
 
 -- The bytes begin a message and hold none.
 abbrev pub Unfinished : List ℕ → Type 0
-Unfinished = beginnings.Unfinished Spells
+Unfinished = UnfinishedIn shortest
 
 -- The first byte after which no message can follow.
 abbrev pub Place : List ℕ → (place : ℕ) → Type 0
-Place = beginnings.Place Spells
+Place = PlaceIn shortest
 
--- No message is a front of the bytes, and the first byte after which none can follow stands at the place, for that reason.
+-- The first byte after which no message can follow stands at the place, for that reason.
 abbrev pub IsRefused : List ℕ → (place : ℕ) → Why → Type 0
-IsRefused bytes place why = NoneWhole bytes × Place bytes place × WhyOf shortest bytes place why
+IsRefused = IsRefusedIn shortest
 
 -- The bytes are the spellings of the messages one after another, then the rest.
 abbrev pub Spelled : List ℕ → List Message → (rest : List ℕ) → Type 0

@@ -1,11 +1,12 @@
 -- The judge as its callers see it, and what it answers.
 use Rattle.std.specs.Prelude.{◌≡◌, ℕ, ◌+◌, ◌<◌, ◌≤◌, suc, zero, Option, Some, None, Result, Ok, Err, List, [], ◌∷◌, ◌++◌, length, take}
 use Rattle.zvt_spelling.specs.declared.why.Why.{Why}
-use Rattle.zvt_spelling.specs.Reading.{shortest, AreBytes}
+use Rattle.zvt_spelling.specs.Reading.{Reading, shortest, AreBytes}
 use Rattle.zvt_apdu.specs.Message.{Message}
+use Rattle.zvt_apdu.specs.Grammar.{Spells}
 use Rattle.zvt_tlv.specs.Judging.{Opener}
 use Rattle.zvt_apdu.specs.Judging.{Role, first_control, second_control, first_size, low_size, high_size, free, digit, in_fields, Position, fault}
-use Rattle.zvt_stream.specs.Apdus.{Spells, Unfinished, IsRefused}
+use Rattle.zvt_stream.specs.Apdus.{UnfinishedIn, IsRefusedIn}
 use Rattle.zvt_stream.specs.Standing.{Where, IsFull, depth_of, role_of}
 use Rattle.zvt_stream.specs.declared.moves.At.{At}
 use Rattle.zvt_stream.specs.declared.moves.At.TheVariants as at
@@ -15,39 +16,43 @@ use Rattle.zvt_stream.specs.declared.judging.Run.{Run}
 use Rattle.zvt_stream.specs.declared.judging.Run.TheVariants as run
 use Rattle.zvt_stream.specs.declared.judging.Goes.{Goes}
 
--- The part of the next byte, the bytes to come of the innermost level, and those to come behind the open item of each
--- level around it, the innermost first.
+-- The reading of lengths, the part of the next byte, the bytes to come of the innermost level, and those to come behind
+-- the open item of each level around it, the innermost first.
 pub record JudgeState : Type 0 where
+  pub reading : Reading
   pub at : At
   pub left : ℕ
   pub outer : List ℕ
 
-abbrev pub start : JudgeState
-start = record { at = at.FirstControl; left = 1; outer = [] }
+abbrev pub start : Reading → JudgeState
+start r = record { reading = r; at = at.FirstControl; left = 1; outer = [] }
 
 -- The bytes begin a message and hold none, and this is what they leave open.
 pub record StandsFor (judge : JudgeState) (bytes : List ℕ) : Type 0 where
-  pub unfinished : Unfinished bytes
-  pub stands : Where shortest judge.at judge.left judge.outer bytes
+  pub unfinished : UnfinishedIn judge.reading bytes
+  pub stands : Where judge.reading judge.at judge.left judge.outer bytes
 
 -- It stands for some bytes.
 abbrev pub IsJudge : JudgeState → Type 0
 IsJudge judge = (bytes : List ℕ) × StandsFor judge bytes
 
+abbrev pub IsMessageIn : Reading → List ℕ → Type 0
+IsMessageIn r bytes = (message : Message) × Spells r message bytes
+
 abbrev pub IsMessage : List ℕ → Type 0
-IsMessage bytes = (message : Message) × Spells message bytes
+IsMessage = IsMessageIn shortest
 
 -- Behind these bytes the byte gives this answer.
-abbrev pub Stepped : (bytes : List ℕ) → (byte : ℕ) → Result Judged Why → (new : JudgeState) → Type 0
-Stepped bytes byte (Ok Open) new = StandsFor new (bytes ++ byte ∷ [])
-Stepped bytes byte (Ok Ended) new = IsMessage (bytes ++ byte ∷ []) × (new ≡ start)
-Stepped bytes byte (Err why) new = IsRefused (bytes ++ byte ∷ []) (length bytes) why × (new ≡ start)
+abbrev pub Stepped : Reading → (bytes : List ℕ) → (byte : ℕ) → Result Judged Why → (new : JudgeState) → Type 0
+Stepped r bytes byte (Ok Open) new = StandsFor new (bytes ++ byte ∷ []) × (new.reading ≡ r)
+Stepped r bytes byte (Ok Ended) new = IsMessageIn r (bytes ++ byte ∷ []) × (new ≡ start r)
+Stepped r bytes byte (Err why) new = IsRefusedIn r (bytes ++ byte ∷ []) (length bytes) why × (new ≡ start r)
 
 -- Behind these bytes more bytes give this answer.
-abbrev pub Ran : (bytes more : List ℕ) → Run → (new : JudgeState) → Type 0
-Ran bytes more run.Open new = StandsFor new (bytes ++ more)
-Ran bytes more (run.Ended taken) new = (0 < taken) × (taken ≤ length more) × IsMessage (bytes ++ take taken more) × (new ≡ start)
-Ran bytes more (run.Refused at why) new = (at < length more) × IsRefused (bytes ++ take (suc at) more) (length bytes + at) why × (new ≡ start)
+abbrev pub Ran : Reading → (bytes more : List ℕ) → Run → (new : JudgeState) → Type 0
+Ran r bytes more run.Open new = StandsFor new (bytes ++ more) × (new.reading ≡ r)
+Ran r bytes more (run.Ended taken) new = (0 < taken) × (taken ≤ length more) × IsMessageIn r (bytes ++ take taken more) × (new ≡ start r)
+Ran r bytes more (run.Refused at why) new = (at < length more) × IsRefusedIn r (bytes ++ take (suc at) more) (length bytes + at) why × (new ≡ start r)
 
 -- How many bytes that takes.
 abbrev pub taken_by : (more : List ℕ) → Run → ℕ
@@ -66,8 +71,11 @@ levels_of free openers = 1
 levels_of digit openers = 1
 levels_of (in_fields role left) openers = 2 + length openers
 
+abbrev pub HasLevelsIn : Reading → (bytes : List ℕ) → ℕ → Type 0
+HasLevelsIn r bytes levels = (openers : List Opener) × (role : Role) × Position r openers bytes role × (levels ≡ levels_of role openers)
+
 abbrev pub HasLevels : (bytes : List ℕ) → ℕ → Type 0
-HasLevels bytes levels = (openers : List Opener) × (role : Role) × Position shortest openers bytes role × (levels ≡ levels_of role openers)
+HasLevels = HasLevelsIn shortest
 
 -- The levels with bytes to come, once those are left that are full.
 abbrev pub unfilled : (left : ℕ) → (outer : List ℕ) → Option (ℕ × List ℕ)
@@ -80,31 +88,31 @@ Closes left old new None = unfilled left old ≡ None
 Closes left old new (Some n) = unfilled left old ≡ Some (n, new)
 
 -- Behind a complete item: the next one, or the end of the message.
-abbrev pub Settles : (new : List ℕ) → (bytes : List ℕ) → Option Goes → Type 0
-Settles new bytes None = IsFull shortest bytes
-Settles new bytes (Some goes) = Where shortest goes.at goes.left new bytes
+abbrev pub Settles : Reading → (new : List ℕ) → (bytes : List ℕ) → Option Goes → Type 0
+Settles r new bytes None = IsFull r bytes
+Settles r new bytes (Some goes) = Where r goes.at goes.left new bytes
 
-abbrev pub Judges : At → (left : ℕ) → (old new bytes : List ℕ) → (byte : ℕ) → Result (Option Goes) Why → Type 0
-Judges at left old new bytes byte (Ok settled) = (fault shortest (role_of at left (depth_of old)) byte ≡ None) × Settles new (bytes ++ byte ∷ []) settled
-Judges at left old new bytes byte (Err why) = fault shortest (role_of at left (depth_of old)) byte ≡ Some why
+abbrev pub Judges : Reading → At → (left : ℕ) → (old new bytes : List ℕ) → (byte : ℕ) → Result (Option Goes) Why → Type 0
+Judges r at left old new bytes byte (Ok settled) = (fault r (role_of at left (depth_of old)) byte ≡ None) × Settles r new (bytes ++ byte ∷ []) settled
+Judges r at left old new bytes byte (Err why) = fault r (role_of at left (depth_of old)) byte ≡ Some why
 
 -- Any so many bytes lead from one part of a message to another, in the same level.
-abbrev pub PassesOver : At → (left : ℕ) → (to : At) → (less count : ℕ) → Type 0
-PassesOver at left to less count =
+abbrev pub PassesOver : Reading → At → (left : ℕ) → (to : At) → (less count : ℕ) → Type 0
+PassesOver r at left to less count =
     (outer bytes more : List ℕ) → AreBytes more → length more ≡ count →
-    StandsFor (record { at = at; left = left; outer = outer }) bytes → StandsFor (record { at = to; left = less; outer = outer }) (bytes ++ more)
+    StandsFor (record { reading = r; at = at; left = left; outer = outer }) bytes → StandsFor (record { reading = r; at = to; left = less; outer = outer }) (bytes ++ more)
 
 -- These bytes do.
-abbrev pub Passes : At → (left : ℕ) → (to : At) → (less : ℕ) → (more : List ℕ) → Type 0
-Passes at left to less more =
-    (outer bytes : List ℕ) → StandsFor (record { at = at; left = left; outer = outer }) bytes → StandsFor (record { at = to; left = less; outer = outer }) (bytes ++ more)
+abbrev pub Passes : Reading → At → (left : ℕ) → (to : At) → (less : ℕ) → (more : List ℕ) → Type 0
+Passes r at left to less more =
+    (outer bytes : List ℕ) → StandsFor (record { reading = r; at = at; left = left; outer = outer }) bytes → StandsFor (record { reading = r; at = to; left = less; outer = outer }) (bytes ++ more)
 
 -- The judge has taken this front of more bytes, and no message ends in it.
 abbrev pub Skips : (old new : JudgeState) → (more : List ℕ) → Type 0
-Skips old new more = (bytes : List ℕ) → StandsFor old bytes → StandsFor new (bytes ++ more)
+Skips old new more = (new.reading ≡ old.reading) × ((bytes : List ℕ) → StandsFor old bytes → StandsFor new (bytes ++ more))
 
 -- A judge stands where the bytes that it stands for do by the grammar: at the part that their next byte plays, within as
 -- many levels as it counts.
 abbrev pub JudgesStand : Type 0
 JudgesStand = (judge : JudgeState) (bytes : List ℕ) → StandsFor judge bytes →
-    (openers : List Opener) × Position shortest openers bytes (role_of judge.at judge.left (depth_of judge.outer)) × (levels_of (role_of judge.at judge.left (depth_of judge.outer)) openers ≡ suc (length judge.outer))
+    (openers : List Opener) × Position judge.reading openers bytes (role_of judge.at judge.left (depth_of judge.outer)) × (levels_of (role_of judge.at judge.left (depth_of judge.outer)) openers ≡ suc (length judge.outer))

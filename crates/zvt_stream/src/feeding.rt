@@ -70,6 +70,7 @@ impl Model for Stream {
     ghost use Rattle.zvt_stream.specs.StreamState.{StreamState, state_code, IsSound};
     ghost use Rattle.zvt_stream.specs.Lending.{held_of, lent_of};
     ghost use Rattle.std.specs.Prelude.{◌≡◌, true};
+    ghost use Rattle.zvt_spelling.specs.Reading.{shortest};
     ghost use Rattle.zvt_stream.specs.Judge.{StandsFor, IsMessage};
 
     ghost Value = { StreamState };
@@ -78,7 +79,7 @@ impl Model for Stream {
 
     ghost view = { λ s. record { held = held_of s.lends s.held.bytes; stopped = s.stopped; lent = lent_of s.lends s.held.bytes s.spelled; room = s.held.room } };
 
-    ghost invariant = { λ s. IsSound (held_of s.lends s.held.bytes) s.stopped × StandsFor s.judge (held_of s.lends s.held.bytes) × (s.lends ≡ true → IsMessage s.held.bytes) };
+    ghost invariant = { λ s. IsSound (held_of s.lends s.held.bytes) s.stopped × StandsFor s.judge (held_of s.lends s.held.bytes) × (s.lends ≡ true → IsMessage s.held.bytes) × (s.judge.reading ≡ shortest) };
 }
 
 impl Stream {

@@ -2,9 +2,10 @@
 
 ghost use Rattle.std.specs.Prelude.{◌≡◌, ℕ, ◌+◌, ◌-◌, ◌<◌, ◌≤◌, List, [], ◌∷◌, ◌++◌, false, length, take, reverse, IfSome};
 ghost use Rattle.zvt_bcd.specs.Digits.{AreDigits};
-ghost use Rattle.zvt_spelling.specs.Reading.{shortest};
+ghost use Rattle.zvt_spelling.specs.Reading.{Reading, padded, shortest};
+ghost use Rattle.zvt_tlv.specs.Lengths.{reading_of};
 ghost use Rattle.zvt_stream.specs.Standing.{Where, Between};
-ghost use Rattle.zvt_stream.specs.Judge.{start, StandsFor, HasLevels, Stepped, Ran, taken_by, Closes, Settles, Judges, Passes, PassesOver, Skips};
+ghost use Rattle.zvt_stream.specs.Judge.{start, StandsFor, HasLevelsIn, Stepped, Ran, taken_by, Closes, Settles, Judges, Passes, PassesOver, Skips};
 ghost use Rattle.zvt_stream.specs.Moves.{IsReady};
 
 use crate::moves::{At, Move, judge_byte, judge_field};
@@ -12,7 +13,7 @@ use crate::steps::Steps;
 use arrayvec::ArrayVec;
 use std::marker::Model;
 use zvt_spelling::Why;
-use zvt_tlv::TagAt;
+use zvt_tlv::{Lengths, TagAt};
 
 /// What a judged byte leaves.
 #[derive(Clone, Copy, Debug, PartialEq, Eq)]
@@ -53,6 +54,8 @@ pub(crate) struct Passed {
 /// frame, the fields, a container and the objects in one another, how many of its bytes are to come.
 #[derive(Drop)]
 pub struct Judge {
+    /// The forms of length that it takes.
+    lengths: Lengths,
     at: At,
     /// The bytes of the innermost level that are to come.
     left: usize,
@@ -62,22 +65,40 @@ pub struct Judge {
 
 impl Model for Judge {
     ghost use Rattle.std.specs.Prelude.{reverse};
+    ghost use Rattle.zvt_tlv.specs.Lengths.{reading_of};
     ghost use Rattle.zvt_stream.specs.Judge.{JudgeState, IsJudge};
 
     ghost Value = { JudgeState };
 
-    ghost view = { λ j. record { at = j.at; left = j.left; outer = reverse j.outer.items } };
+    ghost view = { λ j. record { reading = reading_of j.lengths; at = j.at; left = j.left; outer = reverse j.outer.items } };
 
-    ghost invariant = { λ j. IsJudge (record { at = j.at; left = j.left; outer = reverse j.outer.items }) };
+    ghost invariant = { λ j. IsJudge (record { reading = reading_of j.lengths; at = j.at; left = j.left; outer = reverse j.outer.items }) };
 }
 
 impl Judge {
-    /// A judge at the start of a message.
+    /// A judge at the start of a message, which takes each length in its shortest form.
     pub fn new() -> Judge
-        ensures new { result ≡ start }
+        ensures new { result ≡ start shortest }
+        ensures stands { StandsFor result [] }
+    {
+        Judge::of(Lengths::Shortest)
+    }
+
+    /// A judge at the start of a message, which takes each length in any form that holds it.
+    pub fn loose() -> Judge
+        ensures new { result ≡ start padded }
+        ensures stands { StandsFor result [] }
+    {
+        Judge::of(Lengths::Padded)
+    }
+
+    /// A judge at the start of a message, of the lengths that are asked for.
+    fn of(lengths: Lengths) -> Judge
+        ensures new { result ≡ start (reading_of lengths) }
         ensures stands { StandsFor result [] }
     {
         Judge {
+            lengths,
             at: At::FirstControl,
             left: 1,
             outer: ArrayVec::new(),
@@ -91,6 +112,7 @@ impl Judge {
         let mut outer = ArrayVec::new();
         let _ = outer.try_extend_from_slice(self.outer.as_slice());
         Judge {
+            lengths: self.lengths,
             at: self.at,
             left: self.left,
             outer,
@@ -99,30 +121,30 @@ impl Judge {
 
     /// How many levels are open, the frame counted: at most eight, since objects nest six deep.
     pub fn levels(&self) -> usize
-        ensures levels { (bytes : List ℕ) → StandsFor self.now bytes → HasLevels bytes result }
+        ensures levels { (bytes : List ℕ) → StandsFor self.now bytes → HasLevelsIn self.now.reading bytes result }
         ensures most { result ≤ 8 }
     {
         1 + self.outer.len()
     }
 
-    /// Judges the next byte. After the end of a message, and after a refusal, the judge is a new one.
+    /// Judges the next byte. After the end of a message, and after a refusal, the judge is a new one of the same lengths.
     pub fn step(&mut self, steps: &mut Steps, byte: u8) -> Result<Judged, Why>
-        ensures judged { (bytes : List ℕ) → StandsFor self.old bytes → Stepped bytes byte result self.new }
+        ensures judged { (bytes : List ℕ) → StandsFor self.old bytes → Stepped self.old.reading bytes byte result self.new }
         ensures count { steps.new.judged.count ≡ steps.old.judged.count + 1 }
     {
         steps.judged = steps.judged.next();
-        match judge_in(self.at, self.left, &mut self.outer, byte) {
+        match judge_in(self.at, self.left, &mut self.outer, byte, self.lengths) {
             Ok(Some(goes)) => {
                 self.at = goes.at;
                 self.left = goes.left;
                 Ok(Judged::Open)
             }
             Ok(None) => {
-                *self = Judge::new();
+                *self = Judge::of(self.lengths);
                 Ok(Judged::Ended)
             }
             Err(why) => {
-                *self = Judge::new();
+                *self = Judge::of(self.lengths);
                 Err(why)
             }
         }
@@ -134,7 +156,7 @@ impl Judge {
         ensures judged { Skips self.old self.new (take result bytes.now) }
         ensures count { steps.new.judged.count ≡ steps.old.judged.count + result }
     {
-        match pass(self.at, self.left, bytes) {
+        match pass(self.at, self.left, bytes, self.lengths) {
             Some(passed) => {
                 self.at = passed.at;
                 self.left = passed.left;
@@ -148,7 +170,7 @@ impl Judge {
     /// Judges bytes up to the end of a message. Both control bytes, and those of a content but its last one, are taken at
     /// once.
     pub fn run(&mut self, steps: &mut Steps, bytes: &[u8]) -> Run
-        ensures judged { (held : List ℕ) → StandsFor self.old held → Ran held bytes.now result self.new }
+        ensures judged { (held : List ℕ) → StandsFor self.old held → Ran self.old.reading held bytes.now result self.new }
         ensures count { steps.new.judged.count ≡ steps.old.judged.count + taken_by bytes.now result }
     {
         let mut taken = 0;
@@ -173,11 +195,12 @@ fn judge_in(
     left: usize,
     outer: &mut ArrayVec<usize, 7>,
     byte: u8,
+    lengths: Lengths,
 ) -> Result<Option<Goes>, Why>
-    requires { (bytes : List ℕ) × Where shortest at left (reverse outer.old.items) bytes }
-    ensures { (bytes : List ℕ) → Where shortest at left (reverse outer.old.items) bytes → Judges at left (reverse outer.old.items) (reverse outer.new.items) bytes byte result }
+    requires { (bytes : List ℕ) × Where (reading_of lengths) at left (reverse outer.old.items) bytes }
+    ensures { (bytes : List ℕ) → Where (reading_of lengths) at left (reverse outer.old.items) bytes → Judges (reading_of lengths) at left (reverse outer.old.items) (reverse outer.new.items) bytes byte result }
 {
-    match judge_byte(at, left, outer.len().saturating_sub(1), byte) {
+    match judge_byte(at, left, outer.len().saturating_sub(1), byte, lengths) {
         Ok(Move::Within { at, left }) => Ok(Some(Goes { at, left })),
         Ok(Move::Ends { left }) => Ok(settle(left, outer)),
         Ok(Move::Opens { behind, left }) => {
@@ -189,13 +212,13 @@ fn judge_in(
 }
 
 /// The bytes at the front that end nothing and need no step of their own: none where there is no such byte.
-fn pass(at: At, left: usize, bytes: &[u8]) -> Option<Passed>
+fn pass(at: At, left: usize, bytes: &[u8], lengths: Lengths) -> Option<Passed>
     requires { IsReady at left }
-    ensures { IfSome result (λ passed. (passed.count ≤ length bytes.now) × Passes at left passed.at passed.left (take passed.count bytes.now)) }
+    ensures { IfSome result (λ passed. (passed.count ≤ length bytes.now) × Passes (reading_of lengths) at left passed.at passed.left (take passed.count bytes.now)) }
 {
     match at {
         At::FirstControl => pass_control(left, bytes),
-        At::Name => pass_fields(left, bytes),
+        At::Name => pass_fields(left, bytes, lengths),
         At::Payload => pass_payload(left, bytes.len()),
         At::Content { digits, more } => pass_content(digits, more, left, bytes),
         At::Object { more } => pass_object(more, left, bytes.len()),
@@ -205,7 +228,7 @@ fn pass(at: At, left: usize, bytes: &[u8]) -> Option<Passed>
 
 /// Both control bytes, where they stand there.
 fn pass_control(left: usize, bytes: &[u8]) -> Option<Passed>
-    ensures { IfSome result (λ passed. (passed.count ≤ length bytes.now) × Passes At.FirstControl left passed.at passed.left (take passed.count bytes.now)) }
+    ensures { IfSome result (λ passed. (passed.count ≤ length bytes.now) × ((r : Reading) → Passes r At.FirstControl left passed.at passed.left (take passed.count bytes.now))) }
 {
     match bytes {
         [high, low, ..] => Some(Passed {
@@ -221,12 +244,12 @@ fn pass_control(left: usize, bytes: &[u8]) -> Option<Passed>
 }
 
 /// Whole fields of fixed sizes, each but the last of its level.
-fn pass_fields(left: usize, bytes: &[u8]) -> Option<Passed>
+fn pass_fields(left: usize, bytes: &[u8], lengths: Lengths) -> Option<Passed>
     requires { 2 ≤ left }
-    ensures { IfSome result (λ passed. (passed.count ≤ length bytes.now) × Passes At.Name left passed.at passed.left (take passed.count bytes.now)) }
+    ensures { IfSome result (λ passed. (passed.count ≤ length bytes.now) × Passes (reading_of lengths) At.Name left passed.at passed.left (take passed.count bytes.now)) }
 {
-    let mut passed = pass_field(left, bytes)?;
-    'fields: while let Some(next) = pass_field(passed.left, &bytes[passed.count..]) {
+    let mut passed = pass_field(left, bytes, lengths)?;
+    'fields: while let Some(next) = pass_field(passed.left, &bytes[passed.count..], lengths) {
         passed.left = next.left;
         passed.count += next.count;
     }
@@ -234,9 +257,9 @@ fn pass_fields(left: usize, bytes: &[u8]) -> Option<Passed>
 }
 
 /// The field that stands first, where all of it is there, its size is fixed, and another one follows it in its level.
-fn pass_field(left: usize, bytes: &[u8]) -> Option<Passed>
+fn pass_field(left: usize, bytes: &[u8], lengths: Lengths) -> Option<Passed>
     requires { 2 ≤ left }
-    ensures { IfSome result (λ passed. (passed.at ≡ At.Name) × (2 ≤ passed.left) × (0 < passed.count) × (passed.count ≤ length bytes.now) × Passes At.Name left At.Name passed.left (take passed.count bytes.now)) }
+    ensures { IfSome result (λ passed. (passed.at ≡ At.Name) × (2 ≤ passed.left) × (0 < passed.count) × (passed.count ≤ length bytes.now) × Passes (reading_of lengths) At.Name left At.Name passed.left (take passed.count bytes.now)) }
 {
     let [name, ..] = bytes else {
         return None;
@@ -246,7 +269,7 @@ fn pass_field(left: usize, bytes: &[u8]) -> Option<Passed>
             at: At::Content { digits, more },
             left: within,
         },
-    ) = judge_field(left, *name)
+    ) = judge_field(left, *name, lengths)
     else {
         return None;
     };
@@ -266,7 +289,7 @@ fn pass_field(left: usize, bytes: &[u8]) -> Option<Passed>
 
 fn pass_payload(left: usize, most: usize) -> Option<Passed>
     requires { 0 < left }
-    ensures { IfSome result (λ passed. (passed.count ≤ most) × PassesOver At.Payload left passed.at passed.left passed.count) }
+    ensures { IfSome result (λ passed. (passed.count ≤ most) × ((r : Reading) → PassesOver r At.Payload left passed.at passed.left passed.count)) }
 {
     let count = (left - 1).min(most);
     if count == 0 {
@@ -283,7 +306,7 @@ fn pass_payload(left: usize, most: usize) -> Option<Passed>
 fn pass_content(digits: bool, more: usize, left: usize, bytes: &[u8]) -> Option<Passed>
     requires some { 0 < more }
     requires room { more ≤ left }
-    ensures { IfSome result (λ passed. (passed.count ≤ length bytes.now) × Passes (At.Content digits more) left passed.at passed.left (take passed.count bytes.now)) }
+    ensures { IfSome result (λ passed. (passed.count ≤ length bytes.now) × ((r : Reading) → Passes r (At.Content digits more) left passed.at passed.left (take passed.count bytes.now))) }
 {
     let most = (more - 1).min(bytes.len());
     let count = if digits {
@@ -322,7 +345,7 @@ fn digits_first(bytes: &[u8]) -> usize
 fn pass_object(more: usize, left: usize, most: usize) -> Option<Passed>
     requires some { 0 < more }
     requires room { more ≤ left }
-    ensures { IfSome result (λ passed. (passed.count ≤ most) × PassesOver (At.Object more) left passed.at passed.left passed.count) }
+    ensures { IfSome result (λ passed. (passed.count ≤ most) × ((r : Reading) → PassesOver r (At.Object more) left passed.at passed.left passed.count)) }
 {
     let count = (more - 1).min(most);
     if count == 0 {
@@ -337,7 +360,7 @@ fn pass_object(more: usize, left: usize, most: usize) -> Option<Passed>
 
 /// Goes on in the innermost level that has bytes to come.
 fn settle(left: usize, outer: &mut ArrayVec<usize, 7>) -> Option<Goes>
-    ensures { (bytes : List ℕ) → Between shortest left (reverse outer.old.items) bytes → Settles (reverse outer.new.items) bytes result }
+    ensures { (r : Reading) (bytes : List ℕ) → Between r left (reverse outer.old.items) bytes → Settles r (reverse outer.new.items) bytes result }
 {
     match close(left, outer) {
         Some(left) => {

@@ -1,6 +1,8 @@
 //! What one byte leads to.
 
 ghost use Rattle.std.specs.Prelude.{◌≡◌, ℕ, ◌+◌, ◌<◌, ◌≤◌, ◌^◌, List, Ok, Err};
+ghost use Rattle.zvt_spelling.specs.Reading.{Reading};
+ghost use Rattle.zvt_tlv.specs.Lengths.{reading_of};
 ghost use Rattle.zvt_stream.specs.Moves.{BeginsData, IsReady, Judges};
 ghost use Rattle.zvt_stream.specs.Standing.{HasDigits};
 
@@ -50,9 +52,15 @@ pub(crate) enum Move {
 }
 
 /// Judges a byte. `left` counts the bytes of the innermost level from this byte on, and `depth` the levels of objects.
-pub(crate) fn judge_byte(at: At, left: usize, depth: usize, byte: u8) -> Result<Move, Why>
+pub(crate) fn judge_byte(
+    at: At,
+    left: usize,
+    depth: usize,
+    byte: u8,
+    lengths: Lengths,
+) -> Result<Move, Why>
     requires { IsReady at left }
-    ensures { Judges at left depth byte result }
+    ensures { Judges (reading_of lengths) at left depth byte result }
 {
     match at {
         At::FirstControl => Ok(Move::Within {
@@ -76,21 +84,21 @@ pub(crate) fn judge_byte(at: At, left: usize, depth: usize, byte: u8) -> Result<
             high,
             low,
             size_low,
-        } => judge_high_size(high, low, size_low, byte),
+        } => judge_high_size(high, low, size_low, byte, lengths),
         At::Payload => judge_payload(left),
         At::Head { free, digits } => judge_head(free, digits, left, byte),
-        At::Name => judge_field(left, byte),
+        At::Name => judge_field(left, byte, lengths),
         At::Digit { more, before } => judge_count(more, before, left, byte),
         At::Content { digits, more } => judge_field_content(digits, more, left, byte),
-        At::Container(at) => judge_container(at, left, byte),
-        At::Tag(at) => judge_object_tag(at, left, depth, byte),
-        At::Length { nests, at } => judge_object_length(nests, at, left, byte),
+        At::Container(at) => judge_container(at, left, byte, lengths),
+        At::Tag(at) => judge_object_tag(at, left, depth, byte, lengths),
+        At::Length { nests, at } => judge_object_length(nests, at, left, byte, lengths),
         At::Object { more } => judge_object_content(more, left),
     }
 }
 
 fn judge_first_size(high: u8, low: u8, left: usize, byte: u8) -> Result<Move, Why>
-    ensures { (depth : ℕ) → Judges (At.FirstSize high low) left depth byte result }
+    ensures { (r : Reading) (depth : ℕ) → Judges r (At.FirstSize high low) left depth byte result }
 {
     if byte == 0xFF {
         return Ok(Move::Within {
@@ -101,11 +109,11 @@ fn judge_first_size(high: u8, low: u8, left: usize, byte: u8) -> Result<Move, Wh
     begin_data(high, low, usize::from(byte))
 }
 
-fn judge_high_size(high: u8, low: u8, size_low: u8, byte: u8) -> Result<Move, Why>
-    ensures { (left depth : ℕ) → Judges (At.HighSize high low size_low) left depth byte result }
+fn judge_high_size(high: u8, low: u8, size_low: u8, byte: u8, lengths: Lengths) -> Result<Move, Why>
+    ensures { (left depth : ℕ) → Judges (reading_of lengths) (At.HighSize high low size_low) left depth byte result }
 {
     let size = 256 * usize::from(byte) + usize::from(size_low);
-    if size < 255 {
+    if size < lengths.least(255) {
         return Err(Why::NotShortest);
     }
     begin_data(high, low, size)
@@ -113,7 +121,7 @@ fn judge_high_size(high: u8, low: u8, size_low: u8, byte: u8) -> Result<Move, Wh
 
 /// Data of that size begins.
 fn begin_data(high: u8, low: u8, size: usize) -> Result<Move, Why>
-    ensures { BeginsData high low size result }
+    ensures { (r : Reading) → BeginsData r high low size result }
 {
     let layout = judge_size(high, low, size)?;
     if size == 0 {
@@ -142,7 +150,7 @@ fn begin_data(high: u8, low: u8, size: usize) -> Result<Move, Why>
 
 fn judge_payload(left: usize) -> Result<Move, Why>
     requires { 0 < left }
-    ensures { (depth byte : ℕ) → byte < 256 → Judges At.Payload left depth byte result }
+    ensures { (r : Reading) (depth byte : ℕ) → byte < 256 → Judges r At.Payload left depth byte result }
 {
     if left == 1 {
         return Ok(Move::Ends { left: 0 });
@@ -155,7 +163,7 @@ fn judge_payload(left: usize) -> Result<Move, Why>
 
 fn judge_head(free: usize, digits: usize, left: usize, byte: u8) -> Result<Move, Why>
     requires { IsReady (At.Head free digits) left }
-    ensures { (depth : ℕ) → Judges (At.Head free digits) left depth byte result }
+    ensures { (r : Reading) (depth : ℕ) → Judges r (At.Head free digits) left depth byte result }
 {
     judge_content(free == 0, byte)?;
     if free + digits == 1 {
@@ -183,11 +191,11 @@ fn judge_head(free: usize, digits: usize, left: usize, byte: u8) -> Result<Move,
     }
 }
 
-pub(crate) fn judge_field(left: usize, byte: u8) -> Result<Move, Why>
+pub(crate) fn judge_field(left: usize, byte: u8, lengths: Lengths) -> Result<Move, Why>
     requires { 2 ≤ left }
-    ensures { (depth : ℕ) → Judges At.Name left depth byte result }
+    ensures { (depth : ℕ) → Judges (reading_of lengths) At.Name left depth byte result }
 {
-    let shape = judge_name(left - 1, byte, Lengths::Shortest)?;
+    let shape = judge_name(left - 1, byte, lengths)?;
     let left = left - 1;
     match shape {
         Shape::Fixed(more) => Ok(Move::Within {
@@ -218,7 +226,7 @@ pub(crate) fn judge_field(left: usize, byte: u8) -> Result<Move, Why>
 
 fn judge_count(more: usize, before: usize, left: usize, byte: u8) -> Result<Move, Why>
     requires { HasDigits more before left }
-    ensures { (depth : ℕ) → Judges (At.Digit more before) left depth byte result }
+    ensures { (r : Reading) (depth : ℕ) → Judges r (At.Digit more before) left depth byte result }
 {
     let number = judge_digit(more, before, left - 1, byte)?;
     if more > 0 {
@@ -244,7 +252,7 @@ fn judge_count(more: usize, before: usize, left: usize, byte: u8) -> Result<Move
 
 fn judge_field_content(digits: bool, more: usize, left: usize, byte: u8) -> Result<Move, Why>
     requires { IsReady (At.Content digits more) left }
-    ensures { (depth : ℕ) → Judges (At.Content digits more) left depth byte result }
+    ensures { (r : Reading) (depth : ℕ) → Judges r (At.Content digits more) left depth byte result }
 {
     judge_content(digits, byte)?;
     if more == 1 {
@@ -259,11 +267,11 @@ fn judge_field_content(digits: bool, more: usize, left: usize, byte: u8) -> Resu
     })
 }
 
-fn judge_container(at: LengthAt, left: usize, byte: u8) -> Result<Move, Why>
+fn judge_container(at: LengthAt, left: usize, byte: u8, lengths: Lengths) -> Result<Move, Why>
     requires { 1 ≤ left }
-    ensures { (depth : ℕ) → Judges (At.Container at) left depth byte result }
+    ensures { (depth : ℕ) → Judges (reading_of lengths) (At.Container at) left depth byte result }
 {
-    match judge_length(at, left - 1, true, byte, Lengths::Shortest)? {
+    match judge_length(at, left - 1, true, byte, lengths)? {
         LengthNext::More(at) => Ok(Move::Within {
             at: At::Container(at),
             left: left - 1,
@@ -275,11 +283,17 @@ fn judge_container(at: LengthAt, left: usize, byte: u8) -> Result<Move, Why>
     }
 }
 
-fn judge_object_tag(at: TagAt, left: usize, depth: usize, byte: u8) -> Result<Move, Why>
+fn judge_object_tag(
+    at: TagAt,
+    left: usize,
+    depth: usize,
+    byte: u8,
+    lengths: Lengths,
+) -> Result<Move, Why>
     requires { 2 ≤ left }
-    ensures { Judges (At.Tag at) left depth byte result }
+    ensures { Judges (reading_of lengths) (At.Tag at) left depth byte result }
 {
-    match judge_tag(at, left - 1, depth, byte, Lengths::Shortest)? {
+    match judge_tag(at, left - 1, depth, byte, lengths)? {
         TagNext::More(at) => Ok(Move::Within {
             at: At::Tag(at),
             left: left - 1,
@@ -294,11 +308,17 @@ fn judge_object_tag(at: TagAt, left: usize, depth: usize, byte: u8) -> Result<Mo
     }
 }
 
-fn judge_object_length(nests: bool, at: LengthAt, left: usize, byte: u8) -> Result<Move, Why>
+fn judge_object_length(
+    nests: bool,
+    at: LengthAt,
+    left: usize,
+    byte: u8,
+    lengths: Lengths,
+) -> Result<Move, Why>
     requires { 1 ≤ left }
-    ensures { (depth : ℕ) → Judges (At.Length nests at) left depth byte result }
+    ensures { (depth : ℕ) → Judges (reading_of lengths) (At.Length nests at) left depth byte result }
 {
-    match judge_length(at, left - 1, nests, byte, Lengths::Shortest)? {
+    match judge_length(at, left - 1, nests, byte, lengths)? {
         LengthNext::More(at) => Ok(Move::Within {
             at: At::Length { nests, at },
             left: left - 1,
@@ -323,7 +343,7 @@ fn judge_object_length(nests: bool, at: LengthAt, left: usize, byte: u8) -> Resu
 
 fn judge_object_content(more: usize, left: usize) -> Result<Move, Why>
     requires { IsReady (At.Object more) left }
-    ensures { (depth byte : ℕ) → byte < 256 → Judges (At.Object more) left depth byte result }
+    ensures { (r : Reading) (depth byte : ℕ) → byte < 256 → Judges r (At.Object more) left depth byte result }
 {
     if more == 1 {
         return Ok(Move::Ends { left: left - 1 });

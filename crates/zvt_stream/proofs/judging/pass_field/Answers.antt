@@ -2,6 +2,7 @@ use Rattle.std.proofs.Common.{◌≡◌, ◌+◌, ◌-◌, drop, length-drop, ta
 use Rattle.std.proofs.lemmas.List.{length-take-le}
 use Rattle.zvt_apdu.proofs.DataMoves.{are_bytes}
 use Rattle.zvt_field.specs.Grammar.{IsContent}
+use Rattle.zvt_tlv.specs.Lengths.{reading_of}
 use Rattle.zvt_stream.proofs.PassLemmas.{bytes_behind, digits_all, field_front}
 use Rattle.zvt_stream.proofs.judging.pass_field.Goals.{else-digits-via-then-digits+else-digits_first-more, else-digits-via-else-digits}
 use Rattle.zvt_stream.proofs.judging.pass_field.Goals as goal
@@ -18,5 +19,5 @@ returns c =
     ] in
     let told = rw (c.in-Ok-Within-Content-default.field-0-is, c.in-Ok-Within-Content-default.field-0-0-is) at c.in-Ok-Within-Content-default.ensures in
     let is_left : c.in_ok-after.after ≡ within - more = omega (arith, c.in_ok-after.ensures) in
-    let passes = field_front digits more c.args.left within bytes c.if-bytes-more.false (λ i. omega (arith, c.type_inv.bytes i)) content (omega (arith, is_left, c.if-after-lt2.false)) told in
+    let passes = field_front (reading_of c.args.lengths) digits more c.args.left within bytes c.if-bytes-more.false (λ i. omega (arith, c.type_inv.bytes i)) content (omega (arith, is_left, c.if-after-lt2.false)) told in
     (refl, c.if-after-lt2.false, omega arith, omega (arith, c.if-bytes-more.false), rw is_left passes)

@@ -1,5 +1,6 @@
-use Rattle.std.proofs.Common.{arith, length-drop, sym, ap, length}
+use Rattle.std.proofs.Common.{arith, length-drop, ap, length}
 use Rattle.std.proofs.lemmas.List.{take_rest}
+use Rattle.zvt_tlv.specs.Lengths.{reading_of}
 use Rattle.zvt_stream.proofs.PassLemmas.{named, passes_more}
 use Rattle.zvt_stream.proofs.judging.pass_fields.Goals as goal
 
@@ -18,10 +19,10 @@ fields-preserved c =
       is_name = so.is_name;
       more = p.1;
       within = omega (arith, so.within, p.3, sized, length-drop c.fields.passed.count bytes);
-      passes = passes_more _ _ _ c.args.left c.fields.passed.left c.in-Some.next.left c.fields.passed.count c.in-Some.next.count bytes so.passes p.4;
+      passes = passes_more (reading_of c.args.lengths) _ _ _ c.args.left c.fields.passed.left c.in-Some.next.left c.fields.passed.count c.in-Some.next.count bytes so.passes p.4;
     }
 
 pub returns : goal.returns
 returns c =
     let so = c.fields.invariant in
-    (so.within, named c.args.left c.fields.passed.left c.fields.passed.at _ so.is_name so.passes)
+    (so.within, named (reading_of c.args.lengths) c.args.left c.fields.passed.left c.fields.passed.at _ so.is_name so.passes)

@@ -1,4 +1,5 @@
 use Rattle.std.proofs.Common.{◌≡◌, ◌-◌, ◌≤◌, length, take}
+use Rattle.zvt_tlv.specs.Lengths.{reading_of}
 use Rattle.zvt_stream.specs.Judge.{Passes}
 use Rattle.zvt_stream.specs.declared.moves.At.TheVariants.{Name}
 use Rattle.zvt_stream.proofs.judging.pass_fields.Given as goal
@@ -8,7 +9,7 @@ invariant-fields l = record {
   is_name : l.passed.at ≡ Name;
   more : 2 ≤ l.passed.left;
   within : l.passed.count ≤ length l.bytes;
-  passes : Passes Name l.left Name l.passed.left (take l.passed.count l.bytes);
+  passes : Passes (reading_of l.lengths) Name l.left Name l.passed.left (take l.passed.count l.bytes);
 }
 
 abbrev pub decreases-fields : goal.decreases-fields

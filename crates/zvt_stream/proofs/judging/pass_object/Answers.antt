@@ -3,4 +3,4 @@ use Rattle.zvt_stream.proofs.PassLemmas.{object_passed}
 use Rattle.zvt_stream.proofs.judging.pass_object.Goals as goal
 
 pub returns : goal.returns
-returns c = (omega (arith, c.min-count.ensures), object_passed c.args.more c.args.left c.min-count.result c.requires.some (omega (arith, c.min-count.ensures)))
+returns c = (omega (arith, c.min-count.ensures), λ r. object_passed r c.args.more c.args.left c.min-count.result c.requires.some (omega (arith, c.min-count.ensures)))

@@ -4,14 +4,14 @@ use Rattle.zvt_stream.proofs.JudgeLemmas.{settled, ended, goes_on_fields, goes_o
 use Rattle.zvt_stream.proofs.judging.settle.Goals as goal
 
 pub returns-then-len-eq1 : goal.returns-then-len-eq1
-returns-then-len-eq1 c b h =
-    let s = settled c.args.left (reverse c.args.outer.now.items) b c.in-Some.left (reverse c.close.new.outer.items) h c.in-Some.ensures in
-    goes_on_fields c.in-Some.left (reverse c.close.new.outer.items) b s.0 s.1 (omega (arith, length-reverse c.close.new.outer.items, c.len.ensures.value, c.if-len-eq1.true))
+returns-then-len-eq1 c r b h =
+    let s = settled r c.args.left (reverse c.args.outer.now.items) b c.in-Some.left (reverse c.close.new.outer.items) h c.in-Some.ensures in
+    goes_on_fields r c.in-Some.left (reverse c.close.new.outer.items) b s.0 s.1 (omega (arith, length-reverse c.close.new.outer.items, c.len.ensures.value, c.if-len-eq1.true))
 
 pub returns-else-len-eq1 : goal.returns-else-len-eq1
-returns-else-len-eq1 c b h =
-    let s = settled c.args.left (reverse c.args.outer.now.items) b c.in-Some.left (reverse c.close.new.outer.items) h c.in-Some.ensures in
-    goes_on_objects c.in-Some.left (reverse c.close.new.outer.items) b s.0 s.1 (λ e. c.if-len-eq1.false (omega (arith, length-reverse c.close.new.outer.items, c.len.ensures.value, e)))
+returns-else-len-eq1 c r b h =
+    let s = settled r c.args.left (reverse c.args.outer.now.items) b c.in-Some.left (reverse c.close.new.outer.items) h c.in-Some.ensures in
+    goes_on_objects r c.in-Some.left (reverse c.close.new.outer.items) b s.0 s.1 (λ e. c.if-len-eq1.false (omega (arith, length-reverse c.close.new.outer.items, c.len.ensures.value, e)))
 
 pub returns-in-None : goal.returns-in-None
-returns-in-None c b h = ended c.args.left (reverse c.args.outer.now.items) b h c.in-None.ensures
+returns-in-None c r b h = ended r c.args.left (reverse c.args.outer.now.items) b h c.in-None.ensures

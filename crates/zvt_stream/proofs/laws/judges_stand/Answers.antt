@@ -1,6 +1,5 @@
-use Rattle.zvt_spelling.specs.Reading.{shortest}
 use Rattle.zvt_stream.proofs.Stood.{stood}
 use Rattle.zvt_stream.proofs.laws.judges_stand.Goals as goal
 
 pub returns : goal.returns
-returns c judge bytes h = stood shortest judge.at judge.left judge.outer bytes h.stands
+returns c judge bytes h = stood judge.reading judge.at judge.left judge.outer bytes h.stands

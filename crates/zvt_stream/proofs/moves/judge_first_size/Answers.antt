@@ -3,5 +3,5 @@ use Rattle.zvt_stream.proofs.FrameMoves.{size_short}
 use Rattle.zvt_stream.proofs.moves.judge_first_size.Goals as goal
 
 pub returns : goal.returns
-returns c depth =
-    size_short c.args.high c.args.low c.args.left depth c.args.byte c.from.result c.begin_data.result c.from.ensures (omega (arith, c.ranges.byte)) c.if-byte-eq255.false c.begin_data.ensures
+returns c r depth =
+    size_short r c.args.high c.args.low c.args.left depth c.args.byte c.from.result c.begin_data.result c.from.ensures (omega (arith, c.ranges.byte)) c.if-byte-eq255.false (c.begin_data.ensures r)

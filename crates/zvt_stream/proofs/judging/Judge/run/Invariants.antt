@@ -5,7 +5,7 @@ use Rattle.zvt_stream.proofs.judging.Judge.run.Given as goal
 abbrev pub invariant-loop-taken : goal.invariant-loop-taken
 invariant-loop-taken l = record {
   within : l.taken ≤ length l.bytes;
-  stands : (held : List ℕ) → StandsFor l.fn.self held → StandsFor l.self (held ++ take l.taken l.bytes);
+  stands : (held : List ℕ) → StandsFor l.fn.self held → StandsFor l.self (held ++ take l.taken l.bytes) × (l.self.reading ≡ l.fn.self.reading);
   count : l.steps.judged.count ≡ l.fn.steps.judged.count + l.taken;
 }
 

@@ -1,9 +1,0 @@
-use Rattle.std.proofs.Common.{[]}
-use Rattle.zvt_stream.proofs.JudgeLemmas.{start_stands}
-use Rattle.zvt_stream.proofs.judging.Judge.new.Goals as goal
-
-pub invariant_of-result : goal.invariant_of-result
-invariant_of-result c = ([], start_stands c.new.result.items c.new.ensures)
-
-pub returns-clause-stands : goal.returns-clause-stands
-returns-clause-stands c = start_stands c.new.result.items c.new.ensures
