@@ -1,5 +1,5 @@
 -- The books of what a walk tells.
-use Rattle.std.proofs.Common.{◌≡◌, inl, inr, ℕ, ◌≤◌, List, [], ◌∷◌, ◌++◌, Option, Some, None, Ok, Err, length, refl, sym, ◌∙◌, ap, subst, append_assoc, append-nil}
+use Rattle.std.proofs.Common.{◌≡◌, inl, inr, ℕ, ◌≤◌, Bool, true, false, not, ◌&&◌, ◌||◌, List, [], ◌∷◌, ◌++◌, Option, Some, None, Ok, Err, length, refl, sym, ◌∙◌, ap, subst, append_assoc, append-nil}
 use Rattle.std.specs.List.{flat_map}
 use Rattle.std.specs.Io.KnownBytes.{Appends, Keeps}
 use Rattle.std.specs.Prelude.{IfSome}
@@ -10,16 +10,20 @@ use Rattle.zvt_till.specs.declared.happenings.Happening.{Happening}
 use Rattle.zvt_till.specs.declared.happenings.Happening.TheVariants.{Connected}
 use Rattle.zvt_trace.specs.Listening.{AnswersWalk, Fails, Hears, HearsAll, Stops}
 use Rattle.zvt_trace.specs.Told.{At}
-use Rattle.zvt_trace.specs.Telling.{BrokenTrace, ToldSoFar}
+use Rattle.zvt_trace.specs.Telling.{ToldSoFar}
 use Rattle.zvt_trace.specs.Written.{AppendsFront, limit}
+use Rattle.zvt_trace.specs.declared.direction.Direction.TheVariants.{FromTill, FromTerminal}
 use Rattle.zvt_trace.specs.declared.fault.Tally.{Tally}
 use Rattle.zvt_trace.specs.declared.fault.TraceFault.{TraceFault}
 use Rattle.zvt_trace.specs.declared.fault.TraceFault.TheVariants.{Memory, Read, TooLong, Trace, Write}
 use Rattle.zvt_trace.specs.declared.listener.Failure.TheVariants as failure
 use Rattle.zvt_trace.specs.declared.listener.Scope.TheVariants.{WholeLine}
-use Rattle.zvt_audit.specs.Audited.{AnswersAudit, Takes}
+use Rattle.zvt_audit.specs.Audited.{AnswersAudit, AnswersRead, Takes}
 use Rattle.zvt_audit.specs.Booked.{books_text}
 use Rattle.zvt_audit.specs.Happened.{happenings_of, log_of}
+use Rattle.zvt_audit.specs.Orders.{are_swapped, is_order_from, noticed, orders_from}
+use Rattle.zvt_audit.specs.declared.auditing.Audited.{Audited}
+use Rattle.zvt_audit.specs.declared.orders.Orders.{Orders}
 
 -- nothing happened
 pub takes_none : (books : BooksSoFar) → Takes books books []
@@ -31,8 +35,8 @@ takes_more a b c x y first second = λ log judged. subst (λ (l : List Happening
 
 -- ---- what is heard
 
-abbrev pub takes : {S : Type 0} → (S → BooksSoFar) → Hears S
-takes books old event new = Takes (books old) (books new) (happenings_of event.told)
+abbrev pub hears : {S : Type 0} → (S → BooksSoFar) → (S → Orders) → Hears S
+hears books orders old event new = Takes (books old) (books new) (happenings_of event.told) × (orders new ≡ noticed (orders old) event.told)
 
 abbrev pub wants_memory : {S : Type 0} → Fails S
 wants_memory old event why new = why ≡ failure.Memory
@@ -40,15 +44,46 @@ wants_memory old event why new = why ≡ failure.Memory
 abbrev happened_by : List At → List Happening
 happened_by events = flat_map (λ (event : At). happenings_of event.told) events
 
-taken : {S : Type 0} (books_of : S → BooksSoFar) (events : List At) (old new : S) → HearsAll (takes books_of) old events new → Takes (books_of old) (books_of new) (happened_by events)
-taken {S = S} books_of [] old new same = subst (λ (s : S). Takes (books_of old) (books_of s) []) (sym same) (takes_none (books_of old))
-taken books_of (event ∷ events) old new some =
-    takes_more (books_of old) (books_of some.0) (books_of new) (happenings_of event.told) (happened_by events) some.1 (taken books_of events some.0 new some.2)
+taken : {S : Type 0} (books_of : S → BooksSoFar) (orders : S → Orders) (events : List At) (old new : S) → HearsAll (hears books_of orders) old events new → Takes (books_of old) (books_of new) (happened_by events)
+taken {S = S} books_of orders [] old new same = subst (λ (s : S). Takes (books_of old) (books_of s) []) (sym same) (takes_none (books_of old))
+taken books_of orders (event ∷ events) old new some =
+    takes_more (books_of old) (books_of some.0) (books_of new) (happenings_of event.told) (happened_by events) some.1.0 (taken books_of orders events some.0 new some.2)
 
 -- the books of the whole log, from the connection on
-log_judged : {S : Type 0} (books_of : S → BooksSoFar) (events : List At) (first : BooksSoFar) (old new : S) → HasJudged [] first → Takes first (books_of old) (Connected ∷ []) → HearsAll (takes books_of) old events new
+log_judged : {S : Type 0} (books_of : S → BooksSoFar) (orders : S → Orders) (events : List At) (first : BooksSoFar) (old new : S) → HasJudged [] first → Takes first (books_of old) (Connected ∷ []) → HearsAll (hears books_of orders) old events new
     → HasJudged (log_of events) (books_of new)
-log_judged books_of events first old new start connects heard = taken books_of events old new heard (Connected ∷ []) (connects [] start)
+log_judged books_of orders events first old new start connects heard = taken books_of orders events old new heard (Connected ∷ []) (connects [] start)
+
+-- ---- who sent orders
+
+or_false : (b : Bool) → (b || false) ≡ b
+or_false true = refl
+or_false false = refl
+
+-- nothing was noticed
+pub unnoticed : (o : Orders) → o ≡ record { till = o.till || false; terminal = o.terminal || false }
+unnoticed o = rw (or_false o.till, or_false o.terminal) refl
+
+or_more : (a b c : Bool) → ((a || b) || c) ≡ (a || (b || c))
+or_more true b c = refl
+or_more false b c = refl
+
+till_noticed : {S : Type 0} (books_of : S → BooksSoFar) (orders : S → Orders) (events : List At) (old new : S) → HearsAll (hears books_of orders) old events new → (orders new).till ≡ ((orders old).till || orders_from FromTill events)
+till_noticed {S = S} books_of orders [] old new same = subst (λ (s : S). (orders s).till ≡ ((orders old).till || false)) (sym same) (sym (or_false (orders old).till))
+till_noticed books_of orders (event ∷ events) old new some =
+    till_noticed books_of orders events some.0 new some.2 ∙ ap (λ (o : Orders). o.till || orders_from FromTill events) some.1.1 ∙ or_more (orders old).till (is_order_from FromTill event.told) (orders_from FromTill events)
+
+terminal_noticed : {S : Type 0} (books_of : S → BooksSoFar) (orders : S → Orders) (events : List At) (old new : S) → HearsAll (hears books_of orders) old events new → (orders new).terminal ≡ ((orders old).terminal || orders_from FromTerminal events)
+terminal_noticed {S = S} books_of orders [] old new same = subst (λ (s : S). (orders s).terminal ≡ ((orders old).terminal || false)) (sym same) (sym (or_false (orders old).terminal))
+terminal_noticed books_of orders (event ∷ events) old new some =
+    terminal_noticed books_of orders events some.0 new some.2 ∙ ap (λ (o : Orders). o.terminal || orders_from FromTerminal events) some.1.1 ∙ or_more (orders old).terminal (is_order_from FromTerminal event.told) (orders_from FromTerminal events)
+
+swapped : {S : Type 0} (books_of : S → BooksSoFar) (orders : S → Orders) (events : List At) (old new : S) → (orders old).till ≡ false → (orders old).terminal ≡ false → HearsAll (hears books_of orders) old events new
+    → (not (orders new).till && (orders new).terminal) ≡ are_swapped events
+swapped books_of orders events old new till terminal heard =
+    let by_till = till_noticed books_of orders events old new heard ∙ ap (λ (b : Bool). b || orders_from FromTill events) till in
+    let by_terminal = terminal_noticed books_of orders events old new heard ∙ ap (λ (b : Bool). b || orders_from FromTerminal events) terminal in
+    ap (λ (b : Bool). not b && (orders new).terminal) by_till ∙ ap (λ (b : Bool). not (orders_from FromTill events) && b) by_terminal
 
 -- ---- what is written
 
@@ -56,31 +91,33 @@ keeps_same : (held : Option (List ℕ)) → Keeps held held
 keeps_same None = tt
 keeps_same (Some bytes) = refl
 
-pub audited : {S : Type 0} (books_of : S → BooksSoFar) (left : Option (List ℕ)) (trace : List ℕ) (tally : Tally) (old new : Option (List ℕ)) (first : BooksSoFar) (connected closed : S) (found : Books) (text : List ℕ)
-    → IfSome left (λ bytes. trace ≡ bytes) → length trace ≤ limit → HasJudged [] first → Takes first (books_of connected) (Connected ∷ []) → AnswersWalk (takes books_of) wants_memory WholeLine (lines trace) connected closed (Ok tally)
+pub audited : {S : Type 0} (books_of : S → BooksSoFar) (orders : S → Orders) (trace : List ℕ) (answer : Audited) (old new : Option (List ℕ)) (first : BooksSoFar) (connected closed : S) (found : Books) (text : List ℕ)
+    → HasJudged [] first → Takes first (books_of connected) (Connected ∷ []) → (orders connected).till ≡ false → (orders connected).terminal ≡ false
+    → AnswersWalk (hears books_of orders) wants_memory WholeLine (lines trace) connected closed (Ok answer.tally) → answer.swapped ≡ (not (orders closed).till && (orders closed).terminal)
     → ((log : List Happening) → HasJudged log (books_of closed) → found ≡ books log) → text ≡ books_text found → Appends old new text
-    → IfSome left (λ bytes. AnswersAudit bytes old new (Ok tally))
-audited books_of None trace tally old new first connected closed found text read few start connects walked closes says appended = tt
-audited books_of (Some bytes) trace tally old new first connected closed found text read few start connects walked closes says appended =
-    let judged = log_judged books_of walked.0 first connected closed start connects walked.2 in
-    subst (λ (b : List ℕ). AnswersAudit b old new (Ok tally)) read
-    (few, (walked.0, walked.1, subst (λ (t : List ℕ). Appends old new t) (says ∙ ap books_text (closes (log_of walked.0) judged)) appended, walked.3))
+    → AnswersRead trace old new (Ok answer)
+audited books_of orders trace answer old new first connected closed found text start connects till terminal walked is_swapped closes says appended =
+    let judged = log_judged books_of orders walked.0 first connected closed start connects walked.2 in (
+      walked.0,
+      walked.1,
+      subst (λ (t : List ℕ). Appends old new t) (says ∙ ap books_text (closes (log_of walked.0) judged)) appended,
+      walked.3,
+      is_swapped ∙ swapped books_of orders walked.0 connected closed till terminal walked.2,
+    )
 
-pub audit_failed : {S : Type 0} (books_of : S → BooksSoFar) (left : Option (List ℕ)) (trace : List ℕ) (tally : Tally) (old new : Option (List ℕ)) (first : BooksSoFar) (connected closed : S) (found : Books) (text : List ℕ)
-    → IfSome left (λ bytes. trace ≡ bytes) → length trace ≤ limit → HasJudged [] first → Takes first (books_of connected) (Connected ∷ []) → AnswersWalk (takes books_of) wants_memory WholeLine (lines trace) connected closed (Ok tally)
+pub audit_failed : {S : Type 0} (books_of : S → BooksSoFar) (orders : S → Orders) (trace : List ℕ) (tally : Tally) (old new : Option (List ℕ)) (first : BooksSoFar) (connected closed : S) (found : Books) (text : List ℕ)
+    → HasJudged [] first → Takes first (books_of connected) (Connected ∷ []) → AnswersWalk (hears books_of orders) wants_memory WholeLine (lines trace) connected closed (Ok tally)
     → ((log : List Happening) → HasJudged log (books_of closed) → found ≡ books log) → text ≡ books_text found → AppendsFront old new text
-    → IfSome left (λ bytes. AnswersAudit bytes old new (Err Write))
-audit_failed books_of None trace tally old new first connected closed found text read few start connects walked closes says front = tt
-audit_failed books_of (Some bytes) trace tally old new first connected closed found text read few start connects walked closes says front =
-    let judged = log_judged books_of walked.0 first connected closed start connects walked.2 in
-    subst (λ (b : List ℕ). AnswersAudit b old new (Err Write)) read
-    (few, walked.0, walked.1, subst (λ (t : List ℕ). AppendsFront old new t) (says ∙ ap books_text (closes (log_of walked.0) judged)) front)
+    → AnswersRead trace old new (Err Write)
+audit_failed books_of orders trace tally old new first connected closed found text start connects walked closes says front =
+    let judged = log_judged books_of orders walked.0 first connected closed start connects walked.2 in
+    (walked.0, walked.1, subst (λ (t : List ℕ). AppendsFront old new t) (says ∙ ap books_text (closes (log_of walked.0) judged)) front)
 
 -- ---- where the walk fails
 
 -- an auditor writes nothing, so no write fails
-pub no_write : {S : Type 0} (books_of : S → BooksSoFar) (lines : List (List ℕ)) (old new : S) → AnswersWalk (takes books_of) wants_memory WholeLine lines old new (Err Write) → ⊥
-no_write {S = S} books_of lines old new failed = by failed.stops
+pub no_write : {S : Type 0} (books_of : S → BooksSoFar) (orders : S → Orders) (lines : List (List ℕ)) (old new : S) → AnswersWalk (hears books_of orders) wants_memory WholeLine lines old new (Err Write) → ⊥
+no_write {S = S} books_of orders lines old new failed = by failed.stops
   where
     differ : failure.Write ≡ failure.Memory → ⊥
     differ e = cc
@@ -89,13 +126,32 @@ no_write {S = S} books_of lines old new failed = by failed.stops
     by (inl (is, so_far, same)) = differ is
     by (inr (event, so_far, left)) = differ left
 
-pub walk_failed : {S : Type 0} (books_of : S → BooksSoFar) (left : Option (List ℕ)) (trace slice : List ℕ) (fault : TraceFault) (held : Option (List ℕ)) (old new : S) → IfSome left (λ bytes. trace ≡ bytes) → length trace ≤ limit → slice ≡ trace
-    → AnswersWalk (takes books_of) wants_memory WholeLine (lines slice) old new (Err fault) → IfSome left (λ bytes. AnswersAudit bytes held held (Err fault))
-walk_failed books_of None trace slice fault held old new read few same walked = tt
-walk_failed books_of (Some bytes) trace slice (Trace number what) held old new read few same walked =
-    subst (λ (b : List ℕ). AnswersAudit b held held (Err (Trace number what))) read
-    (few, walked.0, subst (λ (b : List ℕ). BrokenTrace WholeLine (lines b) number what walked.0) same walked.1, keeps_same held)
-walk_failed books_of (Some bytes) trace slice Memory held old new read few same walked = keeps_same held
-walk_failed books_of (Some bytes) trace slice Write held old new read few same walked = absurd (no_write books_of (lines slice) old new walked)
-walk_failed books_of (Some bytes) trace slice TooLong held old new read few same never = absurd never
-walk_failed books_of (Some bytes) trace slice Read held old new read few same never = absurd never
+pub walk_failed : {S : Type 0} (books_of : S → BooksSoFar) (orders : S → Orders) (trace : List ℕ) (fault : TraceFault) (held : Option (List ℕ)) (old new : S)
+    → AnswersWalk (hears books_of orders) wants_memory WholeLine (lines trace) old new (Err fault) → AnswersRead trace held held (Err fault)
+walk_failed books_of orders trace (Trace number what) held old new walked = (walked.0, walked.1, keeps_same held)
+walk_failed books_of orders trace Memory held old new walked = keeps_same held
+walk_failed books_of orders trace Write held old new walked = absurd (no_write books_of orders (lines trace) old new walked)
+walk_failed books_of orders trace TooLong held old new never = absurd never
+walk_failed books_of orders trace Read held old new never = absurd never
+
+-- ---- a trace that is read first
+
+pub read_audited : (left : Option (List ℕ)) (trace slice : List ℕ) (old new : Option (List ℕ)) (found : Audited) → IfSome left (λ bytes. trace ≡ bytes) → length trace ≤ limit → slice ≡ trace
+    → AnswersRead slice old new (Ok found) → IfSome left (λ bytes. AnswersAudit bytes old new (Ok found.tally))
+read_audited None trace slice old new found read few same answers = tt
+read_audited (Some bytes) trace slice old new found read few same answers =
+    let here = subst (λ (b : List ℕ). AnswersRead b old new (Ok found)) same answers in
+    subst (λ (b : List ℕ). AnswersAudit b old new (Ok found.tally)) read (few, (here.0, here.1, here.2, here.3))
+
+pub read_failed : (left : Option (List ℕ)) (trace slice : List ℕ) (old new : Option (List ℕ)) (fault : TraceFault) → IfSome left (λ bytes. trace ≡ bytes) → length trace ≤ limit → slice ≡ trace
+    → AnswersRead slice old new (Err fault) → IfSome left (λ bytes. AnswersAudit bytes old new (Err fault))
+read_failed None trace slice old new fault read few same answers = tt
+read_failed (Some bytes) trace slice old new fault read few same answers =
+    subst (λ (b : List ℕ). AnswersAudit b old new (Err fault)) read (by fault (subst (λ (b : List ℕ). AnswersRead b old new (Err fault)) same answers))
+  where
+    by : (fault : TraceFault) → AnswersRead trace old new (Err fault) → AnswersAudit trace old new (Err fault)
+    by (Trace number what) answers = (few, answers.0, answers.1, answers.2)
+    by Memory answers = answers
+    by Write answers = (few, answers.0, answers.1, answers.2)
+    by TooLong never = absurd never
+    by Read never = absurd never

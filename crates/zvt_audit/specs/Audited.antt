@@ -1,5 +1,5 @@
 -- What an audit answers and writes.
-use Rattle.std.specs.Prelude.{ℕ, ◌<◌, ◌≤◌, List, ◌++◌, length, Option, Result, Ok, Err}
+use Rattle.std.specs.Prelude.{◌≡◌, ℕ, ◌<◌, ◌≤◌, List, ◌++◌, length, Option, Result, Ok, Err}
 use Rattle.std.specs.Io.KnownBytes.{Appends, Keeps}
 use Rattle.std.specs.Str.Lines.{lines}
 use Rattle.zvt_till.specs.Books.{books}
@@ -14,6 +14,8 @@ use Rattle.zvt_trace.specs.declared.fault.TraceFault.TheVariants.{Memory, Read, 
 use Rattle.zvt_trace.specs.declared.listener.Scope.TheVariants.{WholeLine}
 use Rattle.zvt_audit.specs.Booked.{books_text}
 use Rattle.zvt_audit.specs.Happened.{log_of}
+use Rattle.zvt_audit.specs.Orders.{are_swapped}
+use Rattle.zvt_audit.specs.declared.auditing.Audited.{Audited}
 
 -- the books of a log became those of the log with these happenings behind it
 abbrev pub Takes : (old new : BooksSoFar) → List Happening → Type 0
@@ -24,7 +26,17 @@ abbrev pub WritesBooks : (trace : List ℕ) → Tally → (old new : Option (Lis
 WritesBooks trace tally old new =
     (events : List At) × WholeTrace WholeLine (lines trace) events × Appends old new (books_text (books (log_of events))) × Tallies tally events
 
--- What an audit answers for a trace of known bytes. Where it fails nothing is written, but of a write that failed a front of the text.
+-- What an audit answers for a trace that was read. Where it fails nothing is written, but of a write that failed a front of the text.
+abbrev pub AnswersRead : (trace : List ℕ) → (old new : Option (List ℕ)) → Result Audited TraceFault → Type 0
+AnswersRead trace old new (Ok audited) =
+    (events : List At) × WholeTrace WholeLine (lines trace) events × Appends old new (books_text (books (log_of events))) × Tallies audited.tally events × (audited.swapped ≡ are_swapped events)
+AnswersRead trace old new (Err (Trace number what)) = (events : List At) × BrokenTrace WholeLine (lines trace) number what events × Keeps old new
+AnswersRead trace old new (Err Memory) = Keeps old new
+AnswersRead trace old new (Err Write) = (events : List At) × WholeTrace WholeLine (lines trace) events × AppendsFront old new (books_text (books (log_of events)))
+AnswersRead trace old new (Err TooLong) = ⊥
+AnswersRead trace old new (Err Read) = ⊥
+
+-- The same for a trace of known bytes, which may be too long.
 abbrev pub AnswersAudit : (trace : List ℕ) → (old new : Option (List ℕ)) → Result Tally TraceFault → Type 0
 AnswersAudit trace old new (Ok tally) = (length trace ≤ limit) × WritesBooks trace tally old new
 AnswersAudit trace old new (Err (Trace number what)) = (length trace ≤ limit) × (events : List At) × BrokenTrace WholeLine (lines trace) number what events × Keeps old new

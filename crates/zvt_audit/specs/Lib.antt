@@ -1,3 +1,4 @@
 pub mod Audited
 pub mod Booked
 pub mod Happened
+pub mod Orders

@@ -1,18 +1,27 @@
 //! The books of a whole trace.
-ghost use Rattle.std.specs.Prelude.{◌≡◌, ◌<◌, Err, IfErr, IfSome, OnErr, OnOk};
+ghost use Rattle.std.specs.Prelude.{◌≡◌, ◌<◌, ◌≤◌, length, Err, IfErr, IfSome, OnErr, OnOk};
 ghost use Rattle.std.specs.Io.KnownBytes.{Appends};
 ghost use Rattle.zvt_io.specs.Devices.{CountsFailure};
-ghost use Rattle.zvt_trace.specs.Written.{AppendsFront};
-ghost use Rattle.zvt_audit.specs.Audited.{AnswersAudit};
+ghost use Rattle.zvt_trace.specs.Written.{AppendsFront, limit};
+ghost use Rattle.zvt_audit.specs.Audited.{AnswersAudit, AnswersRead};
 
 use crate::auditor::Auditor;
 use crate::booked;
+use crate::orders::Orders;
 use std::alloc::Global;
 use zvt_io::{Failed, Sink, Source};
 use zvt_text::Text;
 use zvt_till::Happening;
 use zvt_till::books::Bookkeeping;
 use zvt_trace::{Scope, Tally, TraceFault, read_trace, walk};
+
+/// What an audit found besides the books.
+#[derive(Clone, Copy, Debug, PartialEq, Eq)]
+pub struct Audited {
+    pub tally: Tally,
+    /// Orders, which a till sends, came from where the terminal is said to be, and none from where the till is.
+    pub swapped: bool,
+}
 
 /// Writes the books of the trace: a line for each payment that was completed, then one for each of which it is not
 /// known whether it happened, and the sum of the former in the smallest unit of the currency. Payments that were taken
@@ -34,21 +43,33 @@ pub fn audit<R: Source, W: Sink>(
     ensures write { result ≡ Err TraceFault.Write → W.failures writer.old < W.failures writer.new }
 {
     let trace = read_trace(alloc, reader)?;
+    let audited = audit_trace(alloc, trace.as_slice(), writer)?;
+    Ok(audited.tally)
+}
+
+/// As [`audit`], of a trace that was read.
+pub fn audit_trace<W: Sink>(
+    alloc: Global,
+    trace: &[u8],
+    writer: &mut W,
+) -> Result<Audited, TraceFault>
+    requires { length trace.now ≤ limit }
+    ensures writes { AnswersRead trace.now (W.written writer.old) (W.written writer.new) result }
+    ensures write { result ≡ Err TraceFault.Write → W.failures writer.old < W.failures writer.new }
+{
     let mut books = Bookkeeping::new(alloc);
     books.take(&Happening::Connected)?;
-    let mut auditor = Auditor { books };
-    let tally = walk(
-        &mut auditor,
-        &mut (),
-        alloc,
-        Scope::WholeLine,
-        trace.as_slice(),
-    )?;
+    let mut auditor = Auditor {
+        books,
+        orders: Orders::none(),
+    };
+    let tally = walk(&mut auditor, &mut (), alloc, Scope::WholeLine, trace)?;
+    let swapped = auditor.orders.are_swapped();
     let found = auditor.books.close()?;
     let mut text = Text::new(alloc);
     booked::write(&mut text, &found)?;
     put(&text, writer)?;
-    Ok(tally)
+    Ok(Audited { tally, swapped })
 }
 
 /// Writes the text to the device.

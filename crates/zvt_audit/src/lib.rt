@@ -5,5 +5,6 @@ mod auditing;
 mod auditor;
 mod booked;
 mod happened;
+mod orders;
 
-pub use auditing::audit;
+pub use auditing::{Audited, audit, audit_trace};

@@ -23,7 +23,7 @@ pub fn show<R: Source, W: Sink>(
     ensures write { result ≡ Err TraceFault.Write → W.failures writer.old < W.failures writer.new }
 {
     let trace = read_trace(alloc, reader)?;
-    write_lines(alloc, Style::Show, trace.as_slice(), writer)
+    show_trace(alloc, trace.as_slice(), writer)
 }
 
 /// Writes each whole message of the trace as one line of a trace, and all else as remarks.
@@ -37,7 +37,7 @@ pub fn join<R: Source, W: Sink>(
     ensures write { result ≡ Err TraceFault.Write → W.failures writer.old < W.failures writer.new }
 {
     let trace = read_trace(alloc, reader)?;
-    write_lines(alloc, Style::Join, trace.as_slice(), writer)
+    join_trace(alloc, trace.as_slice(), writer)
 }
 
 /// Writes the text of each print line of the terminal as one line, with escapes (`\xHH`) for what is no printing
@@ -52,7 +52,38 @@ pub fn receipts<R: Source, W: Sink>(
     ensures write { result ≡ Err TraceFault.Write → W.failures writer.old < W.failures writer.new }
 {
     let trace = read_trace(alloc, reader)?;
-    write_lines(alloc, Style::Receipts, trace.as_slice(), writer)
+    receipts_trace(alloc, trace.as_slice(), writer)
+}
+
+/// As [`show`], of a trace that was read.
+pub fn show_trace<W: Sink>(alloc: Global, trace: &[u8], writer: &mut W) -> Result<Tally, TraceFault>
+    requires { length trace.now ≤ limit }
+    ensures writes { AnswersLines Show (lines trace.now) (W.written writer.old) (W.written writer.new) result }
+    ensures write { result ≡ Err TraceFault.Write → W.failures writer.old < W.failures writer.new }
+{
+    write_lines(alloc, Style::Show, trace, writer)
+}
+
+/// As [`join`], of a trace that was read.
+pub fn join_trace<W: Sink>(alloc: Global, trace: &[u8], writer: &mut W) -> Result<Tally, TraceFault>
+    requires { length trace.now ≤ limit }
+    ensures writes { AnswersLines Join (lines trace.now) (W.written writer.old) (W.written writer.new) result }
+    ensures write { result ≡ Err TraceFault.Write → W.failures writer.old < W.failures writer.new }
+{
+    write_lines(alloc, Style::Join, trace, writer)
+}
+
+/// As [`receipts`], of a trace that was read.
+pub fn receipts_trace<W: Sink>(
+    alloc: Global,
+    trace: &[u8],
+    writer: &mut W,
+) -> Result<Tally, TraceFault>
+    requires { length trace.now ≤ limit }
+    ensures writes { AnswersLines Receipts (lines trace.now) (W.written writer.old) (W.written writer.new) result }
+    ensures write { result ≡ Err TraceFault.Write → W.failures writer.old < W.failures writer.new }
+{
+    write_lines(alloc, Style::Receipts, trace, writer)
 }
 
 /// Writes the text of what the lines of a trace tell. It goes out in blocks, the last one also where the walk fails.

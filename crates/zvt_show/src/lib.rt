@@ -1,7 +1,7 @@
 //! The text of traces of the line between a till and its terminal.
 //!
 //! [`show`] writes each message with its fields, [`join`] each message as one line of a trace, and [`receipts`] the text
-//! of the terminal's print lines.
+//! of the terminal's print lines. Each reads a trace from a device, or takes one that was read (`show_trace` ..).
 #![tactic(auto)]
 
 mod commands;
@@ -10,4 +10,4 @@ mod message;
 mod pages;
 mod style;
 
-pub use commands::{join, receipts, show};
+pub use commands::{join, join_trace, receipts, receipts_trace, show, show_trace};

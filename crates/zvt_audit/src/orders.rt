@@ -1,0 +1,58 @@
+//! Which sides of the line sent a till's orders.
+ghost use Rattle.std.specs.Prelude.{◌≡◌, false, not, ◌&&◌};
+ghost use Rattle.zvt_audit.specs.Orders.{is_order, noticed};
+ghost use Rattle.zvt_trace.specs.Told as told;
+
+use zvt_apdu::{ApduView, Kind};
+use zvt_trace::Direction;
+
+/// The sides that have sent a till's order.
+#[derive(Clone, Copy, Debug, PartialEq, Eq)]
+pub(crate) struct Orders {
+    pub(crate) till: bool,
+    pub(crate) terminal: bool,
+}
+
+impl Orders {
+    /// None was sent.
+    pub(crate) fn none() -> Orders
+        ensures { (result.till ≡ false) × (result.terminal ≡ false) }
+    {
+        Orders {
+            till: false,
+            terminal: false,
+        }
+    }
+
+    /// Notices a message.
+    pub(crate) fn notice(&mut self, from: Direction, apdu: &ApduView<'_>)
+        ensures { self.new ≡ noticed self.old (told.message from apdu.now) }
+    {
+        let is_order = is_order(apdu);
+        match from {
+            Direction::FromTill => self.till = self.till || is_order,
+            Direction::FromTerminal => self.terminal = self.terminal || is_order,
+        }
+    }
+
+    /// Whether orders came from where the terminal is said to be, and none from where the till is.
+    pub(crate) fn are_swapped(&self) -> bool
+        ensures { result ≡ (not self.now.till && self.now.terminal) }
+    {
+        !self.till && self.terminal
+    }
+}
+
+/// Whether a till gives an order by this message.
+fn is_order(apdu: &ApduView<'_>) -> bool
+    ensures { result ≡ is_order apdu.now }
+{
+    match apdu.kind() {
+        Kind::Registration
+        | Kind::Authorisation
+        | Kind::Reversal
+        | Kind::EndOfDay
+        | Kind::AbortOrder => true,
+        _ => false,
+    }
+}
