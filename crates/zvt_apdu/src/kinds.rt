@@ -36,7 +36,7 @@ pub enum Kind {
 /// The kind of the message that has these control bytes.
 #[tactic(auto, unfolding(crate::specs::Kinds::kind_at))]
 #[inline(always)]
-pub(crate) fn kind_at(high: u8, low: u8) -> Kind
+pub fn kind_at(high: u8, low: u8) -> Kind
     ensures { result ≡ kind_at high low }
 {
     match high {

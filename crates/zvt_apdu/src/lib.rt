@@ -16,7 +16,7 @@ mod writer;
 pub use apdu::Apdu;
 pub use brief::{Brief, brief_message, put_brief};
 pub use frame::{Layout, judge_size};
-pub use kinds::Kind;
+pub use kinds::{Kind, kind_at};
 pub use messages::{BadValue, Message, Rest};
 pub use normalising::normalise;
 pub use owning::owned;

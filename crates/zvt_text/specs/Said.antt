@@ -2,6 +2,9 @@
 use Rattle.std.specs.Prelude.{ℕ, ◌+◌, ◌/◌, ◌%◌, List, [], ◌∷◌, ◌++◌, Option, Some, None, option_map, unwrap_or, codes}
 use Rattle.hex.specs.Hex.{encode_upper}
 use Rattle.zvt_field.specs.Grammar.{Field}
+use Rattle.zvt_apdu.specs.Kinds.{kind_of}
+use Rattle.zvt_apdu.specs.declared.kinds.Kind.{Kind}
+use Rattle.zvt_apdu.specs.declared.kinds.Kind.TheVariants as kind
 use Rattle.zvt_apdu.specs.Message.{Message, ack, nack, registration, authorisation, reversal, end_of_day, abort_order, status, intermediate, print_line, text_block, completion, abort, other}
 use Rattle.zvt_text.specs.Bytes.{hex_of, quoted}
 use Rattle.zvt_text.specs.Results.{result_words}
@@ -40,22 +43,25 @@ abbrev pub currency_text : Option (ℕ × List Field) → List ℕ
 currency_text None = []
 currency_text (Some rest) = named_currency rest.0
 
--- the name of a message's kind
+-- the name of a kind of message
+abbrev pub kind_name : Kind → List ℕ
+kind_name kind.Ack = codes "Ack"
+kind_name kind.Nack = codes "Nack"
+kind_name kind.Registration = codes "Registration"
+kind_name kind.Authorisation = codes "Authorisation"
+kind_name kind.Reversal = codes "Reversal"
+kind_name kind.EndOfDay = codes "EndOfDay"
+kind_name kind.AbortOrder = codes "AbortOrder"
+kind_name kind.Status = codes "Status"
+kind_name kind.Intermediate = codes "Intermediate"
+kind_name kind.PrintLine = codes "PrintLine"
+kind_name kind.TextBlock = codes "TextBlock"
+kind_name kind.Completion = codes "Completion"
+kind_name kind.Abort = codes "Abort"
+kind_name kind.Other = codes "Other"
+
 abbrev pub kind_text : Message → List ℕ
-kind_text (ack payload) = codes "Ack"
-kind_text (nack code payload) = codes "Nack"
-kind_text (registration password config rest) = codes "Registration"
-kind_text (authorisation fields) = codes "Authorisation"
-kind_text (reversal password fields) = codes "Reversal"
-kind_text (end_of_day password fields) = codes "EndOfDay"
-kind_text (abort_order fields) = codes "AbortOrder"
-kind_text (status fields) = codes "Status"
-kind_text (intermediate step payload) = codes "Intermediate"
-kind_text (print_line attribute text) = codes "PrintLine"
-kind_text (text_block fields) = codes "TextBlock"
-kind_text (completion fields) = codes "Completion"
-kind_text (abort code payload) = codes "Abort"
-kind_text (other high low payload) = codes "Other"
+kind_text message = kind_name (kind_of message)
 
 -- what a head says behind the name; a password is never written
 abbrev pub detail_text : Message → List ℕ

@@ -1,6 +1,6 @@
 //! The heads of messages.
 ghost use Rattle.std.specs.Prelude.{◌≡◌, ◌++◌, OnOk};
-ghost use Rattle.zvt_text.specs.Said.{detail_text, head_text, kind_text};
+ghost use Rattle.zvt_text.specs.Said.{detail_text, head_text, kind_name};
 
 use crate::details::{byte_part, config, control, currency, data, outcome, printed};
 use crate::text::Text;
@@ -11,15 +11,15 @@ use zvt_apdu::{ApduView, Kind};
 pub(crate) fn head(text: &mut Text, message: &ApduView<'_>) -> Result<(), AllocError>
     ensures { OnOk result (text.new ≡ text.old ++ head_text message.now) }
 {
-    text.word(kind(message).as_bytes())?;
+    text.word(kind_name(message.kind()).as_bytes())?;
     detail(text, message)
 }
 
-/// The name of a message's kind.
-fn kind(message: &ApduView<'_>) -> &'static str
-    ensures { result.now ≡ kind_text message.now }
+/// The name of a kind of message, as each text has it.
+pub fn kind_name(kind: Kind) -> &'static str
+    ensures { result.now ≡ kind_name kind }
 {
-    match message.kind() {
+    match kind {
         Kind::Ack => "Ack",
         Kind::Nack => "Nack",
         Kind::Registration => "Registration",

@@ -16,4 +16,5 @@ mod values;
 
 pub use bytes::hexadecimal;
 pub use drafts::{escaped, message, numbers, result_words};
+pub use heads::kind_name;
 pub use text::Text;
