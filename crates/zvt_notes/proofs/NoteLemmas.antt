@@ -1,0 +1,173 @@
+-- The notes of what a walk tells.
+use Rattle.std.proofs.Common.{◌≡◌, ◌⊎◌, arith, inl, inr, ℕ, ◌+◌, List, [], ◌∷◌, ◌++◌, Result, Option, Ok, Err, refl, sym, ◌∙◌, ap, subst, append_assoc, append-nil}
+use Rattle.std.specs.List.{flat_map}
+use Rattle.std.specs.String.{string_bytes}
+use Rattle.std.specs.Io.KnownBytes.{Appends}
+use Rattle.std.specs.Prelude.{IfErr, OnErr, OnOk}
+use Rattle.std.proofs.lemmas.List.Concat.{flat_map-cons}
+use Rattle.zvt_trace.specs.Listening.{AnswersWalk, Fails, Hears, HearsAll, Stops}
+use Rattle.zvt_trace.specs.Told.{At, Told, message_count, messages_in, on}
+use Rattle.zvt_trace.specs.Told as told
+use Rattle.zvt_trace.specs.Telling.{ToldSoFar}
+use Rattle.zvt_trace.specs.Written.{AppendsFront}
+use Rattle.zvt_trace.specs.declared.fault.Tally.{Tally}
+use Rattle.zvt_trace.specs.declared.fault.TraceFault.{TraceFault}
+use Rattle.zvt_trace.specs.declared.fault.TraceFault.TheVariants.{Memory, Read, TooLong, Trace, Write}
+use Rattle.zvt_trace.specs.declared.listener.Failure.{Failure}
+use Rattle.zvt_trace.specs.declared.listener.Failure.TheVariants as failure
+use Rattle.zvt_trace.specs.declared.listener.Scope.{Scope}
+use Rattle.zvt_notes.specs.Notes.{Lives, cut_off_count, cut_off_in, life_text, lives, lives_text, most, note_text, notes_text, refused_count, refused_in, summary_text, unread_of, with_event}
+use Rattle.zvt_notes.specs.Noting.{CountsBehind, Noted, counted_more, said_at, told_since}
+use Rattle.zvt_notes.specs.Written.{AnswersNotes, TellsAll}
+use Rattle.zvt_notes.specs.declared.counts.Counts.{Counts}
+use Rattle.zvt_notes.specs.declared.notes.Notes.{Notes}
+use Rattle.zvt_notes.proofs.CountLemmas.{Counted, totals}
+
+-- ---- the text that is still to come, behind what was told since the line was made
+
+abbrev rest_text : Scope → List At → Lives → List ℕ
+rest_text scope since all = (flat_map note_text all.first ++ unread_of scope (since ++ all.first)) ++ flat_map (life_text scope) all.later
+
+regroup : (n a u f : List ℕ) → n ++ ((a ++ u) ++ f) ≡ ((n ++ a) ++ u) ++ f
+regroup n a u f = sym (append_assoc n (a ++ u) f) ∙ ap (λ (l : List ℕ). l ++ f) (sym (append_assoc n a u))
+
+one_more : (scope : Scope) (since : List At) (event : At) (all : Lives) → note_text event ++ rest_text scope (since ++ event ∷ []) all ≡ rest_text scope since (record { first = event ∷ all.first; later = all.later })
+one_more scope since event all =
+    let later = flat_map (life_text scope) all.later in
+    let notes = flat_map note_text all.first in
+    ap (λ (l : List At). note_text event ++ ((notes ++ unread_of scope l) ++ later)) (append_assoc since (event ∷ []) all.first)
+    ∙ regroup (note_text event) notes (unread_of scope (since ++ (event ∷ all.first))) later
+    ∙ ap (λ (l : List ℕ). (l ++ unread_of scope (since ++ (event ∷ all.first))) ++ later) (sym (flat_map-cons note_text event all.first))
+
+one_said : (scope : Scope) (since : List At) (line : ℕ) (what : Told) (all : Lives) → said_at scope since line what ++ rest_text scope (told_since since line what) all ≡ rest_text scope since (with_event line what all)
+one_said scope since line (told.message from m) all = one_more scope since (on line (told.message from m)) all
+one_said scope since line (told.refused from head byte place why) all = one_more scope since (on line (told.refused from head byte place why)) all
+one_said scope since line (told.unread from) all = one_more scope since (on line (told.unread from)) all
+one_said scope since line (told.cut_off from head have) all = one_more scope since (on line (told.cut_off from head have)) all
+one_said scope since line told.lost all =
+    ap (λ (l : List At). unread_of scope l ++ (life_text scope all.first ++ flat_map (life_text scope) all.later)) (sym (append-nil since))
+    ∙ ap (λ (l : List ℕ). unread_of scope (since ++ []) ++ l) (sym (flat_map-cons (life_text scope) all.first all.later))
+
+-- ---- all that is heard
+
+abbrev pub notes : {S : Type 0} → (S → Notes) → Hears S
+notes view old event new = Noted (view old) (view new) event
+
+abbrev pub wants_memory : {S : Type 0} → Fails S
+wants_memory old event why new = why ≡ failure.Memory
+
+-- what has been told since the line was made last, and what the notes say
+record Says (of : Scope) (since events : List At) (old new : Notes) : Type 0 where
+  pub now : List At
+  pub scope : new.scope ≡ of
+  pub behind : CountsBehind of new.behind now
+  pub text : string_bytes new.text ++ unread_of of now ≡ string_bytes old.text ++ rest_text of since (lives events)
+
+says : {S : Type 0} (view : S → Notes) (scope : Scope) (events since : List At) (old new : S) → (view old).scope ≡ scope → CountsBehind scope (view old).behind since → HearsAll (notes view) old events new → Says scope since events (view old) (view new)
+says {S = S} view scope [] since old new is behind same = subst (λ (s : S). Says scope since [] (view old) (view s)) (sym same) (record {
+  now = since;
+  scope = is;
+  behind = behind;
+  text = ap (λ (l : List ℕ). string_bytes (view old).text ++ l) (ap (λ (l : List At). unread_of scope l) (sym (append-nil since)) ∙ sym (append-nil (unread_of scope (since ++ []))));
+})
+says view scope (event ∷ events) since old new is behind some =
+    let noted = some.1 in
+    let there = subst (λ (s : Scope). CountsBehind s (view old).behind since) (sym is) behind in
+    let said = subst (λ (s : Scope). string_bytes (view some.0).text ≡ string_bytes (view old).text ++ said_at s since event.line event.told) is (noted.text since there) in
+    let after = subst (λ (s : Scope). CountsBehind s (view some.0).behind (told_since since event.line event.told)) is (noted.behind since there) in
+    let rest = says view scope events (told_since since event.line event.told) some.0 new (noted.scope ∙ is) after some.2 in record {
+      now = rest.now;
+      scope = rest.scope;
+      behind = rest.behind;
+      text = rest.text
+          ∙ ap (λ (l : List ℕ). l ++ rest_text scope (told_since since event.line event.told) (lives events)) said
+          ∙ append_assoc (string_bytes (view old).text) (said_at scope since event.line event.told) (rest_text scope (told_since since event.line event.told) (lives events))
+          ∙ ap (λ (l : List ℕ). string_bytes (view old).text ++ l) (one_said scope since event.line event.told (lives events));
+    }
+
+-- ---- how much was told
+
+messages_step : (old : Counts) (event : Told) → Counted old.messages (counted_more old event).messages (message_count event)
+messages_step old (told.message from m) = inl refl
+messages_step old (told.refused from head byte place why) = inr (refl, refl)
+messages_step old (told.unread from) = inr (refl, refl)
+messages_step old (told.cut_off from head have) = inr (refl, refl)
+messages_step old told.lost = inr (refl, refl)
+
+messages_counted : (old new : Notes) (event : At) → Noted old new event → Counted old.counts.messages new.counts.messages (message_count event.told)
+messages_counted old new event noted = subst (λ (c : Counts). Counted old.counts.messages c.messages (message_count event.told)) (sym noted.counts) (messages_step old.counts event.told)
+
+refused_step : (old : Counts) (event : Told) → Counted old.refused (counted_more old event).refused (refused_count event)
+refused_step old (told.message from m) = inr (refl, refl)
+refused_step old (told.refused from head byte place why) = inl refl
+refused_step old (told.unread from) = inr (refl, refl)
+refused_step old (told.cut_off from head have) = inr (refl, refl)
+refused_step old told.lost = inr (refl, refl)
+
+refused_counted : (old new : Notes) (event : At) → Noted old new event → Counted old.counts.refused new.counts.refused (refused_count event.told)
+refused_counted old new event noted = subst (λ (c : Counts). Counted old.counts.refused c.refused (refused_count event.told)) (sym noted.counts) (refused_step old.counts event.told)
+
+cut_off_step : (old : Counts) (event : Told) → Counted old.cut_off (counted_more old event).cut_off (cut_off_count event)
+cut_off_step old (told.message from m) = inr (refl, refl)
+cut_off_step old (told.refused from head byte place why) = inr (refl, refl)
+cut_off_step old (told.unread from) = inr (refl, refl)
+cut_off_step old (told.cut_off from head have) = inl refl
+cut_off_step old told.lost = inr (refl, refl)
+
+cut_off_counted : (old new : Notes) (event : At) → Noted old new event → Counted old.counts.cut_off new.counts.cut_off (cut_off_count event.told)
+cut_off_counted old new event noted = subst (λ (c : Counts). Counted old.counts.cut_off c.cut_off (cut_off_count event.told)) (sym noted.counts) (cut_off_step old.counts event.told)
+
+-- nothing was told
+pub record AtStart (of : Scope) (notes : Notes) : Type 0 where
+  pub scope : notes.scope ≡ of
+  pub text : string_bytes notes.text ≡ []
+  pub behind : CountsBehind of notes.behind []
+  pub messages : notes.counts.messages ≡ 0
+  pub refused : notes.counts.refused ≡ 0
+  pub cut_off : notes.counts.cut_off ≡ 0
+
+-- what closing the notes adds
+abbrev pub Closes : Notes → (text : List ℕ) → Type 0
+Closes notes text = (events : List At) → CountsBehind notes.scope notes.behind events → text ≡ string_bytes notes.text ++ unread_of notes.scope events ++ summary_text notes.counts.messages notes.counts.refused notes.counts.cut_off
+
+all_said : {S : Type 0} (view : S → Notes) (scope : Scope) (events : List At) (old new : S) (text : List ℕ) → AtStart scope (view old) → HearsAll (notes view) old events new → Closes (view new) text → text ≡ notes_text scope events
+all_said {S = S} view scope events old new text start heard closes =
+    let all = says view scope events [] old new start.scope start.behind heard in
+    let there = subst (λ (s : Scope). CountsBehind s (view new).behind all.now) (sym all.scope) all.behind in
+    let closed = subst (λ (s : Scope). text ≡ string_bytes (view new).text ++ unread_of s all.now ++ summary_text (view new).counts.messages (view new).counts.refused (view new).counts.cut_off) all.scope (closes all.now there) in
+    let messages = totals (notes view) message_count (λ (s : S). (view s).counts.messages) events 0 old new (λ x y event noted. messages_counted (view x) (view y) event noted) start.messages heard in
+    let refused = totals (notes view) refused_count (λ (s : S). (view s).counts.refused) events 0 old new (λ x y event noted. refused_counted (view x) (view y) event noted) start.refused heard in
+    let cut_off = totals (notes view) cut_off_count (λ (s : S). (view s).counts.cut_off) events 0 old new (λ x y event noted. cut_off_counted (view x) (view y) event noted) start.cut_off heard in
+    closed
+    ∙ ap (λ (l : List ℕ). l ++ summary_text (view new).counts.messages (view new).counts.refused (view new).counts.cut_off) (all.text ∙ ap (λ (l : List ℕ). l ++ rest_text scope [] (lives events)) start.text)
+    ∙ ap (λ (n : ℕ). lives_text scope (lives events) ++ summary_text n (view new).counts.refused (view new).counts.cut_off) (messages ∙ ap most (omega arith))
+    ∙ ap (λ (n : ℕ). lives_text scope (lives events) ++ summary_text (most (messages_in events)) n (view new).counts.cut_off) (refused ∙ ap most (omega arith))
+    ∙ ap (λ (n : ℕ). lives_text scope (lives events) ++ summary_text (most (messages_in events)) (most (refused_in events)) n) (cut_off ∙ ap most (omega arith))
+
+-- ---- what a walk answers
+
+heard_all : {S : Type 0} (view : S → Notes) (scope : Scope) (lines : List (List ℕ)) (answer : Result Tally TraceFault) (old new : S) → (answer ≡ Err Memory → ⊥) → AnswersWalk (notes view) wants_memory scope lines old new answer
+    → (events : List At) × TellsAll scope lines events × HearsAll (notes view) old events new
+heard_all view scope lines (Ok tally) old new some walked = (walked.0, inl walked.1, walked.2)
+heard_all view scope lines (Err (Trace number what)) old new some walked = (walked.0, inr (number, what, walked.1), walked.2)
+heard_all view scope lines (Err Memory) old new some walked = absurd (some refl)
+heard_all {S = S} view scope lines (Err Write) old new some failed = absurd (by failed.stops)
+  where
+    by : Stops {S = S} wants_memory failure.Write (ToldSoFar scope lines) failed.events failed.middle new → ⊥
+    by (inl (is, so_far, same)) = cc
+    by (inr (event, so_far, left)) = cc
+heard_all view scope lines (Err TooLong) old new some never = absurd never
+heard_all view scope lines (Err Read) old new some never = absurd never
+
+-- ---- what is written
+
+pub answered : {S : Type 0} (view : S → Notes) (scope : Scope) (lines : List (List ℕ)) (answer : Result Tally TraceFault) (old new : S) (text : List ℕ) (first now : Option (List ℕ)) (result : Result (Unit {0}) Failure)
+    → AtStart scope (view old) → (answer ≡ Err Memory → ⊥) → AnswersWalk (notes view) wants_memory scope lines old new answer → Closes (view new) text
+    → OnOk result (Appends first now text) → IfErr result (λ why. why ≡ failure.Write) → OnErr result (AppendsFront first now text) → AnswersNotes scope lines first now result
+answered view scope lines answer old new text first now (Ok done) start some walked closes appended fault front =
+    let heard = heard_all view scope lines answer old new some walked in
+    (heard.0, heard.1, subst (λ (t : List ℕ). Appends first now t) (all_said view scope heard.0 old new text start heard.2 closes) appended)
+answered view scope lines answer old new text first now (Err failure.Write) start some walked closes appended fault front =
+    let heard = heard_all view scope lines answer old new some walked in
+    (heard.0, heard.1, subst (λ (t : List ℕ). AppendsFront first now t) (all_said view scope heard.0 old new text start heard.2 closes) front)
+answered view scope lines answer old new text first now (Err failure.Memory) start some walked closes appended fault front = absurd cc

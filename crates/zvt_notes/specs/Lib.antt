@@ -1,0 +1,3 @@
+pub mod Notes
+pub mod Noting
+pub mod Written
