@@ -22,7 +22,7 @@ use Rattle.zvt_audit.specs.Audited.{AnswersAudit, AnswersRead, Takes}
 use Rattle.zvt_audit.specs.Booked.{books_text}
 use Rattle.zvt_audit.specs.Happened.{happenings_of, log_of}
 use Rattle.zvt_audit.specs.Orders.{are_swapped, is_order_from, noticed, orders_from}
-use Rattle.zvt_audit.specs.declared.auditing.Audited.{Audited}
+use Rattle.zvt_audit.specs.declared.auditing.Found.{Found}
 use Rattle.zvt_audit.specs.declared.orders.Orders.{Orders}
 
 -- nothing happened
@@ -91,7 +91,7 @@ keeps_same : (held : Option (List ℕ)) → Keeps held held
 keeps_same None = tt
 keeps_same (Some bytes) = refl
 
-pub audited : {S : Type 0} (books_of : S → BooksSoFar) (orders : S → Orders) (trace : List ℕ) (answer : Audited) (old new : Option (List ℕ)) (first : BooksSoFar) (connected closed : S) (found : Books) (text : List ℕ)
+pub audited : {S : Type 0} (books_of : S → BooksSoFar) (orders : S → Orders) (trace : List ℕ) (answer : Found) (old new : Option (List ℕ)) (first : BooksSoFar) (connected closed : S) (found : Books) (text : List ℕ)
     → HasJudged [] first → Takes first (books_of connected) (Connected ∷ []) → (orders connected).till ≡ false → (orders connected).terminal ≡ false
     → AnswersWalk (hears books_of orders) wants_memory WholeLine (lines trace) connected closed (Ok answer.tally) → answer.swapped ≡ (not (orders closed).till && (orders closed).terminal)
     → ((log : List Happening) → HasJudged log (books_of closed) → found ≡ books log) → text ≡ books_text found → Appends old new text
@@ -136,7 +136,7 @@ walk_failed books_of orders trace Read held old new never = absurd never
 
 -- ---- a trace that is read first
 
-pub read_audited : (left : Option (List ℕ)) (trace slice : List ℕ) (old new : Option (List ℕ)) (found : Audited) → IfSome left (λ bytes. trace ≡ bytes) → length trace ≤ limit → slice ≡ trace
+pub read_audited : (left : Option (List ℕ)) (trace slice : List ℕ) (old new : Option (List ℕ)) (found : Found) → IfSome left (λ bytes. trace ≡ bytes) → length trace ≤ limit → slice ≡ trace
     → AnswersRead slice old new (Ok found) → IfSome left (λ bytes. AnswersAudit bytes old new (Ok found.tally))
 read_audited None trace slice old new found read few same answers = tt
 read_audited (Some bytes) trace slice old new found read few same answers =

@@ -15,7 +15,7 @@ use Rattle.zvt_trace.specs.declared.listener.Scope.TheVariants.{WholeLine}
 use Rattle.zvt_audit.specs.Booked.{books_text}
 use Rattle.zvt_audit.specs.Happened.{log_of}
 use Rattle.zvt_audit.specs.Orders.{are_swapped}
-use Rattle.zvt_audit.specs.declared.auditing.Audited.{Audited}
+use Rattle.zvt_audit.specs.declared.auditing.Found.{Found}
 
 -- the books of a log became those of the log with these happenings behind it
 abbrev pub Takes : (old new : BooksSoFar) → List Happening → Type 0
@@ -27,7 +27,7 @@ WritesBooks trace tally old new =
     (events : List At) × WholeTrace WholeLine (lines trace) events × Appends old new (books_text (books (log_of events))) × Tallies tally events
 
 -- What an audit answers for a trace that was read. Where it fails nothing is written, but of a write that failed a front of the text.
-abbrev pub AnswersRead : (trace : List ℕ) → (old new : Option (List ℕ)) → Result Audited TraceFault → Type 0
+abbrev pub AnswersRead : (trace : List ℕ) → (old new : Option (List ℕ)) → Result Found TraceFault → Type 0
 AnswersRead trace old new (Ok audited) =
     (events : List At) × WholeTrace WholeLine (lines trace) events × Appends old new (books_text (books (log_of events))) × Tallies audited.tally events × (audited.swapped ≡ are_swapped events)
 AnswersRead trace old new (Err (Trace number what)) = (events : List At) × BrokenTrace WholeLine (lines trace) number what events × Keeps old new

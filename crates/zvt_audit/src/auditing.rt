@@ -17,7 +17,7 @@ use zvt_trace::{Scope, Tally, TraceFault, read_trace, walk};
 
 /// What an audit found besides the books.
 #[derive(Clone, Copy, Debug, PartialEq, Eq)]
-pub struct Audited {
+pub struct Found {
     pub tally: Tally,
     /// Orders, which a till sends, came from where the terminal is said to be, and none from where the till is.
     pub swapped: bool,
@@ -52,7 +52,7 @@ pub fn audit_trace<W: Sink>(
     alloc: Global,
     trace: &[u8],
     writer: &mut W,
-) -> Result<Audited, TraceFault>
+) -> Result<Found, TraceFault>
     requires { length trace.now ≤ limit }
     ensures writes { AnswersRead trace.now (W.written writer.old) (W.written writer.new) result }
     ensures write { result ≡ Err TraceFault.Write → W.failures writer.old < W.failures writer.new }
@@ -69,7 +69,7 @@ pub fn audit_trace<W: Sink>(
     let mut text = Text::new(alloc);
     booked::write(&mut text, &found)?;
     put(&text, writer)?;
-    Ok(Audited { tally, swapped })
+    Ok(Found { tally, swapped })
 }
 
 /// Writes the text to the device.
