@@ -1,5 +1,5 @@
 -- The notes of what a walk tells.
-use Rattle.std.proofs.Common.{◌≡◌, ◌⊎◌, arith, inl, inr, ℕ, ◌+◌, List, [], ◌∷◌, ◌++◌, Result, Option, Ok, Err, refl, sym, ◌∙◌, ap, subst, append_assoc, append-nil}
+use Rattle.std.proofs.Common.{◌≡◌, arith, inl, inr, ℕ, List, [], ◌∷◌, ◌++◌, Result, Option, Ok, Err, refl, sym, ◌∙◌, ap, subst, append_assoc, append-nil}
 use Rattle.std.specs.List.{flat_map}
 use Rattle.std.specs.String.{string_bytes}
 use Rattle.std.specs.Io.KnownBytes.{Appends}
@@ -16,7 +16,7 @@ use Rattle.zvt_trace.specs.declared.fault.TraceFault.TheVariants.{Memory, Read, 
 use Rattle.zvt_trace.specs.declared.listener.Failure.{Failure}
 use Rattle.zvt_trace.specs.declared.listener.Failure.TheVariants as failure
 use Rattle.zvt_trace.specs.declared.listener.Scope.{Scope}
-use Rattle.zvt_notes.specs.Notes.{Lives, cut_off_count, cut_off_in, life_text, lives, lives_text, most, note_text, notes_text, refused_count, refused_in, summary_text, unread_of, with_event}
+use Rattle.zvt_notes.specs.Notes.{Lives, cut_off_count, life_text, lives, lives_text, most, note_text, notes_text, refused_count, refused_in, summary_text, unread_of, with_event}
 use Rattle.zvt_notes.specs.Noting.{CountsBehind, Noted, counted_more, said_at, told_since}
 use Rattle.zvt_notes.specs.Written.{AnswersNotes, TellsAll}
 use Rattle.zvt_notes.specs.declared.counts.Counts.{Counts}

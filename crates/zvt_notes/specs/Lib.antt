@@ -1,3 +1,4 @@
+pub mod Hints
 pub mod Notes
 pub mod Noting
 pub mod Written

@@ -3,7 +3,6 @@ use Rattle.std.specs.Prelude.{◌≡◌, ℕ, ◌+◌, List, [], ◌∷◌, ◌+
 use Rattle.std.specs.String.{string_bytes}
 use Rattle.zvt_trace.specs.Told.{At, Told, on}
 use Rattle.zvt_trace.specs.Told as told
-use Rattle.zvt_trace.specs.declared.direction.Direction.{Direction}
 use Rattle.zvt_trace.specs.declared.direction.Direction.TheVariants.{FromTill, FromTerminal}
 use Rattle.zvt_trace.specs.declared.listener.Scope.{Scope}
 use Rattle.zvt_notes.specs.Notes.{last_line, most, note_text, unread_lines, unread_of}

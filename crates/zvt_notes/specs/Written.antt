@@ -1,5 +1,5 @@
 -- What writing the notes answers.
-use Rattle.std.specs.Prelude.{◌≡◌, ◌⊎◌, ℕ, List, ◌++◌, Option, Result, Ok, Err}
+use Rattle.std.specs.Prelude.{◌⊎◌, ℕ, List, Option, Result, Ok, Err}
 use Rattle.std.specs.Io.KnownBytes.{Appends, Keeps}
 use Rattle.zvt_trace.specs.Told.{At}
 use Rattle.zvt_trace.specs.Telling.{BrokenTrace, WholeTrace}

@@ -4,9 +4,11 @@
 
 mod behind;
 mod counts;
+mod hint;
 mod many;
 mod note;
 mod notes;
 mod writing;
 
+pub use hint::{Hint, Reason, hint_on};
 pub use writing::write_notes;

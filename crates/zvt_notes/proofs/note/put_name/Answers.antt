@@ -1,4 +1,3 @@
-use Rattle.std.proofs.Common.{◌∷◌, []}
 use Rattle.std.specs.Prelude.{codes}
 use Rattle.zvt_text.specs.Bytes.{hex_of}
 use Rattle.zvt_notes.proofs.TextLemmas.{front_ok, two_parts}

@@ -1,5 +1,4 @@
 use Rattle.std.specs.Str.Lines.{lines}
-use Rattle.std.specs.String.{string_bytes}
 use Rattle.zvt_notes.specs.declared.notes.Notes.{Notes}
 use Rattle.zvt_notes.proofs.NoteLemmas.{answered}
 use Rattle.zvt_notes.proofs.writing.write_notes.Goals as goal

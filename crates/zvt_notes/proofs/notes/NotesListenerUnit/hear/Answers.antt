@@ -1,4 +1,4 @@
-use Rattle.std.proofs.Common.{◌∙◌, ap, ◌++◌, append-nil, refl, sym}
+use Rattle.std.proofs.Common.{◌∙◌, ap, ◌++◌, append-nil, refl}
 use Rattle.std.specs.String.{string_bytes}
 use Rattle.zvt_notes.specs.Notes.{unread_of}
 use Rattle.zvt_notes.proofs.notes.NotesListenerUnit.hear.Goals as goal
