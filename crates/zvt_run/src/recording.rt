@@ -1,12 +1,11 @@
 //! Devices that write what goes through them to a trace.
 ghost use Rattle.std.specs.Prelude.{◌≡◌, ◌++◌, ◌∷◌, [], codes, IfOk, OnOk, false, true};
-ghost use Rattle.std.specs.String.{string_bytes};
 ghost use Rattle.zvt_io.specs.Devices.{CountsFailure, Reads, Writes};
 ghost use Rattle.zvt_run.specs.Recording.{RecordsRead, RecordsWrite, piece_text, sign_of};
 
 use std::alloc::{AllocError, Global};
 use zvt_io::{Failed, GhostCount, Sink, Source};
-use zvt_text::hexadecimal;
+use zvt_text::{Text, hexadecimal};
 
 /// The way that bytes go, as a trace marks it.
 #[derive(Clone, Copy, Debug, PartialEq, Eq)]
@@ -43,7 +42,7 @@ pub struct Recorded<D, T> {
     pub way: Way,
     pub broken: bool,
     /// Room for the line of a piece.
-    text: String,
+    text: Text,
     refused: GhostCount,
 }
 
@@ -55,7 +54,7 @@ impl<D: Drop, T: Drop> Recorded<D, T> {
         ensures way { IfOk result (λ recorded. recorded.way ≡ way) }
         ensures whole { IfOk result (λ recorded. recorded.broken ≡ false) }
     {
-        let text = String::with_capacity(alloc, LINE)?;
+        let text = Text::with_room(alloc, LINE)?;
         Ok(Recorded {
             device,
             trace,
@@ -126,7 +125,7 @@ impl<W: Sink, T: Sink> Sink for Recorded<W, T> {
 
 /// Writes the line of a piece to the trace, made in this room. Where it fails, some front of the line was written.
 fn write_piece<T: Sink>(
-    text: &mut String,
+    text: &mut Text,
     way: Way,
     bytes: &[u8],
     trace: &mut T,
@@ -134,20 +133,20 @@ fn write_piece<T: Sink>(
     ensures { Writes (T.written trace.old) (T.written trace.new) result (piece_text way bytes.now) }
 {
     match spell_piece(text, way, bytes) {
-        Ok(()) => trace.write_all(text.as_bytes()),
+        Ok(()) => trace.write_all(text.bytes()),
         Err(AllocError) => Err(Failed),
     }
 }
 
 /// Makes the line of a piece in this room.
-fn spell_piece(text: &mut String, way: Way, bytes: &[u8]) -> Result<(), AllocError>
-    ensures { OnOk result (string_bytes text.new ≡ piece_text way bytes.now) }
+fn spell_piece(text: &mut Text, way: Way, bytes: &[u8]) -> Result<(), AllocError>
+    ensures { OnOk result (text.new ≡ piece_text way bytes.now) }
 {
     text.clear();
-    text.push_str(way.sign())?;
-    text.push_str(" ")?;
+    text.word(way.sign().as_bytes())?;
+    text.push(b' ')?;
     hexadecimal(text, bytes)?;
-    text.push('\n')
+    text.push(b'\n')
 }
 
 /// Writes to the trace that the connection has ended.

@@ -1,5 +1,5 @@
 //! Bytes of text, written one behind another.
-ghost use Rattle.std.specs.Prelude.{◌≡◌, ◌+◌, ◌≤◌, [], ◌∷◌, ◌++◌, length, replicate, take, OnErr, OnOk};
+ghost use Rattle.std.specs.Prelude.{◌≡◌, ◌+◌, ◌≤◌, [], ◌∷◌, ◌++◌, length, replicate, take, IfOk, OnErr, OnOk};
 ghost use Rattle.zvt_text.specs.Whole.{Adds};
 
 use itoa::{Buffer, Integer};
@@ -39,6 +39,15 @@ impl Text {
             room: Vec::new(alloc),
             size: 0,
         }
+    }
+
+    /// No text, and room for so many bytes, which ask for no memory.
+    pub fn with_room(alloc: Global, size: usize) -> Result<Text, AllocError>
+        ensures { IfOk result (λ text. text ≡ []) }
+    {
+        let mut room = Vec::new(alloc);
+        room.resize(size, 0)?;
+        Ok(Text { room, size: 0 })
     }
 
     /// Its bytes.
