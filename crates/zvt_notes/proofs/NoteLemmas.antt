@@ -1,7 +1,6 @@
 -- The notes of what a walk tells.
 use Rattle.std.proofs.Common.{◌≡◌, arith, inl, inr, ℕ, List, [], ◌∷◌, ◌++◌, Result, Option, Ok, Err, refl, sym, ◌∙◌, ap, subst, append_assoc, append-nil}
 use Rattle.std.specs.List.{flat_map}
-use Rattle.std.specs.String.{string_bytes}
 use Rattle.std.specs.Io.KnownBytes.{Appends}
 use Rattle.std.specs.Prelude.{IfErr, OnErr, OnOk}
 use Rattle.std.proofs.lemmas.List.Concat.{flat_map-cons}
@@ -61,19 +60,19 @@ record Says (of : Scope) (since events : List At) (old new : Notes) : Type 0 whe
   pub now : List At
   pub scope : new.scope ≡ of
   pub behind : CountsBehind of new.behind now
-  pub text : string_bytes new.text ++ unread_of of now ≡ string_bytes old.text ++ rest_text of since (lives events)
+  pub text : new.text ++ unread_of of now ≡ old.text ++ rest_text of since (lives events)
 
 says : {S : Type 0} (view : S → Notes) (scope : Scope) (events since : List At) (old new : S) → (view old).scope ≡ scope → CountsBehind scope (view old).behind since → HearsAll (notes view) old events new → Says scope since events (view old) (view new)
 says {S = S} view scope [] since old new is behind same = subst (λ (s : S). Says scope since [] (view old) (view s)) (sym same) (record {
   now = since;
   scope = is;
   behind = behind;
-  text = ap (λ (l : List ℕ). string_bytes (view old).text ++ l) (ap (λ (l : List At). unread_of scope l) (sym (append-nil since)) ∙ sym (append-nil (unread_of scope (since ++ []))));
+  text = ap (λ (l : List ℕ). (view old).text ++ l) (ap (λ (l : List At). unread_of scope l) (sym (append-nil since)) ∙ sym (append-nil (unread_of scope (since ++ []))));
 })
 says view scope (event ∷ events) since old new is behind some =
     let noted = some.1 in
     let there = subst (λ (s : Scope). CountsBehind s (view old).behind since) (sym is) behind in
-    let said = subst (λ (s : Scope). string_bytes (view some.0).text ≡ string_bytes (view old).text ++ said_at s since event.line event.told) is (noted.text since there) in
+    let said = subst (λ (s : Scope). (view some.0).text ≡ (view old).text ++ said_at s since event.line event.told) is (noted.text since there) in
     let after = subst (λ (s : Scope). CountsBehind s (view some.0).behind (told_since since event.line event.told)) is (noted.behind since there) in
     let rest = says view scope events (told_since since event.line event.told) some.0 new (noted.scope ∙ is) after some.2 in record {
       now = rest.now;
@@ -81,8 +80,8 @@ says view scope (event ∷ events) since old new is behind some =
       behind = rest.behind;
       text = rest.text
           ∙ ap (λ (l : List ℕ). l ++ rest_text scope (told_since since event.line event.told) (lives events)) said
-          ∙ append_assoc (string_bytes (view old).text) (said_at scope since event.line event.told) (rest_text scope (told_since since event.line event.told) (lives events))
-          ∙ ap (λ (l : List ℕ). string_bytes (view old).text ++ l) (one_said scope since event.line event.told (lives events));
+          ∙ append_assoc (view old).text (said_at scope since event.line event.told) (rest_text scope (told_since since event.line event.told) (lives events))
+          ∙ ap (λ (l : List ℕ). (view old).text ++ l) (one_said scope since event.line event.told (lives events));
     }
 
 -- ---- how much was told
@@ -120,7 +119,7 @@ cut_off_counted old new event noted = subst (λ (c : Counts). Counted old.counts
 -- nothing was told
 pub record AtStart (of : Scope) (notes : Notes) : Type 0 where
   pub scope : notes.scope ≡ of
-  pub text : string_bytes notes.text ≡ []
+  pub text : notes.text ≡ []
   pub behind : CountsBehind of notes.behind []
   pub messages : notes.counts.messages ≡ 0
   pub refused : notes.counts.refused ≡ 0
@@ -128,13 +127,13 @@ pub record AtStart (of : Scope) (notes : Notes) : Type 0 where
 
 -- what closing the notes adds
 abbrev pub Closes : Notes → (text : List ℕ) → Type 0
-Closes notes text = (events : List At) → CountsBehind notes.scope notes.behind events → text ≡ string_bytes notes.text ++ unread_of notes.scope events ++ summary_text notes.counts.messages notes.counts.refused notes.counts.cut_off
+Closes notes text = (events : List At) → CountsBehind notes.scope notes.behind events → text ≡ notes.text ++ unread_of notes.scope events ++ summary_text notes.counts.messages notes.counts.refused notes.counts.cut_off
 
 all_said : {S : Type 0} (view : S → Notes) (scope : Scope) (events : List At) (old new : S) (text : List ℕ) → AtStart scope (view old) → HearsAll (notes view) old events new → Closes (view new) text → text ≡ notes_text scope events
 all_said {S = S} view scope events old new text start heard closes =
     let all = says view scope events [] old new start.scope start.behind heard in
     let there = subst (λ (s : Scope). CountsBehind s (view new).behind all.now) (sym all.scope) all.behind in
-    let closed = subst (λ (s : Scope). text ≡ string_bytes (view new).text ++ unread_of s all.now ++ summary_text (view new).counts.messages (view new).counts.refused (view new).counts.cut_off) all.scope (closes all.now there) in
+    let closed = subst (λ (s : Scope). text ≡ (view new).text ++ unread_of s all.now ++ summary_text (view new).counts.messages (view new).counts.refused (view new).counts.cut_off) all.scope (closes all.now there) in
     let messages = totals (notes view) message_count (λ (s : S). (view s).counts.messages) events 0 old new (λ x y event noted. messages_counted (view x) (view y) event noted) start.messages heard in
     let refused = totals (notes view) refused_count (λ (s : S). (view s).counts.refused) events 0 old new (λ x y event noted. refused_counted (view x) (view y) event noted) start.refused heard in
     let cut_off = totals (notes view) cut_off_count (λ (s : S). (view s).counts.cut_off) events 0 old new (λ x y event noted. cut_off_counted (view x) (view y) event noted) start.cut_off heard in

@@ -55,13 +55,22 @@ head_name Empty = codes "a message"
 head_name (One high) = codes "a message of " ++ hex_of high
 head_name (Two high low) = kind_name (kind_at high low) ++ control_part (kind_at high low) high low
 
+abbrev pub line_text : ℕ → List ℕ
+line_text line = codes "zvt: line " ++ decimal line ++ codes " of the trace: "
+
 abbrev pub begun_text : ℕ → Direction → Head → List ℕ
-begun_text line from head = codes "zvt: line " ++ decimal line ++ codes " of the trace: " ++ direction_text from ++ 32 ∷ head_name head
+begun_text line from head = line_text line ++ direction_text from ++ 32 ∷ head_name head
+
+abbrev pub place_text : (place byte : ℕ) → List ℕ
+place_text place byte = codes " refused at " ++ decimal place ++ codes ", byte " ++ hex_of byte
+
+abbrev pub reason_text : Why → List ℕ
+reason_text why = codes ": " ++ why_name why ++ 10 ∷ []
 
 -- of the bytes behind the control bytes the fatal one alone is written
 abbrev pub refused_note : ℕ → Direction → Head → (byte place : ℕ) → Why → List ℕ
 refused_note line from head byte place why =
-    begun_text line from head ++ codes " refused at " ++ decimal place ++ codes ", byte " ++ hex_of byte ++ codes ": " ++ why_name why ++ 10 ∷ []
+    begun_text line from head ++ place_text place byte ++ reason_text why
 
 abbrev pub cut_off_note : ℕ → Direction → Head → ℕ → List ℕ
 cut_off_note line from head have = begun_text line from head ++ codes " cut off after " ++ decimal have ++ 10 ∷ []
@@ -110,8 +119,14 @@ abbrev pub side_mark : Scope → Direction → List ℕ
 side_mark OneSide side = codes " of " ++ direction_text side
 side_mark WholeLine side = []
 
+abbrev pub unread_count : Scope → Direction → ℕ → List ℕ
+unread_count scope side count = codes "zvt: " ++ counted count (codes "line") ++ side_mark scope side
+
+abbrev pub last_text : ℕ → List ℕ
+last_text last = codes " not read behind that, up to line " ++ decimal last ++ 10 ∷ []
+
 abbrev pub unread_words : Scope → Direction → (count last : ℕ) → List ℕ
-unread_words scope side count last = codes "zvt: " ++ counted count (codes "line") ++ side_mark scope side ++ codes " not read behind that, up to line " ++ decimal last ++ 10 ∷ []
+unread_words scope side count last = unread_count scope side count ++ last_text last
 
 abbrev pub unread_note : Scope → Direction → (count last : ℕ) → List ℕ
 unread_note scope side zero last = []

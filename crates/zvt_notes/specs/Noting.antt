@@ -1,6 +1,5 @@
 -- What hearing one thing makes of the notes.
 use Rattle.std.specs.Prelude.{◌≡◌, ℕ, ◌+◌, List, [], ◌∷◌, ◌++◌, length}
-use Rattle.std.specs.String.{string_bytes}
 use Rattle.zvt_trace.specs.Told.{At, Told, on}
 use Rattle.zvt_trace.specs.Told as told
 use Rattle.zvt_trace.specs.declared.direction.Direction.TheVariants.{FromTill, FromTerminal}
@@ -57,5 +56,5 @@ said_at scope events line told.lost = unread_of scope events
 pub record Noted (old new : Notes) (event : At) : Type 0 where
   pub scope : new.scope ≡ old.scope
   pub counts : new.counts ≡ counted_more old.counts event.told
-  pub text : (events : List At) → CountsBehind old.scope old.behind events → string_bytes new.text ≡ string_bytes old.text ++ said_at old.scope events event.line event.told
+  pub text : (events : List At) → CountsBehind old.scope old.behind events → new.text ≡ old.text ++ said_at old.scope events event.line event.told
   pub behind : (events : List At) → CountsBehind old.scope old.behind events → CountsBehind old.scope new.behind (told_since events event.line event.told)

@@ -1,14 +1,13 @@
 //! What is not read behind a refusal.
 ghost use Rattle.std.specs.Prelude.{◌≡◌, ◌++◌, [], ◌∷◌, ℕ, List, OnOk};
-ghost use Rattle.std.specs.String.{string_bytes};
 ghost use Rattle.zvt_trace.specs.Told.{At, on};
 ghost use Rattle.zvt_trace.specs.Told as told;
-ghost use Rattle.zvt_notes.specs.Notes.{counted_side, unread_note, unread_of};
+ghost use Rattle.zvt_notes.specs.Notes.{counted_side, last_text, side_mark, unread_count, unread_note, unread_of};
 ghost use Rattle.zvt_notes.specs.Noting.{CountsBehind, one_more};
 
-use crate::many::Many;
+use crate::many::put_many;
 use std::alloc::AllocError;
-use std::fmt::{self, Write};
+use zvt_text::Text;
 use zvt_trace::{Direction, Scope};
 
 /// How many lines of a trace were not read, and the last of them.
@@ -35,44 +34,45 @@ impl Unread {
     }
 
     /// Says how many were not read.
-    fn put(&self, text: &mut String, scope: Scope, side: Direction) -> Result<(), AllocError>
-        ensures { OnOk result (string_bytes text.new ≡ string_bytes text.old ++ unread_note scope side self.now.count self.now.last) }
+    fn put(&self, text: &mut Text, scope: Scope, side: Direction) -> Result<(), AllocError>
+        ensures { OnOk result (text.new ≡ text.old ++ unread_note scope side self.now.count self.now.last) }
     {
         if self.count == 0 {
             return Ok(());
         }
-        let lines = Many {
-            count: self.count,
-            word: "line",
-        };
-        let mark = Mark { scope, side };
-        let last = self.last;
-        writeln!(
-            text,
-            "zvt: {lines}{mark} not read behind that, up to line {last}"
-        )
+        put_count(text, self.count, scope, side)?;
+        put_last(text, self.last)
     }
 }
 
-/// The side, where the other one is read on.
-#[derive(Clone, Copy)]
-struct Mark {
-    scope: Scope,
-    side: Direction,
+/// How many lines were not read.
+fn put_count(text: &mut Text, count: u64, scope: Scope, side: Direction) -> Result<(), AllocError>
+    ensures { OnOk result (text.new ≡ text.old ++ unread_count scope side count) }
+{
+    text.word(b"zvt: ")?;
+    put_many(text, count, b"line")?;
+    put_mark(text, scope, side)
 }
 
-impl fmt::Display for Mark {
-    ghost use Rattle.std.specs.Prelude.{Some};
-    ghost use Rattle.zvt_notes.specs.Notes.{side_mark};
+/// The last of them.
+fn put_last(text: &mut Text, last: u64) -> Result<(), AllocError>
+    ensures { OnOk result (text.new ≡ text.old ++ last_text last) }
+{
+    text.word(b" not read behind that, up to line ")?;
+    text.number(last)?;
+    text.push(b'\n')
+}
 
-    ghost output = { λ mark. Some (side_mark mark.scope mark.side) };
-
-    fn fmt<W: fmt::Write>(&self, f: &mut fmt::Formatter<W>) -> fmt::Result {
-        let side = self.side;
-        match self.scope {
-            Scope::OneSide => write!(f, " of {side}"),
-            Scope::WholeLine => Ok(()),
+/// The side, where the other one is read on.
+fn put_mark(text: &mut Text, scope: Scope, side: Direction) -> Result<(), AllocError>
+    ensures { OnOk result (text.new ≡ text.old ++ side_mark scope side) }
+{
+    match scope {
+        Scope::OneSide => {
+            text.word(b" of ")?;
+            text.word(side.sign().as_bytes())
         }
+        Scope::WholeLine => Ok(()),
     }
 }
 
@@ -105,8 +105,8 @@ impl Behind {
     }
 
     /// Says what was not read, of the till before the terminal.
-    pub(crate) fn put(&self, text: &mut String, scope: Scope) -> Result<(), AllocError>
-        ensures { (events : List At) → CountsBehind scope self.now events → OnOk result (string_bytes text.new ≡ string_bytes text.old ++ unread_of scope events) }
+    pub(crate) fn put(&self, text: &mut Text, scope: Scope) -> Result<(), AllocError>
+        ensures { (events : List At) → CountsBehind scope self.now events → OnOk result (text.new ≡ text.old ++ unread_of scope events) }
     {
         self.till.put(text, scope, Direction::FromTill)?;
         self.terminal.put(text, scope, Direction::FromTerminal)

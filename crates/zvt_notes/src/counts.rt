@@ -1,13 +1,12 @@
 //! How much a trace has.
-ghost use Rattle.std.specs.Prelude.{◌≡◌, ◌++◌, OnOk, codes};
-ghost use Rattle.std.specs.String.{string_bytes};
+ghost use Rattle.std.specs.Prelude.{◌≡◌, ◌++◌, OnOk};
 ghost use Rattle.zvt_trace.specs.Told.{told_of};
-ghost use Rattle.zvt_notes.specs.Notes.{summary_text};
+ghost use Rattle.zvt_notes.specs.Notes.{streams_text, summary_text};
 ghost use Rattle.zvt_notes.specs.Noting.{counted_more};
 
-use crate::many::Many;
+use crate::many::put_many;
 use std::alloc::AllocError;
-use std::fmt::{self, Write};
+use zvt_text::Text;
 use zvt_trace::Told;
 
 /// How many messages came, and how many streams were refused and cut off.
@@ -43,8 +42,8 @@ impl Counts {
     }
 
     /// Says how many there are of each, where some stream was bad.
-    pub(crate) fn put(&self, text: &mut String) -> Result<(), AllocError>
-        ensures { OnOk result (string_bytes text.new ≡ string_bytes text.old ++ summary_text self.now.messages self.now.refused self.now.cut_off) }
+    pub(crate) fn put(&self, text: &mut Text) -> Result<(), AllocError>
+        ensures { OnOk result (text.new ≡ text.old ++ summary_text self.now.messages self.now.refused self.now.cut_off) }
     {
         let Counts {
             messages,
@@ -54,48 +53,27 @@ impl Counts {
         if refused == 0 && cut_off == 0 {
             return Ok(());
         }
-        let messages = Many {
-            count: messages,
-            word: "message",
-        };
-        let streams = BadStreams { refused, cut_off };
-        writeln!(text, "zvt: {messages}, {streams}")
+        text.word(b"zvt: ")?;
+        put_many(text, messages, b"message")?;
+        text.word(b", ")?;
+        put_streams(text, refused, cut_off)?;
+        text.push(b'\n')
     }
 }
 
 /// How many streams were bad, one at least.
-#[derive(Clone, Copy)]
-struct BadStreams {
-    refused: u64,
-    cut_off: u64,
-}
-
-impl fmt::Display for BadStreams {
-    ghost use Rattle.std.specs.Prelude.{Some};
-    ghost use Rattle.zvt_notes.specs.Notes.{streams_text};
-
-    ghost output = { λ streams. Some (streams_text streams.refused streams.cut_off) };
-
-    fn fmt<W: fmt::Write>(&self, f: &mut fmt::Formatter<W>) -> fmt::Result {
-        let BadStreams { refused, cut_off } = *self;
-        if refused == 0 {
-            let streams = streams(cut_off);
-            return write!(f, "{streams} cut off");
-        }
-        let streams = streams(refused);
-        if cut_off == 0 {
-            return write!(f, "{streams} refused");
-        }
-        write!(f, "{streams} refused, {cut_off} cut off")
-    }
-}
-
-/// So many streams.
-fn streams(count: u64) -> Many<'static>
-    ensures { (result.count ≡ count) × (result.word.now ≡ codes "stream") }
+fn put_streams(text: &mut Text, refused: u64, cut_off: u64) -> Result<(), AllocError>
+    ensures { OnOk result (text.new ≡ text.old ++ streams_text refused cut_off) }
 {
-    Many {
-        count,
-        word: "stream",
+    if refused == 0 {
+        put_many(text, cut_off, b"stream")?;
+        return text.word(b" cut off");
     }
+    put_many(text, refused, b"stream")?;
+    if cut_off == 0 {
+        return text.word(b" refused");
+    }
+    text.word(b" refused, ")?;
+    text.number(cut_off)?;
+    text.word(b" cut off")
 }

@@ -1,23 +1,19 @@
 //! How many there are of what a word names.
-use std::fmt;
+ghost use Rattle.std.specs.Prelude.{◌≡◌, ◌++◌, OnOk};
+ghost use Rattle.zvt_notes.specs.Notes.{counted};
+
+use std::alloc::AllocError;
+use zvt_text::Text;
 
 /// So many of what the word names, as `1 line` or `2 lines`.
-#[derive(Clone, Copy)]
-pub(crate) struct Many<'a> {
-    pub(crate) count: u64,
-    pub(crate) word: &'a str,
-}
-
-impl fmt::Display for Many<'_> {
-    ghost use Rattle.std.specs.Prelude.{Some};
-    ghost use Rattle.zvt_notes.specs.Notes.{counted};
-
-    ghost output = { λ many. Some (counted many.count many.word.now) };
-
-    fn fmt<W: fmt::Write>(&self, f: &mut fmt::Formatter<W>) -> fmt::Result {
-        let count = self.count;
-        let word = self.word;
-        let end = if count == 1 { "" } else { "s" };
-        write!(f, "{count} {word}{end}")
+pub(crate) fn put_many(text: &mut Text, count: u64, word: &[u8]) -> Result<(), AllocError>
+    ensures { OnOk result (text.new ≡ text.old ++ counted count word.now) }
+{
+    text.number(count)?;
+    text.push(b' ')?;
+    text.word(word)?;
+    if count == 1 {
+        return Ok(());
     }
+    text.push(b's')
 }

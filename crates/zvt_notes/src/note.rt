@@ -1,19 +1,17 @@
 //! The note of one thing that is bad.
 ghost use Rattle.std.specs.Prelude.{◌≡◌, ◌++◌, OnOk};
-ghost use Rattle.std.specs.String.{string_bytes};
 ghost use Rattle.zvt_trace.specs.Told.{told_of};
-ghost use Rattle.zvt_notes.specs.Notes.{begun_text, control_part, cut_off_note, head_name, refused_note, told_note};
+ghost use Rattle.zvt_notes.specs.Notes.{begun_text, control_part, cut_off_note, head_name, line_text, place_text, reason_text, refused_note, told_note};
 
 use std::alloc::AllocError;
-use std::fmt::Write;
 use zvt_apdu::{Kind, kind_at};
 use zvt_spelling::Why;
-use zvt_text::{hexadecimal, kind_name};
+use zvt_text::{Text, hexadecimal, kind_name};
 use zvt_trace::{Direction, Head, Told};
 
 /// Says where a stream was refused or cut off, in which message, and why. Of all else nothing is said.
-pub(crate) fn put(text: &mut String, line: u64, told: &Told<'_>) -> Result<(), AllocError>
-    ensures { OnOk result (string_bytes text.new ≡ string_bytes text.old ++ told_note line (told_of told.now)) }
+pub(crate) fn put(text: &mut Text, line: u64, told: &Told<'_>) -> Result<(), AllocError>
+    ensures { OnOk result (text.new ≡ text.old ++ told_note line (told_of told.now)) }
 {
     match told {
         Told::Refused {
@@ -30,7 +28,7 @@ pub(crate) fn put(text: &mut String, line: u64, told: &Told<'_>) -> Result<(), A
 
 /// Says where no message can go on.
 fn put_refused(
-    text: &mut String,
+    text: &mut Text,
     line: u64,
     from: Direction,
     head: Head,
@@ -38,61 +36,92 @@ fn put_refused(
     place: usize,
     why: Why,
 ) -> Result<(), AllocError>
-    ensures { OnOk result (string_bytes text.new ≡ string_bytes text.old ++ refused_note line from head byte place why) }
+    ensures { OnOk result (text.new ≡ text.old ++ refused_note line from head byte place why) }
 {
     put_begun(text, line, from, head)?;
-    write!(text, " refused at {place}, byte ")?;
-    hexadecimal(text, &[byte])?;
-    writeln!(text, ": {why}")
+    put_place(text, place, byte)?;
+    put_reason(text, why)
+}
+
+/// The place of the fatal byte, and this byte.
+fn put_place(text: &mut Text, place: usize, byte: u8) -> Result<(), AllocError>
+    ensures { OnOk result (text.new ≡ text.old ++ place_text place byte) }
+{
+    text.word(b" refused at ")?;
+    text.number(place as u64)?;
+    text.word(b", byte ")?;
+    hexadecimal(text, &[byte])
+}
+
+/// The reason, and the end of the line.
+fn put_reason(text: &mut Text, why: Why) -> Result<(), AllocError>
+    ensures { OnOk result (text.new ≡ text.old ++ reason_text why) }
+{
+    text.word(b": ")?;
+    text.word(why.name().as_bytes())?;
+    text.push(b'\n')
 }
 
 /// Says where a message ends too early.
 fn put_cut_off(
-    text: &mut String,
+    text: &mut Text,
     line: u64,
     from: Direction,
     head: Head,
     have: usize,
 ) -> Result<(), AllocError>
-    ensures { OnOk result (string_bytes text.new ≡ string_bytes text.old ++ cut_off_note line from head have) }
+    ensures { OnOk result (text.new ≡ text.old ++ cut_off_note line from head have) }
 {
     put_begun(text, line, from, head)?;
-    writeln!(text, " cut off after {have}")
+    text.word(b" cut off after ")?;
+    text.number(have as u64)?;
+    text.push(b'\n')
+}
+
+/// The line of the trace.
+fn put_line(text: &mut Text, line: u64) -> Result<(), AllocError>
+    ensures { OnOk result (text.new ≡ text.old ++ line_text line) }
+{
+    text.word(b"zvt: line ")?;
+    text.number(line)?;
+    text.word(b" of the trace: ")
 }
 
 /// The line of the trace, who sends, and the message that had begun.
-fn put_begun(text: &mut String, line: u64, from: Direction, head: Head) -> Result<(), AllocError>
-    ensures { OnOk result (string_bytes text.new ≡ string_bytes text.old ++ begun_text line from head) }
+fn put_begun(text: &mut Text, line: u64, from: Direction, head: Head) -> Result<(), AllocError>
+    ensures { OnOk result (text.new ≡ text.old ++ begun_text line from head) }
 {
-    write!(text, "zvt: line {line} of the trace: {from} ")?;
+    put_line(text, line)?;
+    text.word(from.sign().as_bytes())?;
+    text.push(b' ')?;
     put_name(text, head)
 }
 
 /// The name of the message with these control bytes.
-fn put_name(text: &mut String, head: Head) -> Result<(), AllocError>
-    ensures { OnOk result (string_bytes text.new ≡ string_bytes text.old ++ head_name head) }
+fn put_name(text: &mut Text, head: Head) -> Result<(), AllocError>
+    ensures { OnOk result (text.new ≡ text.old ++ head_name head) }
 {
     match head {
-        Head::Empty => text.push_str("a message"),
+        Head::Empty => text.word(b"a message"),
         Head::One(high) => {
-            text.push_str("a message of ")?;
+            text.word(b"a message of ")?;
             hexadecimal(text, &[high])
         }
         Head::Two(high, low) => {
             let kind = kind_at(high, low);
-            text.push_str(kind_name(kind))?;
+            text.word(kind_name(kind).as_bytes())?;
             put_control(text, kind, high, low)
         }
     }
 }
 
 /// The control bytes of a message that has no name of its own.
-fn put_control(text: &mut String, kind: Kind, high: u8, low: u8) -> Result<(), AllocError>
-    ensures { OnOk result (string_bytes text.new ≡ string_bytes text.old ++ control_part kind high low) }
+fn put_control(text: &mut Text, kind: Kind, high: u8, low: u8) -> Result<(), AllocError>
+    ensures { OnOk result (text.new ≡ text.old ++ control_part kind high low) }
 {
     match kind {
         Kind::Other => {
-            text.push(' ')?;
+            text.push(b' ')?;
             hexadecimal(text, &[high, low])
         }
         _ => Ok(()),

@@ -1,6 +1,5 @@
 //! Notes of what is bad in a trace.
 ghost use Rattle.std.specs.Prelude.{◌≡◌, [], ◌++◌, List, OnOk};
-ghost use Rattle.std.specs.String.{string_bytes};
 ghost use Rattle.zvt_trace.specs.Told.{At};
 ghost use Rattle.zvt_notes.specs.Notes.{summary_text, unread_of};
 ghost use Rattle.zvt_notes.specs.Noting.{CountsBehind};
@@ -9,13 +8,14 @@ use crate::behind::Behind;
 use crate::counts::Counts;
 use crate::note;
 use std::alloc::{AllocError, Global};
+use zvt_text::Text;
 use zvt_trace::{Failure, Listener, Scope, Told};
 
 /// The notes of what was told, and what they have counted. It writes to no device.
 #[derive(Drop)]
 pub(crate) struct Notes {
     scope: Scope,
-    pub(crate) text: String,
+    pub(crate) text: Text,
     behind: Behind,
     counts: Counts,
 }
@@ -24,13 +24,13 @@ impl Notes {
     /// Nothing was told.
     pub(crate) fn new(alloc: Global, scope: Scope) -> Notes
         ensures scope { result.scope ≡ scope }
-        ensures text { string_bytes result.text ≡ [] }
+        ensures text { result.text ≡ [] }
         ensures behind { CountsBehind scope result.behind [] }
         ensures counts { (result.counts.messages ≡ 0) × (result.counts.refused ≡ 0) × (result.counts.cut_off ≡ 0) }
     {
         Notes {
             scope,
-            text: String::new(alloc),
+            text: Text::new(alloc),
             behind: Behind::nothing(),
             counts: Counts::none(),
         }
@@ -38,7 +38,7 @@ impl Notes {
 
     /// Says what was not read up to the end of the trace, and how much there was.
     pub(crate) fn close(&mut self) -> Result<(), AllocError>
-        ensures { (events : List At) → CountsBehind self.old.scope self.old.behind events → OnOk result (string_bytes self.new.text ≡ string_bytes self.old.text ++ unread_of self.old.scope events ++ summary_text self.old.counts.messages self.old.counts.refused self.old.counts.cut_off) }
+        ensures { (events : List At) → CountsBehind self.old.scope self.old.behind events → OnOk result (self.new.text ≡ self.old.text ++ unread_of self.old.scope events ++ summary_text self.old.counts.messages self.old.counts.refused self.old.counts.cut_off) }
     {
         self.behind.put(&mut self.text, self.scope)?;
         self.counts.put(&mut self.text)

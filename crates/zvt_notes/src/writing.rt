@@ -2,7 +2,6 @@
 ghost use Rattle.std.specs.Prelude.{◌≡◌, ◌≢◌, ◌<◌, ◌≤◌, length, Err, IfErr, OnErr, OnOk};
 ghost use Rattle.std.specs.Io.KnownBytes.{Appends};
 ghost use Rattle.std.specs.Str.Lines.{lines};
-ghost use Rattle.std.specs.String.{string_bytes};
 ghost use Rattle.zvt_io.specs.Devices.{CountsFailure};
 ghost use Rattle.zvt_trace.specs.Written.{AppendsFront, limit};
 ghost use Rattle.zvt_notes.specs.Written.{AnswersNotes};
@@ -10,6 +9,7 @@ ghost use Rattle.zvt_notes.specs.Written.{AnswersNotes};
 use crate::notes::Notes;
 use std::alloc::Global;
 use zvt_io::{Failed, Sink};
+use zvt_text::Text;
 use zvt_trace::{Failure, Scope, Tally, TraceFault, walk};
 
 /// Writes a line for each stream that was refused or cut off: the line of the trace, who sends, the name of the message
@@ -50,13 +50,13 @@ fn has_memory(answer: &Result<Tally, TraceFault>) -> Result<(), Failure>
 }
 
 /// Writes the text to the device.
-fn put<W: Sink>(text: &String, device: &mut W) -> Result<(), Failure>
-    ensures bytes { OnOk result (Appends (W.written device.old) (W.written device.new) (string_bytes text.now)) }
+fn put<W: Sink>(text: &Text, device: &mut W) -> Result<(), Failure>
+    ensures bytes { OnOk result (Appends (W.written device.old) (W.written device.new) text.now) }
     ensures fault { IfErr result (λ failure. failure ≡ Failure.Write) }
     ensures failures { CountsFailure (W.failures device.old) (W.failures device.new) result }
-    ensures front { OnErr result (AppendsFront (W.written device.old) (W.written device.new) (string_bytes text.now)) }
+    ensures front { OnErr result (AppendsFront (W.written device.old) (W.written device.new) text.now) }
 {
-    match device.write_all(text.as_bytes()) {
+    match device.write_all(text.bytes()) {
         Ok(()) => Ok(()),
         Err(Failed) => Err(Failure::Write),
     }

@@ -1,5 +1,4 @@
 use Rattle.std.proofs.Common.{◌∙◌, ap, ◌++◌, append-nil, refl}
-use Rattle.std.specs.String.{string_bytes}
 use Rattle.zvt_notes.specs.Notes.{unread_of}
 use Rattle.zvt_notes.proofs.notes.NotesListenerUnit.hear.Goals as goal
 
@@ -8,7 +7,7 @@ returns-in_ok-put-in-Lost c = rw c.in-Lost.is (record {
   scope = refl;
   counts = rw c.in-Lost.is at c.add.ensures;
   text = λ events counts.
-      let none = (rw c.in-Lost.is at c.in_ok-put.ensures) ∙ append-nil (string_bytes c.args.self.now.text) in
+      let none = (rw c.in-Lost.is at c.in_ok-put.ensures) ∙ append-nil c.args.self.now.text in
       c.in_ok-put-in-Lost.ensures events counts ∙ ap (λ t. t ++ unread_of c.args.self.now.scope events) none;
   behind = λ events counts. c.nothing-self.ensures c.args.self.now.scope;
 })
