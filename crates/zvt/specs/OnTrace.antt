@@ -1,11 +1,13 @@
 -- What the commands on a trace answer.
-use Rattle.std.specs.Prelude.{◌≡◌, ℕ, List, [], Option, None, Some, Result, codes}
+use Rattle.std.specs.Prelude.{◌≡◌, ℕ, List, [], Option, None, Some, Result, Ok, Err, codes}
+use Rattle.std.specs.Str.Lines.{lines}
 use Rattle.zvt_choice.specs.declared.chosen.Choice.{Choice}
 use Rattle.zvt_choice.specs.declared.chosen.Choice.TheVariants.{Audit, Join, Loop, Receipts, Show, Terminal, Till, Vectors}
-use Rattle.zvt_audit.specs.Audited.{AnswersAudit}
+use Rattle.zvt_audit.specs.Audited.{AnswersRead}
+use Rattle.zvt_audit.specs.declared.auditing.Found.{Found}
 use Rattle.zvt_vectors.specs.Checked.{AnswersVectors}
 use Rattle.zvt_show.specs.Lines.{mark_of}
-use Rattle.zvt_show.specs.Written.{AnswersTrace}
+use Rattle.zvt_show.specs.Written.{AnswersLines}
 use Rattle.zvt_trace.specs.declared.fault.Tally.{Tally}
 use Rattle.zvt_trace.specs.declared.fault.TraceFault.{TraceFault}
 
@@ -20,18 +22,22 @@ IsOnTrace (Loop trace steps) = ⊥
 IsOnTrace (Till port host password config currency trace steps) = ⊥
 IsOnTrace (Terminal port host tid connections decline trace) = ⊥
 
+abbrev pub tally_of : Result Found TraceFault → Result Tally TraceFault
+tally_of (Ok found) = Ok found.tally
+tally_of (Err fault) = Err fault
+
 -- what is answered and written in the style that marks its faults so
 abbrev pub AnswersMarked : Option (List ℕ) → (trace : List ℕ) → (old new : Option (List ℕ)) → Result Tally TraceFault → Type 0
-AnswersMarked mark trace old new result = (style : _) × (mark_of style ≡ mark) × AnswersTrace style trace old new result
+AnswersMarked mark trace old new result = (style : _) × (mark_of style ≡ mark) × AnswersLines style (lines trace) old new result
 
--- What the command answers for a trace of known bytes. Of the three styles `show` writes its faults as they are, `join`
+-- What the command answers for a trace that was read. Of the three styles `show` writes its faults as they are, `join`
 -- as remarks, and `receipts` none.
-abbrev pub AnswersOnTrace : Choice → (trace : List ℕ) → (old new : Option (List ℕ)) → Result Tally TraceFault → Type 0
-AnswersOnTrace (Show file) trace old new result = AnswersMarked (Some []) trace old new result
-AnswersOnTrace (Join file) trace old new result = AnswersMarked (Some (codes "# ")) trace old new result
-AnswersOnTrace (Receipts file) trace old new result = AnswersMarked None trace old new result
-AnswersOnTrace (Audit file) trace old new result = AnswersAudit trace old new result
-AnswersOnTrace (Vectors file) trace old new result = AnswersVectors trace old new result
+abbrev pub AnswersOnTrace : Choice → (trace : List ℕ) → (old new : Option (List ℕ)) → Result Found TraceFault → Type 0
+AnswersOnTrace (Show file) trace old new result = AnswersMarked (Some []) trace old new (tally_of result)
+AnswersOnTrace (Join file) trace old new result = AnswersMarked (Some (codes "# ")) trace old new (tally_of result)
+AnswersOnTrace (Receipts file) trace old new result = AnswersMarked None trace old new (tally_of result)
+AnswersOnTrace (Audit file) trace old new result = AnswersRead trace old new result
+AnswersOnTrace (Vectors file) trace old new result = AnswersVectors trace old new (tally_of result)
 AnswersOnTrace (Loop file steps) trace old new result = ⊥
 AnswersOnTrace (Till port host password config currency file steps) trace old new result = ⊥
 AnswersOnTrace (Terminal port host tid connections decline file) trace old new result = ⊥

@@ -1,10 +1,11 @@
 //! What is said of an answer, and its exit status.
 ghost use Rattle.std.specs.Prelude.{◌≡◌, IfOk};
+ghost use Rattle.zvt.specs.OnTrace.{tally_of};
 ghost use Rattle.zvt.specs.Statuses.{status_of_run, status_of_tally};
 
 use crate::statuses;
 use std::io;
-use zvt_tool::{EndFault, Tally, ToolFault, TraceFault};
+use zvt_tool::{EndFault, Found, ToolFault, TraceFault};
 
 /// The exit status of a command on a trace, of this file perhaps. A fault is said, and the file of one that is about it;
 /// but nothing is said of text that could not be written since its reader has gone.
@@ -12,11 +13,11 @@ pub fn finish_trace(
     rt: &HostRuntime,
     file: Option<&str>,
     has_gone: bool,
-    answer: Result<Tally, TraceFault>,
+    answer: Result<Found, TraceFault>,
 ) -> io::Result<u8>
-    ensures { IfOk result (λ status. status ≡ status_of_tally answer) }
+    ensures { IfOk result (λ status. status ≡ status_of_tally (tally_of answer)) }
 {
-    let status = statuses::of_tally(&answer);
+    let status = statuses::of_found(&answer);
     match answer {
         Ok(_) => {}
         Err(TraceFault::Write) if has_gone => {}
@@ -49,7 +50,7 @@ pub fn finish_run(
 }
 
 /// Says the fault, and the word that it is about.
-fn say(rt: &HostRuntime, word: Option<&str>, fault: &ToolFault) -> io::Result<()> {
+pub fn say(rt: &HostRuntime, word: Option<&str>, fault: &ToolFault) -> io::Result<()> {
     match word {
         Some(word) => eprintln!(rt; "zvt: '{word}': {fault}"),
         None => eprintln!(rt; "zvt: {fault}"),

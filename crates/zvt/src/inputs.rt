@@ -2,13 +2,14 @@
 ghost use Rattle.zvt.specs.OnTrace.{IsOnTrace};
 
 use crate::finish::finish_trace;
+use crate::notes::{say_hint, say_notes, unread_line};
 use crate::on_trace::work_on_trace;
 use crate::output::Output;
 use crate::statuses::DEVICE;
 use std::fs::File;
 use std::io::{self, IsTerminal};
-use zvt_io::Over;
-use zvt_tool::Choice;
+use zvt_io::{Over, Source};
+use zvt_tool::{Choice, read_trace};
 
 /// Does what was chosen with the trace in this file, or on standard input where none or `-` is named, and answers the exit
 /// status.
@@ -31,10 +32,7 @@ fn work_on_input(rt: &HostRuntime, chosen: &Choice<'_>) -> io::Result<u8>
             "zvt: a trace is read from this terminal: end it with Ctrl-D at the start of a line"
         )?;
     }
-    let mut reader = Over::new(input);
-    let mut writer = Over::new(Output::new(io::writer(rt)));
-    let answer = work_on_trace(rt.alloc(), chosen, &mut reader, &mut writer);
-    finish_trace(rt, None, writer.inner.has_gone, answer)
+    work_with(rt, chosen, None, &mut Over::new(input))
 }
 
 /// With the trace in this file.
@@ -48,10 +46,31 @@ fn work_on_file(rt: &HostRuntime, chosen: &Choice<'_>, path: &str) -> io::Result
             return Ok(DEVICE);
         }
     };
-    let mut reader = Over::new(file);
+    work_with(rt, chosen, Some(path), &mut Over::new(file))
+}
+
+/// With the trace that the reader brings, of this file perhaps. What is bad in it is said on standard error, before the
+/// fault that ends the command.
+fn work_with<R: Source>(
+    rt: &HostRuntime,
+    chosen: &Choice<'_>,
+    path: Option<&str>,
+    reader: &mut R,
+) -> io::Result<u8>
+    requires { IsOnTrace chosen.now }
+{
+    let trace = match read_trace(rt.alloc(), reader) {
+        Ok(trace) => trace,
+        Err(fault) => return finish_trace(rt, path, false, Err(fault)),
+    };
+    let trace = trace.as_slice();
     let mut writer = Over::new(Output::new(io::writer(rt)));
-    let answer = work_on_trace(rt.alloc(), chosen, &mut reader, &mut writer);
-    finish_trace(rt, Some(path), writer.inner.has_gone, answer)
+    let answer = work_on_trace(rt.alloc(), chosen, trace, &mut writer);
+    let unread = unread_line(chosen, &answer);
+    say_notes(rt, chosen, trace, &answer)?;
+    let status = finish_trace(rt, path, writer.inner.has_gone, answer)?;
+    say_hint(rt, trace, unread)?;
+    Ok(status)
 }
 
 /// The file, which is no directory: the system opens one, and fails at the first read alone.

@@ -8,6 +8,7 @@ ghost use Rattle.zvt_choice.specs.Chosen.{IsChoiceOf};
 mod ends;
 mod finish;
 mod inputs;
+mod notes;
 mod on_trace;
 mod output;
 mod statuses;

@@ -1,29 +1,46 @@
 //! The commands on a trace.
-ghost use Rattle.std.specs.Prelude.{◌≡◌, ◌<◌, Err, IfSome};
-ghost use Rattle.zvt.specs.OnTrace.{AnswersOnTrace, IsOnTrace};
+ghost use Rattle.std.specs.Prelude.{◌≡◌, ◌<◌, ◌≤◌, false, length, Err, IfOk};
+ghost use Rattle.zvt_trace.specs.Written.{limit};
+ghost use Rattle.zvt.specs.OnTrace.{AnswersOnTrace, IsOnTrace, tally_of};
 
 use std::alloc::Global;
-use zvt_io::{Sink, Source};
-use zvt_tool::{Choice, Tally, TraceFault};
+use zvt_io::{Over, Sink};
+use zvt_tool::{
+    Choice, Found, Tally, TraceFault, audit_trace, join_trace, receipts_trace, show_trace, vectors,
+};
 
-/// Does what was chosen with the trace that the reader brings, and writes what comes of it.
-pub fn work_on_trace<R: Source, W: Sink>(
+/// Does what was chosen with the trace, and writes what comes of it.
+pub fn work_on_trace<W: Sink>(
     alloc: Global,
     chosen: &Choice<'_>,
-    reader: &mut R,
+    trace: &[u8],
     writer: &mut W,
-) -> Result<Tally, TraceFault>
-    requires { IsOnTrace chosen.now }
-    ensures writes { IfSome (R.remaining reader.old) (λ trace. AnswersOnTrace chosen.now trace (W.written writer.old) (W.written writer.new) result) }
-    ensures read { result ≡ Err TraceFault.Read → R.failures reader.old < R.failures reader.new }
+) -> Result<Found, TraceFault>
+    requires on_trace { IsOnTrace chosen.now }
+    requires few { length trace.now ≤ limit }
+    ensures writes { AnswersOnTrace chosen.now trace.now (W.written writer.old) (W.written writer.new) result }
     ensures write { result ≡ Err TraceFault.Write → W.failures writer.old < W.failures writer.new }
 {
     match chosen {
-        Choice::Show { .. } => zvt_tool::show(alloc, reader, writer),
-        Choice::Join { .. } => zvt_tool::join(alloc, reader, writer),
-        Choice::Audit { .. } => zvt_tool::audit(alloc, reader, writer),
-        Choice::Receipts { .. } => zvt_tool::receipts(alloc, reader, writer),
-        Choice::Vectors { .. } => zvt_tool::vectors(alloc, reader, writer),
+        Choice::Show { .. } => found(show_trace(alloc, trace, writer)),
+        Choice::Join { .. } => found(join_trace(alloc, trace, writer)),
+        Choice::Audit { .. } => audit_trace(alloc, trace, writer),
+        Choice::Receipts { .. } => found(receipts_trace(alloc, trace, writer)),
+        Choice::Vectors { .. } => found(vectors(alloc, &mut Over::new(trace), writer)),
         Choice::Loop { .. } | Choice::Till { .. } | Choice::Terminal { .. } => unreachable!(),
+    }
+}
+
+/// What a command found that does not look at who sends orders.
+fn found(answer: Result<Tally, TraceFault>) -> Result<Found, TraceFault>
+    ensures tally { tally_of result ≡ answer }
+    ensures swapped { IfOk result (λ found. found.swapped ≡ false) }
+{
+    match answer {
+        Ok(tally) => Ok(Found {
+            tally,
+            swapped: false,
+        }),
+        Err(fault) => Err(fault),
     }
 }

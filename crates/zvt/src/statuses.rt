@@ -1,9 +1,10 @@
 //! The exit statuses.
 ghost use Rattle.std.specs.Prelude.{◌≡◌};
+ghost use Rattle.zvt.specs.OnTrace.{tally_of};
 ghost use Rattle.zvt.specs.Statuses.{status_of_bad, status_of_end_fault, status_of_run, status_of_tally, status_of_trace_fault};
 
 use zvt_stream::LineFault;
-use zvt_tool::{EndFault, Tally, TraceFault};
+use zvt_tool::{EndFault, Found, TraceFault};
 
 /// All was done, or help was asked for.
 pub const DONE: u8 = 0;
@@ -24,11 +25,11 @@ pub const DEVICE: u8 = 4;
 pub const MEMORY: u8 = 5;
 
 /// The status of a command on a trace.
-pub fn of_tally(answer: &Result<Tally, TraceFault>) -> u8
-    ensures { result ≡ status_of_tally answer.now }
+pub fn of_found(answer: &Result<Found, TraceFault>) -> u8
+    ensures { result ≡ status_of_tally (tally_of answer.now) }
 {
     match answer {
-        Ok(tally) => of_bad(tally.bad),
+        Ok(found) => of_bad(found.tally.bad),
         Err(fault) => of_trace_fault(fault),
     }
 }

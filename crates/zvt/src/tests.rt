@@ -41,10 +41,9 @@ const JOINED: &str = "> 06010A04000000001234490978
 fn writes(alloc: Global, chosen: &Choice<'_>) -> (u8, Vec<u8>)
     requires { IsOnTrace chosen.now }
 {
-    let mut reader = Over::new(PAYMENT.as_bytes());
     let mut writer = Over::new(Vec::new(alloc));
-    let answer = work_on_trace(alloc, chosen, &mut reader, &mut writer);
-    (statuses::of_tally(&answer), writer.inner)
+    let answer = work_on_trace(alloc, chosen, PAYMENT.as_bytes(), &mut writer);
+    (statuses::of_found(&answer), writer.inner)
 }
 
 #[test]

@@ -1,0 +1,79 @@
+//! What is said of a trace on standard error.
+ghost use Rattle.std.specs.Prelude.{◌≤◌, length};
+ghost use Rattle.zvt_trace.specs.Written.{limit};
+
+use crate::finish::say;
+use std::io::{self, ErrorKind};
+use zvt_io::Over;
+use zvt_tool::{Choice, Failure, Found, Scope, ToolFault, TraceFault, hint_on, write_notes};
+
+/// Says which streams of the trace are bad, that it has no message, or that its directions may be swapped.
+pub fn say_notes(
+    rt: &HostRuntime,
+    chosen: &Choice<'_>,
+    trace: &[u8],
+    answer: &Result<Found, TraceFault>,
+) -> io::Result<()>
+    requires { length trace.now ≤ limit }
+{
+    let Some(scope) = scope_of(chosen) else {
+        return Ok(());
+    };
+    match answer {
+        Ok(found) if found.tally.bad == 0 && found.tally.messages == 0 => {
+            eprintln!(rt; "zvt: the trace has no message")
+        }
+        Ok(found) => {
+            if found.tally.bad > 0 {
+                say_bad(rt, scope, trace)?;
+            }
+            if found.swapped {
+                eprintln!(rt;
+                    "zvt: '<' sent orders, and '>' none: the directions of the trace may be swapped"
+                )?;
+            }
+            Ok(())
+        }
+        Err(TraceFault::Trace { .. }) => say_bad(rt, scope, trace),
+        Err(_) => Ok(()),
+    }
+}
+
+/// The line of the trace, counted from 1, that can't be read, if that is why the command ended.
+pub fn unread_line(chosen: &Choice<'_>, answer: &Result<Found, TraceFault>) -> Option<u64> {
+    match answer {
+        Err(TraceFault::Trace { line, .. }) if scope_of(chosen).is_some() => Some(*line),
+        _ => None,
+    }
+}
+
+/// Says why that line can't be read.
+pub fn say_hint(rt: &HostRuntime, trace: &[u8], line: Option<u64>) -> io::Result<()> {
+    let Some(line) = line else {
+        return Ok(());
+    };
+    match hint_on(trace, line) {
+        Some(hint) => eprintln!(rt; "zvt: {hint}"),
+        None => Ok(()),
+    }
+}
+
+/// What a refusal leaves unread under the command, if it reads messages of a line.
+fn scope_of(chosen: &Choice<'_>) -> Option<Scope> {
+    match chosen {
+        Choice::Show { .. } | Choice::Join { .. } | Choice::Receipts { .. } => Some(Scope::OneSide),
+        Choice::Audit { .. } => Some(Scope::WholeLine),
+        _ => None,
+    }
+}
+
+/// Says which streams of the trace are bad.
+fn say_bad(rt: &HostRuntime, scope: Scope, trace: &[u8]) -> io::Result<()>
+    requires { length trace.now ≤ limit }
+{
+    match write_notes(rt.alloc(), scope, trace, &mut Over::new(rt.stderr())) {
+        Ok(()) => Ok(()),
+        Err(Failure::Memory) => say(rt, None, &ToolFault::from(TraceFault::Memory)),
+        Err(Failure::Write) => Err(io::Error::from(ErrorKind::Other)),
+    }
+}
