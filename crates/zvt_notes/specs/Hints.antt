@@ -50,7 +50,7 @@ is_no_space byte = not (byte == 32)
 -- Columns are counted from 1, at the direction.
 abbrev pub strange_hint : List ℕ → Option ℕ → Option Hint
 strange_hint text (Some at) = hint_at (at + 2) (slice_index text (at - 1)) (slice_index text at)
-strange_hint text None = if count_by is_no_space text % 2 == 0 then None else Some (HalfByte (length text + 1))
+strange_hint text None = if count_by is_no_space text % 2 == 0 then None else Some (HalfByte (length text + 2))
 
 abbrev pub piece_hint : List ℕ → Option Hint
 piece_hint text = strange_hint text (position is_strange text)

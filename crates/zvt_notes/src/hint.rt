@@ -113,7 +113,7 @@ fn piece_hint(text: &[u8]) -> Option<Hint>
             if digits(text) % 2 == 0 {
                 return None;
             }
-            let column = text.len() + 1;
+            let column = text.len() + 2;
             Some(Hint::HalfByte { column })
         }
     }
