@@ -8,6 +8,8 @@ mod command_lines;
 #[cfg(test)]
 mod example;
 #[cfg(test)]
+mod notes;
+#[cfg(test)]
 mod recorded_runs;
 #[cfg(test)]
 mod run_faults;
