@@ -28,7 +28,7 @@ impl Way {
     }
 }
 
-/// The bytes of the line of a piece of 1,024 bytes, of which a line's devices read and write no more at once.
+/// The size of the line of a piece of 1,024 bytes: a line's devices read and write no more at once.
 const LINE: usize = 2 + 2 * 1024 + 1;
 
 /// A device, and the trace of what goes through it: each read that brings bytes, and each write, is a line of its own.
