@@ -17,29 +17,29 @@ use Rattle.zvt_run.specs.declared.fault.EndFault.{EndFault}
 use Rattle.zvt_run.specs.declared.fault.EndFault.TheVariants.{BadStep, Line as LineBroke, Memory, Net, Trace, Write}
 use Rattle.zvt_run.specs.declared.plans.Planned.{Planned}
 use Rattle.zvt_run.specs.Outcomes.{ending_text, step_text, total_text}
-use Rattle.zvt_run.specs.Runs.{Answers, AnswersStep, AnswersText, BreaksIn, EndsEarly, IsMissing, Law, Makes, MakesAll, MakesTo, PartlySaid, Ran, Said, Standing, WritesPart, fault_of}
+use Rattle.zvt_run.specs.Runs.{Answers, AnswersStep, AnswersText, BreaksIn, EndsEarly, GoesOn, IsMissing, Law, Makes, MakesAll, MakesTo, PartlySaid, Ran, Said, Standing, WritesPart, fault_of}
 
 -- one step more
 makes_one_more : {L : Type 0} (makes : Law L) (plan : List Planned) (planned : Planned) (result : Result Outcome RunFault) (before middle after : Standing L) (text last : List ℕ)
-    → MakesAll makes plan before middle text → Makes makes planned result middle after last → fault_of result ≡ None → MakesAll makes (plan ++ planned ∷ []) before after (text ++ last)
-makes_one_more {L} makes [] planned result before middle after text last all one unbroken = (
+    → MakesAll makes plan before middle text → Makes makes planned result middle after last → GoesOn result → MakesAll makes (plan ++ planned ∷ []) before after (text ++ last)
+makes_one_more {L} makes [] planned result before middle after text last all one goes = (
   result,
   after,
   last,
   [],
   subst (λ (s : Standing L). Makes makes planned result s after last) all.0 one,
-  unbroken,
+  goes,
   (refl, refl),
   ap (λ (t : List ℕ). t ++ last) all.1 ∙ sym (append-nil last),
 )
-makes_one_more makes (first ∷ plan) planned result before middle after text last all one unbroken = (
+makes_one_more makes (first ∷ plan) planned result before middle after text last all one goes = (
   all.0,
   all.1,
   all.2,
   all.3 ++ last,
   all.4,
   all.5,
-  makes_one_more makes plan planned result all.1 middle after all.3 last all.6 one unbroken,
+  makes_one_more makes plan planned result all.1 middle after all.3 last all.6 one goes,
   ap (λ (t : List ℕ). t ++ last) all.7 ∙ append_assoc all.2 all.3 last,
 )
 
@@ -62,7 +62,7 @@ one_more {L} makes plan i planned broken before middle after old now new below i
     let e : take (i + 1) plan ≡ take i plan ++ planned ∷ [] = taken plan i planned below is in
     rw e (record {
       said = so.said ++ step.text;
-      all = makes_one_more makes (take i plan) planned step.result before middle after so.said step.text so.all step.made (step.ended ∙ none);
+      all = makes_one_more makes (take i plan) planned step.result before middle after so.said step.text so.all step.made (step.ended ∙ none, step.not_wanting);
       appended = Appends-trans old now new so.said step.text so.appended step.appended;
     })
 

@@ -1,5 +1,5 @@
 -- What a run of steps makes, and what it writes.
-use Rattle.std.specs.Prelude.{◌≡◌, ◌⊎◌, ℕ, List, [], ◌∷◌, ◌++◌, Option, Some, None, Result, Ok, Err}
+use Rattle.std.specs.Prelude.{◌≡◌, ◌⊎◌, ℕ, Bool, true, false, List, [], ◌∷◌, ◌++◌, Option, Some, None, Result, Ok, Err}
 use Rattle.std.specs.String.{string_bytes}
 use Rattle.std.specs.Io.KnownBytes.{Appends}
 use Rattle.zvt_io.specs.Devices.{IsFront}
@@ -8,6 +8,8 @@ use Rattle.zvt_till.specs.Marks.{total}
 use Rattle.zvt_till.specs.View.{TillValue}
 use Rattle.zvt_till.specs.declared.line.RunFault.{RunFault}
 use Rattle.zvt_till.specs.declared.line.RunFault.TheVariants.{Order, Line}
+use Rattle.zvt_till.specs.declared.orders.OrderRefusal.{OrderRefusal}
+use Rattle.zvt_till.specs.declared.orders.OrderRefusal.TheVariants.{Memory as NoMemory}
 use Rattle.zvt_till.specs.declared.outcomes.Outcome.{Outcome}
 use Rattle.zvt_run.specs.declared.fault.EndFault.{EndFault}
 use Rattle.zvt_run.specs.declared.fault.EndFault.TheVariants.{BadStep, Line as LineBroke, Memory, Net, Trace, Write}
@@ -20,6 +22,20 @@ abbrev pub fault_of : Result Outcome RunFault → Option LineFault
 fault_of (Ok outcome) = None
 fault_of (Err (Order why)) = None
 fault_of (Err (Line fault)) = Some fault
+
+-- the order was not sent for want of memory
+abbrev pub is_memory : OrderRefusal → Bool
+is_memory NoMemory = true
+is_memory _ = false
+
+abbrev pub wants_memory : Result Outcome RunFault → Bool
+wants_memory (Ok outcome) = false
+wants_memory (Err (Order why)) = is_memory why
+wants_memory (Err (Line fault)) = false
+
+-- the next step is made
+abbrev pub GoesOn : Result Outcome RunFault → Type 0
+GoesOn result = (fault_of result ≡ None) × (wants_memory result ≡ false)
 
 -- a line and its till
 pub record Standing (L : Type 0) : Type 0 where
@@ -38,12 +54,12 @@ pub record Makes {L : Type 0} (makes : Law L) (planned : Planned) (result : Resu
   pub made : makes before.line before.till planned.step result after.line after.till
   pub said : text ≡ step_text (string_bytes planned.word) (ending_text result after.till.state.last_outcome)
 
--- The steps were made one after another, no line broke, and this is what was said of them.
+-- The steps were made one after another, no line broke, no order wanted memory, and this is what was said of them.
 abbrev pub MakesAll : {L : Type 0} → Law L → List Planned → Standing L → Standing L → List ℕ → Type 0
 MakesAll makes [] before after text = (after ≡ before) × (text ≡ [])
 MakesAll {L} makes (planned ∷ plan) before after text =
     (result : Result Outcome RunFault) × (middle : Standing L) × (first others : List ℕ)
-    × Makes makes planned result before middle first × (fault_of result ≡ None) × MakesAll makes plan middle after others × (text ≡ first ++ others)
+    × Makes makes planned result before middle first × GoesOn result × MakesAll makes plan middle after others × (text ≡ first ++ others)
 
 -- The line broke in a step, and none behind it was made.
 pub record BreaksIn {L : Type 0} (makes : Law L) (plan : List Planned) (fault : LineFault) (before after : Standing L) (text : List ℕ) : Type 0 where
@@ -126,6 +142,7 @@ pub record Said {L : Type 0} (makes : Law L) (planned : Planned) (broken : Optio
   pub text : List ℕ
   pub made : Makes makes planned result before after text
   pub ended : fault_of result ≡ broken
+  pub not_wanting : wants_memory result ≡ false
   pub appended : Appends old new text
 
 -- A step was made, once, and such a part of its line was written.

@@ -11,7 +11,7 @@ ghost use Rattle.zvt_till.specs.declared.outcomes.Outcome.{Outcome};
 ghost use Rattle.zvt_run.specs.declared.words.Step.{Step};
 ghost use Rattle.zvt_run.specs.Outcomes.{ending_text, total_text};
 ghost use Rattle.zvt_run.specs.Settings.{settings_of};
-ghost use Rattle.zvt_run.specs.Runs.{Answers, AnswersStep, AnswersText, fault_of, standing};
+ghost use Rattle.zvt_run.specs.Runs.{Answers, AnswersStep, AnswersText, fault_of, standing, wants_memory};
 
 use crate::fault::EndFault;
 use crate::outcomes::outcome_text;
@@ -83,7 +83,7 @@ fn make_step<L: StepLine, W: Sink>(
     ensures count { IfOk result (λ _. W.failures writer.new ≡ W.failures writer.old) }
 {
     let made = line.make(alloc, till, &planned.step);
-    if let Err(RunFault::Order(OrderRefusal::Memory)) = &made {
+    if wants_memory(&made) {
         return Err(EndFault::Memory);
     }
     let mut text = Text::new(alloc);
@@ -125,6 +125,13 @@ fn fault_of(made: &Result<Outcome, RunFault>) -> Option<LineFault>
         Err(RunFault::Order(_)) => None,
         Err(RunFault::Line(fault)) => Some(*fault),
     }
+}
+
+/// Whether the order was not sent for want of memory.
+fn wants_memory(made: &Result<Outcome, RunFault>) -> bool
+    ensures { result ≡ wants_memory made.now }
+{
+    matches!(made, Err(RunFault::Order(OrderRefusal::Memory)))
 }
 
 /// Writes the till's total.
