@@ -20,6 +20,6 @@ pub use kinds::{Kind, kind_at};
 pub use messages::{BadValue, Message, Rest};
 pub use normalising::normalise;
 pub use owning::owned;
-pub use reader::{scan, scan_loose};
+pub use reader::{scan, scan_loose, scan_message};
 pub use views::{ApduView, view};
 pub use writer::{NoRoom, encode, encode_into, size};

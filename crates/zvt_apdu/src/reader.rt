@@ -33,7 +33,7 @@ pub fn scan_loose(alloc: Global, bytes: &[u8]) -> Result<Scan<(Apdu, usize)>, Al
 
 /// Reads the message that stands first, of the lengths that the caller asks for.
 #[inline(always)]
-fn scan_message(
+pub fn scan_message(
     alloc: Global,
     bytes: &[u8],
     lengths: Lengths,

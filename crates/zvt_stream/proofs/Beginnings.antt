@@ -6,16 +6,16 @@ use Rattle.zvt_apdu.specs.Message.{Message, ack}
 use Rattle.zvt_apdu.specs.Grammar.{IsFrameLength}
 use Rattle.zvt_apdu.specs.Grammar as grammar
 use Rattle.zvt_apdu.proofs.Writing.{two_control}
-use Rattle.zvt_stream.specs.Apdus.{Spells, Alive, Unfinished, UnfinishedIn, Spelled}
+use Rattle.zvt_stream.specs.Apdus.{Spells, Alive, AliveIn, Unfinished, UnfinishedIn, Spelled, SpelledIn}
 
-pub spelled_more : (ms : List Message) (bytes rest more : List ℕ) → Spelled bytes ms rest → Spelled (bytes ++ more) ms (rest ++ more)
-spelled_more = cuts.spelled_more Spells
+pub spelled_more_in : (r : Reading) (ms : List Message) (bytes rest more : List ℕ) → SpelledIn r bytes ms rest → SpelledIn r (bytes ++ more) ms (rest ++ more)
+spelled_more_in r = cuts.spelled_more (grammar.Spells r)
 
-pub spelled_append : (ms ns : List Message) (bytes middle rest : List ℕ) → Spelled bytes ms middle → Spelled middle ns rest → Spelled bytes (ms ++ ns) rest
-spelled_append = cuts.spelled_append Spells
+pub spelled_append_in : (r : Reading) (ms ns : List Message) (bytes middle rest : List ℕ) → SpelledIn r bytes ms middle → SpelledIn r middle ns rest → SpelledIn r bytes (ms ++ ns) rest
+spelled_append_in r = cuts.spelled_append (grammar.Spells r)
 
-pub front_alive : (front rest : List ℕ) → Alive (front ++ rest) → Alive front
-front_alive = cuts.fronts_alive Spells
+pub front_alive_in : (r : Reading) (front rest : List ℕ) → AliveIn r (front ++ rest) → AliveIn r front
+front_alive_in r = cuts.fronts_alive (grammar.Spells r)
 
 length_bounds : (r : Reading) (n : ℕ) (size : List ℕ) → IsFrameLength r n size → (0 < length size) × (length size ≤ 3) × (n < 65536)
 length_bounds r n [] s = absurd s
@@ -49,6 +49,15 @@ few_in r bytes u = by_rest u.alive.rest u.alive.spelled
     by_rest (x ∷ rest) s = omega (arith, (bounds_in r u.alive.value (bytes ++ x ∷ rest) s).1, length-append bytes (x ∷ rest))
 
 -- the same of the one spelling
+pub spelled_more : (ms : List Message) (bytes rest more : List ℕ) → Spelled bytes ms rest → Spelled (bytes ++ more) ms (rest ++ more)
+spelled_more = spelled_more_in shortest
+
+pub spelled_append : (ms ns : List Message) (bytes middle rest : List ℕ) → Spelled bytes ms middle → Spelled middle ns rest → Spelled bytes (ms ++ ns) rest
+spelled_append = spelled_append_in shortest
+
+pub front_alive : (front rest : List ℕ) → Alive (front ++ rest) → Alive front
+front_alive = front_alive_in shortest
+
 pub message_bounds : (m : Message) (bytes : List ℕ) → Spells m bytes → (2 < length bytes) × (length bytes ≤ 65540)
 message_bounds = bounds_in shortest
 

@@ -5,13 +5,13 @@ use Rattle.std.specs.Coded.{Coded-set}
 use Rattle.zvt_spelling.specs.Reading.{Reading, shortest, padded}
 use Rattle.zvt_apdu.specs.Message.{Message}
 use Rattle.zvt_apdu.specs.MessageCode.{message_code}
-use Rattle.zvt_apdu.specs.Grammar as grammar
+use Rattle.zvt_apdu.specs.Grammar.{Spells}
 use Rattle.zvt_apdu.specs.Views.{MessageBytes}
-use Rattle.zvt_apdu.proofs.ViewLemmas.{message_loosened, same_message, spelled_bytes}
+use Rattle.zvt_apdu.proofs.ViewLemmas.{message_loosened, same_message}
 use Rattle.zvt_spelling.specs.declared.why.Why.{Why}
-use Rattle.zvt_stream.specs.Apdus.{Spells, Unfinished, UnfinishedIn}
+use Rattle.zvt_stream.specs.Apdus.{UnfinishedIn}
 use Rattle.zvt_stream.specs.Feeds.{Feeds, Lends}
-use Rattle.zvt_stream.specs.Judge.{JudgeState, IsMessage, Ran, StandsFor, start}
+use Rattle.zvt_stream.specs.Judge.{JudgeState, IsMessageIn, Ran, StandsFor, start}
 use Rattle.zvt_stream.specs.Lending.{LentBytes, lent_of, held_of}
 use Rattle.zvt_stream.specs.StreamState.{StreamState, IsSound, Keeps}
 use Rattle.zvt_stream.specs.declared.feeding.Fed.TheVariants as fed
@@ -20,103 +20,110 @@ use Rattle.zvt_stream.specs.declared.judging.Run.{Run}
 use Rattle.zvt_stream.specs.declared.judging.Run.TheVariants as run
 use Rattle.zvt_stream.proofs.JudgedFeeds.{fresh, ran_out}
 
+-- what a reading spells the padded one spells
+loosened : (r : Reading) (m : Message) (s : List ℕ) → Spells r m s → Spells padded m s
+loosened shortest m s p = message_loosened m s p
+loosened padded m s p = p
+
 -- bytes that a judge found whole
-pub message_bytes : (bytes : List ℕ) → IsMessage bytes → MessageBytes bytes
-message_bytes bytes m = spelled_bytes m.0 bytes m.1
+pub message_bytes : (r : Reading) (bytes : List ℕ) → IsMessageIn r bytes → MessageBytes bytes
+message_bytes r bytes m = (m.0, ∣ loosened r m.0 bytes m.1 ∣₁)
 
 -- a view of the bytes that are lent shows the message that is
-pub lent_is : (lends : Bool) (bytes d : List ℕ) (s : LentBytes lends bytes) (r : Message) → lends ≡ true → d ≡ bytes → ((m : Message) → grammar.Spells padded m d → r ≡ m) → Some r ≡ lent_of lends bytes s
+pub lent_is : (lends : Bool) (bytes d : List ℕ) (s : LentBytes lends bytes) (r : Message) → lends ≡ true → d ≡ bytes → ((m : Message) → Spells padded m d → r ≡ m) → Some r ≡ lent_of lends bytes s
 lent_is true bytes d s r is e x =
-    ap Some (∥∥₁_elim (s refl).1 (Coded-set message_code _ _) (λ p. x (s refl).0 (subst (grammar.Spells padded (s refl).0) (sym e) p)))
+    ap Some (∥∥₁_elim (s refl).1 (Coded-set message_code _ _) (λ p. x (s refl).0 (subst (Spells padded (s refl).0) (sym e) p)))
 lent_is false bytes d s r is e x = absurd (cc (is))
 
 pub none_lent : (lends : Bool) (bytes : List ℕ) (s : LentBytes lends bytes) → lends ≡ false → None ≡ lent_of lends bytes s
 none_lent false bytes s is = refl
 none_lent true bytes s is = absurd (cc (is))
 
--- the bytes that are lent are the one spelling of the message that is
-pub lent_spells : (lends : Bool) (bytes : List ℕ) (s : LentBytes lends bytes) → (lends ≡ true → IsMessage bytes) → (m : Message) → lent_of lends bytes s ≡ Some m → Spells m bytes
-lent_spells true bytes s whole m is =
-    let w : IsMessage bytes = whole refl in
-    let same : (s refl).0 ≡ w.0 = same_message w.0 bytes ∣ message_loosened w.0 bytes w.1 ∣₁ (s refl) in
-    subst (λ (k : Message). Spells k bytes) (sym same ∙ some_is is) w.1
+-- the bytes that are lent are a spelling of the message that is
+pub lent_spells : (r : Reading) (lends : Bool) (bytes : List ℕ) (s : LentBytes lends bytes) → (lends ≡ true → IsMessageIn r bytes) → (m : Message) → lent_of lends bytes s ≡ Some m → Spells r m bytes
+lent_spells r true bytes s whole m is =
+    let w : IsMessageIn r bytes = whole refl in
+    let same : (s refl).0 ≡ w.0 = same_message w.0 bytes ∣ loosened r w.0 bytes w.1 ∣₁ (s refl) in
+    subst (λ (k : Message). Spells r k bytes) (sym same ∙ some_is is) w.1
   where
     some_is : {a b : Message} → Some a ≡ Some b → a ≡ b
     some_is e = cc (e)
-lent_spells false bytes s whole m is = absurd (cc (is))
+lent_spells r false bytes s whole m is = absurd (cc (is))
 
-pub some_spelled : (lends : Bool) (bytes : List ℕ) (s : LentBytes lends bytes) → (lends ≡ true → IsMessage bytes) → IfSome (lent_of lends bytes s) (λ m. Spells m bytes × (true ≡ true))
-some_spelled true bytes s whole = (lent_spells true bytes s whole (s refl).0 refl, refl)
-some_spelled false bytes s whole = tt
+pub some_spelled : (r : Reading) (lends : Bool) (bytes : List ℕ) (s : LentBytes lends bytes) → (lends ≡ true → IsMessageIn r bytes) → IfSome (lent_of lends bytes s) (λ m. Spells r m bytes × (true ≡ true))
+some_spelled r true bytes s whole = (lent_spells r true bytes s whole (s refl).0 refl, refl)
+some_spelled r false bytes s whole = tt
 
 -- A stream that lends nothing holds all its bytes.
 pub record Idle (lends : Bool) (bytes : List ℕ) (judge : JudgeState) (old : StreamState) : Type 0 where
   pub idle : lends ≡ false
   pub is_held : bytes ≡ old.held
-  pub unfinished : Unfinished bytes
+  pub unfinished : UnfinishedIn old.reading bytes
   pub stands : StandsFor judge bytes
-  pub strict : judge.reading ≡ shortest
+  pub alike : judge.reading ≡ old.reading
 
 pub idle : (lends stopped : Bool) (bytes : List ℕ) (s : LentBytes lends bytes) (room : ℕ) (judge : JudgeState) (old now : StreamState)
-    → (let state : StreamState = record { held = held_of lends bytes; stopped = stopped; lent = lent_of lends bytes s; room = room } in state) ≡ now → Keeps old now
-    → IsSound (held_of lends bytes) stopped × StandsFor judge (held_of lends bytes) × (lends ≡ true → IsMessage bytes) × (judge.reading ≡ shortest) → Idle lends bytes judge old
-idle false stopped bytes s room judge old now is keeps sound = record { idle = refl; is_held = ap (λ (t : StreamState). t.held) is ∙ keeps.0; unfinished = sound.0.unfinished; stands = sound.1; strict = sound.3 }
+    → (let state : StreamState = record { held = held_of lends bytes; stopped = stopped; lent = lent_of lends bytes s; room = room; reading = judge.reading } in state) ≡ now → Keeps old now
+    → IsSound judge.reading (held_of lends bytes) stopped × StandsFor judge (held_of lends bytes) × (lends ≡ true → IsMessageIn judge.reading bytes) → Idle lends bytes judge old
+idle false stopped bytes s room judge old now is keeps sound =
+    let alike : judge.reading ≡ old.reading = ap (λ (t : StreamState). t.reading) is ∙ keeps.3 in
+    record { idle = refl; is_held = ap (λ (t : StreamState). t.held) is ∙ keeps.0; unfinished = subst (λ (r : Reading). UnfinishedIn r bytes) alike sound.0.unfinished; stands = sound.1; alike = alike }
 idle true stopped bytes s room judge old now is keeps sound = absurd (some_is_none (ap (λ (t : StreamState). t.lent) is ∙ keeps.2))
   where
     some_is_none : {m : Message} → Some m ≡ None → ⊥
     some_is_none e = cc
 
--- a judge of the shortest lengths
-strictly_unfinished : (judge : JudgeState) (bytes : List ℕ) → StandsFor judge bytes × (judge.reading ≡ shortest) → Unfinished bytes
-strictly_unfinished judge bytes s = subst (λ (r : Reading). UnfinishedIn r bytes) s.1 s.0.unfinished
-
-pub strictly_ran : (judge : JudgeState) (bytes piece : List ℕ) (q : Run) (new : JudgeState) → judge.reading ≡ shortest → Ran judge.reading bytes piece q new → Ran shortest bytes piece q new
-strictly_ran judge bytes piece q new e = subst (λ (r : Reading). Ran r bytes piece q new) e
+-- what a run of a judge says, of a reading that is the judge's
+pub ran_in : (r : Reading) (judge : JudgeState) (bytes piece : List ℕ) (q : Run) (new : JudgeState) → judge.reading ≡ r → Ran judge.reading bytes piece q new → Ran r bytes piece q new
+ran_in r judge bytes piece q new e = subst (λ (k : Reading). Ran k bytes piece q new) e
 
 -- a stream that holds nothing, with a new judge
-pub emptied : (lends stopped : Bool) (bytes : List ℕ) (judge : JudgeState) → lends ≡ false → judge ≡ start shortest → bytes ≡ [] → IsSound (held_of lends bytes) stopped × StandsFor judge (held_of lends bytes) × (lends ≡ true → IsMessage bytes) × (judge.reading ≡ shortest)
-emptied false stopped bytes judge is e f = let new = fresh judge bytes stopped e f in (new.0, new.1, (λ lent. absurd cc), ap (λ (j : JudgeState). j.reading) e)
-emptied true stopped bytes judge is e f = absurd (cc (is))
+pub emptied : (r : Reading) (lends stopped : Bool) (bytes : List ℕ) (judge : JudgeState) → lends ≡ false → judge ≡ start r → bytes ≡ [] → IsSound judge.reading (held_of lends bytes) stopped × StandsFor judge (held_of lends bytes) × (lends ≡ true → IsMessageIn judge.reading bytes)
+emptied r false stopped bytes judge is e f = let new = fresh r judge bytes stopped e f in (new.0, new.1, λ lent. absurd cc)
+emptied r true stopped bytes judge is e f = absurd (cc (is))
 
 -- a stream that holds more
-pub grown : (lends stopped : Bool) (bytes : List ℕ) (judge : JudgeState) → lends ≡ false → stopped ≡ false → StandsFor judge bytes × (judge.reading ≡ shortest) → IsSound (held_of lends bytes) stopped × StandsFor judge (held_of lends bytes) × (lends ≡ true → IsMessage bytes) × (judge.reading ≡ shortest)
-grown false stopped bytes judge is runs s =
-    (record { unfinished = strictly_unfinished judge bytes s; none_held = λ e. absurd (true_is_false (sym e ∙ runs)) }, s.0, (λ lent. absurd cc), s.1)
+pub grown : (lends stopped : Bool) (bytes : List ℕ) (judge : JudgeState) → lends ≡ false → stopped ≡ false → StandsFor judge bytes → IsSound judge.reading (held_of lends bytes) stopped × StandsFor judge (held_of lends bytes) × (lends ≡ true → IsMessageIn judge.reading bytes)
+grown false stopped bytes judge is runs s = (record { unfinished = s.unfinished; none_held = λ e. absurd (true_is_false (sym e ∙ runs)) }, s, λ lent. absurd cc)
   where
     true_is_false : true ≡ false → ⊥
     true_is_false e = cc
 grown true stopped bytes judge is runs s = absurd (cc (is))
 
 -- a stream that lends
-pub lending : (stopped : Bool) (bytes : List ℕ) (judge : JudgeState) → stopped ≡ false → judge ≡ start shortest → IsMessage bytes → IsSound [] stopped × StandsFor judge [] × (true ≡ true → IsMessage bytes) × (judge.reading ≡ shortest)
-lending stopped bytes judge runs e whole = let new = fresh judge [] stopped e refl in (new.0, new.1, (λ lent. whole), ap (λ (j : JudgeState). j.reading) e)
+pub lending : (r : Reading) (stopped : Bool) (bytes : List ℕ) (judge : JudgeState) → stopped ≡ false → judge ≡ start r → IsMessageIn r bytes → IsSound judge.reading [] stopped × StandsFor judge [] × (true ≡ true → IsMessageIn judge.reading bytes)
+lending r stopped bytes judge runs e whole =
+    let new = fresh r judge [] stopped e refl in
+    (new.0, new.1, λ lent. subst (λ (k : Reading). IsMessageIn k bytes) (sym (ap (λ (j : JudgeState). j.reading) e)) whole)
 
 -- what a feed gives where no message ended
 pub feeds_more : (lends stopped : Bool) (bytes piece after : List ℕ) (lent : Option Message) (room : ℕ) (judge new : JudgeState) (old : StreamState)
-    → Idle lends bytes judge old → StandsFor new (bytes ++ piece) × (new.reading ≡ shortest) → after ≡ bytes ++ piece → stopped ≡ false
-    → Feeds old piece fed.More (let state : StreamState = record { held = held_of lends after; stopped = stopped; lent = lent; room = room } in state)
+    → Idle lends bytes judge old → StandsFor new (bytes ++ piece) × (new.reading ≡ old.reading) → after ≡ bytes ++ piece → stopped ≡ false
+    → Feeds old piece fed.More (let state : StreamState = record { held = held_of lends after; stopped = stopped; lent = lent; room = room; reading = new.reading } in state)
 feeds_more false stopped bytes piece after lent room judge new old i s is runs =
     let same : bytes ++ piece ≡ old.held ++ piece = ap (λ (b : List ℕ). b ++ piece) i.is_held in
-    (subst Unfinished same (strictly_unfinished new (bytes ++ piece) s), (is ∙ same, runs))
+    (subst (UnfinishedIn old.reading) same (subst (λ (r : Reading). UnfinishedIn r (bytes ++ piece)) s.1 s.0.unfinished), (is ∙ same, runs), s.1)
 feeds_more true stopped bytes piece after lent room judge new old i s is runs = absurd (cc (i.idle))
 
 -- and where bytes were refused
 pub feeds_refused : (lends : Bool) (bytes piece after : List ℕ) (lent : Option Message) (room at place : ℕ) (why : Why) (judge new : JudgeState) (old : StreamState)
-    → Idle lends bytes judge old → Ran shortest bytes piece (run.Refused at why) new → place ≡ length bytes + at → after ≡ []
-    → Feeds old piece (fed.Refused place why) (let state : StreamState = record { held = held_of lends after; stopped = true; lent = lent; room = room } in state)
+    → Idle lends bytes judge old → Ran old.reading bytes piece (run.Refused at why) new → place ≡ length bytes + at → after ≡ []
+    → Feeds old piece (fed.Refused place why) (let state : StreamState = record { held = held_of lends after; stopped = true; lent = lent; room = room; reading = new.reading } in state)
 feeds_refused false bytes piece after lent room at place why judge new old i ran is none =
-    let out = ran_out new bytes piece at why i.unfinished ran in
-    rw (← i.is_held, is) (out.0, out.1, (none, refl))
+    let out = ran_out old.reading new bytes piece at why i.unfinished ran in
+    let alike : new.reading ≡ old.reading = ap (λ (j : JudgeState). j.reading) ran.2 in
+    rw (← i.is_held, is) (out.0, out.1, (none, refl), alike)
 feeds_refused true bytes piece after lent room at place why judge new old i ran is none = absurd (cc (i.idle))
 
 -- and where a message ended, which is lent
 pub lends_message : (stopped : Bool) (bytes piece after : List ℕ) (s : LentBytes true after) (room taken : ℕ) (judge new : JudgeState) (lends : Bool) (old : StreamState)
-    → Idle lends bytes judge old → Ran shortest bytes piece (run.Ended taken) new → after ≡ bytes ++ take taken piece → stopped ≡ false
-    → Lends old piece (view.Message taken) (let state : StreamState = record { held = []; stopped = stopped; lent = lent_of true after s; room = room } in state)
+    → Idle lends bytes judge old → Ran old.reading bytes piece (run.Ended taken) new → after ≡ bytes ++ take taken piece → stopped ≡ false
+    → Lends old piece (view.Message taken) (let state : StreamState = record { held = []; stopped = stopped; lent = lent_of true after s; room = room; reading = new.reading } in state)
 lends_message stopped bytes piece after s room taken judge new lends old i ran is runs =
-    let whole : IsMessage after = subst IsMessage (sym is) ran.2 in
-    let spells : Spells whole.0 (old.held ++ take taken piece) = subst (Spells whole.0) (is ∙ ap (λ (b : List ℕ). b ++ take taken piece) i.is_held) whole.1 in
-    (whole.0, (ran.0, ran.1, spells, (refl, runs)), ap Some (same_message whole.0 after ∣ message_loosened whole.0 after whole.1 ∣₁ (s refl)))
+    let r = old.reading in
+    let whole : IsMessageIn r after = subst (IsMessageIn r) (sym is) ran.2 in
+    let spells : Spells r whole.0 (old.held ++ take taken piece) = subst (Spells r whole.0) (is ∙ ap (λ (b : List ℕ). b ++ take taken piece) i.is_held) whole.1 in
+    (whole.0, (ran.0, ran.1, spells, (refl, runs), ap (λ (j : JudgeState). j.reading) ran.3), ap Some (same_message whole.0 after ∣ loosened r whole.0 after whole.1 ∣₁ (s refl)))
 
 -- a feed whose message is the one that is shown
 pub feeds_shown : (old new : StreamState) (piece : List ℕ) (taken : ℕ) (shown : Option Message) (apdu : Message) → Lends old piece (view.Message taken) new → shown ≡ new.lent → shown ≡ Some apdu → Feeds old piece (fed.Message apdu taken) new

@@ -28,6 +28,14 @@ PlaceIn r = beginnings.Place (grammar.Spells r)
 abbrev pub IsRefusedIn : Reading → List ℕ → (place : ℕ) → Why → Type 0
 IsRefusedIn r bytes place why = NoneWholeIn r bytes × PlaceIn r bytes place × WhyOf r bytes place why
 
+-- The bytes are the spellings of the messages one after another, then the rest.
+abbrev pub SpelledIn : Reading → List ℕ → List Message → (rest : List ℕ) → Type 0
+SpelledIn r = cuts.Spelled (grammar.Spells r)
+
+-- The messages of the bytes, and the rest, of which no message is a front.
+abbrev pub CutIn : Reading → List ℕ → List Message → (rest : List ℕ) → Type 0
+CutIn r = cuts.Cut (grammar.Spells r)
+
 -- The bytes are the spelling of the message.
 abbrev pub Spells : Message → List ℕ → Type 0
 Spells = grammar.Spells shortest
@@ -54,8 +62,8 @@ IsRefused = IsRefusedIn shortest
 
 -- The bytes are the spellings of the messages one after another, then the rest.
 abbrev pub Spelled : List ℕ → List Message → (rest : List ℕ) → Type 0
-Spelled = cuts.Spelled Spells
+Spelled = SpelledIn shortest
 
 -- The messages of the bytes, and the rest, of which no message is a front.
 abbrev pub Cut : List ℕ → List Message → (rest : List ℕ) → Type 0
-Cut = cuts.Cut Spells
+Cut = CutIn shortest

@@ -1,7 +1,8 @@
 -- What a feed answers.
 use Rattle.std.specs.Prelude.{◌≡◌, ℕ, suc, ◌-◌, ◌<◌, ◌≤◌, Some, None, List, [], ◌++◌, length, take}
 use Rattle.zvt_apdu.specs.Message as message
-use Rattle.zvt_stream.specs.Apdus.{Spells, Unfinished, IsRefused}
+use Rattle.zvt_apdu.specs.Grammar.{Spells}
+use Rattle.zvt_stream.specs.Apdus.{UnfinishedIn, IsRefusedIn}
 use Rattle.zvt_stream.specs.StreamState.{StreamState, Holds, HasRefused}
 use Rattle.zvt_stream.specs.declared.feeding.Fed.{Fed}
 use Rattle.zvt_stream.specs.declared.feeding.Fed.TheVariants.{Message, More, Refused}
@@ -10,9 +11,9 @@ use Rattle.zvt_stream.specs.declared.feeding.FedView.TheVariants as view
 
 -- From old, the piece gives this answer and leads to new.
 abbrev pub Feeds : StreamState → List ℕ → Fed → StreamState → Type 0
-Feeds old piece (Message apdu taken) new = (0 < taken) × (taken ≤ length piece) × Spells apdu (old.held ++ take taken piece) × Holds [] new
-Feeds old piece More new = Unfinished (old.held ++ piece) × Holds (old.held ++ piece) new
-Feeds old piece (Refused place why) new = IsRefused (old.held ++ piece) place why × (length old.held ≤ place) × HasRefused new
+Feeds old piece (Message apdu taken) new = (0 < taken) × (taken ≤ length piece) × Spells old.reading apdu (old.held ++ take taken piece) × Holds [] new × (new.reading ≡ old.reading)
+Feeds old piece More new = UnfinishedIn old.reading (old.held ++ piece) × Holds (old.held ++ piece) new × (new.reading ≡ old.reading)
+Feeds old piece (Refused place why) new = IsRefusedIn old.reading (old.held ++ piece) place why × (length old.held ≤ place) × HasRefused new × (new.reading ≡ old.reading)
 
 -- The same, where a message is lent.
 abbrev pub Lends : StreamState → List ℕ → FedView → StreamState → Type 0

@@ -1,7 +1,8 @@
 -- A machine hears messages, one after another, by its own step.
 use Rattle.std.specs.Prelude.{◌≡◌, ℕ, Bool, List, [], ◌∷◌}
+use Rattle.zvt_spelling.specs.Reading.{Reading}
 use Rattle.zvt_apdu.specs.Message.{Message}
-use Rattle.zvt_stream.specs.Apdus.{Spelled}
+use Rattle.zvt_stream.specs.Apdus.{SpelledIn}
 use Rattle.zvt_stream.specs.Answered.{Answered, bytes_of, any_sent}
 
 -- Hearing the messages in turn gives these answers, one for each, and leads from old to new.
@@ -12,10 +13,10 @@ Hears step old [] (answer ∷ answers) new = ⊥
 Hears step old (message ∷ messages) [] new = ⊥
 
 -- Of the bytes, messages were heard and answered, and the rest is left.
-pub record Heard {S : Type 0} (step : S → Message → Answered → S → Type 0) (bytes : List ℕ) (old : S) (rest : List ℕ) (new : S) (written : List ℕ) (sent : Bool) : Type 0 where
+pub record Heard {S : Type 0} (r : Reading) (step : S → Message → Answered → S → Type 0) (bytes : List ℕ) (old : S) (rest : List ℕ) (new : S) (written : List ℕ) (sent : Bool) : Type 0 where
   pub messages : List Message
   pub answers : List Answered
-  pub spelled : Spelled bytes messages rest
+  pub spelled : SpelledIn r bytes messages rest
   pub heard : Hears step old messages answers new
   pub answered : written ≡ bytes_of answers
   pub sending : sent ≡ any_sent answers

@@ -1,28 +1,52 @@
 -- A stream as its callers see it.
 use Rattle.std.specs.Prelude.{◌≡◌, ℕ, ◌≤◌, Bool, true, false, Option, None, List, []}
-use Rattle.std.specs.Prelude.{refl}
+use Rattle.std.proofs.Common.{refl, ap}
 use Rattle.std.specs.Coded.{Coded, code_by, coded×, coded_ℕ, coded_bool, coded_list, coded_option}
+use Rattle.zvt_spelling.specs.Reading.{Reading, shortest, padded, reading}
 use Rattle.zvt_apdu.specs.Message.{Message}
 use Rattle.zvt_apdu.specs.MessageCode.{message_code}
-use Rattle.zvt_stream.specs.Apdus.{Unfinished}
+use Rattle.zvt_stream.specs.Apdus.{UnfinishedIn}
 
--- The bytes of the unfinished message, whether bytes were refused, the message that is lent, and how many bytes there is
--- room for before memory is asked for.
+-- The bytes of the unfinished message, whether bytes were refused, the message that is lent, how many bytes there is
+-- room for before memory is asked for, and the reading of lengths.
 pub record StreamState : Type 0 where
   pub held : List ℕ
   pub stopped : Bool
   pub lent : Option Message
   pub room : ℕ
+  pub reading : Reading
+
+-- Whether it takes each form of length.
+abbrev pub is_padded : Reading → Bool
+is_padded shortest = false
+is_padded padded = true
+
+pub reading-back : (r : Reading) → reading (is_padded r) ≡ r
+reading-back shortest = refl
+reading-back padded = refl
 
 -- A state is stored as the tuple of its parts.
+abbrev pub state_parts : StreamState → List ℕ × (Bool × (Option Message × (ℕ × Bool)))
+state_parts s = (s.held, (s.stopped, (s.lent, (s.room, is_padded s.reading))))
+
+abbrev pub state_from : List ℕ × (Bool × (Option Message × (ℕ × Bool))) → StreamState
+state_from p = record { held = p.0; stopped = p.1.0; lent = p.1.1.0; room = p.1.1.1.0; reading = reading p.1.1.1.1 }
+
+pub state-back : (s : StreamState) → state_from (state_parts s) ≡ s
+state-back s = ap (λ (r : Reading). record { held = s.held; stopped = s.stopped; lent = s.lent; room = s.room; reading = r }) (reading-back s.reading)
+
 abbrev pub state_code : Coded StreamState
 state_code =
-    code_by (List ℕ × (Bool × (Option Message × ℕ))) (coded× (coded_list coded_ℕ) (coded× coded_bool (coded× (coded_option message_code) coded_ℕ)))
-    (λ s. (s.held, (s.stopped, (s.lent, s.room)))) (λ p. record { held = p.0; stopped = p.1.0; lent = p.1.1.0; room = p.1.1.1 }) (λ _. refl)
+    code_by (List ℕ × (Bool × (Option Message × (ℕ × Bool)))) (coded× (coded_list coded_ℕ) (coded× coded_bool (coded× (coded_option message_code) (coded× coded_ℕ coded_bool))))
+    state_parts state_from state-back
 
--- A stream at the start of a line, without room.
+-- A stream of that reading at the start of a line, without room.
+abbrev pub start_in : Reading → StreamState
+start_in r = record { held = []; stopped = false; lent = None; room = 0; reading = r }
+
+-- A stream of the shortest lengths there.
 abbrev pub at_start : StreamState
-at_start = record { held = []; stopped = false; lent = None; room = 0 }
+at_start = start_in shortest
 
 -- The stream holds these bytes, and takes more.
 abbrev pub Holds : List ℕ → StreamState → Type 0
@@ -34,13 +58,13 @@ HasRefused s = (s.held ≡ []) × (s.stopped ≡ true)
 
 -- What is held and what was refused stays, and nothing is lent.
 abbrev pub Keeps : StreamState → StreamState → Type 0
-Keeps old new = (new.held ≡ old.held) × (new.stopped ≡ old.stopped) × (new.lent ≡ None)
+Keeps old new = (new.held ≡ old.held) × (new.stopped ≡ old.stopped) × (new.lent ≡ None) × (new.reading ≡ old.reading)
 
 -- There is room for the longest message.
 abbrev pub IsReserved : StreamState → Type 0
 IsReserved s = 65540 ≤ s.room
 
 -- What a stream holds begins a message, and a stream that refused holds nothing.
-pub record IsSound (held : List ℕ) (stopped : Bool) : Type 0 where
-  pub unfinished : Unfinished held
+pub record IsSound (r : Reading) (held : List ℕ) (stopped : Bool) : Type 0 where
+  pub unfinished : UnfinishedIn r held
   pub none_held : stopped ≡ true → held ≡ []

@@ -2,19 +2,23 @@
 
 ghost use Rattle.std.specs.Prelude.{◌≡◌, ℕ, ◌+◌, ◌<◌, ◌≤◌, [], ◌++◌, None, IfOk, IfNone, IfSome, IsNone, IsSome, OnErr, List, length, take, false, true, MatchResult};
 ghost use Rattle.std.specs.Result.{IsErrOf};
-ghost use Rattle.zvt_stream.specs.Apdus.{Spells, Unfinished};
-ghost use Rattle.zvt_stream.specs.StreamState.{at_start, Holds, Keeps, IsReserved};
+ghost use Rattle.zvt_spelling.specs.Reading.{padded, shortest};
+ghost use Rattle.zvt_tlv.specs.Lengths.{reading_of};
+ghost use Rattle.zvt_apdu.specs.Grammar.{Spells};
+ghost use Rattle.zvt_stream.specs.Apdus.{UnfinishedIn};
+ghost use Rattle.zvt_stream.specs.StreamState.{at_start, start_in, Holds, Keeps, IsReserved};
 ghost use Rattle.zvt_stream.specs.Lending.{LentBytes, lent_once};
 ghost use Rattle.zvt_stream.specs.Feeds.{Feeds, Lends, taken_by, taken_in_view};
-ghost use Rattle.zvt_stream.specs.Judge.{HasLevels, IsMessage};
+ghost use Rattle.zvt_stream.specs.Judge.{HasLevelsIn, IsMessageIn};
 
 use crate::judging::{Judge, Run};
 use crate::keeping::Held;
 use crate::steps::Steps;
 use std::alloc::{AllocError, Global};
 use std::marker::Model;
-use zvt_apdu::{Apdu, ApduView, scan, view};
+use zvt_apdu::{Apdu, ApduView, scan_message, view};
 use zvt_spelling::{Scan, Why};
+use zvt_tlv::Lengths;
 
 /// What a piece gave.
 #[derive(Drop)]
@@ -70,20 +74,19 @@ impl Model for Stream {
     ghost use Rattle.zvt_stream.specs.StreamState.{StreamState, state_code, IsSound};
     ghost use Rattle.zvt_stream.specs.Lending.{held_of, lent_of};
     ghost use Rattle.std.specs.Prelude.{◌≡◌, true};
-    ghost use Rattle.zvt_spelling.specs.Reading.{shortest};
-    ghost use Rattle.zvt_stream.specs.Judge.{StandsFor, IsMessage};
+    ghost use Rattle.zvt_stream.specs.Judge.{StandsFor, IsMessageIn};
 
     ghost Value = { StreamState };
 
     ghost coded = { state_code };
 
-    ghost view = { λ s. record { held = held_of s.lends s.held.bytes; stopped = s.stopped; lent = lent_of s.lends s.held.bytes s.spelled; room = s.held.room } };
+    ghost view = { λ s. record { held = held_of s.lends s.held.bytes; stopped = s.stopped; lent = lent_of s.lends s.held.bytes s.spelled; room = s.held.room; reading = s.judge.reading } };
 
-    ghost invariant = { λ s. IsSound (held_of s.lends s.held.bytes) s.stopped × StandsFor s.judge (held_of s.lends s.held.bytes) × (s.lends ≡ true → IsMessage s.held.bytes) × (s.judge.reading ≡ shortest) };
+    ghost invariant = { λ s. IsSound s.judge.reading (held_of s.lends s.held.bytes) s.stopped × StandsFor s.judge (held_of s.lends s.held.bytes) × (s.lends ≡ true → IsMessageIn s.judge.reading s.held.bytes) };
 }
 
 impl Stream {
-    /// A stream at the start of a line.
+    /// A stream at the start of a line, which takes each length in its shortest form.
     pub fn new(alloc: Global) -> Stream
         ensures { result ≡ at_start }
     {
@@ -95,10 +98,23 @@ impl Stream {
         }
     }
 
+    /// A stream at the start of a line, which takes each length in any form that holds it.
+    pub fn loose(alloc: Global) -> Stream
+        ensures { result ≡ start_in padded }
+    {
+        Stream {
+            held: Held::new(alloc),
+            judge: Judge::loose(),
+            stopped: false,
+            lends: false,
+        }
+    }
+
     /// A stream at the start of a line, with room for the longest message: `feed_view` never asks it for memory.
     pub fn reserved(alloc: Global) -> Result<Stream, AllocError>
         ensures new { IfOk result (λ stream. Holds [] stream × (stream.lent ≡ None)) }
         ensures reserved { IfOk result (λ stream. IsReserved stream) }
+        ensures reading { IfOk result (λ stream. stream.reading ≡ shortest) }
     {
         Ok(Stream {
             held: Held::reserved(alloc)?,
@@ -121,7 +137,7 @@ impl Stream {
 
     /// The bytes of the message that is lent.
     pub fn lent_bytes(&self) -> Option<&[u8]>
-        ensures some { IfSome self.now.lent (λ m. IfSome result (λ bytes. Spells m bytes.now) × IsSome result) }
+        ensures some { IfSome self.now.lent (λ m. IfSome result (λ bytes. Spells self.now.reading m bytes.now) × IsSome result) }
         ensures none { self.now.lent ≡ None → IsNone result }
     {
         if self.lends {
@@ -189,7 +205,12 @@ impl Stream {
                 }
                 Err(_) => Err(FeedError::Memory),
             },
-            Run::Ended { taken } => match message(alloc, &mut self.held, &piece[..taken]) {
+            Run::Ended { taken } => match message(
+                alloc,
+                &mut self.held,
+                &piece[..taken],
+                self.judge.lengths(),
+            ) {
                 Some(apdu) => {
                     self.judge = judge;
                     Ok(Fed::Message { apdu, taken })
@@ -276,7 +297,7 @@ impl Stream {
     /// refusal, and none where a message is lent.
     pub fn held(&self) -> usize
         ensures count { result ≡ length self.now.held }
-        ensures unfinished { Unfinished self.now.held }
+        ensures unfinished { UnfinishedIn self.now.reading self.now.held }
         ensures few { result < 65540 }
         ensures none { self.now.stopped ≡ true → self.now.held ≡ [] }
     {
@@ -298,7 +319,7 @@ impl Stream {
     /// one another.
     pub fn levels(&self) -> usize
         ensures none { self.now.held ≡ [] → result ≡ 0 }
-        ensures some { 0 < length self.now.held → HasLevels self.now.held result }
+        ensures some { 0 < length self.now.held → HasLevelsIn self.now.reading self.now.held result }
         ensures most { result ≤ 8 }
     {
         if self.held() == 0 {
@@ -310,20 +331,20 @@ impl Stream {
 }
 
 /// The message that what is held and these bytes behind it are, or none where memory is refused. Nothing is held then.
-fn message(alloc: Global, held: &mut Held, last: &[u8]) -> Option<Apdu>
-    requires { IsMessage (held.old.bytes ++ last.now) }
-    ensures some { IfSome result (λ apdu. Spells apdu (held.old.bytes ++ last.now) × (held.new.bytes ≡ [])) }
+fn message(alloc: Global, held: &mut Held, last: &[u8], lengths: Lengths) -> Option<Apdu>
+    requires { IsMessageIn (reading_of lengths) (held.old.bytes ++ last.now) }
+    ensures some { IfSome result (λ apdu. Spells (reading_of lengths) apdu (held.old.bytes ++ last.now) × (held.new.bytes ≡ [])) }
     ensures none { IfNone result (held.new.bytes ≡ held.old.bytes) }
     ensures room { held.old.room ≤ held.new.room }
 {
     let before = held.len();
     if before == 0 {
-        return whole(alloc, last);
+        return whole(alloc, last, lengths);
     }
     if held.add_all(last).is_err() {
         return None;
     }
-    match whole(alloc, held.spelled()) {
+    match whole(alloc, held.spelled(), lengths) {
         Some(apdu) => {
             held.cut(0);
             Some(apdu)
@@ -336,11 +357,11 @@ fn message(alloc: Global, held: &mut Held, last: &[u8]) -> Option<Apdu>
 }
 
 /// The message that the bytes are, or none where memory is refused.
-fn whole(alloc: Global, bytes: &[u8]) -> Option<Apdu>
-    requires { IsMessage bytes.now }
-    ensures { IfSome result (λ apdu. Spells apdu bytes.now) }
+fn whole(alloc: Global, bytes: &[u8], lengths: Lengths) -> Option<Apdu>
+    requires { IsMessageIn (reading_of lengths) bytes.now }
+    ensures { IfSome result (λ apdu. Spells (reading_of lengths) apdu bytes.now) }
 {
-    match scan(alloc, bytes) {
+    match scan_message(alloc, bytes, lengths) {
         Ok(Scan::Whole((apdu, _))) => Some(apdu),
         Ok(Scan::More) => unreachable!(),
         Ok(Scan::Refused { .. }) => unreachable!(),

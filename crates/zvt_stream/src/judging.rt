@@ -105,6 +105,13 @@ impl Judge {
         }
     }
 
+    /// The forms of length that it takes.
+    pub fn lengths(&self) -> Lengths
+        ensures { reading_of result ≡ self.now.reading }
+    {
+        self.lengths
+    }
+
     /// The same judge again.
     pub fn again(&self) -> Judge
         ensures { result ≡ self.now }

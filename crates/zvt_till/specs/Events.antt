@@ -1,5 +1,6 @@
 -- The log of a list of events, and what a till sends over it.
 use Rattle.std.specs.Prelude.{◌≡◌, ◌⊎◌, ℕ, Bool, true, false, cond, List, [], ◌∷◌, ◌++◌, Option, Some, None, map, option_to_list}
+use Rattle.zvt_spelling.specs.Reading.{shortest}
 use Rattle.zvt_apdu.specs.Message.{Message}
 use Rattle.zvt_apdu.specs.Briefs.{message_of_brief}
 use Rattle.zvt_stream.specs.Apdus.{Alive, Cut, Spelled}
@@ -92,9 +93,9 @@ pub record IsTied (log : List Happening) (state : TillState) (sent : List ℕ) :
   pub reached : state ≡ state_after run_settings log
   pub spelled : Spelled sent (sent_over log) []
 
--- while the line is up the stream holds what the cut of its bytes leaves
+-- while the line is up the stream holds what the cut of its bytes leaves, by the shortest lengths
 abbrev pub HoldsLine : List Happening → List ℕ → StreamState → Type 0
-HoldsLine log bytes stream = line_up log ≡ true → (stream.stopped ≡ false) × ((messages : List Message) × Cut bytes messages stream.held)
+HoldsLine log bytes stream = line_up log ≡ true → (stream.stopped ≡ false) × ((messages : List Message) × Cut bytes messages stream.held) × (stream.reading ≡ shortest)
 
 -- A piece behind what the stream of a line holds: its messages, and how the line ends. Where the line goes on the stream holds the rest.
 pub record ReadsPiece (log : List Happening) (held piece : List ℕ) (next : List Happening) (stream : StreamState) : Type 0 where
@@ -105,3 +106,4 @@ pub record ReadsPiece (log : List Happening) (held piece : List ℕ) (next : Lis
   pub ends : EndsLine rest end
   pub heard : next ≡ log ++ (map hears messages ++ end)
   pub goes_on : end ≡ [] → Holds rest stream
+  pub strict : stream.reading ≡ shortest

@@ -9,6 +9,7 @@ ghost use Rattle.zvt_till.specs.Till.{facts_of, new_till, state_after};
 ghost use Rattle.zvt_till.specs.Log.{IsLog, facts_in, line_up};
 ghost use Rattle.zvt_till.specs.Books.{books, settled};
 ghost use Rattle.zvt_till.specs.Marks.{entries};
+ghost use Rattle.zvt_spelling.specs.Reading.{shortest};
 ghost use Rattle.zvt_till.specs.Events.{IsTied, HoldsLine, Follows, IsLogOf, run_settings, sent_over, log_after_order, message_out, ReadsPiece};
 
 use crate::happenings::{Happening, Sent};
@@ -165,6 +166,7 @@ impl Run {
         requires tied { IsTied self.old.log.items self.old.till.state self.old.sent.items }
         requires up { line_up self.old.log.items ≡ true }
         requires runs { stream.old.stopped ≡ false }
+        requires strict { stream.old.reading ≡ shortest }
         ensures tied { OnOk result (IsTied self.new.log.items self.new.till.state self.new.sent.items) }
         ensures read { OnOk result (ReadsPiece self.old.log.items stream.old.held piece.now self.new.log.items stream.new) }
     {
@@ -194,6 +196,7 @@ impl Run {
     fn event(&mut self, alloc: Global, stream: &mut Stream, event: &Event) -> Result<(), AllocError>
         requires tied { IsTied self.old.log.items self.old.till.state self.old.sent.items }
         requires runs { line_up self.old.log.items ≡ true → stream.old.stopped ≡ false }
+        requires strict { line_up self.old.log.items ≡ true → stream.old.reading ≡ shortest }
         ensures tied { OnOk result (IsTied self.new.log.items self.new.till.state self.new.sent.items) }
         ensures follows { OnOk result ((bytes : List ℕ) → HoldsLine self.old.log.items bytes stream.old → (later : List ℕ) × Follows self.old.log.items bytes event.now self.new.log.items later × HoldsLine self.new.log.items later stream.new) }
     {

@@ -3,9 +3,11 @@ use Rattle.std.proofs.Common.{◌≡◌, ℕ, Bool, true, false, subst, List, []
 use Rattle.zvt_spelling.proofs.CutLemmas.{spelled_append, spelled_more}
 use Rattle.zvt_spelling.specs.Beginnings.{NoneWhole}
 use Rattle.zvt_spelling.specs.Cuts.{Cut, Spelled}
-use Rattle.zvt_spelling.specs.Reading.{shortest}
+use Rattle.zvt_spelling.specs.Reading.{Reading, shortest}
 use Rattle.zvt_apdu.specs.Grammar.{Spells}
 use Rattle.zvt_apdu.specs.Message.{Message}
+use Rattle.zvt_spelling.specs.declared.why.Why.{Why}
+use Rattle.zvt_stream.specs.Apdus.{Unfinished, UnfinishedIn, IsRefused, IsRefusedIn}
 use Rattle.zvt_stream.specs.StreamState.{StreamState, Holds, HasRefused}
 use Rattle.zvt_stream.specs.Feeds.{Lends}
 use Rattle.zvt_stream.specs.declared.feeding.FedView.{FedView}
@@ -62,9 +64,19 @@ going true answer fed is refuses = absurd (ok_is_no_err (sym is ∙ refuses refl
 pub fed_as : (old new : StreamState) (piece : List ℕ) (answer fed : FedView) → answer ≡ fed → Lends old piece answer new → Lends old piece fed new
 fed_as old new piece answer fed is feeds = subst (λ (f : FedView). Lends old piece f new) is feeds
 
+-- what a strict stream says is said of the one spelling
+pub spells_strictly : (r : Reading) (m : Message) (bytes : List ℕ) → r ≡ shortest → Spells r m bytes → Spells shortest m bytes
+spells_strictly r m bytes e = subst (λ (k : Reading). Spells k m bytes) e
+
+pub unfinished_strictly : (r : Reading) (bytes : List ℕ) → r ≡ shortest → UnfinishedIn r bytes → Unfinished bytes
+unfinished_strictly r bytes e = subst (λ (k : Reading). UnfinishedIn k bytes) e
+
+pub refused_strictly : (r : Reading) (bytes : List ℕ) (place : ℕ) (why : Why) → r ≡ shortest → IsRefusedIn r bytes place why → IsRefused bytes place why
+refused_strictly r bytes place why e = subst (λ (k : Reading). IsRefusedIn k bytes place why) e
+
 -- the bytes that are lent are the spelling of the message that is
-pub lent_spelling : {A : Type 0} (now : A → List ℕ) (shown : Option A) (bytes : A) (lent : Option Message) (m : Message) → lent ≡ Some m
-    → IfSome lent (λ n. IfSome shown (λ b. Spells shortest n (now b)) × IsSome shown) → shown ≡ Some bytes → Spells shortest m (now bytes)
-lent_spelling now shown bytes lent m is told found =
-    let here = subst (λ l. IfSome l (λ n. IfSome shown (λ b. Spells shortest n (now b)) × IsSome shown)) is told in
-    subst (λ s. IfSome s (λ b. Spells shortest m (now b))) found here.0
+pub lent_spelling : {A : Type 0} (r : Reading) → r ≡ shortest → (now : A → List ℕ) (shown : Option A) (bytes : A) (lent : Option Message) (m : Message) → lent ≡ Some m
+    → IfSome lent (λ n. IfSome shown (λ b. Spells r n (now b)) × IsSome shown) → shown ≡ Some bytes → Spells shortest m (now bytes)
+lent_spelling r strict now shown bytes lent m is told found =
+    let here = subst (λ l. IfSome l (λ n. IfSome shown (λ b. Spells r n (now b)) × IsSome shown)) is told in
+    spells_strictly r m (now bytes) strict (subst (λ s. IfSome s (λ b. Spells r m (now b))) found here.0)

@@ -1,5 +1,6 @@
 -- What a listener is told, and what becomes of it.
 use Rattle.std.specs.Prelude.{◌≡◌, ◌⊎◌, ℕ, Bool, true, false, List, [], ◌∷◌, ◌++◌, Result, Ok, Err}
+use Rattle.zvt_spelling.specs.Reading.{shortest}
 use Rattle.zvt_stream.specs.StreamState.{StreamState}
 use Rattle.zvt_trace.specs.Meanings.{Meaning, meaning_of}
 use Rattle.zvt_trace.specs.Told.{At, Tallies}
@@ -85,6 +86,10 @@ TellsEnd hears fails Ends old new (Err why) = FailsIn hears fails why (FrontOf E
 abbrev pub FollowsUntil : Bool → StreamState → Side → Type 0
 FollowsUntil true state side = side ≡ stopped
 FollowsUntil false state side = Follows state side
+
+-- both streams take the shortest lengths alone
+abbrev pub AreStrict : BothSides → Type 0
+AreStrict state = (state.till.reading ≡ shortest) × (state.terminal.reading ≡ shortest)
 
 pub record FollowBoth (state : BothSides) (sides : Sides) : Type 0 where
   pub till : FollowsUntil state.deaf state.till sides.till

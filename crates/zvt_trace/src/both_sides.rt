@@ -1,9 +1,9 @@
 //! Both sides of the line between a till and its terminal.
-ghost use Rattle.std.specs.Prelude.{◌≡◌, ◌≤◌, length, IfOk};
+ghost use Rattle.std.specs.Prelude.{◌≡◌, ◌≤◌, length, IfOk, OnOk};
 ghost use Rattle.zvt_trace.specs.Meanings.{meant_by, piece, size_of};
 ghost use Rattle.zvt_trace.specs.Trace.{Sides, new_line};
 ghost use Rattle.zvt_trace.specs.Telling.{LineEnds};
-ghost use Rattle.zvt_trace.specs.Listening.{FollowBoth, TellsEnd, TellsLine};
+ghost use Rattle.zvt_trace.specs.Listening.{AreStrict, FollowBoth, TellsEnd, TellsLine};
 
 use crate::direction::Direction;
 use crate::fault::Tally;
@@ -25,7 +25,8 @@ pub(crate) struct BothSides {
 impl BothSides {
     /// Those of a new line.
     pub(crate) fn new(alloc: Global) -> BothSides
-        ensures { FollowBoth result new_line }
+        ensures follows { FollowBoth result new_line }
+        ensures strict { AreStrict result }
     {
         BothSides {
             till: Stream::new(alloc),
@@ -45,6 +46,8 @@ impl BothSides {
         number: u64,
         line: &Line<'_>,
     ) -> Result<Tally, Failure>
+        requires strict { AreStrict self.old }
+        ensures strict { OnOk result (AreStrict self.new) }
         ensures tells { (sides : Sides) → FollowBoth self.old sides → TellsLine L.hears L.fails scope number (meant_by line.now) sides self.new (listener.old, device.old) (listener.new, device.new) result }
         ensures few { IfOk result (λ tally. tally.messages ≤ size_of (meant_by line.now)) }
         ensures two { IfOk result (λ tally. tally.bad ≤ 2) }
@@ -74,6 +77,8 @@ impl BothSides {
         from: Direction,
         bytes: &[u8],
     ) -> Result<Tally, Failure>
+        requires strict { AreStrict self.old }
+        ensures strict { OnOk result (AreStrict self.new) }
         ensures tells { (sides : Sides) → FollowBoth self.old sides → TellsLine L.hears L.fails scope number (piece from bytes.now) sides self.new (listener.old, device.old) (listener.new, device.new) result }
         ensures few { IfOk result (λ tally. tally.messages ≤ length bytes.now) }
         ensures two { IfOk result (λ tally. tally.bad ≤ 2) }

@@ -1,5 +1,6 @@
 //! Tells a listener what one side of the line sends.
-ghost use Rattle.std.specs.Prelude.{◌≡◌, ◌≤◌, length, false, true, Some, IfOk, MatchResult};
+ghost use Rattle.std.specs.Prelude.{◌≡◌, ◌≤◌, length, false, true, Some, IfOk, OnOk, MatchResult};
+ghost use Rattle.zvt_spelling.specs.Reading.{shortest};
 ghost use Rattle.zvt_apdu.specs.Message.{Message};
 ghost use Rattle.zvt_trace.specs.Told.{on};
 ghost use Rattle.zvt_trace.specs.Told as told;
@@ -53,7 +54,8 @@ fn tell_message<D, L: Listener<D>>(
     from: Direction,
     stream: &Stream,
 ) -> Result<(), Failure>
-    requires { (message : Message) × (stream.now.lent ≡ Some message) }
+    requires lent { (message : Message) × (stream.now.lent ≡ Some message) }
+    requires strict { stream.now.reading ≡ shortest }
     ensures { (message : Message) → stream.now.lent ≡ Some message → MatchResult result
         (λ _. L.hears (listener.old, device.old) (on line (told.message from message)) (listener.new, device.new))
         (λ failure. L.fails (listener.old, device.old) (on line (told.message from message)) failure (listener.new, device.new)) }
@@ -74,6 +76,8 @@ pub(crate) fn tell_piece<D, L: Listener<D>>(
     stream: &mut Stream,
     bytes: &[u8],
 ) -> Result<Hearing, Failure>
+    requires strict { stream.old.reading ≡ shortest }
+    ensures strict { OnOk result (stream.new.reading ≡ shortest) }
     ensures tells { (side : Side) → Follows stream.old side → TellsPiece L.hears L.fails line from side bytes.now stream.new (listener.old, device.old) (listener.new, device.new) result }
     ensures few { IfOk result (λ hearing. hearing.tally.messages ≤ length bytes.now) }
     ensures one { IfOk result (λ hearing. hearing.tally.bad ≤ 1) }
@@ -129,6 +133,8 @@ pub(crate) fn tell_beside<D, L: Listener<D>>(
     other: &Stream,
     bytes: &[u8],
 ) -> Result<Hearing, Failure>
+    requires strict { stream.old.reading ≡ shortest }
+    ensures strict { OnOk result (stream.new.reading ≡ shortest) }
     ensures tells { (side beside : Side) → Follows stream.old side → Follows other.now beside → TellsThere L.hears L.fails scope line from side beside bytes.now stream.new other.now (listener.old, device.old) (listener.new, device.new) result }
     ensures few { IfOk result (λ hearing. hearing.tally.messages ≤ length bytes.now) }
     ensures two { IfOk result (λ hearing. hearing.tally.bad ≤ 2) }

@@ -1,7 +1,7 @@
 //! A whole trace, told to a listener.
-ghost use Rattle.std.specs.Prelude.{◌≡◌, ◌≤◌, length, IfOk};
+ghost use Rattle.std.specs.Prelude.{◌≡◌, ◌≤◌, length, IfOk, OnOk};
 ghost use Rattle.std.specs.Str.Lines.{lines};
-ghost use Rattle.zvt_trace.specs.Listening.{AnswersWalk, FollowBoth, WalksLine};
+ghost use Rattle.zvt_trace.specs.Listening.{AnswersWalk, AreStrict, FollowBoth, WalksLine};
 ghost use Rattle.zvt_trace.specs.Trace.{Sides};
 ghost use Rattle.zvt_trace.specs.Written.{limit};
 
@@ -65,6 +65,8 @@ fn tell_line<D, L: Listener<D>>(
     number: u64,
     content: &[u8],
 ) -> Result<Tally, TraceFault>
+    requires strict { AreStrict sides.old }
+    ensures strict { OnOk result (AreStrict sides.new) }
     ensures tells { (state : Sides) → FollowBoth sides.old state → WalksLine L.hears L.fails scope number content.now state sides.new (listener.old, device.old) (listener.new, device.new) result }
     ensures few { IfOk result (λ tally. tally.messages ≤ length content.now) }
     ensures two { IfOk result (λ tally. tally.bad ≤ 2) }

@@ -5,7 +5,8 @@ use Rattle.zvt_trace.proofs.walking.walk.Goals as goal
 
 pub lines-init : goal.lines-init
 lines-init g c = record {
-  so_far = none_walked g.L.Listener.hears _ _ _ _ _ c.new-sides.ensures c.none-tally.ensures.0 c.none-tally.ensures.1;
+  so_far = none_walked g.L.Listener.hears _ _ _ _ _ c.new-sides.ensures.follows c.none-tally.ensures.0 c.none-tally.ensures.1;
+  strict = c.new-sides.ensures.strict;
   lines = omega arith;
   messages = omega (arith, c.none-tally.ensures.0);
   bad = omega (arith, c.none-tally.ensures.1);
@@ -17,6 +18,7 @@ lines-preserved g c =
     record {
       so_far = one_walked g.L.Listener.hears g.L.Listener.fails _ _ c.lines.rest.now c.next_line.result.0.now c.next_line.result.1.now c.lines.number c.lines.sides _ c.lines.tally c.in_ok-counted.counted _ _ _ _
           so c.next_line.ensures.lines (c.in_ok-counted.ensures.tells so.sides so.follow) refl refl;
+      strict = c.in_ok-counted.ensures.strict;
       lines = omega arith;
       messages = omega (arith, c.in_ok-counted.ensures.few);
       bad = omega (arith, c.in_ok-counted.ensures.two);

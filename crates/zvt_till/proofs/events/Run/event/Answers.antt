@@ -7,6 +7,9 @@ use Rattle.zvt_till.proofs.events.Run.event.Goals as goal
 pub piece-requires-clause-up : goal.piece-requires-clause-up
 piece-requires-clause-up c = sym (tied-line _ _ _ c.requires.tied) ∙ sym c.line_up-in-Piece.ensures ∙ c.if-line_up.true
 
+pub piece-requires-clause-strict : goal.piece-requires-clause-strict
+piece-requires-clause-strict c = c.requires.strict (sym (tied-line _ _ _ c.requires.tied) ∙ sym c.line_up-in-Piece.ensures ∙ c.if-line_up.true)
+
 pub piece-requires-clause-runs : goal.piece-requires-clause-runs
 piece-requires-clause-runs c = c.requires.runs (sym (tied-line _ _ _ c.requires.tied) ∙ sym c.line_up-in-Piece.ensures ∙ c.if-line_up.true)
 

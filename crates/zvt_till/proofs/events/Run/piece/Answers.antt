@@ -3,7 +3,7 @@ use Rattle.zvt_io.proofs.KnownLemmas.{rest_of}
 use Rattle.zvt_till.specs.declared.happenings.Happening.TheVariants.{Heard}
 use Rattle.zvt_till.specs.Log.{line_up}
 use Rattle.zvt_stream.proofs.LentLemmas.{feeds_shown}
-use Rattle.zvt_till.proofs.Lines.{Reads, reads-message, reads-refused, up-heard}
+use Rattle.zvt_till.proofs.Lines.{Reads, reads-all, reads-message, reads-refused, up-heard}
 use Rattle.zvt_till.proofs.events.Run.piece.Goals as goal
 
 pub messages-preserved : goal.messages-preserved
@@ -25,3 +25,8 @@ pub returns-in-Ok-Refused-clause-read : goal.returns-in-Ok-Refused-clause-read
 returns-in-Ok-Refused-clause-read c =
     let lends = rw c.in-Ok-Refused.field-0-is at c.in-Ok-Refused.ensures.fed in
     rw c.in_ok-malformed-in-Ok-Refused.ensures.log (reads-refused _ _ _ _ _ _ _ _ _ c.messages.invariant.reads lends.0)
+
+pub returns-in-Ok-More-clause-read : goal.returns-in-Ok-More-clause-read
+returns-in-Ok-More-clause-read c =
+    let lends = rw c.in-Ok-More.field-0-is at c.in-Ok-More.ensures.fed in
+    reads-all _ _ _ _ _ _ _ c.messages.invariant.reads lends.0

@@ -18,4 +18,4 @@ returns-in_err-hear-in-Lost-clause-tells g c = λ sides follow.
 
 pub returns-in_ok-hear-in-Lost-clause-tells : goal.returns-in_ok-hear-in-Lost-clause-tells
 returns-in_ok-hear-in-Lost-clause-tells g c = λ sides follow.
-    rw c.in-Lost.is (loses g.L.Listener.hears _ _ sides c.new.result _ _ _ _ _ (c.in_ok-bad-in-Lost.ensures.tells sides follow) c.in_ok-hear-in-Lost.ensures c.new.ensures refl refl)
+    rw c.in-Lost.is (loses g.L.Listener.hears _ _ sides c.new.result _ _ _ _ _ (c.in_ok-bad-in-Lost.ensures.tells sides follow) c.in_ok-hear-in-Lost.ensures c.new.ensures.follows refl refl)

@@ -33,3 +33,9 @@ returns-clause-tells g c = λ sides follow. elim c.match-from.branch [
       (terminal_heard g.L.Listener.hears _ _ _ _ sides c.args.self.now _ w.in_ok-hearing-in-FromTerminal.hearing _ _ w.in-FromTerminal.is
       (w.in_ok-hearing-in-FromTerminal.ensures.tells sides.terminal sides.till (until _ _ _ c.if-self.false follow.terminal) (until _ _ _ c.if-self.false follow.till)) refl refl)
 ]
+
+pub returns-clause-strict : goal.returns-clause-strict
+returns-clause-strict g c = elim c.match-from.branch [
+  | in-FromTill+in_ok-hearing-in-FromTill w ↦ rw w.self-is (w.in_ok-hearing-in-FromTill.ensures.strict, c.requires.strict.1)
+  | in-FromTerminal+in_ok-hearing-in-FromTerminal w ↦ rw w.self-is (c.requires.strict.0, w.in_ok-hearing-in-FromTerminal.ensures.strict)
+]
