@@ -7,6 +7,7 @@ pub mod Opened
 pub mod OpeningMoves
 pub mod KindLemmas
 pub mod DataMoves
+pub mod ListedMoves
 pub mod Encoding
 pub mod OneSpelling
 pub mod SizeLemmas
