@@ -1,13 +1,10 @@
-//! The tests of the crates between bytes and messages: of devices, digits, objects, fields, messages, their texts, and
-//! messages out of pieces of a line.
+//! The tests of the crates between bytes and messages: of digits, objects, fields, messages, and messages out of pieces of
+//! a line. Which bytes are refused, and where, is compared by `zvt vectors examples/vectors.txt`, and the texts of messages
+//! by `examples/commands`.
 #![tactic(auto)]
 
 #[cfg(test)]
-mod bmps;
-#[cfg(test)]
 mod briefs;
-#[cfg(test)]
-mod devices;
 #[cfg(test)]
 mod digits;
 #[cfg(test)]
@@ -36,5 +33,3 @@ mod owned;
 mod padded;
 #[cfg(test)]
 mod rescan;
-#[cfg(test)]
-mod texts;

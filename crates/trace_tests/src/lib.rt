@@ -1,14 +1,11 @@
-//! The tests of what the program is made of: of traces as text, of its command line, and of its runs.
+//! The tests of what the program is made of: of its command line, of devices that fail, and of runs. What it reads and
+//! writes is compared by `examples/commands`.
 #![tactic(auto)]
 
 #[cfg(test)]
-mod audits;
-#[cfg(test)]
 mod command_lines;
 #[cfg(test)]
-mod example;
-#[cfg(test)]
-mod notes;
+mod devices;
 #[cfg(test)]
 mod recorded_runs;
 #[cfg(test)]
@@ -17,9 +14,3 @@ mod run_faults;
 mod run_words;
 #[cfg(test)]
 mod runs;
-#[cfg(test)]
-mod traces;
-#[cfg(test)]
-mod vectors;
-#[cfg(test)]
-mod walks;

@@ -5,7 +5,7 @@ use crate::finish::finish_trace;
 use crate::notes::{say_hint, say_notes, unread_line};
 use crate::on_trace::work_on_trace;
 use crate::output::Output;
-use crate::statuses::DEVICE;
+use crate::statuses::{DEVICE, MEMORY};
 use std::fs::File;
 use std::io::{self, IsTerminal};
 use zvt_io::{Over, Source};
@@ -50,7 +50,7 @@ fn work_on_file(rt: &HostRuntime, chosen: &Choice<'_>, path: &str) -> io::Result
 }
 
 /// With the trace that the reader brings, of this file perhaps. What is bad in it is said on standard error, before the
-/// fault that ends the command.
+/// fault that ends the command. Where memory is wanted for that alone, the command ends as one that wanted memory.
 fn work_with<R: Source>(
     rt: &HostRuntime,
     chosen: &Choice<'_>,
@@ -67,10 +67,10 @@ fn work_with<R: Source>(
     let mut writer = Over::new(Output::new(io::writer(rt)));
     let answer = work_on_trace(rt.alloc(), chosen, trace, &mut writer);
     let unread = unread_line(chosen, &answer);
-    say_notes(rt, chosen, trace, &answer)?;
+    let had_memory = say_notes(rt, chosen, trace, &answer)?;
     let status = finish_trace(rt, path, writer.inner.has_gone, answer)?;
     say_hint(rt, trace, unread)?;
-    Ok(status)
+    Ok(if had_memory { status } else { MEMORY })
 }
 
 /// The file, which is no directory: the system opens one, and fails at the first read alone.

@@ -12,8 +12,6 @@ mod notes;
 mod on_trace;
 mod output;
 mod statuses;
-#[cfg(test)]
-mod tests;
 
 use crate::ends::SettingWords;
 use crate::statuses::{DEVICE, DONE, MEMORY, WORDS};

@@ -7,36 +7,38 @@ use std::io::{self, ErrorKind};
 use zvt_io::Over;
 use zvt_tool::{Choice, Failure, Found, Scope, ToolFault, TraceFault, hint_on, write_notes};
 
-/// Says which streams of the trace are bad, that it has no message, or that its directions may be swapped.
+/// Says which streams of the trace are bad, that it has no message, or that its directions may be swapped, and answers
+/// whether there was memory for that.
 pub fn say_notes(
     rt: &HostRuntime,
     chosen: &Choice<'_>,
     trace: &[u8],
     answer: &Result<Found, TraceFault>,
-) -> io::Result<()>
+) -> io::Result<bool>
     requires { length trace.now ≤ limit }
 {
     let Some(scope) = scope_of(chosen) else {
-        return Ok(());
+        return Ok(true);
     };
-    match answer {
-        Ok(found) if found.tally.bad == 0 && found.tally.messages == 0 => {
-            eprintln!(rt; "zvt: the trace has no message")
-        }
-        Ok(found) => {
-            if found.tally.bad > 0 {
-                say_bad(rt, scope, trace)?;
-            }
-            if found.swapped {
-                eprintln!(rt;
-                    "zvt: '<' sent orders, and '>' none: the directions of the trace may be swapped"
-                )?;
-            }
-            Ok(())
-        }
-        Err(TraceFault::Trace { .. }) => say_bad(rt, scope, trace),
-        Err(_) => Ok(()),
+    let is_bad = match answer {
+        Ok(found) => found.tally.bad > 0,
+        Err(TraceFault::Trace { .. }) => true,
+        Err(_) => false,
+    };
+    if is_bad && !say_bad(rt, scope, trace)? {
+        return Ok(false);
     }
+    if let Ok(found) = answer {
+        if !is_bad && found.tally.messages == 0 {
+            eprintln!(rt; "zvt: the trace has no message")?;
+        }
+        if found.swapped {
+            eprintln!(rt;
+                "zvt: '<' sent orders, and '>' none: the directions of the trace may be swapped"
+            )?;
+        }
+    }
+    Ok(true)
 }
 
 /// The line of the trace, counted from 1, that can't be read, if that is why the command ended.
@@ -67,13 +69,16 @@ fn scope_of(chosen: &Choice<'_>) -> Option<Scope> {
     }
 }
 
-/// Says which streams of the trace are bad.
-fn say_bad(rt: &HostRuntime, scope: Scope, trace: &[u8]) -> io::Result<()>
+/// Says which streams of the trace are bad, or that there is too little memory for it, and answers whether there was.
+fn say_bad(rt: &HostRuntime, scope: Scope, trace: &[u8]) -> io::Result<bool>
     requires { length trace.now ≤ limit }
 {
     match write_notes(rt.alloc(), scope, trace, &mut Over::new(rt.stderr())) {
-        Ok(()) => Ok(()),
-        Err(Failure::Memory) => say(rt, None, &ToolFault::from(TraceFault::Memory)),
+        Ok(()) => Ok(true),
+        Err(Failure::Memory) => {
+            say(rt, None, &ToolFault::from(TraceFault::Memory))?;
+            Ok(false)
+        }
         Err(Failure::Write) => Err(io::Error::from(ErrorKind::Other)),
     }
 }

@@ -1,15 +1,13 @@
 //! The books of a whole trace.
-ghost use Rattle.std.specs.Prelude.{◌≡◌, ◌<◌, ◌≤◌, length, Err, IfErr, IfSome, OnErr, OnOk};
-ghost use Rattle.std.specs.Io.KnownBytes.{Appends};
-ghost use Rattle.zvt_io.specs.Devices.{CountsFailure};
-ghost use Rattle.zvt_trace.specs.Written.{AppendsFront, limit};
+ghost use Rattle.std.specs.Prelude.{◌≡◌, ◌<◌, ◌≤◌, length, Err, IfSome};
+ghost use Rattle.zvt_trace.specs.Written.{limit};
 ghost use Rattle.zvt_audit.specs.Audited.{AnswersAudit, AnswersRead};
 
 use crate::auditor::Auditor;
 use crate::booked;
 use crate::orders::Orders;
 use std::alloc::Global;
-use zvt_io::{Failed, Sink, Source};
+use zvt_io::{Sink, Source};
 use zvt_text::Text;
 use zvt_till::Happening;
 use zvt_till::books::Bookkeeping;
@@ -68,19 +66,6 @@ pub fn audit_trace<W: Sink>(
     let found = auditor.books.close()?;
     let mut text = Text::new(alloc);
     booked::write(&mut text, &found)?;
-    put(&text, writer)?;
+    writer.write_all(text.bytes())?;
     Ok(Found { tally, swapped })
-}
-
-/// Writes the text to the device.
-fn put<W: Sink>(text: &Text, writer: &mut W) -> Result<(), TraceFault>
-    ensures bytes { OnOk result (Appends (W.written writer.old) (W.written writer.new) text.now) }
-    ensures fault { IfErr result (λ fault. fault ≡ TraceFault.Write) }
-    ensures failures { CountsFailure (W.failures writer.old) (W.failures writer.new) result }
-    ensures front { OnErr result (AppendsFront (W.written writer.old) (W.written writer.new) text.now) }
-{
-    match writer.write_all(text.bytes()) {
-        Ok(()) => Ok(()),
-        Err(Failed) => Err(TraceFault::Write),
-    }
 }

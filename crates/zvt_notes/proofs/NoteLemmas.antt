@@ -2,7 +2,6 @@
 use Rattle.std.proofs.Common.{◌≡◌, arith, inl, inr, ℕ, List, [], ◌∷◌, ◌++◌, Result, Option, Ok, Err, refl, sym, ◌∙◌, ap, subst, append_assoc, append-nil}
 use Rattle.std.specs.List.{flat_map}
 use Rattle.std.specs.Io.KnownBytes.{Appends}
-use Rattle.std.specs.Prelude.{IfErr, OnErr, OnOk}
 use Rattle.std.proofs.lemmas.List.Concat.{flat_map-cons}
 use Rattle.zvt_trace.specs.Listening.{AnswersWalk, Fails, Hears, HearsAll, Stops}
 use Rattle.zvt_trace.specs.Told.{At, Told, message_count, messages_in, on}
@@ -160,13 +159,16 @@ heard_all view scope lines (Err Read) old new some never = absurd never
 
 -- ---- what is written
 
-pub answered : {S : Type 0} (view : S → Notes) (scope : Scope) (lines : List (List ℕ)) (answer : Result Tally TraceFault) (old new : S) (text : List ℕ) (first now : Option (List ℕ)) (result : Result (Unit {0}) Failure)
+pub answered : {S : Type 0} (view : S → Notes) (scope : Scope) (lines : List (List ℕ)) (answer : Result Tally TraceFault) (old new : S) (text written : List ℕ) (first now : Option (List ℕ)) (done : Unit {0})
     → AtStart scope (view old) → (answer ≡ Err Memory → ⊥) → AnswersWalk (notes view) wants_memory scope lines old new answer → Closes (view new) text
-    → OnOk result (Appends first now text) → IfErr result (λ why. why ≡ failure.Write) → OnErr result (AppendsFront first now text) → AnswersNotes scope lines first now result
-answered view scope lines answer old new text first now (Ok done) start some walked closes appended fault front =
+    → written ≡ text → Appends first now written → AnswersNotes scope lines first now (Ok done)
+answered view scope lines answer old new text written first now done start some walked closes same appended =
     let heard = heard_all view scope lines answer old new some walked in
-    (heard.0, heard.1, subst (λ (t : List ℕ). Appends first now t) (all_said view scope heard.0 old new text start heard.2 closes) appended)
-answered view scope lines answer old new text first now (Err failure.Write) start some walked closes appended fault front =
+    (heard.0, heard.1, subst (λ (t : List ℕ). Appends first now t) (same ∙ all_said view scope heard.0 old new text start heard.2 closes) appended)
+
+pub unwritten : {S : Type 0} (view : S → Notes) (scope : Scope) (lines : List (List ℕ)) (answer : Result Tally TraceFault) (old new : S) (text written : List ℕ) (first now : Option (List ℕ))
+    → AtStart scope (view old) → (answer ≡ Err Memory → ⊥) → AnswersWalk (notes view) wants_memory scope lines old new answer → Closes (view new) text
+    → written ≡ text → AppendsFront first now written → AnswersNotes scope lines first now (Err failure.Write)
+unwritten view scope lines answer old new text written first now start some walked closes same front =
     let heard = heard_all view scope lines answer old new some walked in
-    (heard.0, heard.1, subst (λ (t : List ℕ). AppendsFront first now t) (all_said view scope heard.0 old new text start heard.2 closes) front)
-answered view scope lines answer old new text first now (Err failure.Memory) start some walked closes appended fault front = absurd cc
+    (heard.0, heard.1, subst (λ (t : List ℕ). AppendsFront first now t) (same ∙ all_said view scope heard.0 old new text start heard.2 closes) front)

@@ -1,14 +1,12 @@
 //! The notes of a whole trace.
-ghost use Rattle.std.specs.Prelude.{◌≡◌, ◌≢◌, ◌<◌, ◌≤◌, length, Err, IfErr, OnErr, OnOk};
-ghost use Rattle.std.specs.Io.KnownBytes.{Appends};
+ghost use Rattle.std.specs.Prelude.{◌≡◌, ◌≢◌, ◌<◌, ◌≤◌, length, Err, IfErr, OnOk};
 ghost use Rattle.std.specs.Str.Lines.{lines};
-ghost use Rattle.zvt_io.specs.Devices.{CountsFailure};
-ghost use Rattle.zvt_trace.specs.Written.{AppendsFront, limit};
+ghost use Rattle.zvt_trace.specs.Written.{limit};
 ghost use Rattle.zvt_notes.specs.Written.{AnswersNotes};
 
 use crate::notes::Notes;
 use std::alloc::Global;
-use zvt_io::{Failed, Sink};
+use zvt_io::Sink;
 use zvt_text::Text;
 use zvt_trace::{Failure, Scope, Tally, TraceFault, walk};
 
@@ -32,7 +30,8 @@ pub fn write_notes<W: Sink>(
     let answer = walk(&mut notes, &mut (), alloc, scope, trace);
     has_memory(&answer)?;
     notes.close()?;
-    put(&notes.text, device)
+    device.write_all(notes.text.bytes())?;
+    Ok(())
 }
 
 /// Want of memory ends the notes. Each other end of a walk leaves those of what was told before.
@@ -46,18 +45,5 @@ fn has_memory(answer: &Result<Tally, TraceFault>) -> Result<(), Failure>
         Err(
             TraceFault::Trace { .. } | TraceFault::TooLong | TraceFault::Read | TraceFault::Write,
         ) => Ok(()),
-    }
-}
-
-/// Writes the text to the device.
-fn put<W: Sink>(text: &Text, device: &mut W) -> Result<(), Failure>
-    ensures bytes { OnOk result (Appends (W.written device.old) (W.written device.new) text.now) }
-    ensures fault { IfErr result (λ failure. failure ≡ Failure.Write) }
-    ensures failures { CountsFailure (W.failures device.old) (W.failures device.new) result }
-    ensures front { OnErr result (AppendsFront (W.written device.old) (W.written device.new) text.now) }
-{
-    match device.write_all(text.bytes()) {
-        Ok(()) => Ok(()),
-        Err(Failed) => Err(Failure::Write),
     }
 }

@@ -1,11 +1,12 @@
 //! Why a run ends early.
 ghost use Rattle.std.specs.Prelude.{◌≡◌, Bool};
 ghost use Rattle.zvt_run.specs.Traced.{by_trace};
-ghost use Rattle.zvt_run.specs.declared.fault.EndFault.TheVariants.{Memory};
+ghost use Rattle.zvt_run.specs.declared.fault.EndFault.TheVariants.{Memory, Write};
 
 use crate::connecting::NetFault;
 use std::alloc::{AllocError, AllocFailed};
 use thiserror::Error;
+use zvt_io::Failed;
 use zvt_stream::LineFault;
 
 /// Why the run of an end of a line, or of both, ended early.
@@ -43,6 +44,14 @@ impl From<AllocError> for EndFault {
 
     fn from(_refused: AllocError) -> EndFault {
         EndFault::Memory
+    }
+}
+
+impl From<Failed> for EndFault {
+    ghost from_gives = { λ _ fault. fault ≡ Write };
+
+    fn from(_failed: Failed) -> EndFault {
+        EndFault::Write
     }
 }
 

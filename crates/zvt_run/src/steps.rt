@@ -1,6 +1,6 @@
 //! Steps made one after another on a line, and what is written of them.
 ghost use Rattle.std.specs.Prelude.{◌≡◌, ◌<◌, ◌++◌, Err, IfErr, IfOk, OnOk, Result};
-ghost use Rattle.zvt_io.specs.Devices.{CountsFailure, Writes};
+ghost use Rattle.zvt_io.specs.Devices.{Writes};
 ghost use Rattle.zvt_till.specs.Line.{IsOver};
 ghost use Rattle.zvt_till.specs.Marks.{total};
 ghost use Rattle.zvt_till.specs.Till.{new_till, step};
@@ -19,7 +19,7 @@ use crate::plans::Planned;
 use crate::settings::TillSettings;
 use crate::words::Step;
 use std::alloc::{AllocError, Global};
-use zvt_io::{Failed, Sink};
+use zvt_io::Sink;
 use zvt_stream::LineFault;
 use zvt_text::Text;
 use zvt_till::{OrderRefusal, Outcome, RunFault, Till};
@@ -91,7 +91,7 @@ fn make_step<L: StepLine, W: Sink>(
     text.word(b" -> ")?;
     say_ending(&mut text, &made, till.last_outcome())?;
     text.push(b'\n')?;
-    put(&text, writer)?;
+    writer.write_all(text.bytes())?;
     Ok(fault_of(&made))
 }
 
@@ -142,7 +142,8 @@ fn write_total<W: Sink>(alloc: Global, till: &Till, writer: &mut W) -> Result<()
     let total = till.total();
     let mut text = Text::new(alloc);
     say_total(&mut text, total)?;
-    put(&text, writer)
+    writer.write_all(text.bytes())?;
+    Ok(())
 }
 
 /// The line of a total.
@@ -152,16 +153,4 @@ fn say_total(text: &mut Text, total: u64) -> Result<(), AllocError>
     text.word(b"total ")?;
     text.number(total)?;
     text.push(b'\n')
-}
-
-/// Writes the text to the device.
-fn put<W: Sink>(text: &Text, writer: &mut W) -> Result<(), EndFault>
-    ensures bytes { Writes (W.written writer.old) (W.written writer.new) result text.now }
-    ensures fault { IfErr result (λ fault. fault ≡ EndFault.Write) }
-    ensures failures { CountsFailure (W.failures writer.old) (W.failures writer.new) result }
-{
-    match writer.write_all(text.bytes()) {
-        Ok(()) => Ok(()),
-        Err(Failed) => Err(EndFault::Write),
-    }
 }

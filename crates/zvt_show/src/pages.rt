@@ -9,7 +9,7 @@ use crate::event;
 use crate::style::Style;
 use std::alloc::Global;
 use std::mem;
-use zvt_io::{Failed, Sink};
+use zvt_io::Sink;
 use zvt_text::Text;
 use zvt_trace::{Failure, Listener, Told};
 
@@ -84,8 +84,6 @@ pub(crate) fn flush<W: Sink>(block: &mut Text, writer: &mut W) -> Result<(), Fai
 {
     let answer = writer.write_all(block.bytes());
     block.clear();
-    match answer {
-        Ok(()) => Ok(()),
-        Err(Failed) => Err(Failure::Write),
-    }
+    answer?;
+    Ok(())
 }

@@ -1,11 +1,12 @@
 //! What a command on a trace answers.
 ghost use Rattle.std.specs.Prelude.{◌≡◌};
-ghost use Rattle.zvt_trace.specs.declared.fault.TraceFault.TheVariants.{Memory};
+ghost use Rattle.zvt_trace.specs.declared.fault.TraceFault.TheVariants.{Memory, Write};
 
 use crate::listener::Failure;
 use std::alloc::{AllocError, AllocFailed};
 use std::fmt;
 use thiserror::Error;
+use zvt_io::Failed;
 
 /// How many whole messages were read, and how many streams were refused or cut off.
 #[derive(Clone, Copy, Debug, PartialEq, Eq)]
@@ -75,6 +76,14 @@ impl From<AllocError> for TraceFault {
 
     fn from(_refused: AllocError) -> TraceFault {
         TraceFault::Memory
+    }
+}
+
+impl From<Failed> for TraceFault {
+    ghost from_gives = { λ _ fault. fault ≡ Write };
+
+    fn from(_failed: Failed) -> TraceFault {
+        TraceFault::Write
     }
 }
 

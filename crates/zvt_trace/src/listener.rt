@@ -5,6 +5,7 @@ ghost use Rattle.zvt_trace.specs.declared.listener.Failure.{Failure};
 
 use crate::told::Told;
 use std::alloc::AllocError;
+use zvt_io::Failed;
 
 /// What a refusal leaves unread until the line is lost.
 #[derive(Clone, Copy, Debug, PartialEq, Eq)]
@@ -31,6 +32,16 @@ impl From<AllocError> for Failure {
 
     fn from(_refused: AllocError) -> Failure {
         Failure::Memory
+    }
+}
+
+impl From<Failed> for Failure {
+    ghost use Rattle.zvt_trace.specs.declared.listener.Failure.TheVariants.{Write};
+
+    ghost from_gives = { λ _ failure. failure ≡ Write };
+
+    fn from(_failed: Failed) -> Failure {
+        Failure::Write
     }
 }
 

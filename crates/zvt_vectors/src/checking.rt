@@ -1,17 +1,14 @@
 //! A whole file of vectors.
-ghost use Rattle.std.specs.Prelude.{◌≡◌, ◌<◌, ◌≤◌, ◌++◌, length, Err, IfErr, IfOk, IfSome, OnOk, OnErr, ℕ, List};
+ghost use Rattle.std.specs.Prelude.{◌≡◌, ◌<◌, ◌≤◌, length, Err, IfOk, IfSome};
 ghost use Rattle.std.specs.Str.Lines.{lines};
-ghost use Rattle.std.specs.String.{string_bytes};
-ghost use Rattle.std.specs.Io.KnownBytes.{Appends};
-ghost use Rattle.zvt_io.specs.Devices.{CountsFailure};
-ghost use Rattle.zvt_trace.specs.Written.{AppendsFront, limit};
+ghost use Rattle.zvt_trace.specs.Written.{limit};
 ghost use Rattle.zvt_vectors.specs.Checked.{AnswersLines, AnswersVectors, ChecksLine, ChecksVector};
 
 use crate::answers::write_answer;
 use crate::line::{BadLine, Line, read_line};
 use std::alloc::Global;
 use std::fmt::Write;
-use zvt_io::{Failed, Sink, Source};
+use zvt_io::{Sink, Source};
 use zvt_trace::{Tally, TraceFault, next_line, read_trace};
 
 /// Writes each line of the vectors that the reader of messages (`zvt_apdu::scan`) answers otherwise, with its number and
@@ -101,22 +98,9 @@ fn check_vector<W: Sink>(
     }
     let mut text = String::new(alloc);
     writeln!(text, "line {number}: got {answer}")?;
-    put(&text, writer)?;
+    writer.write_all(text.as_bytes())?;
     Ok(Tally {
         messages: 1,
         bad: 1,
     })
-}
-
-/// Writes the text to the device.
-fn put<W: Sink>(text: &String, writer: &mut W) -> Result<(), TraceFault>
-    ensures bytes { OnOk result (Appends (W.written writer.old) (W.written writer.new) (string_bytes text.now)) }
-    ensures fault { IfErr result (λ fault. fault ≡ TraceFault.Write) }
-    ensures failures { CountsFailure (W.failures writer.old) (W.failures writer.new) result }
-    ensures front { OnErr result (AppendsFront (W.written writer.old) (W.written writer.new) (string_bytes text.now)) }
-{
-    match writer.write_all(text.as_bytes()) {
-        Ok(()) => Ok(()),
-        Err(Failed) => Err(TraceFault::Write),
-    }
 }

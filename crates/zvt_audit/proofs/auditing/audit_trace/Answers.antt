@@ -15,11 +15,11 @@ pub returns-clause-writes : goal.returns-clause-writes
 returns-clause-writes g c =
     audited {S = Auditor × Unit {0}} (λ s. s.0.books) (λ s. s.0.orders) c.args.trace.now (record { tally = c.in_ok-tally.tally; swapped = c.are_swapped-swapped.result }) _ _ c.new-books.result _ _ (books_value c.in_ok-found.found) _
     c.new-books.ensures c.in_ok-take.ensures c.none.ensures.0 c.none.ensures.1 c.in_ok-tally.ensures c.are_swapped-swapped.ensures c.in_ok-found.ensures
-    (c.in_ok-write.ensures ∙ ap (λ t. t ++ books_text (books_value c.in_ok-found.found)) c.new-text.ensures) c.in_ok-put.ensures.bytes
+    (c.bytes.ensures ∙ c.in_ok-write.ensures ∙ ap (λ t. t ++ books_text (books_value c.in_ok-found.found)) c.new-text.ensures) c.in_ok-write_all.ensures.bytes
 
-pub returns-in_err-put-clause-writes : goal.returns-in_err-put-clause-writes
-returns-in_err-put-clause-writes g c =
-    let p = err_from_is_err_and c.from_residual-in_err-put.result c.from_residual-in_err-put.ensures.1 in
-    rw (p.1, p.2, c.in_err-put.ensures.fault) (audit_failed {S = Auditor × Unit {0}} (λ s. s.0.books) (λ s. s.0.orders) c.args.trace.now c.in_ok-tally.tally _ _ c.new-books.result _ _ (books_value c.in_ok-found.found) _
+pub returns-in_err-write_all-clause-writes : goal.returns-in_err-write_all-clause-writes
+returns-in_err-write_all-clause-writes g c =
+    let p = err_from_is_err_and c.from_residual-in_err-write_all.result c.from_residual-in_err-write_all.ensures.1 in
+    rw (p.1, p.2) (audit_failed {S = Auditor × Unit {0}} (λ s. s.0.books) (λ s. s.0.orders) c.args.trace.now c.in_ok-tally.tally _ _ c.new-books.result _ _ (books_value c.in_ok-found.found) _
     c.new-books.ensures c.in_ok-take.ensures c.in_ok-tally.ensures c.in_ok-found.ensures
-    (c.in_ok-write.ensures ∙ ap (λ t. t ++ books_text (books_value c.in_ok-found.found)) c.new-text.ensures) c.in_err-put.ensures.front)
+    (c.bytes.ensures ∙ c.in_ok-write.ensures ∙ ap (λ t. t ++ books_text (books_value c.in_ok-found.found)) c.new-text.ensures) c.in_err-write_all.ensures.bytes)

@@ -12,19 +12,19 @@ returns-then-eq-clause-checks g c =
     let made : c.as_bytes.result.now ≡ answer = c.as_bytes.ensures.value ∙ told.2 ∙ ap (λ (t : List ℕ). t ++ answer) c.new-answer.ensures.bytes in
     right c.args.number c.args.bytes.now c.args.claim.now answer _ _ told.1 (same c.as_bytes.result.now c.args.claim.now (sym c.if-eq.ensures) ∙ made) refl refl
 
-pub returns-in_err-put-clause-checks : goal.returns-in_err-put-clause-checks
-returns-in_err-put-clause-checks g c =
+pub returns-in_err-write_all-clause-checks : goal.returns-in_err-write_all-clause-checks
+returns-in_err-write_all-clause-checks g c =
     let told = c.in_ok-write_answer.ensures in
     let answer = told.0 in
     let made : c.as_bytes.result.now ≡ answer = c.as_bytes.ensures.value ∙ told.2 ∙ ap (λ (t : List ℕ). t ++ answer) c.new-answer.ensures.bytes in
-    let p = err_from_is_err_and c.from_residual-in_err-put.result c.from_residual-in_err-put.ensures.1 in
-    let said : string_bytes c.writeln.new.self ≡ got_text c.args.number answer = line_text c.args.number _ _ _ answer c.new-text.ensures.bytes (told.2 ∙ ap (λ (t : List ℕ). t ++ answer) c.new-answer.ensures.bytes) c.in_ok-writeln.ensures.bytes in
-    rw (p.1, p.2, c.in_err-put.ensures.fault) (unwritten c.args.number c.args.bytes.now c.args.claim.now answer (string_bytes c.writeln.new.self) _ _ told.1 (λ e. other c.as_bytes.result.now c.args.claim.now (sym c.if-eq.ensures) (e ∙ sym made)) said c.in_err-put.ensures.front)
+    let p = err_from_is_err_and c.from_residual-in_err-write_all.result c.from_residual-in_err-write_all.ensures.1 in
+    let said : c.as_bytes-2.result.now ≡ got_text c.args.number answer = c.as_bytes-2.ensures.value ∙ line_text c.args.number _ _ _ answer c.new-text.ensures.bytes (told.2 ∙ ap (λ (t : List ℕ). t ++ answer) c.new-answer.ensures.bytes) c.in_ok-writeln.ensures.bytes in
+    rw (p.1, p.2) (unwritten c.args.number c.args.bytes.now c.args.claim.now answer c.as_bytes-2.result.now _ _ told.1 (λ e. other c.as_bytes.result.now c.args.claim.now (sym c.if-eq.ensures) (e ∙ sym made)) said c.in_err-write_all.ensures.bytes)
 
 pub returns-clause-checks : goal.returns-clause-checks
 returns-clause-checks g c =
     let told = c.in_ok-write_answer.ensures in
     let answer = told.0 in
     let made : c.as_bytes.result.now ≡ answer = c.as_bytes.ensures.value ∙ told.2 ∙ ap (λ (t : List ℕ). t ++ answer) c.new-answer.ensures.bytes in
-    let said : string_bytes c.writeln.new.self ≡ got_text c.args.number answer = line_text c.args.number _ _ _ answer c.new-text.ensures.bytes (told.2 ∙ ap (λ (t : List ℕ). t ++ answer) c.new-answer.ensures.bytes) c.in_ok-writeln.ensures.bytes in
-    wrong c.args.number c.args.bytes.now c.args.claim.now answer (string_bytes c.writeln.new.self) _ _ _ told.1 (λ e. other c.as_bytes.result.now c.args.claim.now (sym c.if-eq.ensures) (e ∙ sym made)) said c.in_ok-put.ensures.bytes refl refl
+    let said : c.as_bytes-2.result.now ≡ got_text c.args.number answer = c.as_bytes-2.ensures.value ∙ line_text c.args.number _ _ _ answer c.new-text.ensures.bytes (told.2 ∙ ap (λ (t : List ℕ). t ++ answer) c.new-answer.ensures.bytes) c.in_ok-writeln.ensures.bytes in
+    wrong c.args.number c.args.bytes.now c.args.claim.now answer c.as_bytes-2.result.now _ _ _ told.1 (λ e. other c.as_bytes.result.now c.args.claim.now (sym c.if-eq.ensures) (e ∙ sym made)) said c.in_ok-write_all.ensures.bytes refl refl
