@@ -6,6 +6,7 @@ pub mod OneMessage
 pub mod Opened
 pub mod OpeningMoves
 pub mod KindLemmas
+pub mod FormLemmas
 pub mod DataMoves
 pub mod ListedMoves
 pub mod Encoding

@@ -5,6 +5,7 @@ ghost use Rattle.zvt_tlv.specs.Lengths.{reading_of};
 ghost use Rattle.zvt_apdu.specs.Grammar.{form_of};
 ghost use Rattle.zvt_apdu.specs.Judging.{AnswersOpening, JudgesSize, bytes_after, can_fill, head_size, layout_of};
 
+use crate::kinds::{Kind, kind_at};
 use zvt_spelling::{Scan, Why};
 use zvt_tlv::Lengths;
 
@@ -34,30 +35,21 @@ pub(crate) struct Opening {
 }
 
 /// The form of the data behind these control bytes, where the message has a name of its own.
-#[tactic(auto, unfolding(crate::specs::Grammar::form_of))]
 #[inline(always)]
 pub(crate) fn form_of(high: u8, low: u8) -> Option<Form>
     ensures { result ≡ form_of high low }
 {
-    match high {
-        0x04 => match low {
-            0x0F => Some(Form::FieldsFrom(0)),
-            0xFF => Some(Form::BytesFrom(1)),
-            _ => None,
-        },
-        0x06 => match low {
-            0x00 => Some(Form::Registration),
-            0x01 | 0x0F | 0xB0 | 0xD3 => Some(Form::FieldsFrom(0)),
-            0x1E | 0xD1 => Some(Form::BytesFrom(1)),
-            0x30 | 0x50 => Some(Form::FieldsFrom(3)),
-            _ => None,
-        },
-        0x80 => match low {
-            0x00 => Some(Form::BytesFrom(0)),
-            _ => None,
-        },
-        0x84 => Some(Form::BytesFrom(0)),
-        _ => None,
+    match kind_at(high, low) {
+        Kind::Registration => Some(Form::Registration),
+        Kind::Authorisation
+        | Kind::AbortOrder
+        | Kind::Status
+        | Kind::TextBlock
+        | Kind::Completion => Some(Form::FieldsFrom(0)),
+        Kind::Reversal | Kind::EndOfDay => Some(Form::FieldsFrom(3)),
+        Kind::Ack | Kind::Nack => Some(Form::BytesFrom(0)),
+        Kind::Intermediate | Kind::PrintLine | Kind::Abort => Some(Form::BytesFrom(1)),
+        Kind::Other => None,
     }
 }
 

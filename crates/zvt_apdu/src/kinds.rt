@@ -9,6 +9,7 @@ ghost use Rattle.zvt_apdu.specs.Kinds.{kind_at};
 ghost use Rattle.zvt_apdu.specs.Judging.{bytes_after, head_size, layout_of};
 ghost use Rattle.zvt_apdu.specs.Messages.{message_of, IsMessage};
 
+use crate::control_bytes;
 use crate::frame::{Form, form_of};
 use crate::messages::{Message, Rest};
 use zvt_bcd::{Currency, number};
@@ -39,29 +40,20 @@ pub enum Kind {
 pub fn kind_at(high: u8, low: u8) -> Kind
     ensures { result ≡ kind_at high low }
 {
-    match high {
-        0x04 => match low {
-            0x0F => Kind::Status,
-            0xFF => Kind::Intermediate,
-            _ => Kind::Other,
-        },
-        0x06 => match low {
-            0x00 => Kind::Registration,
-            0x01 => Kind::Authorisation,
-            0x0F => Kind::Completion,
-            0x1E => Kind::Abort,
-            0x30 => Kind::Reversal,
-            0x50 => Kind::EndOfDay,
-            0xB0 => Kind::AbortOrder,
-            0xD1 => Kind::PrintLine,
-            0xD3 => Kind::TextBlock,
-            _ => Kind::Other,
-        },
-        0x80 => match low {
-            0x00 => Kind::Ack,
-            _ => Kind::Other,
-        },
-        0x84 => Kind::Nack,
+    match [high, low] {
+        control_bytes::ACK => Kind::Ack,
+        [control_bytes::NACK, _] => Kind::Nack,
+        control_bytes::REGISTRATION => Kind::Registration,
+        control_bytes::AUTHORISATION => Kind::Authorisation,
+        control_bytes::REVERSAL => Kind::Reversal,
+        control_bytes::END_OF_DAY => Kind::EndOfDay,
+        control_bytes::ABORT_ORDER => Kind::AbortOrder,
+        control_bytes::STATUS => Kind::Status,
+        control_bytes::INTERMEDIATE => Kind::Intermediate,
+        control_bytes::PRINT_LINE => Kind::PrintLine,
+        control_bytes::TEXT_BLOCK => Kind::TextBlock,
+        control_bytes::COMPLETION => Kind::Completion,
+        control_bytes::ABORT => Kind::Abort,
         _ => Kind::Other,
     }
 }

@@ -3,6 +3,7 @@
 
 mod apdu;
 mod brief;
+mod control_bytes;
 mod frame;
 mod kinds;
 pub mod laws;

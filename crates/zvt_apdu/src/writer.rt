@@ -10,6 +10,7 @@ ghost use Rattle.zvt_apdu.specs.Message.{registration};
 ghost use Rattle.zvt_apdu.specs.Messages.{message_of, rest_of, ControlOf, Encodes, FreeControl, Fitting, HasData, HasSpelling, ListedIn, length_bytes};
 
 use crate::apdu::Apdu;
+use crate::control_bytes;
 use crate::frame::form_of;
 use crate::messages::{Message, Rest};
 use std::alloc::{AllocError, Global};
@@ -27,19 +28,19 @@ pub(crate) fn control(message: &Message) -> Option<[u8; 2]>
     ensures { ControlOf (message_of message.now) result }
 {
     match message {
-        Message::Ack { .. } => Some([0x80, 0x00]),
-        Message::Nack { code, .. } => Some([0x84, *code]),
-        Message::Registration { .. } => Some([0x06, 0x00]),
-        Message::Authorisation(_) => Some([0x06, 0x01]),
-        Message::Reversal { .. } => Some([0x06, 0x30]),
-        Message::EndOfDay { .. } => Some([0x06, 0x50]),
-        Message::AbortOrder(_) => Some([0x06, 0xB0]),
-        Message::Status(_) => Some([0x04, 0x0F]),
-        Message::Intermediate { .. } => Some([0x04, 0xFF]),
-        Message::PrintLine { .. } => Some([0x06, 0xD1]),
-        Message::TextBlock(_) => Some([0x06, 0xD3]),
-        Message::Completion(_) => Some([0x06, 0x0F]),
-        Message::Abort { .. } => Some([0x06, 0x1E]),
+        Message::Ack { .. } => Some(control_bytes::ACK),
+        Message::Nack { code, .. } => Some([control_bytes::NACK, *code]),
+        Message::Registration { .. } => Some(control_bytes::REGISTRATION),
+        Message::Authorisation(_) => Some(control_bytes::AUTHORISATION),
+        Message::Reversal { .. } => Some(control_bytes::REVERSAL),
+        Message::EndOfDay { .. } => Some(control_bytes::END_OF_DAY),
+        Message::AbortOrder(_) => Some(control_bytes::ABORT_ORDER),
+        Message::Status(_) => Some(control_bytes::STATUS),
+        Message::Intermediate { .. } => Some(control_bytes::INTERMEDIATE),
+        Message::PrintLine { .. } => Some(control_bytes::PRINT_LINE),
+        Message::TextBlock(_) => Some(control_bytes::TEXT_BLOCK),
+        Message::Completion(_) => Some(control_bytes::COMPLETION),
+        Message::Abort { .. } => Some(control_bytes::ABORT),
         Message::Other { control, .. } => free_control(control[0], control[1]),
     }
 }
