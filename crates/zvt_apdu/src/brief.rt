@@ -14,6 +14,9 @@ use std::fmt;
 use zvt_bcd::{Amount, Currency, put};
 use zvt_spelling::Scan;
 
+/// The size of a buffer that each brief fits in.
+pub const BRIEF_ROOM: usize = 32;
+
 /// A message that a till sends, by the few values that it is made of. Its control bytes are given in hexadecimal.
 #[derive(Clone, Copy, PartialEq, Eq)]
 pub enum Brief {
@@ -74,7 +77,7 @@ fn amount_digits(amount: Amount) -> [u8; 6]
 }
 
 /// Puts a message without data at the front, and says its size.
-fn put_bare(high: u8, low: u8, out: &mut [u8; 32]) -> usize
+fn put_bare(high: u8, low: u8, out: &mut [u8; BRIEF_ROOM]) -> usize
     ensures written { Puts (high ∷ low ∷ 0 ∷ []) out.old out.new result }
     ensures fits { result ≤ 32 }
     ensures byte { low < 256 }
@@ -83,7 +86,7 @@ fn put_bare(high: u8, low: u8, out: &mut [u8; 32]) -> usize
 }
 
 /// Puts a message 06 at the front whose data is a password and what stands behind it, and says its size.
-fn put_with_password(low: u8, password: [u8; 3], more: &[u8], out: &mut [u8; 32]) -> usize
+fn put_with_password(low: u8, password: [u8; 3], more: &[u8], out: &mut [u8; BRIEF_ROOM]) -> usize
     requires { length more.now ≤ 3 }
     ensures written { Puts (0x06 ∷ low ∷ (3 + length more.now) ∷ (password ++ more.now)) out.old out.new result }
     ensures fits { result ≤ 32 }
@@ -107,7 +110,7 @@ fn put_payment(amount: Amount, currency: Currency, out: &mut [u8]) -> usize
 }
 
 /// Puts a reversal at the front, and says its size.
-fn put_reversal(password: [u8; 3], receipt: &[u8; 2], out: &mut [u8; 32]) -> usize
+fn put_reversal(password: [u8; 3], receipt: &[u8; 2], out: &mut [u8; BRIEF_ROOM]) -> usize
     ensures written { PutsMessage (message_of_brief (Brief.Reverse password receipt.now)) out.old out.new result }
     ensures fits { result ≤ 32 }
 {
@@ -117,7 +120,7 @@ fn put_reversal(password: [u8; 3], receipt: &[u8; 2], out: &mut [u8; 32]) -> usi
 
 /// Writes the message's spelling at the front of the buffer, and says its size. It always fits, and what stands behind
 /// it stays.
-pub fn put_brief(brief: &Brief, buffer: &mut [u8; 32]) -> usize
+pub fn put_brief(brief: &Brief, buffer: &mut [u8; BRIEF_ROOM]) -> usize
     ensures written { PutsMessage (message_of_brief brief.now) buffer.old buffer.new result }
     ensures fits { result ≤ 32 }
 {
@@ -143,7 +146,7 @@ pub fn put_brief(brief: &Brief, buffer: &mut [u8; 32]) -> usize
 pub fn brief_message(alloc: Global, brief: &Brief) -> Result<Apdu, AllocError>
     ensures { IfOk result (λ apdu. apdu ≡ message_of_brief brief.now) }
 {
-    let mut buffer = [0; 32];
+    let mut buffer = [0; BRIEF_ROOM];
     let size = put_brief(brief, &mut buffer);
     let Scan::Whole((apdu, _)) = scan(alloc, &buffer[..size])? else {
         unreachable!()

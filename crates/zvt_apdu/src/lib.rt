@@ -15,7 +15,7 @@ mod views;
 mod writer;
 
 pub use apdu::Apdu;
-pub use brief::{Brief, brief_message, put_brief};
+pub use brief::{BRIEF_ROOM, Brief, brief_message, put_brief};
 pub use frame::{Layout, judge_size};
 pub use kinds::{Kind, kind_at};
 pub use messages::{BadValue, Message, Rest};

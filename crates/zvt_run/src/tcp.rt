@@ -24,10 +24,7 @@ use std::fs::File;
 use std::net::{Net, TcpListener, TcpStream};
 use zvt_io::{Over, Sink, Source};
 use zvt_stream::{LineFault, Stream};
-use zvt_term::{Served, Terminal, Verdict};
-
-/// The terminal's number in a run of both ends.
-const TID: u32 = 12_345_678;
+use zvt_term::{Served, Terminal, USUAL_TID, Verdict};
 
 /// Runs both ends of a line in this process: it listens at a free port of 127.0.0.1, connects to itself, and till and
 /// terminal take turns. The words name the steps, and no words the usual ones: `register pay:1000 decline:500:6C
@@ -91,7 +88,7 @@ fn both_ends_of<'a, R: Source, W: Sink>(
         till,
         terminal: plain_end(alloc, terminal_end),
         served: Served {
-            terminal: Terminal::new(alloc, TID),
+            terminal: Terminal::new(alloc, USUAL_TID),
             verdict: Verdict::Approve,
         },
     }

@@ -5,7 +5,7 @@ ghost use Rattle.zvt_term.specs.Terminal.{reports_of};
 ghost use Rattle.zvt_term.specs.Steps.{Adds, AreWritable, Says};
 
 use crate::messages::{Reply, Report};
-use crate::writer::put_report;
+use crate::writer::{REPORT_ROOM, put_report};
 use zvt_stream::Answers;
 
 /// Adds the bytes of a report.
@@ -15,7 +15,7 @@ fn add(answers: &mut Answers, report: &Report)
     requires writable { IsWritable report.now }
     ensures { Adds report.now answers.old answers.new }
 {
-    let mut buffer = [0; 32];
+    let mut buffer = [0; REPORT_ROOM];
     let size = put_report(report, &mut buffer);
     answers.add(&buffer[..size]);
 }

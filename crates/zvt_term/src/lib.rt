@@ -17,5 +17,5 @@ pub use messages::{Asked, Line, Reply, Report};
 pub use served::Served;
 pub use terminal::{Input, MOST_ROWS, Terminal};
 pub use turns::{Phase, Verdict};
-pub use world::{Move, World, run_world};
-pub use writer::{put_report, report_message};
+pub use world::{Move, USUAL_TID, World, run_world};
+pub use writer::{REPORT_ROOM, put_report, report_message};

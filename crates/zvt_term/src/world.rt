@@ -46,8 +46,8 @@ pub struct World {
     pub from_terminal: Vec<Apdu>,
 }
 
-/// The number of the terminal.
-const TID: u32 = 12_345_678;
+/// The terminal's number where none is chosen.
+pub const USUAL_TID: u32 = 12_345_678;
 
 /// Keeps a message that the till sends, if there is one.
 fn keep_sent(
@@ -94,7 +94,7 @@ impl World {
     {
         World {
             till: Till::with_defaults(alloc),
-            terminal: Terminal::new(alloc, TID),
+            terminal: Terminal::new(alloc, USUAL_TID),
             from_till: Vec::new(alloc),
             from_terminal: Vec::new(alloc),
         }

@@ -14,6 +14,9 @@ use zvt_apdu::{Apdu, scan};
 use zvt_bcd::{Amount, Currency, put};
 use zvt_spelling::Scan;
 
+/// The size of a buffer that each report fits in.
+pub const REPORT_ROOM: usize = 32;
+
 /// An amount's six bytes of digits.
 fn amount_digits(amount: Amount) -> [u8; 6]
     ensures digits { result ≡ digits 6 amount }
@@ -75,7 +78,7 @@ fn put_behind(first: &[u8], bytes: &[u8], out: &mut [u8]) -> usize
 }
 
 /// Puts a message of these control bytes and data at the front, and says its size.
-fn put_data(high: u8, low: u8, bytes: &[u8], out: &mut [u8; 32]) -> usize
+fn put_data(high: u8, low: u8, bytes: &[u8], out: &mut [u8; REPORT_ROOM]) -> usize
     requires { length bytes.now ≤ 29 }
     ensures written { Puts (high ∷ low ∷ length bytes.now ∷ bytes.now) out.old out.new result }
     ensures fits { result ≤ 32 }
@@ -86,7 +89,7 @@ fn put_data(high: u8, low: u8, bytes: &[u8], out: &mut [u8; 32]) -> usize
 }
 
 /// Puts a registration's completion at the front, and says its size.
-fn put_registration(tid: u32, currency: Option<Currency>, out: &mut [u8; 32]) -> usize
+fn put_registration(tid: u32, currency: Option<Currency>, out: &mut [u8; REPORT_ROOM]) -> usize
     requires { tid ≤ 99999999 }
     ensures written { PutsMessage (message_of_report (Report.Registered tid currency)) out.old out.new result }
     ensures fits { result ≤ 32 }
@@ -106,7 +109,7 @@ fn put_approval(
     amount: Amount,
     number: u16,
     currency: Option<Currency>,
-    out: &mut [u8; 32],
+    out: &mut [u8; REPORT_ROOM],
 ) -> usize
     requires { number ≤ 9999 }
     ensures written { PutsMessage (message_of_report (Report.Approved amount number currency)) out.old out.new result }
@@ -138,7 +141,7 @@ fn put_reversal(
     number: u16,
     original: u16,
     currency: Option<Currency>,
-    out: &mut [u8; 32],
+    out: &mut [u8; REPORT_ROOM],
 ) -> usize
     requires number { number ≤ 9999 }
     requires original { original ≤ 9999 }
@@ -180,7 +183,7 @@ fn put_text(words: &[u8], more: &[u8], out: &mut [u8]) -> usize
 }
 
 /// Puts a line of words and an amount at the front, and says its size.
-fn put_amount(words: &[u8], amount: Amount, out: &mut [u8; 32]) -> usize
+fn put_amount(words: &[u8], amount: Amount, out: &mut [u8; REPORT_ROOM]) -> usize
     requires { length words.now ≤ 16 }
     ensures written { PutsMessage (print_line 0 (words.now ++ decimal amount)) out.old out.new result }
     ensures fits { result ≤ 32 }
@@ -190,7 +193,7 @@ fn put_amount(words: &[u8], amount: Amount, out: &mut [u8; 32]) -> usize
 }
 
 /// Puts the line at the front, and says its size.
-fn put_line(line: &Line, out: &mut [u8; 32]) -> usize
+fn put_line(line: &Line, out: &mut [u8; REPORT_ROOM]) -> usize
     ensures written { PutsMessage (message_of_report (Report.Line line.now)) out.old out.new result }
     ensures fits { result ≤ 32 }
 {
@@ -203,7 +206,7 @@ fn put_line(line: &Line, out: &mut [u8; 32]) -> usize
 
 /// Writes the message's spelling at the front of the buffer, and says its size. It always fits, and what stands behind
 /// it stays.
-pub fn put_report(report: &Report, buffer: &mut [u8; 32]) -> usize
+pub fn put_report(report: &Report, buffer: &mut [u8; REPORT_ROOM]) -> usize
     requires { IsWritable report.now }
     ensures written { PutsMessage (message_of_report report.now) buffer.old buffer.new result }
     ensures fits { result ≤ 32 }
@@ -235,7 +238,7 @@ pub fn report_message(alloc: Global, report: &Report) -> Result<Apdu, AllocError
     requires { IsWritable report.now }
     ensures { IfOk result (λ apdu. apdu ≡ message_of_report report.now) }
 {
-    let mut buffer = [0; 32];
+    let mut buffer = [0; REPORT_ROOM];
     let size = put_report(report, &mut buffer);
     let Scan::Whole((apdu, _)) = scan(alloc, &buffer[..size])? else {
         unreachable!()

@@ -18,6 +18,7 @@ use crate::messages::{CurrencyFact, Heard, Original, StatusFacts};
 use crate::orders::{Order, OrderRefusal, Outgoing};
 use crate::till::Till;
 use std::alloc::{AllocError, Global};
+use zvt_apdu::BRIEF_ROOM;
 use zvt_bcd::{Amount, Currency, Trace};
 use zvt_stream::{FedView, FeedError, Stream};
 
@@ -76,7 +77,7 @@ fn add(log: &mut Vec<Happening>, happening: Happening) -> Result<(), AllocError>
 fn send(sent: &mut Vec<u8>, outgoing: &Outgoing) -> Result<(), AllocError>
     ensures { OnOk result ((before : List Message) → Spelled sent.old.items before [] → Spelled sent.new.items (before ++ message_out outgoing.now ∷ []) []) }
 {
-    let mut buffer = [0; 32];
+    let mut buffer = [0; BRIEF_ROOM];
     let size = outgoing.put(&mut buffer);
     sent.extend_from_slice(&buffer[..size])?;
     Ok(())

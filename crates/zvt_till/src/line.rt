@@ -7,7 +7,7 @@ use crate::orders::{Order, OrderRefusal};
 use crate::outcomes::Outcome;
 use crate::till::Till;
 use std::alloc::{AllocError, Global};
-use zvt_apdu::ApduView;
+use zvt_apdu::{ApduView, BRIEF_ROOM};
 use zvt_io::{Sink, Source};
 use zvt_stream::{Answers, LineFault, Machine, Stream, Until, pump, send};
 
@@ -30,7 +30,7 @@ impl Machine for Till {
         let answer = Till::hear(self, heard_view(apdu)).send;
         let mut answers = Answers::new();
         if let Some(outgoing) = answer {
-            let mut buffer = [0; 32];
+            let mut buffer = [0; BRIEF_ROOM];
             let size = outgoing.put(&mut buffer);
             answers.add(&buffer[..size]);
         }
@@ -71,7 +71,7 @@ pub fn send_order<W: Sink>(writer: &mut W, till: &mut Till, order: Order) -> Res
         Err(why) => return Err(RunFault::Order(why)),
         Ok(outgoing) => outgoing,
     };
-    let mut buffer = [0; 32];
+    let mut buffer = [0; BRIEF_ROOM];
     let size = outgoing.put(&mut buffer);
     if let Err(fault) = send(writer, &buffer[..size]) {
         let _ = Till::lost(till);

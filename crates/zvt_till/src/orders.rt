@@ -2,7 +2,7 @@
 use crate::outcomes::Outcome;
 use std::alloc::{AllocError, Global};
 use std::fmt;
-use zvt_apdu::{Apdu, Brief, brief_message, put_brief};
+use zvt_apdu::{Apdu, BRIEF_ROOM, Brief, brief_message, put_brief};
 use zvt_bcd::Amount;
 
 /// What a caller asks of the till.
@@ -89,7 +89,7 @@ impl Outgoing {
 
     /// Writes its bytes at the front of the buffer, and says how many. They always fit, and what stands behind them
     /// stays.
-    pub fn put(&self, buffer: &mut [u8; 32]) -> usize
+    pub fn put(&self, buffer: &mut [u8; BRIEF_ROOM]) -> usize
         ensures written { PutsMessage (message_of_brief self.now.brief) buffer.old buffer.new result }
         ensures fits { result ≤ 32 }
     {
