@@ -11,8 +11,23 @@ use zvt_apdu::{ApduView, Kind};
 pub(crate) fn head(text: &mut Text, message: &ApduView<'_>) -> Result<(), AllocError>
     ensures { OnOk result (text.new ≡ text.old ++ head_text message.now) }
 {
-    text.word(kind_name(message.kind()).as_bytes())?;
+    kind_word(text, message.kind())?;
     detail(text, message)
+}
+
+/// The name of a kind: those that come most in a word each.
+#[inline(always)]
+fn kind_word(text: &mut Text, kind: Kind) -> Result<(), AllocError>
+    ensures { OnOk result (text.new ≡ text.old ++ kind_name kind) }
+{
+    match kind {
+        Kind::Ack => text.word(b"Ack"),
+        Kind::Authorisation => text.word(b"Authorisation"),
+        Kind::Status => text.word(b"Status"),
+        Kind::PrintLine => text.word(b"PrintLine"),
+        Kind::Completion => text.word(b"Completion"),
+        _ => text.word(kind_name(kind).as_bytes()),
+    }
 }
 
 /// The name of a kind of message, as each text has it.

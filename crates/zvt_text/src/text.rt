@@ -1,7 +1,9 @@
 //! Bytes of text, written one behind another.
 ghost use Rattle.std.specs.Prelude.{◌≡◌, ◌+◌, ◌≤◌, [], ◌∷◌, ◌++◌, length, replicate, take, IfOk, OnErr, OnOk};
+ghost use Rattle.hex.specs.Hex.{encode_upper};
 ghost use Rattle.zvt_text.specs.Whole.{Adds};
 
+use crate::bytes::{CHUNK, write_digits};
 use itoa::{Buffer, Integer};
 use std::alloc::{AllocError, Global};
 use std::marker::Model;
@@ -99,6 +101,23 @@ impl Text {
         }
         let end = at + word.len();
         self.room[at..end].copy_from_slice(word);
+        self.size = end;
+        Ok(())
+    }
+
+    /// Writes bytes in hexadecimal.
+    #[inline(always)]
+    pub(crate) fn hexadecimal(&mut self, bytes: &[u8]) -> Result<(), AllocError>
+        requires { length bytes.now ≤ CHUNK }
+        ensures { Adds result self.old self.new (encode_upper bytes.now) }
+    {
+        let at = self.size;
+        let more = 2 * bytes.len();
+        if self.room.len() - at < more {
+            grow(&mut self.room, more)?;
+        }
+        let end = at + more;
+        write_digits(bytes, &mut self.room[at..end]);
         self.size = end;
         Ok(())
     }

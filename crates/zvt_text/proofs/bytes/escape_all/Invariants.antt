@@ -1,6 +1,9 @@
-use Rattle.std.proofs.Common.{◌≡◌, ◌++◌, take}
+use Rattle.std.proofs.Common.{◌≡◌, ◌++◌, length}
 use Rattle.zvt_text.specs.Bytes.{escaped_text}
 use Rattle.zvt_text.proofs.bytes.escape_all.Given as goal
 
-abbrev pub invariant-loop-byte : goal.invariant-loop-byte
-invariant-loop-byte l = l.text ≡ l.initial.text ++ escaped_text (take l.byte-index l.bytes)
+abbrev pub invariant-runs : goal.invariant-runs
+invariant-runs l = l.text ++ escaped_text l.rest ≡ l.initial.text ++ escaped_text l.bytes
+
+abbrev pub decreases-runs : goal.decreases-runs
+decreases-runs l = length l.rest
