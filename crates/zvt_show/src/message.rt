@@ -1,7 +1,8 @@
 //! The text of a message.
-ghost use Rattle.std.specs.Prelude.{◌≡◌, ◌++◌, OnOk};
+ghost use Rattle.std.specs.Prelude.{◌≡◌, ◌++◌, ◌∷◌, [], OnOk};
 ghost use Rattle.zvt_spelling.specs.Reading.{shortest};
 ghost use Rattle.zvt_apdu.specs.Grammar.{Spells};
+ghost use Rattle.zvt_trace.specs.Lines.{direction_text};
 ghost use Rattle.zvt_show.specs.Text.{joined, receipt, shown};
 ghost use Rattle.zvt_show.specs.Written.{AddsMessage};
 
@@ -33,17 +34,26 @@ pub(crate) fn write(
 fn show(text: &mut Text, from: Direction, apdu: &ApduView<'_>) -> Result<(), AllocError>
     ensures { OnOk result (text.new ≡ text.old ++ shown from apdu.now) }
 {
-    text.word(from.sign().as_bytes())?;
-    text.push(b' ')?;
+    begin(text, from)?;
     zvt_text::message(text, apdu)
+}
+
+/// Its direction, and a space.
+#[inline(always)]
+fn begin(text: &mut Text, from: Direction) -> Result<(), AllocError>
+    ensures { OnOk result (text.new ≡ text.old ++ direction_text from ++ 32 ∷ []) }
+{
+    match from {
+        Direction::FromTill => text.word(b"> "),
+        Direction::FromTerminal => text.word(b"< "),
+    }
 }
 
 /// Its direction and bytes.
 fn join(text: &mut Text, from: Direction, bytes: &[u8]) -> Result<(), AllocError>
     ensures { OnOk result (text.new ≡ text.old ++ joined from bytes.now) }
 {
-    text.word(from.sign().as_bytes())?;
-    text.push(b' ')?;
+    begin(text, from)?;
     zvt_text::hexadecimal(text, bytes)?;
     text.push(b'\n')
 }
