@@ -5,6 +5,7 @@ use zvt_audit::audit;
 use zvt_io::{Failed, GhostCount, Over, Sink, Source};
 use zvt_notes::write_notes;
 use zvt_show::show;
+use zvt_tlv::Lengths;
 use zvt_trace::{Failure, Scope, TraceFault};
 
 /// Gives so many bytes of a remark, and then fails or ends.
@@ -119,7 +120,13 @@ fn a_write_that_fails_is_told(rt: HostRuntime) -> Result<(), Fail> {
         let answer = show(rt.alloc(), &mut reader, &mut takes(writes_left));
         assert!(rt; matches!(answer, Err(TraceFault::Write)), "{writes_left}");
     }
-    let answer = write_notes(rt.alloc(), Scope::OneSide, b"> 06 01 02 D0", &mut takes(0));
+    let answer = write_notes(
+        rt.alloc(),
+        Scope::OneSide,
+        Lengths::Shortest,
+        b"> 06 01 02 D0",
+        &mut takes(0),
+    );
     assert!(rt; matches!(answer, Err(Failure::Write)));
     Ok(())
 }

@@ -7,6 +7,8 @@ mod command_lines;
 #[cfg(test)]
 mod devices;
 #[cfg(test)]
+mod padded;
+#[cfg(test)]
 mod recorded_runs;
 #[cfg(test)]
 mod run_faults;

@@ -1,6 +1,7 @@
 -- What the commands on a trace answer.
 use Rattle.std.specs.Prelude.{◌≡◌, ℕ, List, [], Option, None, Some, Result, Ok, Err, codes}
 use Rattle.std.specs.Str.Lines.{lines}
+use Rattle.zvt_spelling.specs.Reading.{shortest}
 use Rattle.zvt_choice.specs.declared.chosen.Choice.{Choice}
 use Rattle.zvt_choice.specs.declared.chosen.Choice.TheVariants.{Audit, Join, Loop, Receipts, Show, Terminal, Till, Vectors}
 use Rattle.zvt_audit.specs.Audited.{AnswersRead}
@@ -28,7 +29,7 @@ tally_of (Err fault) = Err fault
 
 -- what is answered and written in the style that marks its faults so
 abbrev pub AnswersMarked : Option (List ℕ) → (trace : List ℕ) → (old new : Option (List ℕ)) → Result Tally TraceFault → Type 0
-AnswersMarked mark trace old new result = (style : _) × (mark_of style ≡ mark) × AnswersLines style (lines trace) old new result
+AnswersMarked mark trace old new result = (style : _) × (mark_of style ≡ mark) × AnswersLines shortest style (lines trace) old new result
 
 -- What the command answers for a trace that was read. Of the three styles `show` writes its faults as they are, `join`
 -- as remarks, and `receipts` none.
@@ -36,7 +37,7 @@ abbrev pub AnswersOnTrace : Choice → (trace : List ℕ) → (old new : Option 
 AnswersOnTrace (Show file) trace old new result = AnswersMarked (Some []) trace old new (tally_of result)
 AnswersOnTrace (Join file) trace old new result = AnswersMarked (Some (codes "# ")) trace old new (tally_of result)
 AnswersOnTrace (Receipts file) trace old new result = AnswersMarked None trace old new (tally_of result)
-AnswersOnTrace (Audit file) trace old new result = AnswersRead trace old new result
+AnswersOnTrace (Audit file) trace old new result = AnswersRead shortest trace old new result
 AnswersOnTrace (Vectors file) trace old new result = AnswersVectors trace old new (tally_of result)
 AnswersOnTrace (Loop file steps) trace old new result = ⊥
 AnswersOnTrace (Till port host password config currency file steps) trace old new result = ⊥

@@ -5,7 +5,9 @@ ghost use Rattle.zvt_trace.specs.Written.{limit};
 use crate::finish::say;
 use std::io::{self, ErrorKind};
 use zvt_io::Over;
-use zvt_tool::{Choice, Failure, Found, Scope, ToolFault, TraceFault, hint_on, write_notes};
+use zvt_tool::{
+    Choice, Failure, Found, Lengths, Scope, ToolFault, TraceFault, hint_on, write_notes,
+};
 
 /// Says which streams of the trace are bad, that it has no message, or that its directions may be swapped, and answers
 /// whether there was memory for that.
@@ -73,7 +75,8 @@ fn scope_of(chosen: &Choice<'_>) -> Option<Scope> {
 fn say_bad(rt: &HostRuntime, scope: Scope, trace: &[u8]) -> io::Result<bool>
     requires { length trace.now ≤ limit }
 {
-    match write_notes(rt.alloc(), scope, trace, &mut Over::new(rt.stderr())) {
+    let mut device = Over::new(rt.stderr());
+    match write_notes(rt.alloc(), scope, Lengths::Shortest, trace, &mut device) {
         Ok(()) => Ok(true),
         Err(Failure::Memory) => {
             say(rt, None, &ToolFault::from(TraceFault::Memory))?;

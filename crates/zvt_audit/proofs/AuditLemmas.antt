@@ -4,6 +4,7 @@ use Rattle.std.specs.List.{flat_map}
 use Rattle.std.specs.Io.KnownBytes.{Appends, Keeps}
 use Rattle.std.specs.Prelude.{IfSome}
 use Rattle.std.specs.Str.Lines.{lines}
+use Rattle.zvt_spelling.specs.Reading.{Reading, shortest}
 use Rattle.zvt_till.specs.Books.{Books, books}
 use Rattle.zvt_till.specs.Judging.{BooksSoFar, HasJudged}
 use Rattle.zvt_till.specs.declared.happenings.Happening.{Happening}
@@ -91,11 +92,11 @@ keeps_same : (held : Option (List ℕ)) → Keeps held held
 keeps_same None = tt
 keeps_same (Some bytes) = refl
 
-pub audited : {S : Type 0} (books_of : S → BooksSoFar) (orders : S → Orders) (trace : List ℕ) (answer : Found) (old new : Option (List ℕ)) (first : BooksSoFar) (connected closed : S) (found : Books) (text : List ℕ)
+pub audited : {S : Type 0} {r : Reading} (books_of : S → BooksSoFar) (orders : S → Orders) (trace : List ℕ) (answer : Found) (old new : Option (List ℕ)) (first : BooksSoFar) (connected closed : S) (found : Books) (text : List ℕ)
     → HasJudged [] first → Takes first (books_of connected) (Connected ∷ []) → (orders connected).till ≡ false → (orders connected).terminal ≡ false
-    → AnswersWalk (hears books_of orders) wants_memory WholeLine (lines trace) connected closed (Ok answer.tally) → answer.swapped ≡ (not (orders closed).till && (orders closed).terminal)
+    → AnswersWalk r (hears books_of orders) wants_memory WholeLine (lines trace) connected closed (Ok answer.tally) → answer.swapped ≡ (not (orders closed).till && (orders closed).terminal)
     → ((log : List Happening) → HasJudged log (books_of closed) → found ≡ books log) → text ≡ books_text found → Appends old new text
-    → AnswersRead trace old new (Ok answer)
+    → AnswersRead r trace old new (Ok answer)
 audited books_of orders trace answer old new first connected closed found text start connects till terminal walked is_swapped closes says appended =
     let judged = log_judged books_of orders walked.0 first connected closed start connects walked.2 in (
       walked.0,
@@ -105,10 +106,10 @@ audited books_of orders trace answer old new first connected closed found text s
       is_swapped ∙ swapped books_of orders walked.0 connected closed till terminal walked.2,
     )
 
-pub audit_failed : {S : Type 0} (books_of : S → BooksSoFar) (orders : S → Orders) (trace : List ℕ) (tally : Tally) (old new : Option (List ℕ)) (first : BooksSoFar) (connected closed : S) (found : Books) (text : List ℕ)
-    → HasJudged [] first → Takes first (books_of connected) (Connected ∷ []) → AnswersWalk (hears books_of orders) wants_memory WholeLine (lines trace) connected closed (Ok tally)
+pub audit_failed : {S : Type 0} {r : Reading} (books_of : S → BooksSoFar) (orders : S → Orders) (trace : List ℕ) (tally : Tally) (old new : Option (List ℕ)) (first : BooksSoFar) (connected closed : S) (found : Books) (text : List ℕ)
+    → HasJudged [] first → Takes first (books_of connected) (Connected ∷ []) → AnswersWalk r (hears books_of orders) wants_memory WholeLine (lines trace) connected closed (Ok tally)
     → ((log : List Happening) → HasJudged log (books_of closed) → found ≡ books log) → text ≡ books_text found → AppendsFront old new text
-    → AnswersRead trace old new (Err Write)
+    → AnswersRead r trace old new (Err Write)
 audit_failed books_of orders trace tally old new first connected closed found text start connects walked closes says front =
     let judged = log_judged books_of orders walked.0 first connected closed start connects walked.2 in
     (walked.0, walked.1, subst (λ (t : List ℕ). AppendsFront old new t) (says ∙ ap books_text (closes (log_of walked.0) judged)) front)
@@ -116,40 +117,40 @@ audit_failed books_of orders trace tally old new first connected closed found te
 -- ---- where the walk fails
 
 -- an auditor writes nothing, so no write fails
-pub no_write : {S : Type 0} (books_of : S → BooksSoFar) (orders : S → Orders) (lines : List (List ℕ)) (old new : S) → AnswersWalk (hears books_of orders) wants_memory WholeLine lines old new (Err Write) → ⊥
-no_write {S = S} books_of orders lines old new failed = by failed.stops
+pub no_write : {S : Type 0} {r : Reading} (books_of : S → BooksSoFar) (orders : S → Orders) (lines : List (List ℕ)) (old new : S) → AnswersWalk r (hears books_of orders) wants_memory WholeLine lines old new (Err Write) → ⊥
+no_write {S = S} {r = r} books_of orders lines old new failed = by failed.stops
   where
     differ : failure.Write ≡ failure.Memory → ⊥
     differ e = cc
 
-    by : Stops {S = S} wants_memory failure.Write (ToldSoFar WholeLine lines) failed.events failed.middle new → ⊥
+    by : Stops {S = S} wants_memory failure.Write (ToldSoFar r WholeLine lines) failed.events failed.middle new → ⊥
     by (inl (is, so_far, same)) = differ is
     by (inr (event, so_far, left)) = differ left
 
-pub walk_failed : {S : Type 0} (books_of : S → BooksSoFar) (orders : S → Orders) (trace : List ℕ) (fault : TraceFault) (held : Option (List ℕ)) (old new : S)
-    → AnswersWalk (hears books_of orders) wants_memory WholeLine (lines trace) old new (Err fault) → AnswersRead trace held held (Err fault)
-walk_failed books_of orders trace (Trace number what) held old new walked = (walked.0, walked.1, keeps_same held)
-walk_failed books_of orders trace Memory held old new walked = keeps_same held
-walk_failed books_of orders trace Write held old new walked = absurd (no_write books_of orders (lines trace) old new walked)
-walk_failed books_of orders trace TooLong held old new never = absurd never
-walk_failed books_of orders trace Read held old new never = absurd never
+pub walk_failed : {S : Type 0} (r : Reading) (books_of : S → BooksSoFar) (orders : S → Orders) (trace : List ℕ) (fault : TraceFault) (held : Option (List ℕ)) (old new : S)
+    → AnswersWalk r (hears books_of orders) wants_memory WholeLine (lines trace) old new (Err fault) → AnswersRead r trace held held (Err fault)
+walk_failed r books_of orders trace (Trace number what) held old new walked = (walked.0, walked.1, keeps_same held)
+walk_failed r books_of orders trace Memory held old new walked = keeps_same held
+walk_failed r books_of orders trace Write held old new walked = absurd (no_write books_of orders (lines trace) old new walked)
+walk_failed r books_of orders trace TooLong held old new never = absurd never
+walk_failed r books_of orders trace Read held old new never = absurd never
 
 -- ---- a trace that is read first
 
 pub read_audited : (left : Option (List ℕ)) (trace slice : List ℕ) (old new : Option (List ℕ)) (found : Found) → IfSome left (λ bytes. trace ≡ bytes) → length trace ≤ limit → slice ≡ trace
-    → AnswersRead slice old new (Ok found) → IfSome left (λ bytes. AnswersAudit bytes old new (Ok found.tally))
+    → AnswersRead shortest slice old new (Ok found) → IfSome left (λ bytes. AnswersAudit bytes old new (Ok found.tally))
 read_audited None trace slice old new found read few same answers = tt
 read_audited (Some bytes) trace slice old new found read few same answers =
-    let here = subst (λ (b : List ℕ). AnswersRead b old new (Ok found)) same answers in
+    let here = subst (λ (b : List ℕ). AnswersRead shortest b old new (Ok found)) same answers in
     subst (λ (b : List ℕ). AnswersAudit b old new (Ok found.tally)) read (few, (here.0, here.1, here.2, here.3))
 
 pub read_failed : (left : Option (List ℕ)) (trace slice : List ℕ) (old new : Option (List ℕ)) (fault : TraceFault) → IfSome left (λ bytes. trace ≡ bytes) → length trace ≤ limit → slice ≡ trace
-    → AnswersRead slice old new (Err fault) → IfSome left (λ bytes. AnswersAudit bytes old new (Err fault))
+    → AnswersRead shortest slice old new (Err fault) → IfSome left (λ bytes. AnswersAudit bytes old new (Err fault))
 read_failed None trace slice old new fault read few same answers = tt
 read_failed (Some bytes) trace slice old new fault read few same answers =
-    subst (λ (b : List ℕ). AnswersAudit b old new (Err fault)) read (by fault (subst (λ (b : List ℕ). AnswersRead b old new (Err fault)) same answers))
+    subst (λ (b : List ℕ). AnswersAudit b old new (Err fault)) read (by fault (subst (λ (b : List ℕ). AnswersRead shortest b old new (Err fault)) same answers))
   where
-    by : (fault : TraceFault) → AnswersRead trace old new (Err fault) → AnswersAudit trace old new (Err fault)
+    by : (fault : TraceFault) → AnswersRead shortest trace old new (Err fault) → AnswersAudit trace old new (Err fault)
     by (Trace number what) answers = (few, answers.0, answers.1, answers.2)
     by Memory answers = answers
     by Write answers = (few, answers.0, answers.1, answers.2)

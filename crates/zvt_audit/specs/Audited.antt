@@ -2,6 +2,7 @@
 use Rattle.std.specs.Prelude.{◌≡◌, ℕ, ◌<◌, ◌≤◌, List, ◌++◌, length, Option, Result, Ok, Err}
 use Rattle.std.specs.Io.KnownBytes.{Appends, Keeps}
 use Rattle.std.specs.Str.Lines.{lines}
+use Rattle.zvt_spelling.specs.Reading.{Reading, shortest}
 use Rattle.zvt_till.specs.Books.{books}
 use Rattle.zvt_till.specs.Judging.{BooksSoFar, HasJudged}
 use Rattle.zvt_till.specs.declared.happenings.Happening.{Happening}
@@ -21,27 +22,27 @@ use Rattle.zvt_audit.specs.declared.auditing.Found.{Found}
 abbrev pub Takes : (old new : BooksSoFar) → List Happening → Type 0
 Takes old new happened = (log : List Happening) → HasJudged log old → HasJudged (log ++ happened) new
 
--- the device has besides the text of the books of what the trace tells
+-- the device has besides the text of the books of what the trace tells strictly
 abbrev pub WritesBooks : (trace : List ℕ) → Tally → (old new : Option (List ℕ)) → Type 0
 WritesBooks trace tally old new =
-    (events : List At) × WholeTrace WholeLine (lines trace) events × Appends old new (books_text (books (log_of events))) × Tallies tally events
+    (events : List At) × WholeTrace shortest WholeLine (lines trace) events × Appends old new (books_text (books (log_of events))) × Tallies tally events
 
--- What an audit answers for a trace that was read. Where it fails nothing is written, but of a write that failed a front of the text.
-abbrev pub AnswersRead : (trace : List ℕ) → (old new : Option (List ℕ)) → Result Found TraceFault → Type 0
-AnswersRead trace old new (Ok audited) =
-    (events : List At) × WholeTrace WholeLine (lines trace) events × Appends old new (books_text (books (log_of events))) × Tallies audited.tally events × (audited.swapped ≡ are_swapped events)
-AnswersRead trace old new (Err (Trace number what)) = (events : List At) × BrokenTrace WholeLine (lines trace) number what events × Keeps old new
-AnswersRead trace old new (Err Memory) = Keeps old new
-AnswersRead trace old new (Err Write) = (events : List At) × WholeTrace WholeLine (lines trace) events × AppendsFront old new (books_text (books (log_of events)))
-AnswersRead trace old new (Err TooLong) = ⊥
-AnswersRead trace old new (Err Read) = ⊥
+-- What an audit answers for a trace that was read, by that reading of lengths. Where it fails nothing is written, but of a write that failed a front of the text.
+abbrev pub AnswersRead : Reading → (trace : List ℕ) → (old new : Option (List ℕ)) → Result Found TraceFault → Type 0
+AnswersRead r trace old new (Ok audited) =
+    (events : List At) × WholeTrace r WholeLine (lines trace) events × Appends old new (books_text (books (log_of events))) × Tallies audited.tally events × (audited.swapped ≡ are_swapped events)
+AnswersRead r trace old new (Err (Trace number what)) = (events : List At) × BrokenTrace r WholeLine (lines trace) number what events × Keeps old new
+AnswersRead r trace old new (Err Memory) = Keeps old new
+AnswersRead r trace old new (Err Write) = (events : List At) × WholeTrace r WholeLine (lines trace) events × AppendsFront old new (books_text (books (log_of events)))
+AnswersRead r trace old new (Err TooLong) = ⊥
+AnswersRead r trace old new (Err Read) = ⊥
 
--- The same for a trace of known bytes, which may be too long.
+-- The same of a strict audit for a trace of known bytes, which may be too long.
 abbrev pub AnswersAudit : (trace : List ℕ) → (old new : Option (List ℕ)) → Result Tally TraceFault → Type 0
 AnswersAudit trace old new (Ok tally) = (length trace ≤ limit) × WritesBooks trace tally old new
-AnswersAudit trace old new (Err (Trace number what)) = (length trace ≤ limit) × (events : List At) × BrokenTrace WholeLine (lines trace) number what events × Keeps old new
+AnswersAudit trace old new (Err (Trace number what)) = (length trace ≤ limit) × (events : List At) × BrokenTrace shortest WholeLine (lines trace) number what events × Keeps old new
 AnswersAudit trace old new (Err TooLong) = (limit < length trace) × Keeps old new
 AnswersAudit trace old new (Err Read) = Keeps old new
 AnswersAudit trace old new (Err Memory) = Keeps old new
 AnswersAudit trace old new (Err Write) =
-    (length trace ≤ limit) × (events : List At) × WholeTrace WholeLine (lines trace) events × AppendsFront old new (books_text (books (log_of events)))
+    (length trace ≤ limit) × (events : List At) × WholeTrace shortest WholeLine (lines trace) events × AppendsFront old new (books_text (books (log_of events)))

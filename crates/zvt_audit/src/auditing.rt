@@ -1,5 +1,7 @@
 //! The books of a whole trace.
 ghost use Rattle.std.specs.Prelude.{◌≡◌, ◌<◌, ◌≤◌, length, Err, IfSome};
+ghost use Rattle.zvt_spelling.specs.Reading.{padded, shortest};
+ghost use Rattle.zvt_tlv.specs.Lengths.{reading_of};
 ghost use Rattle.zvt_trace.specs.Written.{limit};
 ghost use Rattle.zvt_audit.specs.Audited.{AnswersAudit, AnswersRead};
 
@@ -11,7 +13,8 @@ use zvt_io::{Sink, Source};
 use zvt_text::Text;
 use zvt_till::Happening;
 use zvt_till::books::Bookkeeping;
-use zvt_trace::{Scope, Tally, TraceFault, read_trace, walk};
+use zvt_tlv::Lengths;
+use zvt_trace::{Scope, Tally, TraceFault, read_trace, walk_by};
 
 /// What an audit found besides the books.
 #[derive(Clone, Copy, Debug, PartialEq, Eq)]
@@ -52,7 +55,34 @@ pub fn audit_trace<W: Sink>(
     writer: &mut W,
 ) -> Result<Found, TraceFault>
     requires { length trace.now ≤ limit }
-    ensures writes { AnswersRead trace.now (W.written writer.old) (W.written writer.new) result }
+    ensures writes { AnswersRead shortest trace.now (W.written writer.old) (W.written writer.new) result }
+    ensures write { result ≡ Err TraceFault.Write → W.failures writer.old < W.failures writer.new }
+{
+    audit_by(alloc, Lengths::Shortest, trace, writer)
+}
+
+/// As [`audit_trace`], of streams that take lengths in any form that holds them.
+pub fn audit_loose<W: Sink>(
+    alloc: Global,
+    trace: &[u8],
+    writer: &mut W,
+) -> Result<Found, TraceFault>
+    requires { length trace.now ≤ limit }
+    ensures writes { AnswersRead padded trace.now (W.written writer.old) (W.written writer.new) result }
+    ensures write { result ≡ Err TraceFault.Write → W.failures writer.old < W.failures writer.new }
+{
+    audit_by(alloc, Lengths::Padded, trace, writer)
+}
+
+/// Audits streams that take such lengths.
+fn audit_by<W: Sink>(
+    alloc: Global,
+    lengths: Lengths,
+    trace: &[u8],
+    writer: &mut W,
+) -> Result<Found, TraceFault>
+    requires { length trace.now ≤ limit }
+    ensures writes { AnswersRead (reading_of lengths) trace.now (W.written writer.old) (W.written writer.new) result }
     ensures write { result ≡ Err TraceFault.Write → W.failures writer.old < W.failures writer.new }
 {
     let mut books = Bookkeeping::new(alloc);
@@ -61,7 +91,14 @@ pub fn audit_trace<W: Sink>(
         books,
         orders: Orders::none(),
     };
-    let tally = walk(&mut auditor, &mut (), alloc, Scope::WholeLine, trace)?;
+    let tally = walk_by(
+        &mut auditor,
+        &mut (),
+        alloc,
+        Scope::WholeLine,
+        lengths,
+        trace,
+    )?;
     let swapped = auditor.orders.are_swapped();
     let found = auditor.books.close()?;
     let mut text = Text::new(alloc);

@@ -7,4 +7,4 @@ mod booked;
 mod happened;
 mod orders;
 
-pub use auditing::{Found, audit, audit_trace};
+pub use auditing::{Found, audit, audit_loose, audit_trace};

@@ -4,12 +4,13 @@ use Rattle.std.proofs.KnownBytes.{Appends-kept, Appends-trans}
 use Rattle.std.specs.Io.KnownBytes.{Appends}
 use Rattle.std.specs.Prelude.{IfSome}
 use Rattle.std.specs.Str.Lines.{lines}
+use Rattle.zvt_spelling.specs.Reading.{Reading, shortest}
 use Rattle.zvt_trace.specs.Listening.{AnswersWalk, Fails, FailsIn, Hears, HearsAll, Stops}
 use Rattle.zvt_trace.specs.Told.{At}
 use Rattle.zvt_trace.specs.Telling.{BrokenTrace, FrontOf, SideEnds, ToldSoFar, WholeTrace}
 use Rattle.zvt_trace.specs.Trace.{new_line, running}
 use Rattle.zvt_trace.specs.Written.{AppendsFront, ReadsTrace}
-use Rattle.zvt_stream.proofs.Beginnings.{nothing_begun}
+use Rattle.zvt_stream.proofs.Beginnings.{nothing_in}
 use Rattle.zvt_trace.specs.declared.direction.Direction.{Direction}
 use Rattle.zvt_trace.specs.declared.direction.Direction.TheVariants.{FromTill, FromTerminal}
 use Rattle.zvt_trace.specs.declared.fault.Tally.{Tally}
@@ -28,7 +29,7 @@ use Rattle.zvt_show.proofs.BlockLemmas.{all_written, appends_none, behind_nothin
 
 -- ---- a front of what a trace tells
 
-whole_so_far : (scope : Scope) (lines : List (List ℕ)) (events : List At) → WholeTrace scope lines events → ToldSoFar scope lines events
+whole_so_far : {r : Reading} (scope : Scope) (lines : List (List ℕ)) (events : List At) → WholeTrace r scope lines events → ToldSoFar r scope lines events
 whole_so_far scope lines events whole = front_whole events (record {
   done = lines;
   later = [];
@@ -41,7 +42,7 @@ whole_so_far scope lines events whole = front_whole events (record {
   is_all = whole.is_all;
 })
 
-broken_so_far : (scope : Scope) (lines : List (List ℕ)) (number : ℕ) (what : What) (events : List At) → BrokenTrace scope lines number what events → ToldSoFar scope lines events
+broken_so_far : {r : Reading} (scope : Scope) (lines : List (List ℕ)) (number : ℕ) (what : What) (events : List At) → BrokenTrace r scope lines number what events → ToldSoFar r scope lines events
 broken_so_far scope lines number what events broken = front_whole events (record {
   done = broken.done;
   later = broken.line ∷ broken.later;
@@ -54,13 +55,13 @@ broken_so_far scope lines number what events broken = front_whole events (record
   is_all = sym (append-nil events);
 })
 
-none_begun : (line : ℕ) (from : Direction) → SideEnds line from (running []) []
-none_begun line from = ([], [], record { spelled = refl; none_whole = nothing_begun.none_whole }, refl)
+none_begun : {r : Reading} (line : ℕ) (from : Direction) → SideEnds r line from (running []) []
+none_begun {r = r} line from = ([], [], record { spelled = refl; none_whole = (nothing_in r).none_whole }, refl)
 
-none_so_far : (scope : Scope) (lines : List (List ℕ)) → ToldSoFar scope lines []
-none_so_far scope lines = by lines
+none_so_far : {r : Reading} (scope : Scope) (lines : List (List ℕ)) → ToldSoFar r scope lines []
+none_so_far {r = r} scope lines = by lines
   where
-    by : (lines : List (List ℕ)) → ToldSoFar scope lines []
+    by : (lines : List (List ℕ)) → ToldSoFar r scope lines []
     by [] = front_whole [] (record {
       done = [];
       later = [];
@@ -124,10 +125,10 @@ shown view (event ∷ events) old new some =
 -- ---- what a walk answers
 
 -- the text stands there that these events have, or a front of it; and no write failed before
-record Wrote (style : Style) (lines : List (List ℕ)) (old new : Page) : Type 0 where
+record Wrote (r : Reading) (style : Style) (lines : List (List ℕ)) (old new : Page) : Type 0 where
   pub events : List At
   pub text : List ℕ
-  pub so_far : ToldSoFar OneSide lines events
+  pub so_far : ToldSoFar r OneSide lines events
   pub says : EventsText style events text
   pub front : AppendsFront old.written (all_of new) text
   pub extends : Extends old.written new.written
@@ -136,8 +137,8 @@ record Wrote (style : Style) (lines : List (List ℕ)) (old new : Page) : Type 0
 started : (old : Page) (new : Option (List ℕ)) (text : List ℕ) → old.block ≡ [] → Appends (all_of old) new text → Appends old.written new text
 started old new text empty appended = subst (λ (o : Option (List ℕ)). Appends o new text) (behind_nothing old.written old.block empty) appended
 
-wrote_all : {S : Type 0} (view : S → Page) (lines : List (List ℕ)) (events : List At) (old new : S) → (view old).block ≡ [] → ToldSoFar OneSide lines events → HearsAll (writes view) old events new → Wrote (view old).style lines (view old) (view new)
-wrote_all view lines events old new empty so_far heard =
+wrote_all : {S : Type 0} {r : Reading} (view : S → Page) (lines : List (List ℕ)) (events : List At) (old new : S) → (view old).block ≡ [] → ToldSoFar r OneSide lines events → HearsAll (writes view) old events new → Wrote r (view old).style lines (view old) (view new)
+wrote_all {r = r} view lines events old new empty so_far heard =
     let shows = shown view events old new heard in record {
       events = events;
       text = shows.text;
@@ -149,9 +150,9 @@ wrote_all view lines events old new empty so_far heard =
     }
 
 -- of an event that could not be written nothing stands there, and perhaps less than before
-wrote_less : {S : Type 0} (view : S → Page) (lines : List (List ℕ)) (events : List At) (event : At) (why : Failure) (old middle new : S) → (view old).block ≡ [] → ToldSoFar OneSide lines (events ++ event ∷ [])
-    → HearsAll (writes view) old events middle → FailsEvent why (view middle) (view new) → Wrote (view old).style lines (view old) (view new)
-wrote_less view lines events event failure.Memory old middle new empty so_far heard failed =
+wrote_less : {S : Type 0} {r : Reading} (view : S → Page) (lines : List (List ℕ)) (events : List At) (event : At) (why : Failure) (old middle new : S) → (view old).block ≡ [] → ToldSoFar r OneSide lines (events ++ event ∷ [])
+    → HearsAll (writes view) old events middle → FailsEvent why (view middle) (view new) → Wrote r (view old).style lines (view old) (view new)
+wrote_less {r = r} view lines events event failure.Memory old middle new empty so_far heard failed =
     let shows = shown view events old middle heard in record {
       events = events;
       text = shows.text;
@@ -162,7 +163,7 @@ wrote_less view lines events event failure.Memory old middle new empty so_far he
       extends = extends_more (view old).written (view middle).written (view new).written shows.extends failed.1;
       least = omega (arith, shows.failures, failed.2);
     }
-wrote_less view lines events event failure.Write old middle new empty so_far heard failed =
+wrote_less {r = r} view lines events event failure.Write old middle new empty so_far heard failed =
     let shows = shown view events old middle heard in
     let extends = extends_more (view old).written (view middle).written (view new).written shows.extends failed.1 in record {
       events = events;
@@ -174,93 +175,93 @@ wrote_less view lines events event failure.Write old middle new empty so_far hea
       least = omega (arith, shows.failures, failed.2);
     }
 
-wrote_failed : {S : Type 0} (view : S → Page) (lines : List (List ℕ)) (why : Failure) (old new : S) → (view old).block ≡ [] → FailsIn (writes view) (fails view) why (ToldSoFar OneSide lines) old new → Wrote (view old).style lines (view old) (view new)
-wrote_failed {S = S} view lines why old new empty failed = by failed.stops
+wrote_failed : {S : Type 0} (r : Reading) (view : S → Page) (lines : List (List ℕ)) (why : Failure) (old new : S) → (view old).block ≡ [] → FailsIn (writes view) (fails view) why (ToldSoFar r OneSide lines) old new → Wrote r (view old).style lines (view old) (view new)
+wrote_failed {S = S} r view lines why old new empty failed = by failed.stops
   where
-    by : Stops (fails view) why (ToldSoFar OneSide lines) failed.events failed.middle new → Wrote (view old).style lines (view old) (view new)
-    by (inl (is, so_far, same)) = subst (λ (s : S). Wrote (view old).style lines (view old) (view s)) (sym same) (wrote_all view lines failed.events old failed.middle empty so_far failed.heard)
+    by : Stops (fails view) why (ToldSoFar r OneSide lines) failed.events failed.middle new → Wrote r (view old).style lines (view old) (view new)
+    by (inl (is, so_far, same)) = subst (λ (s : S). Wrote r (view old).style lines (view old) (view s)) (sym same) (wrote_all view lines failed.events old failed.middle empty so_far failed.heard)
     by (inr (event, so_far, left)) = wrote_less view lines failed.events event why old failed.middle new empty so_far failed.heard left
 
-wrote : {S : Type 0} (view : S → Page) (lines : List (List ℕ)) (answer : Result Tally TraceFault) (old new : S) → (view old).block ≡ [] → AnswersWalk (writes view) (fails view) OneSide lines old new answer → Wrote (view old).style lines (view old) (view new)
-wrote view lines (Ok tally) old new empty walked = wrote_all view lines walked.0 old new empty (whole_so_far OneSide lines walked.0 walked.1) walked.2
-wrote view lines (Err (Trace number what)) old new empty walked = wrote_all view lines walked.0 old new empty (broken_so_far OneSide lines number what walked.0 walked.1) walked.2
-wrote view lines (Err Memory) old new empty failed = wrote_failed view lines failure.Memory old new empty failed
-wrote view lines (Err Write) old new empty failed = wrote_failed view lines failure.Write old new empty failed
-wrote view lines (Err TooLong) old new empty never = absurd never
-wrote view lines (Err Read) old new empty never = absurd never
+wrote : {S : Type 0} (r : Reading) (view : S → Page) (lines : List (List ℕ)) (answer : Result Tally TraceFault) (old new : S) → (view old).block ≡ [] → AnswersWalk r (writes view) (fails view) OneSide lines old new answer → Wrote r (view old).style lines (view old) (view new)
+wrote r view lines (Ok tally) old new empty walked = wrote_all view lines walked.0 old new empty (whole_so_far OneSide lines walked.0 walked.1) walked.2
+wrote r view lines (Err (Trace number what)) old new empty walked = wrote_all view lines walked.0 old new empty (broken_so_far OneSide lines number what walked.0 walked.1) walked.2
+wrote r view lines (Err Memory) old new empty failed = wrote_failed r view lines failure.Memory old new empty failed
+wrote r view lines (Err Write) old new empty failed = wrote_failed r view lines failure.Write old new empty failed
+wrote r view lines (Err TooLong) old new empty never = absurd never
+wrote r view lines (Err Read) old new empty never = absurd never
 
 -- ---- the last block
 
 -- it was written
-memory_written : {S : Type 0} (view : S → Page) (lines : List (List ℕ)) (old new : S) (device : Option (List ℕ)) → (view old).block ≡ [] → FailsIn (writes view) (fails view) failure.Memory (ToldSoFar OneSide lines) old new
-    → Appends (view new).written device (view new).block → AnswersLines (view old).style lines (view old).written device (Err Memory)
-memory_written {S = S} view lines old new device empty failed last = by failed.stops
+memory_written : {S : Type 0} (r : Reading) (view : S → Page) (lines : List (List ℕ)) (old new : S) (device : Option (List ℕ)) → (view old).block ≡ [] → FailsIn (writes view) (fails view) failure.Memory (ToldSoFar r OneSide lines) old new
+    → Appends (view new).written device (view new).block → AnswersLines r (view old).style lines (view old).written device (Err Memory)
+memory_written {S = S} r view lines old new device empty failed last = by failed.stops
   where
     shows : Shows (view old).style failed.events (view old) (view failed.middle)
     shows = shown view failed.events old failed.middle failed.heard
 
-    all : Appends (all_of (view old)) (all_of (view new)) shows.text → ToldSoFar OneSide lines failed.events → AnswersLines (view old).style lines (view old).written device (Err Memory)
+    all : Appends (all_of (view old)) (all_of (view new)) shows.text → ToldSoFar r OneSide lines failed.events → AnswersLines r (view old).style lines (view old).written device (Err Memory)
     all appended so_far = (failed.events, shows.text, so_far, shows.says, all_written (view old).written (view new).written device (view new).block shows.text (started (view old) (all_of (view new)) shows.text empty appended) last)
 
-    by : Stops (fails view) failure.Memory (ToldSoFar OneSide lines) failed.events failed.middle new → AnswersLines (view old).style lines (view old).written device (Err Memory)
+    by : Stops (fails view) failure.Memory (ToldSoFar r OneSide lines) failed.events failed.middle new → AnswersLines r (view old).style lines (view old).written device (Err Memory)
     by (inl (is, so_far, same)) = all (subst (λ (s : S). Appends (all_of (view old)) (all_of (view s)) shows.text) (sym same) shows.appended) so_far
     by (inr (event, so_far, left)) = all (Appends-kept (all_of (view old)) (all_of (view failed.middle)) (all_of (view new)) shows.text shows.appended left.0) (front_fewer failed.events (event ∷ []) so_far)
 
-written_so : {S : Type 0} (view : S → Page) (lines : List (List ℕ)) (answer : Result Tally TraceFault) (old new : S) (device : Option (List ℕ)) → (view old).block ≡ [] → AnswersWalk (writes view) (fails view) OneSide lines old new answer
-    → Appends (view new).written device (view new).block → AnswersLines (view old).style lines (view old).written device answer
-written_so view lines (Ok tally) old new device empty walked last =
+written_so : {S : Type 0} (r : Reading) (view : S → Page) (lines : List (List ℕ)) (answer : Result Tally TraceFault) (old new : S) (device : Option (List ℕ)) → (view old).block ≡ [] → AnswersWalk r (writes view) (fails view) OneSide lines old new answer
+    → Appends (view new).written device (view new).block → AnswersLines r (view old).style lines (view old).written device answer
+written_so r view lines (Ok tally) old new device empty walked last =
     let shows = shown view walked.0 old new walked.2 in
     (walked.0, shows.text, walked.1, shows.says, all_written (view old).written (view new).written device (view new).block shows.text (started (view old) (all_of (view new)) shows.text empty shows.appended) last, walked.3)
-written_so view lines (Err (Trace number what)) old new device empty walked last =
+written_so r view lines (Err (Trace number what)) old new device empty walked last =
     let shows = shown view walked.0 old new walked.2 in
     (walked.0, shows.text, walked.1, shows.says, all_written (view old).written (view new).written device (view new).block shows.text (started (view old) (all_of (view new)) shows.text empty shows.appended) last)
-written_so view lines (Err Memory) old new device empty failed last = memory_written view lines old new device empty failed last
-written_so view lines (Err Write) old new device empty failed last =
-    let some = wrote_failed view lines failure.Write old new empty failed in
+written_so r view lines (Err Memory) old new device empty failed last = memory_written r view lines old new device empty failed last
+written_so r view lines (Err Write) old new device empty failed last =
+    let some = wrote_failed r view lines failure.Write old new empty failed in
     (some.events, some.text, some.so_far, some.says, last_written (view old).written (view new).written device (view new).block some.text some.front last)
-written_so view lines (Err TooLong) old new device empty never last = absurd never
-written_so view lines (Err Read) old new device empty never last = absurd never
+written_so r view lines (Err TooLong) old new device empty never last = absurd never
+written_so r view lines (Err Read) old new device empty never last = absurd never
 
-pub written : {S : Type 0} (view : S → Page) (style : Style) (lines : List (List ℕ)) (answer : Result Tally TraceFault) (old new : S) (device : Option (List ℕ)) → (view old).style ≡ style → (view old).block ≡ []
-    → AnswersWalk (writes view) (fails view) OneSide lines old new answer → Appends (view new).written device (view new).block → AnswersLines style lines (view old).written device answer
-written view style lines answer old new device is empty walked last = subst (λ (s : Style). AnswersLines s lines (view old).written device answer) is (written_so view lines answer old new device empty walked last)
+pub written : {S : Type 0} (r : Reading) (view : S → Page) (style : Style) (lines : List (List ℕ)) (answer : Result Tally TraceFault) (old new : S) (device : Option (List ℕ)) → (view old).style ≡ style → (view old).block ≡ []
+    → AnswersWalk r (writes view) (fails view) OneSide lines old new answer → Appends (view new).written device (view new).block → AnswersLines r style lines (view old).written device answer
+written r view style lines answer old new device is empty walked last = subst (λ (s : Style). AnswersLines r s lines (view old).written device answer) is (written_so r view lines answer old new device empty walked last)
 
 -- it could not be written
-pub not_written : {S : Type 0} (view : S → Page) (style : Style) (lines : List (List ℕ)) (answer : Result Tally TraceFault) (old new : S) (device : Option (List ℕ)) → (view old).style ≡ style → (view old).block ≡ []
-    → AnswersWalk (writes view) (fails view) OneSide lines old new answer → AppendsFront (view new).written device (view new).block → AnswersLines style lines (view old).written device (Err Write)
-not_written view style lines answer old new device is empty walked last =
-    let some = wrote view lines answer old new empty walked in
-    subst (λ (s : Style). AnswersLines s lines (view old).written device (Err Write)) is
+pub not_written : {S : Type 0} (r : Reading) (view : S → Page) (style : Style) (lines : List (List ℕ)) (answer : Result Tally TraceFault) (old new : S) (device : Option (List ℕ)) → (view old).style ≡ style → (view old).block ≡ []
+    → AnswersWalk r (writes view) (fails view) OneSide lines old new answer → AppendsFront (view new).written device (view new).block → AnswersLines r style lines (view old).written device (Err Write)
+not_written r view style lines answer old new device is empty walked last =
+    let some = wrote r view lines answer old new empty walked in
+    subst (λ (s : Style). AnswersLines r s lines (view old).written device (Err Write)) is
     (some.events, some.text, some.so_far, some.says, last_failed (view old).written (view new).written device (view new).block some.text some.extends some.front last)
 
 -- ---- failures
 
-pub least : {S : Type 0} (view : S → Page) (lines : List (List ℕ)) (answer : Result Tally TraceFault) (old new : S) → (view old).block ≡ [] → AnswersWalk (writes view) (fails view) OneSide lines old new answer → (view old).failures ≤ (view new).failures
-least view lines answer old new empty walked = (wrote view lines answer old new empty walked).least
+pub least : {S : Type 0} (r : Reading) (view : S → Page) (lines : List (List ℕ)) (answer : Result Tally TraceFault) (old new : S) → (view old).block ≡ [] → AnswersWalk r (writes view) (fails view) OneSide lines old new answer → (view old).failures ≤ (view new).failures
+least r view lines answer old new empty walked = (wrote r view lines answer old new empty walked).least
 
 -- the walk failed since a write did
-pub write_counted : {S : Type 0} (view : S → Page) (lines : List (List ℕ)) (answer : Result Tally TraceFault) (old new : S) → AnswersWalk (writes view) (fails view) OneSide lines old new answer → answer ≡ Err Write → (view old).failures < (view new).failures
-write_counted view lines (Ok tally) old new walked e = cc
-write_counted view lines (Err (Trace number what)) old new walked e = cc
-write_counted view lines (Err Memory) old new walked e = cc
-write_counted view lines (Err TooLong) old new never e = absurd never
-write_counted view lines (Err Read) old new never e = absurd never
-write_counted {S = S} view lines (Err Write) old new failed e = by failed.stops
+pub write_counted : {S : Type 0} (r : Reading) (view : S → Page) (lines : List (List ℕ)) (answer : Result Tally TraceFault) (old new : S) → AnswersWalk r (writes view) (fails view) OneSide lines old new answer → answer ≡ Err Write → (view old).failures < (view new).failures
+write_counted r view lines (Ok tally) old new walked e = cc
+write_counted r view lines (Err (Trace number what)) old new walked e = cc
+write_counted r view lines (Err Memory) old new walked e = cc
+write_counted r view lines (Err TooLong) old new never e = absurd never
+write_counted r view lines (Err Read) old new never e = absurd never
+write_counted {S = S} r view lines (Err Write) old new failed e = by failed.stops
   where
-    by : Stops (fails view) failure.Write (ToldSoFar OneSide lines) failed.events failed.middle new → (view old).failures < (view new).failures
+    by : Stops (fails view) failure.Write (ToldSoFar r OneSide lines) failed.events failed.middle new → (view old).failures < (view new).failures
     by (inl (is, so_far, same)) = cc
     by (inr (event, so_far, left)) = omega (arith, (shown view failed.events old failed.middle failed.heard).failures, left.2)
 
 -- ---- nothing was read
 
-unread : (style : Style) (lines : List (List ℕ)) (held : Option (List ℕ)) → AnswersLines style lines held held (Err Memory)
-unread style lines held = ([], [], none_so_far OneSide lines, refl, appends_none held)
+unread : (r : Reading) (style : Style) (lines : List (List ℕ)) (held : Option (List ℕ)) → AnswersLines r style lines held held (Err Memory)
+unread r style lines held = ([], [], none_so_far OneSide lines, refl, appends_none held)
 
 -- the trace could not be read
 pub read_failed : (style : Style) (left held : Option (List ℕ)) (fault : TraceFault) → ReadsTrace left (Err fault) → IfSome left (λ trace. AnswersTrace style trace held held (Err fault))
 read_failed style None held fault reads = tt
 read_failed style (Some trace) held TooLong reads = (reads, keeps_same held)
 read_failed style (Some trace) held Read reads = keeps_same held
-read_failed style (Some trace) held Memory reads = unread style (lines trace) held
+read_failed style (Some trace) held Memory reads = unread shortest style (lines trace) held
 read_failed style (Some trace) held Write never = absurd never
 read_failed style (Some trace) held (Trace number what) never = absurd never

@@ -1,6 +1,8 @@
 //! The commands that write the text of a trace.
 ghost use Rattle.std.specs.Prelude.{◌≡◌, ◌<◌, ◌≤◌, length, Err, IfSome};
 ghost use Rattle.std.specs.Str.Lines.{lines};
+ghost use Rattle.zvt_spelling.specs.Reading.{padded, shortest};
+ghost use Rattle.zvt_tlv.specs.Lengths.{reading_of};
 ghost use Rattle.zvt_trace.specs.Written.{limit};
 ghost use Rattle.zvt_show.specs.Written.{AnswersLines, AnswersTrace};
 ghost use Rattle.zvt_show.specs.declared.style.Style.TheVariants.{Join, Receipts, Show};
@@ -9,7 +11,8 @@ use crate::pages::{Pages, flush};
 use crate::style::Style;
 use std::alloc::Global;
 use zvt_io::{Sink, Source};
-use zvt_trace::{Scope, Tally, TraceFault, read_trace, walk};
+use zvt_tlv::Lengths;
+use zvt_trace::{Scope, Tally, TraceFault, read_trace, walk_by};
 
 /// Writes each whole message of the trace as text: its direction and name, and a line for each
 /// field. A stream that is refused or cut off is said, and counts as bad.
@@ -58,19 +61,19 @@ pub fn receipts<R: Source, W: Sink>(
 /// As [`show`], of a trace that was read.
 pub fn show_trace<W: Sink>(alloc: Global, trace: &[u8], writer: &mut W) -> Result<Tally, TraceFault>
     requires { length trace.now ≤ limit }
-    ensures writes { AnswersLines Show (lines trace.now) (W.written writer.old) (W.written writer.new) result }
+    ensures writes { AnswersLines shortest Show (lines trace.now) (W.written writer.old) (W.written writer.new) result }
     ensures write { result ≡ Err TraceFault.Write → W.failures writer.old < W.failures writer.new }
 {
-    write_lines(alloc, Style::Show, trace, writer)
+    write_lines(alloc, Style::Show, Lengths::Shortest, trace, writer)
 }
 
 /// As [`join`], of a trace that was read.
 pub fn join_trace<W: Sink>(alloc: Global, trace: &[u8], writer: &mut W) -> Result<Tally, TraceFault>
     requires { length trace.now ≤ limit }
-    ensures writes { AnswersLines Join (lines trace.now) (W.written writer.old) (W.written writer.new) result }
+    ensures writes { AnswersLines shortest Join (lines trace.now) (W.written writer.old) (W.written writer.new) result }
     ensures write { result ≡ Err TraceFault.Write → W.failures writer.old < W.failures writer.new }
 {
-    write_lines(alloc, Style::Join, trace, writer)
+    write_lines(alloc, Style::Join, Lengths::Shortest, trace, writer)
 }
 
 /// As [`receipts`], of a trace that was read.
@@ -80,25 +83,62 @@ pub fn receipts_trace<W: Sink>(
     writer: &mut W,
 ) -> Result<Tally, TraceFault>
     requires { length trace.now ≤ limit }
-    ensures writes { AnswersLines Receipts (lines trace.now) (W.written writer.old) (W.written writer.new) result }
+    ensures writes { AnswersLines shortest Receipts (lines trace.now) (W.written writer.old) (W.written writer.new) result }
     ensures write { result ≡ Err TraceFault.Write → W.failures writer.old < W.failures writer.new }
 {
-    write_lines(alloc, Style::Receipts, trace, writer)
+    write_lines(alloc, Style::Receipts, Lengths::Shortest, trace, writer)
+}
+
+/// As [`show_trace`], of streams that take lengths in any form that holds them.
+pub fn show_loose<W: Sink>(alloc: Global, trace: &[u8], writer: &mut W) -> Result<Tally, TraceFault>
+    requires { length trace.now ≤ limit }
+    ensures writes { AnswersLines padded Show (lines trace.now) (W.written writer.old) (W.written writer.new) result }
+    ensures write { result ≡ Err TraceFault.Write → W.failures writer.old < W.failures writer.new }
+{
+    write_lines(alloc, Style::Show, Lengths::Padded, trace, writer)
+}
+
+/// As [`receipts_trace`], of streams that take lengths in any form that holds them.
+pub fn receipts_loose<W: Sink>(
+    alloc: Global,
+    trace: &[u8],
+    writer: &mut W,
+) -> Result<Tally, TraceFault>
+    requires { length trace.now ≤ limit }
+    ensures writes { AnswersLines padded Receipts (lines trace.now) (W.written writer.old) (W.written writer.new) result }
+    ensures write { result ≡ Err TraceFault.Write → W.failures writer.old < W.failures writer.new }
+{
+    write_lines(alloc, Style::Receipts, Lengths::Padded, trace, writer)
+}
+
+/// As [`join_trace`], of streams that take lengths in any form that holds them: each whole message in its one strict
+/// spelling, so that a strict reader reads what is written.
+pub fn normalise_trace<W: Sink>(
+    alloc: Global,
+    trace: &[u8],
+    writer: &mut W,
+) -> Result<Tally, TraceFault>
+    requires { length trace.now ≤ limit }
+    ensures writes { AnswersLines padded Join (lines trace.now) (W.written writer.old) (W.written writer.new) result }
+    ensures write { result ≡ Err TraceFault.Write → W.failures writer.old < W.failures writer.new }
+{
+    write_lines(alloc, Style::Join, Lengths::Padded, trace, writer)
 }
 
 /// Writes the text of what the lines of a trace tell. It goes out in blocks, the last one also where the walk fails.
 fn write_lines<W: Sink>(
     alloc: Global,
     style: Style,
+    lengths: Lengths,
     trace: &[u8],
     writer: &mut W,
 ) -> Result<Tally, TraceFault>
     requires { length trace.now ≤ limit }
-    ensures writes { AnswersLines style (lines trace.now) (W.written writer.old) (W.written writer.new) result }
+    ensures writes { AnswersLines (reading_of lengths) style (lines trace.now) (W.written writer.old) (W.written writer.new) result }
     ensures write { result ≡ Err TraceFault.Write → W.failures writer.old < W.failures writer.new }
 {
     let mut pages = Pages::new(alloc, style);
-    let answer = walk(&mut pages, writer, alloc, Scope::OneSide, trace);
+    let answer = walk_by(&mut pages, writer, alloc, Scope::OneSide, lengths, trace);
     flush(&mut pages.block, writer)?;
     answer
 }

@@ -5,18 +5,28 @@ ghost use Rattle.zvt_show.specs.Written.{AddsEvent};
 
 use crate::style::Style;
 use crate::{message, style};
-use std::alloc::AllocError;
+use std::alloc::{AllocError, Global};
 use zvt_text::Text;
 use zvt_trace::Told;
 
 /// Writes a message, or what becomes of the line.
 #[inline(always)]
-pub(crate) fn write(text: &mut Text, style: Style, told: &Told<'_>) -> Result<(), AllocError>
+pub(crate) fn write(
+    text: &mut Text,
+    alloc: Global,
+    style: Style,
+    told: &Told<'_>,
+) -> Result<(), AllocError>
     requires { HasItsBytes told.now }
     ensures { OnOk result (AddsEvent style (told_of told.now) text.old text.new) }
 {
     match told {
-        Told::Message { from, apdu, bytes } => { message::write(text, style, *from, apdu, bytes) }
+        Told::Message {
+            from,
+            apdu,
+            bytes,
+            lengths,
+        } => message::write(text, alloc, style, *from, apdu, bytes, *lengths),
         Told::Refused {
             from,
             place,

@@ -1,31 +1,35 @@
 //! The text of a message.
 ghost use Rattle.std.specs.Prelude.{◌≡◌, ◌++◌, ◌∷◌, [], OnOk};
-ghost use Rattle.zvt_spelling.specs.Reading.{shortest};
+ghost use Rattle.zvt_tlv.specs.Lengths.{reading_of};
 ghost use Rattle.zvt_apdu.specs.Grammar.{Spells};
 ghost use Rattle.zvt_trace.specs.Lines.{direction_text};
 ghost use Rattle.zvt_show.specs.Text.{joined, receipt, shown};
 ghost use Rattle.zvt_show.specs.Written.{AddsMessage};
+ghost use Rattle.zvt_show.specs.declared.style.Style.TheVariants.{Join};
 
 use crate::style::Style;
-use std::alloc::AllocError;
-use zvt_apdu::ApduView;
+use std::alloc::{AllocError, Global};
+use zvt_apdu::{ApduView, encode, owned};
 use zvt_text::Text;
+use zvt_tlv::Lengths;
 use zvt_trace::Direction;
 
 /// A message with its fields, as a line of a trace, or as a line of a receipt.
 pub(crate) fn write(
     text: &mut Text,
+    alloc: Global,
     style: Style,
     from: Direction,
     apdu: &ApduView<'_>,
     bytes: &[u8],
+    lengths: Lengths,
 ) -> Result<(), AllocError>
-    requires { Spells shortest apdu.now bytes.now }
+    requires { Spells (reading_of lengths) apdu.now bytes.now }
     ensures { OnOk result (AddsMessage style from apdu.now text.old text.new) }
 {
     match style {
         Style::Show => show(text, from, apdu),
-        Style::Join => join(text, from, bytes),
+        Style::Join => join(text, alloc, from, apdu, bytes, lengths),
         Style::Receipts => receipt(text, from, apdu),
     }
 }
@@ -49,8 +53,40 @@ fn begin(text: &mut Text, from: Direction) -> Result<(), AllocError>
     }
 }
 
-/// Its direction and bytes.
-fn join(text: &mut Text, from: Direction, bytes: &[u8]) -> Result<(), AllocError>
+/// Its direction and the bytes of its strict spelling.
+fn join(
+    text: &mut Text,
+    alloc: Global,
+    from: Direction,
+    apdu: &ApduView<'_>,
+    bytes: &[u8],
+    lengths: Lengths,
+) -> Result<(), AllocError>
+    requires { Spells (reading_of lengths) apdu.now bytes.now }
+    ensures { OnOk result (AddsMessage Join from apdu.now text.old text.new) }
+{
+    match lengths {
+        Lengths::Shortest => line(text, from, bytes),
+        Lengths::Padded => normal_line(text, alloc, from, apdu),
+    }
+}
+
+/// Its direction and the bytes of its strict spelling, which is made.
+fn normal_line(
+    text: &mut Text,
+    alloc: Global,
+    from: Direction,
+    apdu: &ApduView<'_>,
+) -> Result<(), AllocError>
+    ensures { OnOk result (AddsMessage Join from apdu.now text.old text.new) }
+{
+    let message = owned(alloc, apdu)?;
+    let bytes = encode(alloc, &message)?;
+    line(text, from, bytes.as_slice())
+}
+
+/// A direction and bytes.
+fn line(text: &mut Text, from: Direction, bytes: &[u8]) -> Result<(), AllocError>
     ensures { OnOk result (text.new ≡ text.old ++ joined from bytes.now) }
 {
     begin(text, from)?;

@@ -19,6 +19,7 @@ const BLOCK: usize = 65_536;
 /// Writes what a trace tells. The text of each event joins the block whole or not at all.
 #[derive(Drop)]
 pub(crate) struct Pages {
+    alloc: Global,
     style: Style,
     draft: Text,
     pub(crate) block: Text,
@@ -31,6 +32,7 @@ impl Pages {
         ensures empty { result.block ≡ [] }
     {
         Pages {
+            alloc,
             style,
             draft: Text::new(alloc),
             block: Text::new(alloc),
@@ -48,7 +50,7 @@ impl<W: Sink> Listener<W> for Pages {
     #[inline(always)]
     fn hear(&mut self, device: &mut W, _line: u64, told: &Told<'_>) -> Result<(), Failure> {
         self.draft.clear();
-        event::write(&mut self.draft, self.style, told)?;
+        event::write(&mut self.draft, self.alloc, self.style, told)?;
         move_in(&mut self.draft, &mut self.block, device)
     }
 }

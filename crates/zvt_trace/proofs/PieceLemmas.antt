@@ -3,11 +3,12 @@ use Rattle.std.proofs.Common.{◌≡◌, ℕ, Bool, true, false, subst, List, []
 use Rattle.zvt_spelling.proofs.CutLemmas.{spelled_append, spelled_more}
 use Rattle.zvt_spelling.specs.Beginnings.{NoneWhole}
 use Rattle.zvt_spelling.specs.Cuts.{Cut, Spelled}
-use Rattle.zvt_spelling.specs.Reading.{Reading, shortest}
+use Rattle.zvt_spelling.specs.Reading.{Reading, padded, shortest}
 use Rattle.zvt_apdu.specs.Grammar.{Spells}
 use Rattle.zvt_apdu.specs.Message.{Message}
 use Rattle.zvt_spelling.specs.declared.why.Why.{Why}
-use Rattle.zvt_stream.specs.Apdus.{Unfinished, UnfinishedIn, IsRefused, IsRefusedIn}
+use Rattle.zvt_apdu.proofs.ViewLemmas.{message_loosened}
+use Rattle.zvt_stream.specs.Apdus.{UnfinishedIn, IsRefusedIn}
 use Rattle.zvt_stream.specs.StreamState.{StreamState, Holds, HasRefused}
 use Rattle.zvt_stream.specs.Feeds.{Lends}
 use Rattle.zvt_stream.specs.declared.feeding.FedView.{FedView}
@@ -29,25 +30,25 @@ EndsAs next rest begun = Holds rest next
 EndsAs next rest (refused place why) = HasRefused next
 
 -- the messages that came are those by which the side's bytes grew
-pub arrived : (before bytes rest : List ℕ) (start : StreamState) (messages : List Message) (ending : Ending) → Follows start (running before)
-    → Spelled (Spells shortest) (start.held ++ bytes) messages rest → NoneWhole (Spells shortest) rest → EndsIn rest ending → Arrives before bytes messages rest ending
-arrived before bytes rest start messages ending follows spelled none ended = record {
+pub arrived : {r : Reading} (before bytes rest : List ℕ) (start : StreamState) (messages : List Message) (ending : Ending) → Follows r start (running before)
+    → Spelled (Spells r) (start.held ++ bytes) messages rest → NoneWhole (Spells r) rest → EndsIn r rest ending → Arrives r before bytes messages rest ending
+arrived {r = r} before bytes rest start messages ending follows spelled none ended = record {
   earlier = follows.1;
   left = start.held;
   was = follows.2;
   now = record {
-    spelled = spelled_append (Spells shortest) follows.1 messages (before ++ bytes) (start.held ++ bytes) rest
-        (spelled_more (Spells shortest) follows.1 before start.held bytes (follows.2).spelled) spelled;
+    spelled = spelled_append (Spells r) follows.1 messages (before ++ bytes) (start.held ++ bytes) rest
+        (spelled_more (Spells r) follows.1 before start.held bytes (follows.2).spelled) spelled;
     none_whole = none;
   };
   ends = ended;
 }
 
-pub behind : (before bytes rest : List ℕ) (next : StreamState) (messages : List Message) (ending : Ending) → Arrives before bytes messages rest ending → EndsAs next rest ending
-    → Follows next (side_after (before ++ bytes) ending)
-behind before bytes rest next messages begun arrives is =
+pub behind : {r : Reading} (before bytes rest : List ℕ) (next : StreamState) (messages : List Message) (ending : Ending) → Arrives r before bytes messages rest ending → EndsAs next rest ending
+    → Follows r next (side_after (before ++ bytes) ending)
+behind {r = r} before bytes rest next messages begun arrives is =
     let earlier = arrives.earlier in
-    (is.1, earlier ++ messages, subst (λ (held : List ℕ). Cut (Spells shortest) (before ++ bytes) (earlier ++ messages) held) (sym is.0) arrives.now)
+    (is.1, earlier ++ messages, subst (λ (held : List ℕ). Cut (Spells r) (before ++ bytes) (earlier ++ messages) held) (sym is.0) arrives.now)
 behind before bytes rest next messages (refused place why) arrives is = is
 
 -- ---- what a feed answered
@@ -64,19 +65,24 @@ going true answer fed is refuses = absurd (ok_is_no_err (sym is ∙ refuses refl
 pub fed_as : (old new : StreamState) (piece : List ℕ) (answer fed : FedView) → answer ≡ fed → Lends old piece answer new → Lends old piece fed new
 fed_as old new piece answer fed is feeds = subst (λ (f : FedView). Lends old piece f new) is feeds
 
--- what a strict stream says is said of the one spelling
-pub spells_strictly : (r : Reading) (m : Message) (bytes : List ℕ) → r ≡ shortest → Spells r m bytes → Spells shortest m bytes
-spells_strictly r m bytes e = subst (λ (k : Reading). Spells k m bytes) e
+-- what a stream of some reading says is said by that reading
+pub spells_by : (k r : Reading) (m : Message) (bytes : List ℕ) → k ≡ r → Spells k m bytes → Spells r m bytes
+spells_by k r m bytes e = subst (λ (x : Reading). Spells x m bytes) e
 
-pub unfinished_strictly : (r : Reading) (bytes : List ℕ) → r ≡ shortest → UnfinishedIn r bytes → Unfinished bytes
-unfinished_strictly r bytes e = subst (λ (k : Reading). UnfinishedIn k bytes) e
+pub unfinished_by : (k r : Reading) (bytes : List ℕ) → k ≡ r → UnfinishedIn k bytes → UnfinishedIn r bytes
+unfinished_by k r bytes e = subst (λ (x : Reading). UnfinishedIn x bytes) e
 
-pub refused_strictly : (r : Reading) (bytes : List ℕ) (place : ℕ) (why : Why) → r ≡ shortest → IsRefusedIn r bytes place why → IsRefused bytes place why
-refused_strictly r bytes place why e = subst (λ (k : Reading). IsRefusedIn k bytes place why) e
+pub refused_by : (k r : Reading) (bytes : List ℕ) (place : ℕ) (why : Why) → k ≡ r → IsRefusedIn k bytes place why → IsRefusedIn r bytes place why
+refused_by k r bytes place why e = subst (λ (x : Reading). IsRefusedIn x bytes place why) e
 
--- the bytes that are lent are the spelling of the message that is
-pub lent_spelling : {A : Type 0} (r : Reading) → r ≡ shortest → (now : A → List ℕ) (shown : Option A) (bytes : A) (lent : Option Message) (m : Message) → lent ≡ Some m
-    → IfSome lent (λ n. IfSome shown (λ b. Spells r n (now b)) × IsSome shown) → shown ≡ Some bytes → Spells shortest m (now bytes)
-lent_spelling r strict now shown bytes lent m is told found =
-    let here = subst (λ l. IfSome l (λ n. IfSome shown (λ b. Spells r n (now b)) × IsSome shown)) is told in
-    spells_strictly r m (now bytes) strict (subst (λ s. IfSome s (λ b. Spells r m (now b))) found here.0)
+-- the bytes that are lent are a spelling of the message that is
+pub lent_spelling : {A : Type 0} (k r : Reading) → k ≡ r → (now : A → List ℕ) (shown : Option A) (bytes : A) (lent : Option Message) (m : Message) → lent ≡ Some m
+    → IfSome lent (λ n. IfSome shown (λ b. Spells k n (now b)) × IsSome shown) → shown ≡ Some bytes → Spells r m (now bytes)
+lent_spelling k r same now shown bytes lent m is told found =
+    let here = subst (λ l. IfSome l (λ n. IfSome shown (λ b. Spells k n (now b)) × IsSome shown)) is told in
+    spells_by k r m (now bytes) same (subst (λ s. IfSome s (λ b. Spells k m (now b))) found here.0)
+
+-- and a padded spelling of it, as each spelling is
+pub loosened : (r : Reading) (m : Message) (bytes : List ℕ) → Spells r m bytes → Spells padded m bytes
+loosened shortest m bytes spells = message_loosened m bytes spells
+loosened padded m bytes spells = spells

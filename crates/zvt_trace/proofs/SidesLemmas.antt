@@ -1,6 +1,7 @@
 -- What both sides of the line tell.
 use Rattle.std.proofs.Common.{◌≡◌, ℕ, ◌+◌, Bool, true, false, subst, List, [], ◌∷◌, ◌++◌, refl, sym, ◌∙◌, arith, append-nil}
 use Rattle.std.proofs.lemmas.Bool.{false≢true}
+use Rattle.zvt_spelling.specs.Reading.{Reading}
 use Rattle.zvt_stream.specs.StreamState.{StreamState}
 use Rattle.zvt_trace.specs.Listening.{BesideBegins, Fails, FailsIn, FollowBoth, FollowsUntil, Hears, HearsBeside, HearsEnd, HearsLine, HearsPiece, PieceBegins, is_stopped}
 use Rattle.zvt_trace.specs.Meanings.{lost, piece, remark}
@@ -22,15 +23,15 @@ use Rattle.zvt_trace.proofs.EventLemmas.{fails_as, fails_behind, fails_next, fro
 -- ---- a piece, and the other side
 
 -- a side that goes on leaves the other one as it is, and so does one that is left alone
-leaves_all : (scope : Scope) (line : ℕ) (from : Direction) (side beside : Side) → (scope ≡ WholeLine → is_stopped side ≡ false) → Leaves scope line from side beside [] beside
-leaves_all OneSide line from side beside going = (refl, refl)
-leaves_all WholeLine line from (running bytes) beside going = (refl, refl)
-leaves_all WholeLine line from stopped beside going = absurd (false≢true (sym (going refl)))
+leaves_all : (r : Reading) (scope : Scope) (line : ℕ) (from : Direction) (side beside : Side) → (scope ≡ WholeLine → is_stopped side ≡ false) → Leaves r scope line from side beside [] beside
+leaves_all r OneSide line from side beside going = (refl, refl)
+leaves_all r WholeLine line from (running bytes) beside going = (refl, refl)
+leaves_all r WholeLine line from stopped beside going = absurd (false≢true (sym (going refl)))
 
-pub goes_on : {S : Type 0} (hears : Hears S) (scope : Scope) (line : ℕ) (from : Direction) (side beside : Side) (bytes : List ℕ) (state others : StreamState) (hearing whole : Hearing) (old new : S)
-    → HearsPiece hears line from side bytes state hearing old new → Follows others beside → (scope ≡ WholeLine → hearing.stopped ≡ false) → whole.tally ≡ hearing.tally → whole.stopped ≡ false
-    → HearsBeside hears scope line from side beside bytes state others whole old new
-goes_on hears scope line from side beside bytes state others hearing whole old new heard follows going same still = record {
+pub goes_on : {S : Type 0} {r : Reading} (hears : Hears S) (scope : Scope) (line : ℕ) (from : Direction) (side beside : Side) (bytes : List ℕ) (state others : StreamState) (hearing whole : Hearing) (old new : S)
+    → HearsPiece r hears line from side bytes state hearing old new → Follows r others beside → (scope ≡ WholeLine → hearing.stopped ≡ false) → whole.tally ≡ hearing.tally → whole.stopped ≡ false
+    → HearsBeside r hears scope line from side beside bytes state others whole old new
+goes_on {r = r} hears scope line from side beside bytes state others hearing whole old new heard follows going same still = record {
   events = heard.events;
   after = heard.after;
   beside_after = beside;
@@ -38,12 +39,12 @@ goes_on hears scope line from side beside bytes state others hearing whole old n
     own = heard.events;
     others = [];
     tells = heard.tells;
-    leaves = leaves_all scope line from heard.after beside (λ is. sym heard.ends ∙ going is);
+    leaves = leaves_all r scope line from heard.after beside (λ is. sym heard.ends ∙ going is);
     is_all = sym (append-nil heard.events);
   };
   heard = heard.heard;
-  follows = subst (λ (b : Bool). FollowsUntil b state heard.after) (sym still) heard.follows;
-  follows_beside = subst (λ (b : Bool). FollowsUntil b others beside) (sym still) follows;
+  follows = subst (λ (b : Bool). FollowsUntil r b state heard.after) (sym still) heard.follows;
+  follows_beside = subst (λ (b : Bool). FollowsUntil r b others beside) (sym still) follows;
   counts = subst (λ (t : Tally). Tallies t heard.events) (sym same) heard.counts;
 }
 
@@ -51,14 +52,14 @@ is_end : (side : Side) → is_stopped side ≡ true → side ≡ stopped
 is_end (running bytes) e = absurd (false≢true e)
 is_end stopped e = refl
 
-pub gives_up : {S : Type 0} (hears : Hears S) (scope : Scope) (line : ℕ) (from there : Direction) (side beside : Side) (bytes : List ℕ) (state others : StreamState) (hearing whole : Hearing) (bad : ℕ) (old middle new : S)
-    → scope ≡ WholeLine → there ≡ other from → HearsPiece hears line from side bytes state hearing old middle → hearing.stopped ≡ true → HearsEnd hears (SideEnds line there beside) bad middle new
+pub gives_up : {S : Type 0} {r : Reading} (hears : Hears S) (scope : Scope) (line : ℕ) (from there : Direction) (side beside : Side) (bytes : List ℕ) (state others : StreamState) (hearing whole : Hearing) (bad : ℕ) (old middle new : S)
+    → scope ≡ WholeLine → there ≡ other from → HearsPiece r hears line from side bytes state hearing old middle → hearing.stopped ≡ true → HearsEnd hears (SideEnds r line there beside) bad middle new
     → whole.tally.messages ≡ hearing.tally.messages → whole.tally.bad ≡ hearing.tally.bad + bad → whole.stopped ≡ true
-    → HearsBeside hears scope line from side beside bytes state others whole old new
-gives_up hears scope line from there side beside bytes state others hearing whole bad old middle new is_whole is_other heard over cut messages bads still =
+    → HearsBeside r hears scope line from side beside bytes state others whole old new
+gives_up {r = r} hears scope line from there side beside bytes state others hearing whole bad old middle new is_whole is_other heard over cut messages bads still =
     let after : heard.after ≡ stopped = is_end heard.after (sym heard.ends ∙ over) in
-    let ended : SideEnds line (other from) beside cut.events = subst (λ (d : Direction). SideEnds line d beside cut.events) is_other cut.ends in
-    let tells : PieceTells line from side bytes heard.events stopped = subst (λ (s : Side). PieceTells line from side bytes heard.events s) after heard.tells in
+    let ended : SideEnds r line (other from) beside cut.events = subst (λ (d : Direction). SideEnds r line d beside cut.events) is_other cut.ends in
+    let tells : PieceTells r line from side bytes heard.events stopped = subst (λ (s : Side). PieceTells r line from side bytes heard.events s) after heard.tells in
     record {
       events = heard.events ++ cut.events;
       after = stopped;
@@ -71,25 +72,25 @@ gives_up hears scope line from there side beside bytes state others hearing whol
         is_all = refl;
       };
       heard = hears_append hears heard.events cut.events old middle new heard.heard cut.heard;
-      follows = subst (λ (b : Bool). FollowsUntil b state stopped) (sym still) refl;
-      follows_beside = subst (λ (b : Bool). FollowsUntil b others stopped) (sym still) refl;
+      follows = subst (λ (b : Bool). FollowsUntil r b state stopped) (sym still) refl;
+      follows_beside = subst (λ (b : Bool). FollowsUntil r b others stopped) (sym still) refl;
       counts = tallies_both hearing.tally (record { messages = 0; bad = bad }) whole.tally heard.events cut.events heard.counts cut.counts (omega (arith, messages)) bads;
     }
 
 -- there is something that a refusal leaves
-ends_some : (line : ℕ) (from : Direction) (side : Side) (state : StreamState) → Follows state side → (events : List At) × SideEnds line from side events
-ends_some line from (running bytes) state follows = (cut_off_told line from state.held, (follows.1, state.held, follows.2, refl))
-ends_some line from stopped state follows = ([], refl)
+ends_some : (r : Reading) (line : ℕ) (from : Direction) (side : Side) (state : StreamState) → Follows r state side → (events : List At) × SideEnds r line from side events
+ends_some r line from (running bytes) state follows = (cut_off_told line from state.held, (follows.1, state.held, follows.2, refl))
+ends_some r line from stopped state follows = ([], refl)
 
-leaves_some : (scope : Scope) (line : ℕ) (from : Direction) (side beside : Side) (others : StreamState) → Follows others beside → (after : Side) × (events : List At) × Leaves scope line from side beside events after
-leaves_some OneSide line from side beside others follows = (beside, [], (refl, refl))
-leaves_some WholeLine line from (running bytes) beside others follows = (beside, [], (refl, refl))
-leaves_some WholeLine line from stopped beside others follows = let ended = ends_some line (other from) beside others follows in (stopped, ended.0, (ended.1, refl))
+leaves_some : (r : Reading) (scope : Scope) (line : ℕ) (from : Direction) (side beside : Side) (others : StreamState) → Follows r others beside → (after : Side) × (events : List At) × Leaves r scope line from side beside events after
+leaves_some r OneSide line from side beside others follows = (beside, [], (refl, refl))
+leaves_some r WholeLine line from (running bytes) beside others follows = (beside, [], (refl, refl))
+leaves_some r WholeLine line from stopped beside others follows = let ended = ends_some r line (other from) beside others follows in (stopped, ended.0, (ended.1, refl))
 
-beside_begins : (scope : Scope) (line : ℕ) (from : Direction) (side beside : Side) (bytes : List ℕ) (others : StreamState) (events : List At) → Follows others beside → PieceBegins line from side bytes events
-    → BesideBegins scope line from side beside bytes events
-beside_begins scope line from side beside bytes others events follows begins =
-    let leaves = leaves_some scope line from begins.after beside others follows in record {
+beside_begins : {r : Reading} (scope : Scope) (line : ℕ) (from : Direction) (side beside : Side) (bytes : List ℕ) (others : StreamState) (events : List At) → Follows r others beside → PieceBegins r line from side bytes events
+    → BesideBegins r scope line from side beside bytes events
+beside_begins {r = r} scope line from side beside bytes others events follows begins =
+    let leaves = leaves_some r scope line from begins.after beside others follows in record {
       first = begins.first;
       more = begins.more;
       after = begins.after;
@@ -98,17 +99,17 @@ beside_begins scope line from side beside bytes others events follows begins =
       tells = front_before events begins.tells (λ all tells. (leaves.1, record { own = all; others = leaves.1; tells = tells; leaves = leaves.2; is_all = refl }));
     }
 
-pub piece_fails : {S : Type 0} (hears : Hears S) (fails : Fails S) (why : Failure) (scope : Scope) (line : ℕ) (from : Direction) (side beside : Side) (bytes : List ℕ) (others : StreamState) (old new : S)
-    → FailsIn hears fails why (PieceBegins line from side bytes) old new → Follows others beside → FailsIn hears fails why (BesideBegins scope line from side beside bytes) old new
+pub piece_fails : {S : Type 0} {r : Reading} (hears : Hears S) (fails : Fails S) (why : Failure) (scope : Scope) (line : ℕ) (from : Direction) (side beside : Side) (bytes : List ℕ) (others : StreamState) (old new : S)
+    → FailsIn hears fails why (PieceBegins r line from side bytes) old new → Follows r others beside → FailsIn hears fails why (BesideBegins r scope line from side beside bytes) old new
 piece_fails hears fails why scope line from side beside bytes others old new failed follows =
     fails_as hears fails why old new failed (λ events so. beside_begins scope line from side beside bytes others events follows so)
 
-pub cut_off_fails : {S : Type 0} (hears : Hears S) (fails : Fails S) (why : Failure) (scope : Scope) (line : ℕ) (from there : Direction) (side beside : Side) (bytes : List ℕ) (state : StreamState) (hearing : Hearing) (old middle new : S)
-    → scope ≡ WholeLine → there ≡ other from → HearsPiece hears line from side bytes state hearing old middle → hearing.stopped ≡ true → FailsIn hears fails why (FrontOf (SideEnds line there beside)) middle new
-    → FailsIn hears fails why (BesideBegins scope line from side beside bytes) old new
-cut_off_fails hears fails why scope line from there side beside bytes state hearing old middle new is_whole is_other heard over failed =
+pub cut_off_fails : {S : Type 0} {r : Reading} (hears : Hears S) (fails : Fails S) (why : Failure) (scope : Scope) (line : ℕ) (from there : Direction) (side beside : Side) (bytes : List ℕ) (state : StreamState) (hearing : Hearing) (old middle new : S)
+    → scope ≡ WholeLine → there ≡ other from → HearsPiece r hears line from side bytes state hearing old middle → hearing.stopped ≡ true → FailsIn hears fails why (FrontOf (SideEnds r line there beside)) middle new
+    → FailsIn hears fails why (BesideBegins r scope line from side beside bytes) old new
+cut_off_fails {r = r} hears fails why scope line from there side beside bytes state hearing old middle new is_whole is_other heard over failed =
     let after : heard.after ≡ stopped = is_end heard.after (sym heard.ends ∙ over) in
-    let tells : PieceTells line from side bytes heard.events stopped = subst (λ (s : Side). PieceTells line from side bytes heard.events s) after heard.tells in
+    let tells : PieceTells r line from side bytes heard.events stopped = subst (λ (s : Side). PieceTells r line from side bytes heard.events s) after heard.tells in
     fails_behind hears fails why heard.events old middle new heard.heard failed (λ events front. record {
       first = bytes;
       more = [];
@@ -119,20 +120,20 @@ cut_off_fails hears fails why scope line from there side beside bytes state hear
         own = heard.events;
         others = all;
         tells = tells;
-        leaves = rw is_whole (subst (λ (d : Direction). SideEnds line d beside all) is_other ended, refl);
+        leaves = rw is_whole (subst (λ (d : Direction). SideEnds r line d beside all) is_other ended, refl);
         is_all = refl;
       });
     })
 
 -- ---- both sides
 
-pub until : (deaf : Bool) (state : StreamState) (side : Side) → deaf ≡ false → FollowsUntil deaf state side → Follows state side
-until false state side e follows = follows
-until true state side e follows = absurd (false≢true (sym e))
+pub until : (r : Reading) (deaf : Bool) (state : StreamState) (side : Side) → deaf ≡ false → FollowsUntil r deaf state side → Follows r state side
+until r false state side e follows = follows
+until r true state side e follows = absurd (false≢true (sym e))
 
-until_end : (deaf : Bool) (state : StreamState) (side : Side) → deaf ≡ true → FollowsUntil deaf state side → side ≡ stopped
-until_end false state side e follows = absurd (false≢true e)
-until_end true state side e follows = follows
+until_end : (r : Reading) (deaf : Bool) (state : StreamState) (side : Side) → deaf ≡ true → FollowsUntil r deaf state side → side ≡ stopped
+until_end r false state side e follows = absurd (false≢true e)
+until_end r true state side e follows = follows
 
 abbrev silent : Sides
 silent = record { till = stopped; terminal = stopped }
@@ -140,75 +141,75 @@ silent = record { till = stopped; terminal = stopped }
 silent_is : {a b : Side} → a ≡ stopped → b ≡ stopped → (let both : Sides = record { till = a; terminal = b } in both) ≡ silent
 silent_is e f = rw (e, f) refl
 
-is_silent : (state : BothSides) (sides : Sides) → FollowBoth state sides → state.deaf ≡ true → sides ≡ silent
-is_silent state sides follow deaf = silent_is (until_end state.deaf state.till sides.till deaf follow.till) (until_end state.deaf state.terminal sides.terminal deaf follow.terminal)
+is_silent : {r : Reading} (state : BothSides) (sides : Sides) → FollowBoth r state sides → state.deaf ≡ true → sides ≡ silent
+is_silent {r = r} state sides follow deaf = silent_is (until_end r state.deaf state.till sides.till deaf follow.till) (until_end r state.deaf state.terminal sides.terminal deaf follow.terminal)
 
-leaves_silent : (scope : Scope) (line : ℕ) (from : Direction) → Leaves scope line from stopped stopped [] stopped
-leaves_silent OneSide line from = (refl, refl)
-leaves_silent WholeLine line from = (refl, refl)
+leaves_silent : (r : Reading) (scope : Scope) (line : ℕ) (from : Direction) → Leaves r scope line from stopped stopped [] stopped
+leaves_silent r OneSide line from = (refl, refl)
+leaves_silent r WholeLine line from = (refl, refl)
 
-silent_piece : (scope : Scope) (line : ℕ) (from : Direction) (bytes : List ℕ) → LineTells scope line (piece from bytes) silent (on line (unread from) ∷ []) silent
-silent_piece scope line FromTill bytes =
-    (stopped, stopped, record { own = on line (unread FromTill) ∷ []; others = []; tells = (refl, refl); leaves = leaves_silent scope line FromTill; is_all = refl }, refl)
-silent_piece scope line FromTerminal bytes =
-    (stopped, stopped, record { own = on line (unread FromTerminal) ∷ []; others = []; tells = (refl, refl); leaves = leaves_silent scope line FromTerminal; is_all = refl }, refl)
+silent_piece : {r : Reading} (scope : Scope) (line : ℕ) (from : Direction) (bytes : List ℕ) → LineTells r scope line (piece from bytes) silent (on line (unread from) ∷ []) silent
+silent_piece {r = r} scope line FromTill bytes =
+    (stopped, stopped, record { own = on line (unread FromTill) ∷ []; others = []; tells = (refl, refl); leaves = leaves_silent r scope line FromTill; is_all = refl }, refl)
+silent_piece {r = r} scope line FromTerminal bytes =
+    (stopped, stopped, record { own = on line (unread FromTerminal) ∷ []; others = []; tells = (refl, refl); leaves = leaves_silent r scope line FromTerminal; is_all = refl }, refl)
 
-pub unheard : {S : Type 0} (hears : Hears S) (scope : Scope) (line : ℕ) (from : Direction) (bytes : List ℕ) (sides : Sides) (state : BothSides) (tally : Tally) (old new : S) → FollowBoth state sides → state.deaf ≡ true
-    → hears old (on line (unread from)) new → tally.messages ≡ 0 → tally.bad ≡ 0 → HearsLine hears scope line (piece from bytes) sides state tally old new
-unheard hears scope line from bytes sides state tally old new follow deaf heard messages bad =
+pub unheard : {S : Type 0} {r : Reading} (hears : Hears S) (scope : Scope) (line : ℕ) (from : Direction) (bytes : List ℕ) (sides : Sides) (state : BothSides) (tally : Tally) (old new : S) → FollowBoth r state sides → state.deaf ≡ true
+    → hears old (on line (unread from)) new → tally.messages ≡ 0 → tally.bad ≡ 0 → HearsLine r hears scope line (piece from bytes) sides state tally old new
+unheard {r = r} hears scope line from bytes sides state tally old new follow deaf heard messages bad =
     let is = is_silent state sides follow deaf in record {
       events = on line (unread from) ∷ [];
       after = silent;
-      tells = subst (λ (s : Sides). LineTells scope line (piece from bytes) s (on line (unread from) ∷ []) silent) (sym is) (silent_piece scope line from bytes);
+      tells = subst (λ (s : Sides). LineTells r scope line (piece from bytes) s (on line (unread from) ∷ []) silent) (sym is) (silent_piece scope line from bytes);
       heard = hears_one hears (on line (unread from)) old new heard;
-      follow = subst (λ (s : Sides). FollowBoth state s) is follow;
+      follow = subst (λ (s : Sides). FollowBoth r state s) is follow;
       counts = record { messages = messages; bad = bad };
     }
 
-pub unheard_fails : {S : Type 0} (hears : Hears S) (fails : Fails S) (why : Failure) (scope : Scope) (line : ℕ) (from : Direction) (bytes : List ℕ) (sides : Sides) (state : BothSides) (old new : S) → FollowBoth state sides → state.deaf ≡ true
-    → fails old (on line (unread from)) why new → FailsIn hears fails why (MeaningBegins scope line (piece from bytes) sides) old new
-unheard_fails hears fails why scope line from bytes sides state old new follow deaf failed =
+pub unheard_fails : {S : Type 0} {r : Reading} (hears : Hears S) (fails : Fails S) (why : Failure) (scope : Scope) (line : ℕ) (from : Direction) (bytes : List ℕ) (sides : Sides) (state : BothSides) (old new : S) → FollowBoth r state sides → state.deaf ≡ true
+    → fails old (on line (unread from)) why new → FailsIn hears fails why (MeaningBegins r scope line (piece from bytes) sides) old new
+unheard_fails {r = r} hears fails why scope line from bytes sides state old new follow deaf failed =
     let is = is_silent state sides follow deaf in
-    let tells = subst (λ (s : Sides). LineTells scope line (piece from bytes) s (on line (unread from) ∷ []) silent) (sym is) (silent_piece scope line from bytes) in
+    let tells = subst (λ (s : Sides). LineTells r scope line (piece from bytes) s (on line (unread from) ∷ []) silent) (sym is) (silent_piece scope line from bytes) in
     fails_next hears fails why [] (on line (unread from)) old old new refl
     (record { front = piece from bytes; after = silent; begins = (bytes, [], refl, sym (append-nil bytes)); tells = front_whole (on line (unread from) ∷ []) tells }) failed
 
 -- a piece of the till is heard
-pub till_heard : {S : Type 0} (hears : Hears S) (scope : Scope) (line : ℕ) (from : Direction) (bytes : List ℕ) (sides : Sides) (start state : BothSides) (hearing : Hearing) (old new : S) → from ≡ FromTill
-    → HearsBeside hears scope line from sides.till sides.terminal bytes state.till start.terminal hearing old new → state.terminal ≡ start.terminal → state.deaf ≡ hearing.stopped
-    → HearsLine hears scope line (piece from bytes) sides state hearing.tally old new
-till_heard hears scope line from bytes sides start state hearing old new is heard same over =
+pub till_heard : {S : Type 0} {r : Reading} (hears : Hears S) (scope : Scope) (line : ℕ) (from : Direction) (bytes : List ℕ) (sides : Sides) (start state : BothSides) (hearing : Hearing) (old new : S) → from ≡ FromTill
+    → HearsBeside r hears scope line from sides.till sides.terminal bytes state.till start.terminal hearing old new → state.terminal ≡ start.terminal → state.deaf ≡ hearing.stopped
+    → HearsLine r hears scope line (piece from bytes) sides state hearing.tally old new
+till_heard {r = r} hears scope line from bytes sides start state hearing old new is heard same over =
     let told = rw is at heard in rw is (record {
       events = told.events;
       after = both_sides FromTill told.after told.beside_after;
       tells = (told.after, told.beside_after, told.tells, refl);
       heard = told.heard;
       follow = record {
-        till = subst (λ (b : Bool). FollowsUntil b state.till told.after) (sym over) told.follows;
-        terminal = subst (λ (b : Bool). FollowsUntil b state.terminal told.beside_after) (sym over) (subst (λ (s : StreamState). FollowsUntil hearing.stopped s told.beside_after) (sym same) told.follows_beside);
+        till = subst (λ (b : Bool). FollowsUntil r b state.till told.after) (sym over) told.follows;
+        terminal = subst (λ (b : Bool). FollowsUntil r b state.terminal told.beside_after) (sym over) (subst (λ (s : StreamState). FollowsUntil r hearing.stopped s told.beside_after) (sym same) told.follows_beside);
       };
       counts = told.counts;
     })
 
 -- and one of the terminal
-pub terminal_heard : {S : Type 0} (hears : Hears S) (scope : Scope) (line : ℕ) (from : Direction) (bytes : List ℕ) (sides : Sides) (start state : BothSides) (hearing : Hearing) (old new : S) → from ≡ FromTerminal
-    → HearsBeside hears scope line from sides.terminal sides.till bytes state.terminal start.till hearing old new → state.till ≡ start.till → state.deaf ≡ hearing.stopped
-    → HearsLine hears scope line (piece from bytes) sides state hearing.tally old new
-terminal_heard hears scope line from bytes sides start state hearing old new is heard same over =
+pub terminal_heard : {S : Type 0} {r : Reading} (hears : Hears S) (scope : Scope) (line : ℕ) (from : Direction) (bytes : List ℕ) (sides : Sides) (start state : BothSides) (hearing : Hearing) (old new : S) → from ≡ FromTerminal
+    → HearsBeside r hears scope line from sides.terminal sides.till bytes state.terminal start.till hearing old new → state.till ≡ start.till → state.deaf ≡ hearing.stopped
+    → HearsLine r hears scope line (piece from bytes) sides state hearing.tally old new
+terminal_heard {r = r} hears scope line from bytes sides start state hearing old new is heard same over =
     let told = rw is at heard in rw is (record {
       events = told.events;
       after = both_sides FromTerminal told.after told.beside_after;
       tells = (told.after, told.beside_after, told.tells, refl);
       heard = told.heard;
       follow = record {
-        till = subst (λ (b : Bool). FollowsUntil b state.till told.beside_after) (sym over) (subst (λ (s : StreamState). FollowsUntil hearing.stopped s told.beside_after) (sym same) told.follows_beside);
-        terminal = subst (λ (b : Bool). FollowsUntil b state.terminal told.after) (sym over) told.follows;
+        till = subst (λ (b : Bool). FollowsUntil r b state.till told.beside_after) (sym over) (subst (λ (s : StreamState). FollowsUntil r hearing.stopped s told.beside_after) (sym same) told.follows_beside);
+        terminal = subst (λ (b : Bool). FollowsUntil r b state.terminal told.after) (sym over) told.follows;
       };
       counts = told.counts;
     })
 
-pub till_fails : {S : Type 0} (hears : Hears S) (fails : Fails S) (why : Failure) (scope : Scope) (line : ℕ) (from : Direction) (bytes : List ℕ) (sides : Sides) (old new : S) → from ≡ FromTill
-    → FailsIn hears fails why (BesideBegins scope line from sides.till sides.terminal bytes) old new → FailsIn hears fails why (MeaningBegins scope line (piece from bytes) sides) old new
+pub till_fails : {S : Type 0} {r : Reading} (hears : Hears S) (fails : Fails S) (why : Failure) (scope : Scope) (line : ℕ) (from : Direction) (bytes : List ℕ) (sides : Sides) (old new : S) → from ≡ FromTill
+    → FailsIn hears fails why (BesideBegins r scope line from sides.till sides.terminal bytes) old new → FailsIn hears fails why (MeaningBegins r scope line (piece from bytes) sides) old new
 till_fails hears fails why scope line from bytes sides old new is failed =
     let told = rw is at failed in
     rw is (fails_as hears fails why old new told (λ events so. record {
@@ -218,8 +219,8 @@ till_fails hears fails why scope line from bytes sides old new is failed =
       tells = front_behind [] events so.tells (λ all tells. (so.after, so.beside_after, tells, refl));
     }))
 
-pub terminal_fails : {S : Type 0} (hears : Hears S) (fails : Fails S) (why : Failure) (scope : Scope) (line : ℕ) (from : Direction) (bytes : List ℕ) (sides : Sides) (old new : S) → from ≡ FromTerminal
-    → FailsIn hears fails why (BesideBegins scope line from sides.terminal sides.till bytes) old new → FailsIn hears fails why (MeaningBegins scope line (piece from bytes) sides) old new
+pub terminal_fails : {S : Type 0} {r : Reading} (hears : Hears S) (fails : Fails S) (why : Failure) (scope : Scope) (line : ℕ) (from : Direction) (bytes : List ℕ) (sides : Sides) (old new : S) → from ≡ FromTerminal
+    → FailsIn hears fails why (BesideBegins r scope line from sides.terminal sides.till bytes) old new → FailsIn hears fails why (MeaningBegins r scope line (piece from bytes) sides) old new
 terminal_fails hears fails why scope line from bytes sides old new is failed =
     let told = rw is at failed in
     rw is (fails_as hears fails why old new told (λ events so. record {
@@ -231,17 +232,17 @@ terminal_fails hears fails why scope line from bytes sides old new is failed =
 
 -- ---- the end of the line
 
-pub none_ends : {S : Type 0} (hears : Hears S) (line : ℕ) (sides : Sides) (state : BothSides) (now : S) → FollowBoth state sides → state.deaf ≡ true → HearsEnd hears (LineEnds line sides) 0 now now
-none_ends hears line sides state now follow deaf =
+pub none_ends : {S : Type 0} {r : Reading} (hears : Hears S) (line : ℕ) (sides : Sides) (state : BothSides) (now : S) → FollowBoth r state sides → state.deaf ≡ true → HearsEnd hears (LineEnds r line sides) 0 now now
+none_ends {r = r} hears line sides state now follow deaf =
     let is = is_silent state sides follow deaf in record {
       events = [];
-      ends = subst (λ (s : Sides). LineEnds line s []) (sym is) (record { till = []; terminal = []; till_ends = refl; terminal_ends = refl; is_all = refl });
+      ends = subst (λ (s : Sides). LineEnds r line s []) (sym is) (record { till = []; terminal = []; till_ends = refl; terminal_ends = refl; is_all = refl });
       heard = refl;
       counts = record { messages = refl; bad = refl };
     }
 
-pub both_end : {S : Type 0} (hears : Hears S) (line : ℕ) (sides : Sides) (a b all : ℕ) (old middle new : S) → HearsEnd hears (SideEnds line FromTill sides.till) a old middle → HearsEnd hears (SideEnds line FromTerminal sides.terminal) b middle new
-    → all ≡ a + b → HearsEnd hears (LineEnds line sides) all old new
+pub both_end : {S : Type 0} {r : Reading} (hears : Hears S) (line : ℕ) (sides : Sides) (a b all : ℕ) (old middle new : S) → HearsEnd hears (SideEnds r line FromTill sides.till) a old middle → HearsEnd hears (SideEnds r line FromTerminal sides.terminal) b middle new
+    → all ≡ a + b → HearsEnd hears (LineEnds r line sides) all old new
 both_end hears line sides a b all old middle new till terminal is = record {
   events = till.events ++ terminal.events;
   ends = record { till = till.events; terminal = terminal.events; till_ends = till.ends; terminal_ends = terminal.ends; is_all = refl };
@@ -249,23 +250,23 @@ both_end hears line sides a b all old middle new till terminal is = record {
   counts = tallies_both (record { messages = 0; bad = a }) (record { messages = 0; bad = b }) (record { messages = 0; bad = all }) till.events terminal.events till.counts terminal.counts refl is;
 }
 
-pub till_end_fails : {S : Type 0} (hears : Hears S) (fails : Fails S) (why : Failure) (line : ℕ) (sides : Sides) (terminal : StreamState) (old new : S) → FailsIn hears fails why (FrontOf (SideEnds line FromTill sides.till)) old new
-    → Follows terminal sides.terminal → FailsIn hears fails why (FrontOf (LineEnds line sides)) old new
-till_end_fails hears fails why line sides terminal old new failed follows =
-    let ended = ends_some line FromTerminal sides.terminal terminal follows in
+pub till_end_fails : {S : Type 0} {r : Reading} (hears : Hears S) (fails : Fails S) (why : Failure) (line : ℕ) (sides : Sides) (terminal : StreamState) (old new : S) → FailsIn hears fails why (FrontOf (SideEnds r line FromTill sides.till)) old new
+    → Follows r terminal sides.terminal → FailsIn hears fails why (FrontOf (LineEnds r line sides)) old new
+till_end_fails {r = r} hears fails why line sides terminal old new failed follows =
+    let ended = ends_some r line FromTerminal sides.terminal terminal follows in
     fails_as hears fails why old new failed (λ events so. front_before events so
     (λ all till. (ended.0, record { till = all; terminal = ended.0; till_ends = till; terminal_ends = ended.1; is_all = refl })))
 
-pub terminal_end_fails : {S : Type 0} (hears : Hears S) (fails : Fails S) (why : Failure) (line : ℕ) (sides : Sides) (bad : ℕ) (old middle new : S) → HearsEnd hears (SideEnds line FromTill sides.till) bad old middle
-    → FailsIn hears fails why (FrontOf (SideEnds line FromTerminal sides.terminal)) middle new → FailsIn hears fails why (FrontOf (LineEnds line sides)) old new
+pub terminal_end_fails : {S : Type 0} {r : Reading} (hears : Hears S) (fails : Fails S) (why : Failure) (line : ℕ) (sides : Sides) (bad : ℕ) (old middle new : S) → HearsEnd hears (SideEnds r line FromTill sides.till) bad old middle
+    → FailsIn hears fails why (FrontOf (SideEnds r line FromTerminal sides.terminal)) middle new → FailsIn hears fails why (FrontOf (LineEnds r line sides)) old new
 terminal_end_fails hears fails why line sides bad old middle new till failed =
     fails_behind hears fails why till.events old middle new till.heard failed (λ events so. front_behind till.events events so
     (λ all terminal. record { till = till.events; terminal = all; till_ends = till.ends; terminal_ends = terminal; is_all = refl }))
 
 -- ---- the other lines
 
-pub remarks : {S : Type 0} (hears : Hears S) (scope : Scope) (line : ℕ) (sides : Sides) (state : BothSides) (tally : Tally) (now : S) → FollowBoth state sides → tally.messages ≡ 0 → tally.bad ≡ 0
-    → HearsLine hears scope line remark sides state tally now now
+pub remarks : {S : Type 0} {r : Reading} (hears : Hears S) (scope : Scope) (line : ℕ) (sides : Sides) (state : BothSides) (tally : Tally) (now : S) → FollowBoth r state sides → tally.messages ≡ 0 → tally.bad ≡ 0
+    → HearsLine r hears scope line remark sides state tally now now
 remarks hears scope line sides state tally now follow messages bad = record {
   events = [];
   after = sides;
@@ -275,8 +276,8 @@ remarks hears scope line sides state tally now follow messages bad = record {
   counts = record { messages = messages; bad = bad };
 }
 
-pub loses : {S : Type 0} (hears : Hears S) (scope : Scope) (line : ℕ) (sides : Sides) (state : BothSides) (tally : Tally) (bad : ℕ) (old middle new : S) → HearsEnd hears (LineEnds line sides) bad old middle → hears middle (on line told.lost) new
-    → FollowBoth state new_line → tally.messages ≡ 0 → tally.bad ≡ bad → HearsLine hears scope line lost sides state tally old new
+pub loses : {S : Type 0} {r : Reading} (hears : Hears S) (scope : Scope) (line : ℕ) (sides : Sides) (state : BothSides) (tally : Tally) (bad : ℕ) (old middle new : S) → HearsEnd hears (LineEnds r line sides) bad old middle → hears middle (on line told.lost) new
+    → FollowBoth r state new_line → tally.messages ≡ 0 → tally.bad ≡ bad → HearsLine r hears scope line lost sides state tally old new
 loses hears scope line sides state tally bad old middle new ended heard fresh messages bads =
     let last = on line told.lost ∷ [] in record {
       events = ended.events ++ last;
@@ -290,8 +291,8 @@ loses hears scope line sides state tally bad old middle new ended heard fresh me
       };
     }
 
-pub end_fails : {S : Type 0} (hears : Hears S) (fails : Fails S) (why : Failure) (scope : Scope) (line : ℕ) (sides : Sides) (old new : S) → FailsIn hears fails why (FrontOf (LineEnds line sides)) old new
-    → FailsIn hears fails why (MeaningBegins scope line lost sides) old new
+pub end_fails : {S : Type 0} {r : Reading} (hears : Hears S) (fails : Fails S) (why : Failure) (scope : Scope) (line : ℕ) (sides : Sides) (old new : S) → FailsIn hears fails why (FrontOf (LineEnds r line sides)) old new
+    → FailsIn hears fails why (MeaningBegins r scope line lost sides) old new
 end_fails hears fails why scope line sides old new failed =
     fails_as hears fails why old new failed (λ events so. record {
       front = lost;
@@ -300,8 +301,8 @@ end_fails hears fails why scope line sides old new failed =
       tells = front_before events so (λ all ended. (on line told.lost ∷ [], (all, ended, refl, refl)));
     })
 
-pub loss_fails : {S : Type 0} (hears : Hears S) (fails : Fails S) (why : Failure) (scope : Scope) (line : ℕ) (sides : Sides) (bad : ℕ) (old middle new : S) → HearsEnd hears (LineEnds line sides) bad old middle → fails middle (on line told.lost) why new
-    → FailsIn hears fails why (MeaningBegins scope line lost sides) old new
+pub loss_fails : {S : Type 0} {r : Reading} (hears : Hears S) (fails : Fails S) (why : Failure) (scope : Scope) (line : ℕ) (sides : Sides) (bad : ℕ) (old middle new : S) → HearsEnd hears (LineEnds r line sides) bad old middle → fails middle (on line told.lost) why new
+    → FailsIn hears fails why (MeaningBegins r scope line lost sides) old new
 loss_fails hears fails why scope line sides bad old middle new ended failed =
     fails_next hears fails why ended.events (on line told.lost) old middle new ended.heard (record {
       front = lost;

@@ -5,12 +5,12 @@ use Rattle.std.proofs.lemmas.Bool.{false≢true}
 use Rattle.zvt_spelling.proofs.CutLemmas.{spelled_more, spelled_push}
 use Rattle.zvt_spelling.specs.Beginnings.{NoneWhole}
 use Rattle.zvt_spelling.specs.Cuts.{Cut, Spelled}
-use Rattle.zvt_spelling.specs.Reading.{shortest}
+use Rattle.zvt_spelling.specs.Reading.{Reading}
 use Rattle.zvt_spelling.specs.declared.why.Why.{Why}
 use Rattle.zvt_apdu.specs.Grammar.{Spells}
 use Rattle.zvt_apdu.specs.Message.{Message}
-use Rattle.zvt_stream.proofs.Beginnings.{nothing_begun}
-use Rattle.zvt_stream.specs.Apdus.{Unfinished}
+use Rattle.zvt_stream.proofs.Beginnings.{nothing_in}
+use Rattle.zvt_stream.specs.Apdus.{UnfinishedIn}
 use Rattle.zvt_stream.specs.StreamState.{StreamState, Holds, Keeps}
 use Rattle.std.specs.Prelude.{Result, Err}
 use Rattle.std.specs.Result.{IsErrOf}
@@ -42,16 +42,16 @@ head_take (first ∷ second ∷ bytes) = refl
 -- ---- the messages so far
 
 -- so many whole messages came with the front of the piece
-pub record Fed (bytes rest : List ℕ) (start state : StreamState) (count : ℕ) : Type 0 where
+pub record Fed (r : Reading) (bytes rest : List ℕ) (start state : StreamState) (count : ℕ) : Type 0 where
   pub messages : List Message
   pub done : List ℕ
   pub cut : bytes ≡ done ++ rest
-  pub spelled : Spelled (Spells shortest) (start.held ++ done) messages state.held
-  pub unfinished : Unfinished state.held
+  pub spelled : Spelled (Spells r) (start.held ++ done) messages state.held
+  pub unfinished : UnfinishedIn r state.held
   pub counted : count ≡ length messages
   pub same : state.stopped ≡ start.stopped
 
-pub none_fed : (bytes : List ℕ) (start : StreamState) → Unfinished start.held → Fed bytes bytes start start 0
+pub none_fed : {r : Reading} (bytes : List ℕ) (start : StreamState) → UnfinishedIn r start.held → Fed r bytes bytes start start 0
 none_fed bytes start unfinished = record {
   messages = [];
   done = [];
@@ -62,34 +62,34 @@ none_fed bytes start unfinished = record {
   same = refl;
 }
 
-pub one_fed : (bytes rest after : List ℕ) (start state next : StreamState) (count taken : ℕ) (m : Message) → Fed bytes rest start state count → state.stopped ≡ false
-    → Spells shortest m (state.held ++ take taken rest) → Holds [] next → after ≡ drop taken rest → Fed bytes after start next (count + 1)
-one_fed bytes rest after start state next count taken m fed going spells is_next is_after =
+pub one_fed : {r : Reading} (bytes rest after : List ℕ) (start state next : StreamState) (count taken : ℕ) (m : Message) → Fed r bytes rest start state count → state.stopped ≡ false
+    → Spells r m (state.held ++ take taken rest) → Holds [] next → after ≡ drop taken rest → Fed r bytes after start next (count + 1)
+one_fed {r = r} bytes rest after start state next count taken m fed going spells is_next is_after =
     let some = take taken rest in
     let whole = fed.done ++ some in
-    let longer = spelled_more (Spells shortest) fed.messages (start.held ++ fed.done) state.held some fed.spelled in
-    let pushed = spelled_push (Spells shortest) fed.messages m ((start.held ++ fed.done) ++ some) (state.held ++ some) [] (state.held ++ some) longer (sym (append-nil (state.held ++ some))) spells in
-    let moved = subst (λ (b : List ℕ). Spelled (Spells shortest) b (fed.messages ++ m ∷ []) []) (append_assoc start.held fed.done some) pushed in
+    let longer = spelled_more (Spells r) fed.messages (start.held ++ fed.done) state.held some fed.spelled in
+    let pushed = spelled_push (Spells r) fed.messages m ((start.held ++ fed.done) ++ some) (state.held ++ some) [] (state.held ++ some) longer (sym (append-nil (state.held ++ some))) spells in
+    let moved = subst (λ (b : List ℕ). Spelled (Spells r) b (fed.messages ++ m ∷ []) []) (append_assoc start.held fed.done some) pushed in
     record {
       messages = fed.messages ++ m ∷ [];
       done = whole;
       cut = fed.cut ∙ ap (λ (r : List ℕ). fed.done ++ r) (sym (take-append-drop taken rest)) ∙ sym (append_assoc fed.done some (drop taken rest)) ∙ ap (λ (r : List ℕ). whole ++ r) (sym is_after);
-      spelled = subst (λ (h : List ℕ). Spelled (Spells shortest) (start.held ++ whole) (fed.messages ++ m ∷ []) h) (sym is_next.0) moved;
-      unfinished = subst Unfinished (sym is_next.0) nothing_begun;
+      spelled = subst (λ (h : List ℕ). Spelled (Spells r) (start.held ++ whole) (fed.messages ++ m ∷ []) h) (sym is_next.0) moved;
+      unfinished = subst (UnfinishedIn r) (sym is_next.0) (nothing_in r);
       counted = omega (arith, fed.counted, length-append fed.messages (m ∷ []));
       same = is_next.1 ∙ sym going ∙ fed.same;
     }
 
 -- all of the piece is spelled
-spelled_all : (bytes rest : List ℕ) (start state : StreamState) (count : ℕ) → (fed : Fed bytes rest start state count) → Spelled (Spells shortest) (start.held ++ bytes) fed.messages (state.held ++ rest)
-spelled_all bytes rest start state count fed =
-    let longer = spelled_more (Spells shortest) fed.messages (start.held ++ fed.done) state.held rest fed.spelled in
-    subst (λ (b : List ℕ). Spelled (Spells shortest) b fed.messages (state.held ++ rest)) (append_assoc start.held fed.done rest ∙ ap (λ (b : List ℕ). start.held ++ b) (sym fed.cut)) longer
+spelled_all : {r : Reading} (bytes rest : List ℕ) (start state : StreamState) (count : ℕ) → (fed : Fed r bytes rest start state count) → Spelled (Spells r) (start.held ++ bytes) fed.messages (state.held ++ rest)
+spelled_all {r = r} bytes rest start state count fed =
+    let longer = spelled_more (Spells r) fed.messages (start.held ++ fed.done) state.held rest fed.spelled in
+    subst (λ (b : List ℕ). Spelled (Spells r) b fed.messages (state.held ++ rest)) (append_assoc start.held fed.done rest ∙ ap (λ (b : List ℕ). start.held ++ b) (sym fed.cut)) longer
 
 -- what the whole piece tells
-pub tells_all : (line : ℕ) (from : Direction) (before bytes rest : List ℕ) (start state : StreamState) (count : ℕ) (ending : Ending) → (fed : Fed bytes rest start state count)
-    → NoneWhole (Spells shortest) (state.held ++ rest) → EndsIn (state.held ++ rest) ending → Follows start (running before)
-    → Tells line from before bytes (messages_told line from fed.messages ++ ending_told line from (state.held ++ rest) ending) (side_after (before ++ bytes) ending)
+pub tells_all : {r : Reading} (line : ℕ) (from : Direction) (before bytes rest : List ℕ) (start state : StreamState) (count : ℕ) (ending : Ending) → (fed : Fed r bytes rest start state count)
+    → NoneWhole (Spells r) (state.held ++ rest) → EndsIn r (state.held ++ rest) ending → Follows r start (running before)
+    → Tells r line from before bytes (messages_told line from fed.messages ++ ending_told line from (state.held ++ rest) ending) (side_after (before ++ bytes) ending)
 tells_all line from before bytes rest start state count ending fed none ended follows = record {
   messages = fed.messages;
   rest = state.held ++ rest;
@@ -100,8 +100,8 @@ tells_all line from before bytes rest start state count ending fed none ended fo
 }
 
 -- what the messages so far tell is a front of it
-pub begins : (line : ℕ) (from : Direction) (side : Side) (bytes rest : List ℕ) (start state : StreamState) (count : ℕ) → (fed : Fed bytes rest start state count) → state.stopped ≡ false
-    → Follows start side → PieceBegins line from side bytes (messages_told line from fed.messages)
+pub begins : {r : Reading} (line : ℕ) (from : Direction) (side : Side) (bytes rest : List ℕ) (start state : StreamState) (count : ℕ) → (fed : Fed r bytes rest start state count) → state.stopped ≡ false
+    → Follows r start side → PieceBegins r line from side bytes (messages_told line from fed.messages)
 begins line from stopped bytes rest start state count fed going follows = absurd (false≢true (sym going ∙ fed.same ∙ follows.1))
 begins line from (running before) bytes rest start state count fed going follows = record {
   first = fed.done;
@@ -123,15 +123,15 @@ told_push line from messages m = map-append (λ (n : Message). on line (message 
 
 -- ---- and what was heard of them
 
-pub record SoFar {S : Type 0} (hears : Hears S) (line : ℕ) (from : Direction) (bytes rest : List ℕ) (start state : StreamState) (head : Head) (held : ℕ) (old now : S) (count : ℕ) : Type 0 where
-  pub fed : Fed bytes rest start state count
+pub record SoFar {S : Type 0} (r : Reading) (hears : Hears S) (line : ℕ) (from : Direction) (bytes rest : List ℕ) (start state : StreamState) (head : Head) (held : ℕ) (old now : S) (count : ℕ) : Type 0 where
+  pub fed : Fed r bytes rest start state count
   pub heard : HearsAll hears old (messages_told line from fed.messages) now
   pub is_head : head ≡ head_of state.held
   pub is_held : held ≡ length state.held
   pub fresh : state.stopped ≡ true → (state ≡ start) × (now ≡ old) × (count ≡ 0)
 
-pub none_yet : {S : Type 0} (hears : Hears S) (line : ℕ) (from : Direction) (bytes first : List ℕ) (start : StreamState) (head : Head) (held : ℕ) (old : S)
-    → head ≡ head_of first → first ≡ take 2 start.held → held ≡ length start.held → Unfinished start.held → SoFar hears line from bytes bytes start start head held old old 0
+pub none_yet : {S : Type 0} {r : Reading} (hears : Hears S) (line : ℕ) (from : Direction) (bytes first : List ℕ) (start : StreamState) (head : Head) (held : ℕ) (old : S)
+    → head ≡ head_of first → first ≡ take 2 start.held → held ≡ length start.held → UnfinishedIn r start.held → SoFar r hears line from bytes bytes start start head held old old 0
 unfolding none_fed
 none_yet hears line from bytes first start head held old is_head is_first is_held unfinished = record {
   fed = none_fed bytes start unfinished;
@@ -141,10 +141,10 @@ none_yet hears line from bytes first start head held old is_head is_first is_hel
   fresh = λ e. (refl, refl, refl);
 }
 
-pub one_more : {S : Type 0} (hears : Hears S) (line : ℕ) (from : Direction) (bytes rest after : List ℕ) (start state next : StreamState) (head : Head) (held : ℕ) (old now new : S) (count taken : ℕ) (m : Message)
-    → SoFar hears line from bytes rest start state head held old now count → state.stopped ≡ false
-    → Spells shortest m (state.held ++ take taken rest) → Holds [] next → after ≡ drop taken rest → hears now (on line (message from m)) new
-    → SoFar hears line from bytes after start next Empty 0 old new (count + 1)
+pub one_more : {S : Type 0} {r : Reading} (hears : Hears S) (line : ℕ) (from : Direction) (bytes rest after : List ℕ) (start state next : StreamState) (head : Head) (held : ℕ) (old now new : S) (count taken : ℕ) (m : Message)
+    → SoFar r hears line from bytes rest start state head held old now count → state.stopped ≡ false
+    → Spells r m (state.held ++ take taken rest) → Holds [] next → after ≡ drop taken rest → hears now (on line (message from m)) new
+    → SoFar r hears line from bytes after start next Empty 0 old new (count + 1)
 unfolding one_fed
 one_more hears line from bytes rest after start state next head held old now new count taken m so going spells is_next is_after heard = record {
   fed = one_fed bytes rest after start state next count taken m so.fed going spells is_next is_after;
@@ -156,11 +156,11 @@ one_more hears line from bytes rest after start state next head held old now new
 
 -- ---- the piece ends
 
-pub ends : {S : Type 0} (hears : Hears S) (line : ℕ) (from : Direction) (side : Side) (bytes rest : List ℕ) (start state next : StreamState) (head : Head) (held : ℕ) (old now new : S) (count : ℕ) (ending : Ending) (hearing : Hearing)
-    → SoFar hears line from bytes rest start state head held old now count → state.stopped ≡ false → NoneWhole (Spells shortest) (state.held ++ rest)
-    → EndsIn (state.held ++ rest) ending → EndsAs next (state.held ++ rest) ending → HearsAll hears now (ending_told line from (state.held ++ rest) ending) new
+pub ends : {S : Type 0} {r : Reading} (hears : Hears S) (line : ℕ) (from : Direction) (side : Side) (bytes rest : List ℕ) (start state next : StreamState) (head : Head) (held : ℕ) (old now new : S) (count : ℕ) (ending : Ending) (hearing : Hearing)
+    → SoFar r hears line from bytes rest start state head held old now count → state.stopped ≡ false → NoneWhole (Spells r) (state.held ++ rest)
+    → EndsIn r (state.held ++ rest) ending → EndsAs next (state.held ++ rest) ending → HearsAll hears now (ending_told line from (state.held ++ rest) ending) new
     → hearing.tally.messages ≡ count → hearing.tally.bad ≡ bad_in (ending_told line from (state.held ++ rest) ending) → hearing.stopped ≡ is_stopped (side_after [] ending)
-    → Follows start side → HearsPiece hears line from side bytes next hearing old new
+    → Follows r start side → HearsPiece r hears line from side bytes next hearing old new
 unfolding tells_all
 ends hears line from stopped bytes rest start state next head held old now new count ending hearing so going none ended is_end last messages bad over follows =
     absurd (false≢true (sym going ∙ so.fed.same ∙ follows.1))
@@ -190,18 +190,18 @@ ends hears line from (running before) bytes rest start state next head held old 
     same_end (refused place why) = refl
 
 -- nothing of the piece is left behind a message
-pub ends_whole : {S : Type 0} (hears : Hears S) (line : ℕ) (from : Direction) (side : Side) (bytes rest : List ℕ) (start state : StreamState) (head : Head) (held : ℕ) (old now : S) (count : ℕ) (hearing : Hearing)
-    → SoFar hears line from bytes rest start state head held old now count → Holds [] state → length rest ≡ 0
-    → hearing.tally.messages ≡ count → hearing.tally.bad ≡ 0 → hearing.stopped ≡ false → Follows start side → HearsPiece hears line from side bytes state hearing old now
-ends_whole hears line from side bytes rest start state head held old now count hearing so holds none messages bad over follows =
+pub ends_whole : {S : Type 0} {r : Reading} (hears : Hears S) (line : ℕ) (from : Direction) (side : Side) (bytes rest : List ℕ) (start state : StreamState) (head : Head) (held : ℕ) (old now : S) (count : ℕ) (hearing : Hearing)
+    → SoFar r hears line from bytes rest start state head held old now count → Holds [] state → length rest ≡ 0
+    → hearing.tally.messages ≡ count → hearing.tally.bad ≡ 0 → hearing.stopped ≡ false → Follows r start side → HearsPiece r hears line from side bytes state hearing old now
+ends_whole {r = r} hears line from side bytes rest start state head held old now count hearing so holds none messages bad over follows =
     let nothing = nothing_left state.held rest holds.0 none in
-    ends hears line from side bytes rest start state state head held old now now count begun hearing so holds.1 (subst (NoneWhole (Spells shortest)) (sym nothing) nothing_begun.none_whole)
-    (subst (λ (b : List ℕ). EndsIn b begun) (sym nothing) nothing_begun.alive) (holds.0 ∙ sym nothing, holds.1) refl messages bad over follows
+    ends hears line from side bytes rest start state state head held old now now count begun hearing so holds.1 (subst (NoneWhole (Spells r)) (sym nothing) (nothing_in r).none_whole)
+    (subst (λ (b : List ℕ). EndsIn r b begun) (sym nothing) (nothing_in r).alive) (holds.0 ∙ sym nothing, holds.1) refl messages bad over follows
 
 -- a piece behind a refusal
-pub stays : {S : Type 0} (hears : Hears S) (line : ℕ) (from : Direction) (side : Side) (bytes rest : List ℕ) (start state next : StreamState) (head : Head) (held : ℕ) (old now new : S) (count : ℕ) (hearing : Hearing)
-    → SoFar hears line from bytes rest start state head held old now count → state.stopped ≡ true → Keeps state next → hears now (on line (unread from)) new
-    → hearing.tally.messages ≡ count → hearing.tally.bad ≡ 0 → hearing.stopped ≡ true → Follows start side → HearsPiece hears line from side bytes next hearing old new
+pub stays : {S : Type 0} {r : Reading} (hears : Hears S) (line : ℕ) (from : Direction) (side : Side) (bytes rest : List ℕ) (start state next : StreamState) (head : Head) (held : ℕ) (old now new : S) (count : ℕ) (hearing : Hearing)
+    → SoFar r hears line from bytes rest start state head held old now count → state.stopped ≡ true → Keeps state next → hears now (on line (unread from)) new
+    → hearing.tally.messages ≡ count → hearing.tally.bad ≡ 0 → hearing.stopped ≡ true → Follows r start side → HearsPiece r hears line from side bytes next hearing old new
 stays hears line from (running before) bytes rest start state next head held old now new count hearing so still kept heard messages bad over follows =
     absurd (false≢true (sym follows.0 ∙ sym so.fed.same ∙ still))
 stays {S = S} hears line from stopped bytes rest start state next head held old now new count hearing so still kept heard messages bad over follows = record {
@@ -216,41 +216,41 @@ stays {S = S} hears line from stopped bytes rest start state next head held old 
 
 -- ---- the listener, or memory, fails
 
-pub fails_message : {S : Type 0} (hears : Hears S) (fails : Fails S) (why : Failure) (line : ℕ) (from : Direction) (side : Side) (bytes rest : List ℕ) (start state next : StreamState) (head : Head) (held : ℕ) (old now new : S) (count taken : ℕ) (m : Message)
-    → SoFar hears line from bytes rest start state head held old now count → state.stopped ≡ false
-    → Spells shortest m (state.held ++ take taken rest) → Holds [] next → fails now (on line (message from m)) why new → Follows start side
-    → FailsIn hears fails why (PieceBegins line from side bytes) old new
+pub fails_message : {S : Type 0} {r : Reading} (hears : Hears S) (fails : Fails S) (why : Failure) (line : ℕ) (from : Direction) (side : Side) (bytes rest : List ℕ) (start state next : StreamState) (head : Head) (held : ℕ) (old now new : S) (count taken : ℕ) (m : Message)
+    → SoFar r hears line from bytes rest start state head held old now count → state.stopped ≡ false
+    → Spells r m (state.held ++ take taken rest) → Holds [] next → fails now (on line (message from m)) why new → Follows r start side
+    → FailsIn hears fails why (PieceBegins r line from side bytes) old new
 unfolding one_fed
-fails_message hears fails why line from side bytes rest start state next head held old now new count taken m so going spells is_next failed follows =
+fails_message {r = r} hears fails why line from side bytes rest start state next head held old now new count taken m so going spells is_next failed follows =
     let more = one_fed bytes rest (drop taken rest) start state next count taken m so.fed going spells is_next refl in
     fails_next hears fails why (messages_told line from so.fed.messages) (on line (message from m)) old now new so.heard
-    (subst (PieceBegins line from side bytes) (told_push line from so.fed.messages m) (begins line from side bytes (drop taken rest) start next (count + 1) more is_next.1 follows)) failed
+    (subst (PieceBegins r line from side bytes) (told_push line from so.fed.messages m) (begins line from side bytes (drop taken rest) start next (count + 1) more is_next.1 follows)) failed
 
-pub fails_refused : {S : Type 0} (hears : Hears S) (fails : Fails S) (why : Failure) (line : ℕ) (from : Direction) (side : Side) (bytes rest : List ℕ) (start state : StreamState) (head : Head) (held : ℕ) (old now new : S) (count : ℕ) (ending : Ending) (event : At)
-    → SoFar hears line from bytes rest start state head held old now count → state.stopped ≡ false → NoneWhole (Spells shortest) (state.held ++ rest)
-    → EndsIn (state.held ++ rest) ending → ending_told line from (state.held ++ rest) ending ≡ event ∷ [] → fails now event why new → Follows start side
-    → FailsIn hears fails why (PieceBegins line from side bytes) old new
+pub fails_refused : {S : Type 0} {r : Reading} (hears : Hears S) (fails : Fails S) (why : Failure) (line : ℕ) (from : Direction) (side : Side) (bytes rest : List ℕ) (start state : StreamState) (head : Head) (held : ℕ) (old now new : S) (count : ℕ) (ending : Ending) (event : At)
+    → SoFar r hears line from bytes rest start state head held old now count → state.stopped ≡ false → NoneWhole (Spells r) (state.held ++ rest)
+    → EndsIn r (state.held ++ rest) ending → ending_told line from (state.held ++ rest) ending ≡ event ∷ [] → fails now event why new → Follows r start side
+    → FailsIn hears fails why (PieceBegins r line from side bytes) old new
 fails_refused hears fails why line from stopped bytes rest start state head held old now new count ending event so going none ended is_event failed follows =
     absurd (false≢true (sym going ∙ so.fed.same ∙ follows.1))
-fails_refused hears fails why line from (running before) bytes rest start state head held old now new count ending event so going none ended is_event failed follows =
+fails_refused {r = r} hears fails why line from (running before) bytes rest start state head held old now new count ending event so going none ended is_event failed follows =
     let told = tells_all line from before bytes rest start state count ending so.fed none ended follows in
     let first = messages_told line from so.fed.messages in
-    let all = subst (λ (events : List At). Tells line from before bytes (first ++ events) (side_after (before ++ bytes) ending)) is_event told in
+    let all = subst (λ (events : List At). Tells r line from before bytes (first ++ events) (side_after (before ++ bytes) ending)) is_event told in
     fails_next hears fails why first event old now new so.heard
     (record { first = bytes; more = []; after = side_after (before ++ bytes) ending; cut = sym (append-nil bytes); tells = front_whole (first ++ event ∷ []) all }) failed
 
-pub fails_unread : {S : Type 0} (hears : Hears S) (fails : Fails S) (why : Failure) (line : ℕ) (from : Direction) (side : Side) (bytes rest : List ℕ) (start state : StreamState) (head : Head) (held : ℕ) (old now new : S) (count : ℕ)
-    → SoFar hears line from bytes rest start state head held old now count → state.stopped ≡ true → fails now (on line (unread from)) why new → Follows start side
-    → FailsIn hears fails why (PieceBegins line from side bytes) old new
+pub fails_unread : {S : Type 0} {r : Reading} (hears : Hears S) (fails : Fails S) (why : Failure) (line : ℕ) (from : Direction) (side : Side) (bytes rest : List ℕ) (start state : StreamState) (head : Head) (held : ℕ) (old now new : S) (count : ℕ)
+    → SoFar r hears line from bytes rest start state head held old now count → state.stopped ≡ true → fails now (on line (unread from)) why new → Follows r start side
+    → FailsIn hears fails why (PieceBegins r line from side bytes) old new
 fails_unread hears fails why line from (running before) bytes rest start state head held old now new count so still failed follows =
     absurd (false≢true (sym follows.0 ∙ sym so.fed.same ∙ still))
 fails_unread {S = S} hears fails why line from stopped bytes rest start state head held old now new count so still failed follows =
     fails_next hears fails why [] (on line (unread from)) old now new (so.fresh still).1
     (record { first = bytes; more = []; after = stopped; cut = sym (append-nil bytes); tells = front_whole (on line (unread from) ∷ []) (refl, refl) }) failed
 
-pub fails_memory : {S : Type 0} (hears : Hears S) (fails : Fails S) (line : ℕ) (from : Direction) (side : Side) (bytes rest : List ℕ) (start state : StreamState) (head : Head) (held : ℕ) (old now : S) (count : ℕ)
-    → SoFar hears line from bytes rest start state head held old now count → state.stopped ≡ false → Follows start side
-    → FailsIn hears fails Memory (PieceBegins line from side bytes) old now
+pub fails_memory : {S : Type 0} {r : Reading} (hears : Hears S) (fails : Fails S) (line : ℕ) (from : Direction) (side : Side) (bytes rest : List ℕ) (start state : StreamState) (head : Head) (held : ℕ) (old now : S) (count : ℕ)
+    → SoFar r hears line from bytes rest start state head held old now count → state.stopped ≡ false → Follows r start side
+    → FailsIn hears fails Memory (PieceBegins r line from side bytes) old now
 fails_memory hears fails line from side bytes rest start state head held old now count so going follows =
     fails_here hears fails (messages_told line from so.fed.messages) old now so.heard (begins line from side bytes rest start state count so.fed going follows)
 
@@ -274,35 +274,35 @@ is_refused line from held rest head have byte place why is_have is_head past is_
 
 -- ---- the end of a side
 
-pub none_cut : {S : Type 0} (hears : Hears S) (line : ℕ) (from : Direction) (side : Side) (state : StreamState) (now : S) → Follows state side → state.held ≡ [] → HearsEnd hears (SideEnds line from side) 0 now now
-none_cut hears line from (running bytes) state now follows none = record {
+pub none_cut : {S : Type 0} (r : Reading) (hears : Hears S) (line : ℕ) (from : Direction) (side : Side) (state : StreamState) (now : S) → Follows r state side → state.held ≡ [] → HearsEnd hears (SideEnds r line from side) 0 now now
+none_cut r hears line from (running bytes) state now follows none = record {
   events = [];
-  ends = (follows.1, [], subst (λ (h : List ℕ). Cut (Spells shortest) bytes follows.1 h) none follows.2, refl);
+  ends = (follows.1, [], subst (λ (h : List ℕ). Cut (Spells r) bytes follows.1 h) none follows.2, refl);
   heard = refl;
   counts = record { messages = refl; bad = refl };
 }
-none_cut hears line from stopped state now follows none = record { events = []; ends = refl; heard = refl; counts = record { messages = refl; bad = refl } }
+none_cut r hears line from stopped state now follows none = record { events = []; ends = refl; heard = refl; counts = record { messages = refl; bad = refl } }
 
 -- what is cut off, as it is told
-pub ends_cut : (line : ℕ) (from : Direction) (side : Side) (state : StreamState) (first : List ℕ) (head : Head) (have : ℕ) → Follows state side → 0 < have → have ≡ length state.held → head ≡ head_of first → first ≡ take 2 state.held
-    → SideEnds line from side (on line (told.cut_off from head have) ∷ [])
-ends_cut line from stopped state first head have follows some is is_head is_first = absurd (omega (arith, some, is, ap length follows.0))
-ends_cut line from (running bytes) state first head have follows some is is_head is_first = by_held state.held follows.2 is (is_head ∙ ap head_of is_first ∙ head_take state.held)
+pub ends_cut : (r : Reading) (line : ℕ) (from : Direction) (side : Side) (state : StreamState) (first : List ℕ) (head : Head) (have : ℕ) → Follows r state side → 0 < have → have ≡ length state.held → head ≡ head_of first → first ≡ take 2 state.held
+    → SideEnds r line from side (on line (told.cut_off from head have) ∷ [])
+ends_cut r line from stopped state first head have follows some is is_head is_first = absurd (omega (arith, some, is, ap length follows.0))
+ends_cut r line from (running bytes) state first head have follows some is is_head is_first = by_held state.held follows.2 is (is_head ∙ ap head_of is_first ∙ head_take state.held)
   where
-    by_held : (held : List ℕ) → Cut (Spells shortest) bytes follows.1 held → have ≡ length held → head ≡ head_of held → SideEnds line from (running bytes) (on line (told.cut_off from head have) ∷ [])
+    by_held : (held : List ℕ) → Cut (Spells r) bytes follows.1 held → have ≡ length held → head ≡ head_of held → SideEnds r line from (running bytes) (on line (told.cut_off from head have) ∷ [])
     by_held [] cut is is_head = absurd (omega (arith, some, is))
     by_held (byte ∷ held) cut is is_head = (follows.1, byte ∷ held, cut, rw (is, is_head) refl)
 
-pub some_cut : {S : Type 0} (hears : Hears S) (line : ℕ) (from : Direction) (side : Side) (head : Head) (have : ℕ) (old new : S) → SideEnds line from side (on line (told.cut_off from head have) ∷ []) → hears old (on line (told.cut_off from head have)) new
-    → HearsEnd hears (SideEnds line from side) 1 old new
-some_cut hears line from side head have old new ended heard = record {
+pub some_cut : {S : Type 0} (r : Reading) (hears : Hears S) (line : ℕ) (from : Direction) (side : Side) (head : Head) (have : ℕ) (old new : S) → SideEnds r line from side (on line (told.cut_off from head have) ∷ []) → hears old (on line (told.cut_off from head have)) new
+    → HearsEnd hears (SideEnds r line from side) 1 old new
+some_cut r hears line from side head have old new ended heard = record {
   events = on line (told.cut_off from head have) ∷ [];
   ends = ended;
   heard = hears_one hears (on line (told.cut_off from head have)) old new heard;
   counts = record { messages = refl; bad = refl };
 }
 
-pub cut_failed : {S : Type 0} (hears : Hears S) (fails : Fails S) (why : Failure) (line : ℕ) (from : Direction) (side : Side) (head : Head) (have : ℕ) (old new : S) → SideEnds line from side (on line (told.cut_off from head have) ∷ []) → fails old (on line (told.cut_off from head have)) why new
-    → FailsIn hears fails why (FrontOf (SideEnds line from side)) old new
-cut_failed hears fails why line from side head have old new ended failed =
+pub cut_failed : {S : Type 0} (r : Reading) (hears : Hears S) (fails : Fails S) (why : Failure) (line : ℕ) (from : Direction) (side : Side) (head : Head) (have : ℕ) (old new : S) → SideEnds r line from side (on line (told.cut_off from head have) ∷ []) → fails old (on line (told.cut_off from head have)) why new
+    → FailsIn hears fails why (FrontOf (SideEnds r line from side)) old new
+cut_failed r hears fails why line from side head have old new ended failed =
     fails_next hears fails why [] (on line (told.cut_off from head have)) old old new refl (front_whole (on line (told.cut_off from head have) ∷ []) ended) failed

@@ -1,6 +1,7 @@
 -- What the lines of a trace tell, one after another.
 use Rattle.std.proofs.Common.{◌≡◌, inl, inr, ℕ, ◌+◌, List, [], ◌∷◌, ◌++◌, Ok, Err, length, refl, sym, ◌∙◌, ap, subst, arith, append_assoc, append-nil, length-append}
 use Rattle.std.specs.Str.Lines.{lines}
+use Rattle.zvt_spelling.specs.Reading.{Reading}
 use Rattle.zvt_trace.specs.Listening.{AnswersWalk, Fails, FailsIn, FollowBoth, Hears, HearsAll, HearsEnd, WalksLine, fault_of}
 use Rattle.zvt_trace.specs.Meanings.{Meaning, meaning_of}
 use Rattle.zvt_trace.specs.Told.{At, Tallies}
@@ -15,21 +16,21 @@ use Rattle.zvt_trace.specs.declared.listener.Failure.TheVariants as failure
 use Rattle.zvt_trace.specs.declared.listener.Scope.{Scope}
 use Rattle.zvt_trace.proofs.EventLemmas.{fails_as, fails_behind, front_behind, front_whole, hears_append, tallies_both}
 
-LinesTell-push : (scope : Scope) (count : ℕ) (start middle after : Sides) (done : List (List ℕ)) (line : List ℕ) (all own : List At) (meaning : Meaning)
-    → LinesTell scope count start done all middle → meaning_of line ≡ Ok meaning → LineTells scope (count + length done + 1) meaning middle own after → LinesTell scope count start (done ++ line ∷ []) (all ++ own) after
-LinesTell-push scope count start middle after [] line all own meaning told means tells =
+LinesTell-push : (r : Reading) (scope : Scope) (count : ℕ) (start middle after : Sides) (done : List (List ℕ)) (line : List ℕ) (all own : List At) (meaning : Meaning)
+    → LinesTell r scope count start done all middle → meaning_of line ≡ Ok meaning → LineTells r scope (count + length done + 1) meaning middle own after → LinesTell r scope count start (done ++ line ∷ []) (all ++ own) after
+LinesTell-push r scope count start middle after [] line all own meaning told means tells =
     let first : count + 0 + 1 ≡ count + 1 = omega arith in
-    let here = subst (λ (s : Sides). LineTells scope (count + 0 + 1) meaning s own after) told.1 tells in record {
+    let here = subst (λ (s : Sides). LineTells r scope (count + 0 + 1) meaning s own after) told.1 tells in record {
       meaning = meaning;
       own = own;
       rest = [];
       middle = after;
       means = means;
-      tells = subst (λ (n : ℕ). LineTells scope n meaning start own after) first here;
+      tells = subst (λ (n : ℕ). LineTells r scope n meaning start own after) first here;
       others = (refl, refl);
       is_all = ap (λ (a : List At). a ++ own) told.0 ∙ sym (append-nil own);
     }
-LinesTell-push scope count start middle after (first ∷ done) line all own meaning told means tells =
+LinesTell-push r scope count start middle after (first ∷ done) line all own meaning told means tells =
     let next : count + length (first ∷ done) + 1 ≡ count + 1 + length done + 1 = omega arith in record {
       meaning = told.meaning;
       own = told.own;
@@ -37,25 +38,25 @@ LinesTell-push scope count start middle after (first ∷ done) line all own mean
       middle = told.middle;
       means = told.means;
       tells = told.tells;
-      others = LinesTell-push scope (count + 1) told.middle middle after done line told.rest own meaning told.others means (subst (λ (n : ℕ). LineTells scope n meaning middle own after) next tells);
+      others = LinesTell-push r scope (count + 1) told.middle middle after done line told.rest own meaning told.others means (subst (λ (n : ℕ). LineTells r scope n meaning middle own after) next tells);
       is_all = ap (λ (a : List At). a ++ own) told.is_all ∙ append_assoc told.own told.rest own;
     }
 
 -- ---- the lines so far
 
 -- of the trace all lines but those of the rest were read, and what they tell was heard
-pub record Walked {S : Type 0} (hears : Hears S) (scope : Scope) (trace rest : List ℕ) (number : ℕ) (state : BothSides) (tally : Tally) (old now : S) : Type 0 where
+pub record Walked {S : Type 0} (r : Reading) (hears : Hears S) (scope : Scope) (trace rest : List ℕ) (number : ℕ) (state : BothSides) (tally : Tally) (old now : S) : Type 0 where
   pub done : List (List ℕ)
   pub all : List At
   pub sides : Sides
   pub cut : lines trace ≡ done ++ lines rest
-  pub told : LinesTell scope 0 new_line done all sides
+  pub told : LinesTell r scope 0 new_line done all sides
   pub count : number ≡ length done
   pub heard : HearsAll hears old all now
-  pub follow : FollowBoth state sides
+  pub follow : FollowBoth r state sides
   pub counts : Tallies tally all
 
-pub none_walked : {S : Type 0} (hears : Hears S) (scope : Scope) (trace : List ℕ) (state : BothSides) (tally : Tally) (old : S) → FollowBoth state new_line → tally.messages ≡ 0 → tally.bad ≡ 0 → Walked hears scope trace trace 0 state tally old old
+pub none_walked : {S : Type 0} {r : Reading} (hears : Hears S) (scope : Scope) (trace : List ℕ) (state : BothSides) (tally : Tally) (old : S) → FollowBoth r state new_line → tally.messages ≡ 0 → tally.bad ≡ 0 → Walked r hears scope trace trace 0 state tally old old
 none_walked hears scope trace state tally old follow messages bad = record {
   done = [];
   all = [];
@@ -68,17 +69,17 @@ none_walked hears scope trace state tally old follow messages bad = record {
   counts = record { messages = messages; bad = bad };
 }
 
-pub one_walked : {S : Type 0} (hears : Hears S) (fails : Fails S) (scope : Scope) (trace rest content after : List ℕ) (number : ℕ) (state next : BothSides) (tally counted grown : Tally) (old now new : S)
-    → (so : Walked hears scope trace rest number state tally old now) → lines rest ≡ content ∷ lines after → WalksLine hears fails scope (number + 1) content so.sides next now new (Ok counted)
-    → grown.messages ≡ tally.messages + counted.messages → grown.bad ≡ tally.bad + counted.bad → Walked hears scope trace after (number + 1) next grown old new
-one_walked hears fails scope trace rest content after number state next tally counted grown old now new so first walks messages bad =
+pub one_walked : {S : Type 0} {r : Reading} (hears : Hears S) (fails : Fails S) (scope : Scope) (trace rest content after : List ℕ) (number : ℕ) (state next : BothSides) (tally counted grown : Tally) (old now new : S)
+    → (so : Walked r hears scope trace rest number state tally old now) → lines rest ≡ content ∷ lines after → WalksLine r hears fails scope (number + 1) content so.sides next now new (Ok counted)
+    → grown.messages ≡ tally.messages + counted.messages → grown.bad ≡ tally.bad + counted.bad → Walked r hears scope trace after (number + 1) next grown old new
+one_walked {r = r} hears fails scope trace rest content after number state next tally counted grown old now new so first walks messages bad =
     let line = walks.2 in
     let here : number + 1 ≡ 0 + length so.done + 1 = omega (arith, so.count) in record {
       done = so.done ++ content ∷ [];
       all = so.all ++ line.events;
       sides = line.after;
       cut = so.cut ∙ ap (λ (ls : List (List ℕ)). so.done ++ ls) first ∙ sym (append_assoc so.done (content ∷ []) (lines after));
-      told = LinesTell-push scope 0 new_line so.sides line.after so.done content so.all line.events walks.0 so.told walks.1 (subst (λ (n : ℕ). LineTells scope n walks.0 so.sides line.events line.after) here line.tells);
+      told = LinesTell-push r scope 0 new_line so.sides line.after so.done content so.all line.events walks.0 so.told walks.1 (subst (λ (n : ℕ). LineTells r scope n walks.0 so.sides line.events line.after) here line.tells);
       count = omega (arith, so.count, length-append so.done (content ∷ []));
       heard = hears_append hears so.all line.events old now new so.heard line.heard;
       follow = line.follow;
@@ -86,11 +87,11 @@ one_walked hears fails scope trace rest content after number state next tally co
     }
 
 -- no line is left, and what is cut off was heard
-pub closed : {S : Type 0} (hears : Hears S) (fails : Fails S) (scope : Scope) (trace rest : List ℕ) (number : ℕ) (state : BothSides) (tally grown : Tally) (bad : ℕ) (old now new : S) → length rest ≡ 0
-    → (so : Walked hears scope trace rest number state tally old now) → HearsEnd hears (LineEnds number so.sides) bad now new
-    → grown.messages ≡ tally.messages → grown.bad ≡ tally.bad + bad → AnswersWalk hears fails scope (lines trace) old new (Ok grown)
+pub closed : {S : Type 0} {r : Reading} (hears : Hears S) (fails : Fails S) (scope : Scope) (trace rest : List ℕ) (number : ℕ) (state : BothSides) (tally grown : Tally) (bad : ℕ) (old now new : S) → length rest ≡ 0
+    → (so : Walked r hears scope trace rest number state tally old now) → HearsEnd hears (LineEnds r number so.sides) bad now new
+    → grown.messages ≡ tally.messages → grown.bad ≡ tally.bad + bad → AnswersWalk r hears fails scope (lines trace) old new (Ok grown)
 closed hears fails scope trace (byte ∷ rest) number state tally grown bad old now new none so last messages bads = absurd (omega (arith, none))
-closed hears fails scope trace [] number state tally grown bad old now new none so last messages bads =
+closed {r = r} hears fails scope trace [] number state tally grown bad old now new none so last messages bads =
     let all : lines trace ≡ so.done = so.cut ∙ append-nil so.done in
     let count : number ≡ length (lines trace) = so.count ∙ ap (λ (ls : List (List ℕ)). length ls) (sym all) in (
       so.all ++ last.events,
@@ -98,8 +99,8 @@ closed hears fails scope trace [] number state tally grown bad old now new none 
         body = so.all;
         after = so.sides;
         last = last.events;
-        tell = subst (λ (ls : List (List ℕ)). LinesTell scope 0 new_line ls so.all so.sides) (sym all) so.told;
-        ends = subst (λ (n : ℕ). LineEnds n so.sides last.events) count last.ends;
+        tell = subst (λ (ls : List (List ℕ)). LinesTell r scope 0 new_line ls so.all so.sides) (sym all) so.told;
+        ends = subst (λ (n : ℕ). LineEnds r n so.sides last.events) count last.ends;
         is_all = refl;
       },
       hears_append hears so.all last.events old now new so.heard last.heard,
@@ -107,8 +108,8 @@ closed hears fails scope trace [] number state tally grown bad old now new none 
     )
 
 -- so much of the next line
-next_reaches : {S : Type 0} (hears : Hears S) (scope : Scope) (trace rest content after : List ℕ) (number : ℕ) (state : BothSides) (tally : Tally) (old now : S) (events : List At)
-    → (so : Walked hears scope trace rest number state tally old now) → lines rest ≡ content ∷ lines after → LineSoFar scope (number + 1) content so.sides events → ToldSoFar scope (lines trace) (so.all ++ events)
+next_reaches : {S : Type 0} {r : Reading} (hears : Hears S) (scope : Scope) (trace rest content after : List ℕ) (number : ℕ) (state : BothSides) (tally : Tally) (old now : S) (events : List At)
+    → (so : Walked r hears scope trace rest number state tally old now) → lines rest ≡ content ∷ lines after → LineSoFar r scope (number + 1) content so.sides events → ToldSoFar r scope (lines trace) (so.all ++ events)
 next_reaches hears scope trace rest content after number state tally old now events so first (inl none) =
     front_whole (so.all ++ events) (record {
       done = so.done;
@@ -121,7 +122,7 @@ next_reaches hears scope trace rest content after number state tally old now eve
       tells = inl none;
       is_all = refl;
     })
-next_reaches hears scope trace rest content after number state tally old now events so first (inr (meaning, means, so_far)) =
+next_reaches {r = r} hears scope trace rest content after number state tally old now events so first (inr (meaning, means, so_far)) =
     front_behind so.all events so_far.tells (λ all tells. record {
       done = so.done;
       later = content ∷ lines after;
@@ -130,20 +131,20 @@ next_reaches hears scope trace rest content after number state tally old now eve
       after = so.sides;
       cut = so.cut ∙ ap (λ (ls : List (List ℕ)). so.done ++ ls) first;
       tell = so.told;
-      tells = inr (meaning, so_far.front, so_far.after, means, so_far.begins, subst (λ (n : ℕ). LineTells scope (n + 1) so_far.front so.sides all so_far.after) so.count tells);
+      tells = inr (meaning, so_far.front, so_far.after, means, so_far.begins, subst (λ (n : ℕ). LineTells r scope (n + 1) so_far.front so.sides all so_far.after) so.count tells);
       is_all = refl;
     })
 
-next_so_far : {S : Type 0} (hears : Hears S) (fails : Fails S) (why : Failure) (scope : Scope) (trace rest content after : List ℕ) (number : ℕ) (state : BothSides) (tally : Tally) (old now new : S)
-    → (so : Walked hears scope trace rest number state tally old now) → lines rest ≡ content ∷ lines after → FailsIn hears fails why (LineSoFar scope (number + 1) content so.sides) now new
-    → FailsIn hears fails why (ToldSoFar scope (lines trace)) old new
+next_so_far : {S : Type 0} {r : Reading} (hears : Hears S) (fails : Fails S) (why : Failure) (scope : Scope) (trace rest content after : List ℕ) (number : ℕ) (state : BothSides) (tally : Tally) (old now new : S)
+    → (so : Walked r hears scope trace rest number state tally old now) → lines rest ≡ content ∷ lines after → FailsIn hears fails why (LineSoFar r scope (number + 1) content so.sides) now new
+    → FailsIn hears fails why (ToldSoFar r scope (lines trace)) old new
 next_so_far hears fails why scope trace rest content after number state tally old now new so first failed =
     fails_behind hears fails why so.all old now new so.heard failed (λ events next. next_reaches hears scope trace rest content after number state tally old now events so first next)
 
 -- the next line could not be told
-pub failed : {S : Type 0} (hears : Hears S) (fails : Fails S) (scope : Scope) (trace rest content after : List ℕ) (number : ℕ) (state next : BothSides) (tally : Tally) (fault : TraceFault) (old now new : S)
-    → (so : Walked hears scope trace rest number state tally old now) → lines rest ≡ content ∷ lines after → WalksLine hears fails scope (number + 1) content so.sides next now new (Err fault)
-    → AnswersWalk hears fails scope (lines trace) old new (Err fault)
+pub failed : {S : Type 0} {r : Reading} (hears : Hears S) (fails : Fails S) (scope : Scope) (trace rest content after : List ℕ) (number : ℕ) (state next : BothSides) (tally : Tally) (fault : TraceFault) (old now new : S)
+    → (so : Walked r hears scope trace rest number state tally old now) → lines rest ≡ content ∷ lines after → WalksLine r hears fails scope (number + 1) content so.sides next now new (Err fault)
+    → AnswersWalk r hears fails scope (lines trace) old new (Err fault)
 failed {S = S} hears fails scope trace rest content after number state next tally (Trace line what) old now new so first wrong = (
   so.all,
   record {
@@ -164,10 +165,10 @@ failed hears fails scope trace rest content after number state next tally TooLon
 failed hears fails scope trace rest content after number state next tally Read old now new so first never = absurd never
 
 -- so much of the end
-end_so_far : {S : Type 0} (hears : Hears S) (fails : Fails S) (why : Failure) (scope : Scope) (trace rest : List ℕ) (number : ℕ) (state : BothSides) (tally : Tally) (old now new : S) → length rest ≡ 0
-    → (so : Walked hears scope trace rest number state tally old now) → FailsIn hears fails why (FrontOf (LineEnds number so.sides)) now new → FailsIn hears fails why (ToldSoFar scope (lines trace)) old new
+end_so_far : {S : Type 0} {r : Reading} (hears : Hears S) (fails : Fails S) (why : Failure) (scope : Scope) (trace rest : List ℕ) (number : ℕ) (state : BothSides) (tally : Tally) (old now new : S) → length rest ≡ 0
+    → (so : Walked r hears scope trace rest number state tally old now) → FailsIn hears fails why (FrontOf (LineEnds r number so.sides)) now new → FailsIn hears fails why (ToldSoFar r scope (lines trace)) old new
 end_so_far hears fails why scope trace (byte ∷ rest) number state tally old now new none so fails_there = absurd (omega (arith, none))
-end_so_far hears fails why scope trace [] number state tally old now new none so fails_there =
+end_so_far {r = r} hears fails why scope trace [] number state tally old now new none so fails_there =
     fails_behind hears fails why so.all old now new so.heard fails_there (λ events front. front_behind so.all events front (λ all ended. record {
       done = so.done;
       later = [];
@@ -176,18 +177,18 @@ end_so_far hears fails why scope trace [] number state tally old now new none so
       after = so.sides;
       cut = so.cut;
       tell = so.told;
-      tells = subst (λ (n : ℕ). LineEnds n so.sides all) so.count ended;
+      tells = subst (λ (n : ℕ). LineEnds r n so.sides all) so.count ended;
       is_all = refl;
     }))
 
 -- what is cut off could not be told
-pub end_failed : {S : Type 0} (hears : Hears S) (fails : Fails S) (why : Failure) (scope : Scope) (trace rest : List ℕ) (number : ℕ) (state : BothSides) (tally : Tally) (old now new : S) → length rest ≡ 0
-    → (so : Walked hears scope trace rest number state tally old now) → FailsIn hears fails why (FrontOf (LineEnds number so.sides)) now new → AnswersWalk hears fails scope (lines trace) old new (Err (fault_of why))
+pub end_failed : {S : Type 0} {r : Reading} (hears : Hears S) (fails : Fails S) (why : Failure) (scope : Scope) (trace rest : List ℕ) (number : ℕ) (state : BothSides) (tally : Tally) (old now new : S) → length rest ≡ 0
+    → (so : Walked r hears scope trace rest number state tally old now) → FailsIn hears fails why (FrontOf (LineEnds r number so.sides)) now new → AnswersWalk r hears fails scope (lines trace) old new (Err (fault_of why))
 end_failed hears fails failure.Memory scope trace rest number state tally old now new none so fault = end_so_far hears fails failure.Memory scope trace rest number state tally old now new none so fault
 end_failed hears fails failure.Write scope trace rest number state tally old now new none so fault = end_so_far hears fails failure.Write scope trace rest number state tally old now new none so fault
 
 -- the line could be read, and not be told
-pub line_failed : {S : Type 0} (hears : Hears S) (fails : Fails S) (why : Failure) (scope : Scope) (number : ℕ) (line : List ℕ) (meaning : Meaning) (sides : Sides) (state : BothSides) (old new : S) → meaning_of line ≡ Ok meaning
-    → FailsIn hears fails why (MeaningBegins scope number meaning sides) old new → WalksLine hears fails scope number line sides state old new (Err (fault_of why))
+pub line_failed : {S : Type 0} {r : Reading} (hears : Hears S) (fails : Fails S) (why : Failure) (scope : Scope) (number : ℕ) (line : List ℕ) (meaning : Meaning) (sides : Sides) (state : BothSides) (old new : S) → meaning_of line ≡ Ok meaning
+    → FailsIn hears fails why (MeaningBegins r scope number meaning sides) old new → WalksLine r hears fails scope number line sides state old new (Err (fault_of why))
 line_failed hears fails failure.Memory scope number line meaning sides state old new means fault = fails_as hears fails failure.Memory old new fault (λ events so. inr (meaning, means, so))
 line_failed hears fails failure.Write scope number line meaning sides state old new means fault = fails_as hears fails failure.Write old new fault (λ events so. inr (meaning, means, so))

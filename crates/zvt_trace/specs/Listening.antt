@@ -1,6 +1,6 @@
 -- What a listener is told, and what becomes of it.
 use Rattle.std.specs.Prelude.{◌≡◌, ◌⊎◌, ℕ, Bool, true, false, List, [], ◌∷◌, ◌++◌, Result, Ok, Err}
-use Rattle.zvt_spelling.specs.Reading.{shortest}
+use Rattle.zvt_spelling.specs.Reading.{Reading}
 use Rattle.zvt_stream.specs.StreamState.{StreamState}
 use Rattle.zvt_trace.specs.Meanings.{Meaning, meaning_of}
 use Rattle.zvt_trace.specs.Told.{At, Tallies}
@@ -48,26 +48,26 @@ is_stopped (running bytes) = false
 is_stopped stopped = true
 
 -- what a piece tells was heard, and the stream goes on behind it
-pub record HearsPiece {S : Type 0} (hears : Hears S) (line : ℕ) (from : Direction) (side : Side) (bytes : List ℕ) (state : StreamState) (hearing : Hearing) (old new : S) : Type 0 where
+pub record HearsPiece {S : Type 0} (r : Reading) (hears : Hears S) (line : ℕ) (from : Direction) (side : Side) (bytes : List ℕ) (state : StreamState) (hearing : Hearing) (old new : S) : Type 0 where
   pub events : List At
   pub after : Side
-  pub tells : PieceTells line from side bytes events after
+  pub tells : PieceTells r line from side bytes events after
   pub heard : HearsAll hears old events new
-  pub follows : Follows state after
+  pub follows : Follows r state after
   pub counts : Tallies hearing.tally events
   pub ends : hearing.stopped ≡ is_stopped after
 
 -- a front of what a front of the piece tells
-pub record PieceBegins (line : ℕ) (from : Direction) (side : Side) (bytes : List ℕ) (events : List At) : Type 0 where
+pub record PieceBegins (r : Reading) (line : ℕ) (from : Direction) (side : Side) (bytes : List ℕ) (events : List At) : Type 0 where
   pub first : List ℕ
   pub more : List ℕ
   pub after : Side
   pub cut : bytes ≡ first ++ more
-  pub tells : FrontOf (λ all. PieceTells line from side first all after) events
+  pub tells : FrontOf (λ all. PieceTells r line from side first all after) events
 
-abbrev pub TellsPiece : {S : Type 0} → Hears S → Fails S → ℕ → Direction → Side → List ℕ → StreamState → (old new : S) → Result Hearing Failure → Type 0
-TellsPiece hears fails line from side bytes state old new (Ok hearing) = HearsPiece hears line from side bytes state hearing old new
-TellsPiece hears fails line from side bytes state old new (Err why) = FailsIn hears fails why (PieceBegins line from side bytes) old new
+abbrev pub TellsPiece : {S : Type 0} → Reading → Hears S → Fails S → ℕ → Direction → Side → List ℕ → StreamState → (old new : S) → Result Hearing Failure → Type 0
+TellsPiece r hears fails line from side bytes state old new (Ok hearing) = HearsPiece r hears line from side bytes state hearing old new
+TellsPiece r hears fails line from side bytes state old new (Err why) = FailsIn hears fails why (PieceBegins r line from side bytes) old new
 
 -- what is cut off was heard
 pub record HearsEnd {S : Type 0} (hears : Hears S) (Ends : List At → Type 0) (bad : ℕ) (old new : S) : Type 0 where
@@ -83,56 +83,56 @@ TellsEnd hears fails Ends old new (Err why) = FailsIn hears fails why (FrontOf E
 -- ---- both sides
 
 -- each stream holds what is left of its side's bytes, until none is read
-abbrev pub FollowsUntil : Bool → StreamState → Side → Type 0
-FollowsUntil true state side = side ≡ stopped
-FollowsUntil false state side = Follows state side
+abbrev pub FollowsUntil : Reading → Bool → StreamState → Side → Type 0
+FollowsUntil r true state side = side ≡ stopped
+FollowsUntil r false state side = Follows r state side
 
--- both streams take the shortest lengths alone
-abbrev pub AreStrict : BothSides → Type 0
-AreStrict state = (state.till.reading ≡ shortest) × (state.terminal.reading ≡ shortest)
+-- both streams take lengths by that reading
+abbrev pub TakeBy : Reading → BothSides → Type 0
+TakeBy r state = (state.till.reading ≡ r) × (state.terminal.reading ≡ r)
 
-pub record FollowBoth (state : BothSides) (sides : Sides) : Type 0 where
-  pub till : FollowsUntil state.deaf state.till sides.till
-  pub terminal : FollowsUntil state.deaf state.terminal sides.terminal
+pub record FollowBoth (r : Reading) (state : BothSides) (sides : Sides) : Type 0 where
+  pub till : FollowsUntil r state.deaf state.till sides.till
+  pub terminal : FollowsUntil r state.deaf state.terminal sides.terminal
 
 -- what a piece tells was heard, and what it leaves of the other side
-pub record HearsBeside {S : Type 0} (hears : Hears S) (scope : Scope) (line : ℕ) (from : Direction) (side beside : Side) (bytes : List ℕ) (state other : StreamState) (hearing : Hearing) (old new : S) : Type 0 where
+pub record HearsBeside {S : Type 0} (r : Reading) (hears : Hears S) (scope : Scope) (line : ℕ) (from : Direction) (side beside : Side) (bytes : List ℕ) (state other : StreamState) (hearing : Hearing) (old new : S) : Type 0 where
   pub events : List At
   pub after : Side
   pub beside_after : Side
-  pub tells : TellsBeside scope line from side beside bytes events after beside_after
+  pub tells : TellsBeside r scope line from side beside bytes events after beside_after
   pub heard : HearsAll hears old events new
-  pub follows : FollowsUntil hearing.stopped state after
-  pub follows_beside : FollowsUntil hearing.stopped other beside_after
+  pub follows : FollowsUntil r hearing.stopped state after
+  pub follows_beside : FollowsUntil r hearing.stopped other beside_after
   pub counts : Tallies hearing.tally events
 
 -- a front of what a front of the piece tells, and of what it leaves of the other side
-pub record BesideBegins (scope : Scope) (line : ℕ) (from : Direction) (side beside : Side) (bytes : List ℕ) (events : List At) : Type 0 where
+pub record BesideBegins (r : Reading) (scope : Scope) (line : ℕ) (from : Direction) (side beside : Side) (bytes : List ℕ) (events : List At) : Type 0 where
   pub first : List ℕ
   pub more : List ℕ
   pub after : Side
   pub beside_after : Side
   pub cut : bytes ≡ first ++ more
-  pub tells : FrontOf (λ all. TellsBeside scope line from side beside first all after beside_after) events
+  pub tells : FrontOf (λ all. TellsBeside r scope line from side beside first all after beside_after) events
 
-abbrev pub TellsThere : {S : Type 0} → Hears S → Fails S → Scope → ℕ → Direction → (side beside : Side) → List ℕ → (state other : StreamState) → (old new : S) → Result Hearing Failure → Type 0
-TellsThere hears fails scope line from side beside bytes state other old new (Ok hearing) = HearsBeside hears scope line from side beside bytes state other hearing old new
-TellsThere hears fails scope line from side beside bytes state other old new (Err why) = FailsIn hears fails why (BesideBegins scope line from side beside bytes) old new
+abbrev pub TellsThere : {S : Type 0} → Reading → Hears S → Fails S → Scope → ℕ → Direction → (side beside : Side) → List ℕ → (state other : StreamState) → (old new : S) → Result Hearing Failure → Type 0
+TellsThere r hears fails scope line from side beside bytes state other old new (Ok hearing) = HearsBeside r hears scope line from side beside bytes state other hearing old new
+TellsThere r hears fails scope line from side beside bytes state other old new (Err why) = FailsIn hears fails why (BesideBegins r scope line from side beside bytes) old new
 
 -- ---- one line of the trace
 
 -- what the line tells was heard, and the streams go on behind it
-pub record HearsLine {S : Type 0} (hears : Hears S) (scope : Scope) (number : ℕ) (meaning : Meaning) (sides : Sides) (state : BothSides) (tally : Tally) (old new : S) : Type 0 where
+pub record HearsLine {S : Type 0} (r : Reading) (hears : Hears S) (scope : Scope) (number : ℕ) (meaning : Meaning) (sides : Sides) (state : BothSides) (tally : Tally) (old new : S) : Type 0 where
   pub events : List At
   pub after : Sides
-  pub tells : LineTells scope number meaning sides events after
+  pub tells : LineTells r scope number meaning sides events after
   pub heard : HearsAll hears old events new
-  pub follow : FollowBoth state after
+  pub follow : FollowBoth r state after
   pub counts : Tallies tally events
 
-abbrev pub TellsLine : {S : Type 0} → Hears S → Fails S → Scope → ℕ → Meaning → Sides → BothSides → (old new : S) → Result Tally Failure → Type 0
-TellsLine hears fails scope number meaning sides state old new (Ok tally) = HearsLine hears scope number meaning sides state tally old new
-TellsLine hears fails scope number meaning sides state old new (Err why) = FailsIn hears fails why (MeaningBegins scope number meaning sides) old new
+abbrev pub TellsLine : {S : Type 0} → Reading → Hears S → Fails S → Scope → ℕ → Meaning → Sides → BothSides → (old new : S) → Result Tally Failure → Type 0
+TellsLine r hears fails scope number meaning sides state old new (Ok tally) = HearsLine r hears scope number meaning sides state tally old new
+TellsLine r hears fails scope number meaning sides state old new (Err why) = FailsIn hears fails why (MeaningBegins r scope number meaning sides) old new
 
 -- the fault of a walk that failed
 abbrev pub fault_of : Failure → TraceFault
@@ -140,22 +140,22 @@ fault_of failure.Memory = Memory
 fault_of failure.Write = Write
 
 -- What telling the line of that number answers.
-abbrev pub WalksLine : {S : Type 0} → Hears S → Fails S → Scope → ℕ → List ℕ → Sides → BothSides → (old new : S) → Result Tally TraceFault → Type 0
-WalksLine hears fails scope number line sides state old new (Ok tally) =
-    (meaning : Meaning) × (meaning_of line ≡ Ok meaning) × HearsLine hears scope number meaning sides state tally old new
-WalksLine hears fails scope number line sides state old new (Err (Trace at_line what)) = (at_line ≡ number) × (meaning_of line ≡ Err what) × (new ≡ old)
-WalksLine hears fails scope number line sides state old new (Err Memory) = FailsIn hears fails failure.Memory (LineSoFar scope number line sides) old new
-WalksLine hears fails scope number line sides state old new (Err Write) = FailsIn hears fails failure.Write (LineSoFar scope number line sides) old new
-WalksLine hears fails scope number line sides state old new (Err TooLong) = ⊥
-WalksLine hears fails scope number line sides state old new (Err Read) = ⊥
+abbrev pub WalksLine : {S : Type 0} → Reading → Hears S → Fails S → Scope → ℕ → List ℕ → Sides → BothSides → (old new : S) → Result Tally TraceFault → Type 0
+WalksLine r hears fails scope number line sides state old new (Ok tally) =
+    (meaning : Meaning) × (meaning_of line ≡ Ok meaning) × HearsLine r hears scope number meaning sides state tally old new
+WalksLine r hears fails scope number line sides state old new (Err (Trace at_line what)) = (at_line ≡ number) × (meaning_of line ≡ Err what) × (new ≡ old)
+WalksLine r hears fails scope number line sides state old new (Err Memory) = FailsIn hears fails failure.Memory (LineSoFar r scope number line sides) old new
+WalksLine r hears fails scope number line sides state old new (Err Write) = FailsIn hears fails failure.Write (LineSoFar r scope number line sides) old new
+WalksLine r hears fails scope number line sides state old new (Err TooLong) = ⊥
+WalksLine r hears fails scope number line sides state old new (Err Read) = ⊥
 
 -- ---- the trace
 
 -- What a walk over lines answers. Where it fails, the events of the lines before were heard, and a front of those that came next.
-abbrev pub AnswersWalk : {S : Type 0} → Hears S → Fails S → Scope → List (List ℕ) → (old new : S) → Result Tally TraceFault → Type 0
-AnswersWalk hears fails scope lines old new (Ok tally) = (events : List At) × WholeTrace scope lines events × HearsAll hears old events new × Tallies tally events
-AnswersWalk hears fails scope lines old new (Err (Trace number what)) = (events : List At) × BrokenTrace scope lines number what events × HearsAll hears old events new
-AnswersWalk hears fails scope lines old new (Err Memory) = FailsIn hears fails failure.Memory (ToldSoFar scope lines) old new
-AnswersWalk hears fails scope lines old new (Err Write) = FailsIn hears fails failure.Write (ToldSoFar scope lines) old new
-AnswersWalk hears fails scope lines old new (Err TooLong) = ⊥
-AnswersWalk hears fails scope lines old new (Err Read) = ⊥
+abbrev pub AnswersWalk : {S : Type 0} → Reading → Hears S → Fails S → Scope → List (List ℕ) → (old new : S) → Result Tally TraceFault → Type 0
+AnswersWalk r hears fails scope lines old new (Ok tally) = (events : List At) × WholeTrace r scope lines events × HearsAll hears old events new × Tallies tally events
+AnswersWalk r hears fails scope lines old new (Err (Trace number what)) = (events : List At) × BrokenTrace r scope lines number what events × HearsAll hears old events new
+AnswersWalk r hears fails scope lines old new (Err Memory) = FailsIn hears fails failure.Memory (ToldSoFar r scope lines) old new
+AnswersWalk r hears fails scope lines old new (Err Write) = FailsIn hears fails failure.Write (ToldSoFar r scope lines) old new
+AnswersWalk r hears fails scope lines old new (Err TooLong) = ⊥
+AnswersWalk r hears fails scope lines old new (Err Read) = ⊥

@@ -1,7 +1,7 @@
 -- What a piece, a line and a whole trace tell.
 use Rattle.std.specs.Prelude.{◌≡◌, ◌⊎◌, ℕ, ◌+◌, List, [], ◌∷◌, ◌++◌, length, map, slice_index, Ok, Err}
 use Rattle.zvt_spelling.specs.Cuts.{Cut}
-use Rattle.zvt_spelling.specs.Reading.{shortest}
+use Rattle.zvt_spelling.specs.Reading.{Reading}
 use Rattle.zvt_apdu.specs.Grammar.{Spells}
 use Rattle.zvt_apdu.specs.Message.{Message}
 use Rattle.zvt_trace.specs.Meanings.{Meaning, lost, meaning_of, piece, remark}
@@ -24,26 +24,26 @@ ending_told line from rest begun = []
 ending_told line from rest (refused place why) = on line (told.refused from (head_of rest) (slice_index rest place) place why) ∷ []
 
 -- A piece tells the messages that arrive with it, and what is refused behind them.
-pub record Tells (line : ℕ) (from : Direction) (before bytes : List ℕ) (events : List At) (after : Side) : Type 0 where
+pub record Tells (r : Reading) (line : ℕ) (from : Direction) (before bytes : List ℕ) (events : List At) (after : Side) : Type 0 where
   pub messages : List Message
   pub rest : List ℕ
   pub ending : Ending
-  pub arrives : Arrives before bytes messages rest ending
+  pub arrives : Arrives r before bytes messages rest ending
   pub is_all : events ≡ messages_told line from messages ++ ending_told line from rest ending
   pub is_after : after ≡ side_after (before ++ bytes) ending
 
-abbrev pub PieceTells : ℕ → Direction → Side → List ℕ → List At → Side → Type 0
-PieceTells line from (running before) bytes events after = Tells line from before bytes events after
-PieceTells line from stopped bytes events after = (events ≡ on line (told.unread from) ∷ []) × (after ≡ stopped)
+abbrev pub PieceTells : Reading → ℕ → Direction → Side → List ℕ → List At → Side → Type 0
+PieceTells r line from (running before) bytes events after = Tells r line from before bytes events after
+PieceTells r line from stopped bytes events after = (events ≡ on line (told.unread from) ∷ []) × (after ≡ stopped)
 
 abbrev pub cut_off_told : ℕ → Direction → List ℕ → List At
 cut_off_told line from [] = []
 cut_off_told line from (byte ∷ bytes) = on line (told.cut_off from (head_of (byte ∷ bytes)) (length (byte ∷ bytes))) ∷ []
 
 -- where the line ends, the message that a side has begun is cut off
-abbrev pub SideEnds : ℕ → Direction → Side → List At → Type 0
-SideEnds line from (running bytes) events = (messages : List Message) × (rest : List ℕ) × Cut (Spells shortest) bytes messages rest × (events ≡ cut_off_told line from rest)
-SideEnds line from stopped events = events ≡ []
+abbrev pub SideEnds : Reading → ℕ → Direction → Side → List At → Type 0
+SideEnds r line from (running bytes) events = (messages : List Message) × (rest : List ℕ) × Cut (Spells r) bytes messages rest × (events ≡ cut_off_told line from rest)
+SideEnds r line from stopped events = events ≡ []
 
 -- ---- both sides
 
@@ -57,72 +57,72 @@ both_sides FromTill side beside = record { till = side; terminal = beside }
 both_sides FromTerminal side beside = record { till = beside; terminal = side }
 
 -- What a refusal leaves of the other side: all, or nothing; then what it has begun is cut off.
-abbrev pub Leaves : Scope → ℕ → Direction → (side beside : Side) → List At → Side → Type 0
-Leaves OneSide line from side beside events after = (events ≡ []) × (after ≡ beside)
-Leaves WholeLine line from (running bytes) beside events after = (events ≡ []) × (after ≡ beside)
-Leaves WholeLine line from stopped beside events after = SideEnds line (other from) beside events × (after ≡ stopped)
+abbrev pub Leaves : Reading → Scope → ℕ → Direction → (side beside : Side) → List At → Side → Type 0
+Leaves r OneSide line from side beside events after = (events ≡ []) × (after ≡ beside)
+Leaves r WholeLine line from (running bytes) beside events after = (events ≡ []) × (after ≡ beside)
+Leaves r WholeLine line from stopped beside events after = SideEnds r line (other from) beside events × (after ≡ stopped)
 
 -- a piece of this side, and what it leaves of the other
-pub record TellsBeside (scope : Scope) (line : ℕ) (from : Direction) (side beside : Side) (bytes : List ℕ) (events : List At) (after beside_after : Side) : Type 0 where
+pub record TellsBeside (r : Reading) (scope : Scope) (line : ℕ) (from : Direction) (side beside : Side) (bytes : List ℕ) (events : List At) (after beside_after : Side) : Type 0 where
   pub own : List At
   pub others : List At
-  pub tells : PieceTells line from side bytes own after
-  pub leaves : Leaves scope line from after beside others beside_after
+  pub tells : PieceTells r line from side bytes own after
+  pub leaves : Leaves r scope line from after beside others beside_after
   pub is_all : events ≡ own ++ others
 
 -- the line ends: the till's side is told before the terminal's
-pub record LineEnds (line : ℕ) (sides : Sides) (events : List At) : Type 0 where
+pub record LineEnds (r : Reading) (line : ℕ) (sides : Sides) (events : List At) : Type 0 where
   pub till : List At
   pub terminal : List At
-  pub till_ends : SideEnds line FromTill sides.till till
-  pub terminal_ends : SideEnds line FromTerminal sides.terminal terminal
+  pub till_ends : SideEnds r line FromTill sides.till till
+  pub terminal_ends : SideEnds r line FromTerminal sides.terminal terminal
   pub is_all : events ≡ till ++ terminal
 
 -- ---- one line of the trace
 
-abbrev pub LineTells : Scope → ℕ → Meaning → Sides → List At → Sides → Type 0
-LineTells scope line remark sides events after = (events ≡ []) × (after ≡ sides)
-LineTells scope line (piece from bytes) sides events after =
-    (side : Side) × (beside : Side) × TellsBeside scope line from (side_of from sides) (side_of (other from) sides) bytes events side beside × (after ≡ both_sides from side beside)
-LineTells scope line lost sides events after =
-    (ended : List At) × LineEnds line sides ended × (events ≡ ended ++ on line told.lost ∷ []) × (after ≡ new_line)
+abbrev pub LineTells : Reading → Scope → ℕ → Meaning → Sides → List At → Sides → Type 0
+LineTells r scope line remark sides events after = (events ≡ []) × (after ≡ sides)
+LineTells r scope line (piece from bytes) sides events after =
+    (side : Side) × (beside : Side) × TellsBeside r scope line from (side_of from sides) (side_of (other from) sides) bytes events side beside × (after ≡ both_sides from side beside)
+LineTells r scope line lost sides events after =
+    (ended : List At) × LineEnds r line sides ended × (events ≡ ended ++ on line told.lost ∷ []) × (after ≡ new_line)
 
 -- ---- lines, behind so many others
 
-pub record OneMore (scope : Scope) (count : ℕ) (sides : Sides) (line : List ℕ) (Others : Sides → List At → Type 0) (events : List At) : Type 0 where
+pub record OneMore (r : Reading) (scope : Scope) (count : ℕ) (sides : Sides) (line : List ℕ) (Others : Sides → List At → Type 0) (events : List At) : Type 0 where
   pub meaning : Meaning
   pub own : List At
   pub rest : List At
   pub middle : Sides
   pub means : meaning_of line ≡ Ok meaning
-  pub tells : LineTells scope (count + 1) meaning sides own middle
+  pub tells : LineTells r scope (count + 1) meaning sides own middle
   pub others : Others middle rest
   pub is_all : events ≡ own ++ rest
 
 -- lines that can be read, from both sides as they were to both as they are then
-abbrev pub LinesTell : Scope → ℕ → Sides → List (List ℕ) → List At → Sides → Type 0
-LinesTell scope count sides [] events after = (events ≡ []) × (after ≡ sides)
-LinesTell scope count sides (line ∷ lines) events after = OneMore scope count sides line (λ middle rest. LinesTell scope (count + 1) middle lines rest after) events
+abbrev pub LinesTell : Reading → Scope → ℕ → Sides → List (List ℕ) → List At → Sides → Type 0
+LinesTell r scope count sides [] events after = (events ≡ []) × (after ≡ sides)
+LinesTell r scope count sides (line ∷ lines) events after = OneMore r scope count sides line (λ middle rest. LinesTell r scope (count + 1) middle lines rest after) events
 
 -- ---- the trace
 
 -- a trace of which all lines can be read: what they tell, and what is cut off at its end
-pub record WholeTrace (scope : Scope) (lines : List (List ℕ)) (events : List At) : Type 0 where
+pub record WholeTrace (r : Reading) (scope : Scope) (lines : List (List ℕ)) (events : List At) : Type 0 where
   pub body : List At
   pub after : Sides
   pub last : List At
-  pub tell : LinesTell scope 0 new_line lines body after
-  pub ends : LineEnds (length lines) after last
+  pub tell : LinesTell r scope 0 new_line lines body after
+  pub ends : LineEnds r (length lines) after last
   pub is_all : events ≡ body ++ last
 
 -- lines of which one can't be read, counted from 1: what those before it tell
-pub record BrokenTrace (scope : Scope) (lines : List (List ℕ)) (number : ℕ) (what : What) (events : List At) : Type 0 where
+pub record BrokenTrace (r : Reading) (scope : Scope) (lines : List (List ℕ)) (number : ℕ) (what : What) (events : List At) : Type 0 where
   pub done : List (List ℕ)
   pub line : List ℕ
   pub later : List (List ℕ)
   pub after : Sides
   pub cut : lines ≡ done ++ line ∷ later
-  pub tell : LinesTell scope 0 new_line done events after
+  pub tell : LinesTell r scope 0 new_line done events after
   pub wrong : meaning_of line ≡ Err what
   pub is_number : number ≡ length done + 1
 
@@ -141,37 +141,37 @@ Begins front (piece from bytes) = (first : List ℕ) × (more : List ℕ) × (fr
 Begins front lost = front ≡ lost
 
 -- a front of what a front of a line with this meaning tells
-pub record MeaningBegins (scope : Scope) (number : ℕ) (meaning : Meaning) (sides : Sides) (events : List At) : Type 0 where
+pub record MeaningBegins (r : Reading) (scope : Scope) (number : ℕ) (meaning : Meaning) (sides : Sides) (events : List At) : Type 0 where
   pub front : Meaning
   pub after : Sides
   pub begins : Begins front meaning
-  pub tells : FrontOf (λ all. LineTells scope number front sides all after) events
+  pub tells : FrontOf (λ all. LineTells r scope number front sides all after) events
 
-abbrev pub LineBegins : Scope → ℕ → List ℕ → Sides → List At → Type 0
-LineBegins scope number line sides events = (meaning : Meaning) × (meaning_of line ≡ Ok meaning) × MeaningBegins scope number meaning sides events
+abbrev pub LineBegins : Reading → Scope → ℕ → List ℕ → Sides → List At → Type 0
+LineBegins r scope number line sides events = (meaning : Meaning) × (meaning_of line ≡ Ok meaning) × MeaningBegins r scope number meaning sides events
 
 -- nothing, or so much of what the line tells
-abbrev pub LineSoFar : Scope → ℕ → List ℕ → Sides → List At → Type 0
-LineSoFar scope number line sides events = (events ≡ []) ⊎ LineBegins scope number line sides events
+abbrev pub LineSoFar : Reading → Scope → ℕ → List ℕ → Sides → List At → Type 0
+LineSoFar r scope number line sides events = (events ≡ []) ⊎ LineBegins r scope number line sides events
 
 -- behind so many lines, what so much of the next line tells, or the end of the trace
-abbrev pub NextTells : Scope → ℕ → List (List ℕ) → Sides → List At → Type 0
-NextTells scope count [] sides events = LineEnds count sides events
-NextTells scope count (line ∷ later) sides events =
-    (events ≡ []) ⊎ ((meaning : Meaning) × (front : Meaning) × (after : Sides) × (meaning_of line ≡ Ok meaning) × Begins front meaning × LineTells scope (count + 1) front sides events after)
+abbrev pub NextTells : Reading → Scope → ℕ → List (List ℕ) → Sides → List At → Type 0
+NextTells r scope count [] sides events = LineEnds r count sides events
+NextTells r scope count (line ∷ later) sides events =
+    (events ≡ []) ⊎ ((meaning : Meaning) × (front : Meaning) × (after : Sides) × (meaning_of line ≡ Ok meaning) × Begins front meaning × LineTells r scope (count + 1) front sides events after)
 
 -- what so many lines tell, and then what comes next
-pub record Reaches (scope : Scope) (lines : List (List ℕ)) (events : List At) : Type 0 where
+pub record Reaches (r : Reading) (scope : Scope) (lines : List (List ℕ)) (events : List At) : Type 0 where
   pub done : List (List ℕ)
   pub later : List (List ℕ)
   pub before : List At
   pub next : List At
   pub after : Sides
   pub cut : lines ≡ done ++ later
-  pub tell : LinesTell scope 0 new_line done before after
-  pub tells : NextTells scope (length done) later after next
+  pub tell : LinesTell r scope 0 new_line done before after
+  pub tells : NextTells r scope (length done) later after next
   pub is_all : events ≡ before ++ next
 
 -- a front of that
-abbrev pub ToldSoFar : Scope → List (List ℕ) → List At → Type 0
-ToldSoFar scope lines events = FrontOf (Reaches scope lines) events
+abbrev pub ToldSoFar : Reading → Scope → List (List ℕ) → List At → Type 0
+ToldSoFar r scope lines events = FrontOf (Reaches r scope lines) events

@@ -1,8 +1,8 @@
 -- What is told of a trace, and at which of its lines.
 use Rattle.std.specs.Prelude.{◌≡◌, ℕ, List, [], ◌∷◌}
 use Rattle.std.specs.List.{sum_by}
-use Rattle.zvt_spelling.specs.Reading.{shortest}
 use Rattle.zvt_spelling.specs.declared.why.Why.{Why}
+use Rattle.zvt_tlv.specs.Lengths.{reading_of}
 use Rattle.zvt_apdu.specs.Grammar.{Spells}
 use Rattle.zvt_apdu.specs.Message.{Message}
 use Rattle.zvt_trace.specs.declared.direction.Direction.{Direction}
@@ -38,15 +38,15 @@ on line told = record { line = line; told = told }
 -- ---- what the code hands on
 
 abbrev pub told_of : code.Told → Told
-told_of (code_told.Message from apdu bytes) = message from apdu
+told_of (code_told.Message from apdu bytes lengths) = message from apdu
 told_of (code_told.Refused from head byte place why) = refused from head byte place why
 told_of (code_told.Unread from) = unread from
 told_of (code_told.CutOff from head have) = cut_off from head have
 told_of code_told.Lost = lost
 
--- the bytes of a message are its one spelling
+-- the bytes of a message are a spelling of it by the reading that is told: by the shortest lengths its one spelling
 abbrev pub HasItsBytes : code.Told → Type 0
-HasItsBytes (code_told.Message from apdu bytes) = Spells shortest apdu bytes.now
+HasItsBytes (code_told.Message from apdu bytes lengths) = Spells (reading_of lengths) apdu bytes.now
 HasItsBytes (code_told.Refused from head byte place why) = Unit {0}
 HasItsBytes (code_told.Unread from) = Unit {0}
 HasItsBytes (code_told.CutOff from head have) = Unit {0}

@@ -2,7 +2,7 @@
 use Rattle.std.specs.Prelude.{ℕ, List, [], ◌++◌}
 use Rattle.zvt_spelling.specs.Beginnings.{Alive, Place}
 use Rattle.zvt_spelling.specs.Cuts.{Cut}
-use Rattle.zvt_spelling.specs.Reading.{shortest}
+use Rattle.zvt_spelling.specs.Reading.{Reading}
 use Rattle.zvt_spelling.specs.declared.why.Why.{Why}
 use Rattle.zvt_apdu.specs.Grammar.{Spells}
 use Rattle.zvt_apdu.specs.Judging.{WhyOf}
@@ -22,21 +22,21 @@ pub data Ending : Type 0 where
   begun : Ending
   refused : (place : ℕ) → (why : Why) → Ending
 
-abbrev pub EndsIn : List ℕ → Ending → Type 0
-EndsIn rest begun = Alive (Spells shortest) rest
-EndsIn rest (refused place why) = Place (Spells shortest) rest place × WhyOf shortest rest place why
+abbrev pub EndsIn : Reading → List ℕ → Ending → Type 0
+EndsIn r rest begun = Alive (Spells r) rest
+EndsIn r rest (refused place why) = Place (Spells r) rest place × WhyOf r rest place why
 
 abbrev pub side_after : List ℕ → Ending → Side
 side_after bytes begun = running bytes
 side_after bytes (refused place why) = stopped
 
 -- The messages arrive that the side's bytes have with the piece and did not have without it.
-pub record Arrives (before bytes : List ℕ) (messages : List Message) (rest : List ℕ) (ending : Ending) : Type 0 where
+pub record Arrives (r : Reading) (before bytes : List ℕ) (messages : List Message) (rest : List ℕ) (ending : Ending) : Type 0 where
   pub earlier : List Message
   pub left : List ℕ
-  pub was : Cut (Spells shortest) before earlier left
-  pub now : Cut (Spells shortest) (before ++ bytes) (earlier ++ messages) rest
-  pub ends : EndsIn rest ending
+  pub was : Cut (Spells r) before earlier left
+  pub now : Cut (Spells r) (before ++ bytes) (earlier ++ messages) rest
+  pub ends : EndsIn r rest ending
 
 -- ---- the line
 

@@ -4,7 +4,7 @@ use Rattle.std.specs.Global.{Global}
 use Rattle.std.specs.Io.KnownBytes.{Appends, Consumes, IsAtEnd, Keeps}
 use Rattle.zvt_io.specs.Devices.{IsFront}
 use Rattle.zvt_spelling.specs.Cuts.{Cut}
-use Rattle.zvt_spelling.specs.Reading.{shortest}
+use Rattle.zvt_spelling.specs.Reading.{Reading}
 use Rattle.zvt_apdu.specs.Grammar.{Spells}
 use Rattle.zvt_apdu.specs.Message.{Message}
 use Rattle.zvt_stream.specs.StreamState.{StreamState, HasRefused}
@@ -15,9 +15,9 @@ use Rattle.zvt_trace.specs.declared.fault.TraceFault.TheVariants.{Memory, Read, 
 -- ---- what the streams of the code stand for
 
 -- the stream holds what is left of the side's bytes behind their whole messages
-abbrev pub Follows : StreamState → Side → Type 0
-Follows state (running bytes) = (state.stopped ≡ false) × (messages : List Message) × Cut (Spells shortest) bytes messages state.held
-Follows state stopped = HasRefused state
+abbrev pub Follows : Reading → StreamState → Side → Type 0
+Follows r state (running bytes) = (state.stopped ≡ false) × (messages : List Message) × Cut (Spells r) bytes messages state.held
+Follows r state stopped = HasRefused state
 
 -- ---- what a device has that failed
 

@@ -1,9 +1,12 @@
 //! Both sides of the line between a till and its terminal.
 ghost use Rattle.std.specs.Prelude.{◌≡◌, ◌≤◌, length, IfOk, OnOk};
+ghost use Rattle.zvt_spelling.specs.Reading.{Reading};
+ghost use Rattle.zvt_tlv.specs.Lengths.{reading_of};
+ghost use Rattle.zvt_stream.specs.StreamState.{start_in};
 ghost use Rattle.zvt_trace.specs.Meanings.{meant_by, piece, size_of};
 ghost use Rattle.zvt_trace.specs.Trace.{Sides, new_line};
 ghost use Rattle.zvt_trace.specs.Telling.{LineEnds};
-ghost use Rattle.zvt_trace.specs.Listening.{AreStrict, FollowBoth, TellsEnd, TellsLine};
+ghost use Rattle.zvt_trace.specs.Listening.{FollowBoth, TakeBy, TellsEnd, TellsLine};
 
 use crate::direction::Direction;
 use crate::fault::Tally;
@@ -13,6 +16,7 @@ use crate::tell::{tell_beside, tell_cut_off};
 use crate::told::Told;
 use std::alloc::Global;
 use zvt_stream::Stream;
+use zvt_tlv::Lengths;
 
 /// A stream for each side of the line. Once a refusal has left both sides unread, neither is fed.
 #[derive(Drop)]
@@ -22,15 +26,25 @@ pub(crate) struct BothSides {
     pub(crate) deaf: bool,
 }
 
+/// A stream at the start of a line, which takes such lengths.
+fn stream_of(alloc: Global, lengths: Lengths) -> Stream
+    ensures { result ≡ start_in (reading_of lengths) }
+{
+    match lengths {
+        Lengths::Shortest => Stream::new(alloc),
+        Lengths::Padded => Stream::loose(alloc),
+    }
+}
+
 impl BothSides {
     /// Those of a new line.
-    pub(crate) fn new(alloc: Global) -> BothSides
-        ensures follows { FollowBoth result new_line }
-        ensures strict { AreStrict result }
+    pub(crate) fn new(alloc: Global, lengths: Lengths) -> BothSides
+        ensures follows { FollowBoth (reading_of lengths) result new_line }
+        ensures reading { TakeBy (reading_of lengths) result }
     {
         BothSides {
-            till: Stream::new(alloc),
-            terminal: Stream::new(alloc),
+            till: stream_of(alloc, lengths),
+            terminal: stream_of(alloc, lengths),
             deaf: false,
         }
     }
@@ -43,24 +57,25 @@ impl BothSides {
         device: &mut D,
         alloc: Global,
         scope: Scope,
+        lengths: Lengths,
         number: u64,
         line: &Line<'_>,
     ) -> Result<Tally, Failure>
-        requires strict { AreStrict self.old }
-        ensures strict { OnOk result (AreStrict self.new) }
-        ensures tells { (sides : Sides) → FollowBoth self.old sides → TellsLine L.hears L.fails scope number (meant_by line.now) sides self.new (listener.old, device.old) (listener.new, device.new) result }
+        requires reading { TakeBy (reading_of lengths) self.old }
+        ensures reading { OnOk result (TakeBy (reading_of lengths) self.new) }
+        ensures tells { (sides : Sides) → FollowBoth (reading_of lengths) self.old sides → TellsLine (reading_of lengths) L.hears L.fails scope number (meant_by line.now) sides self.new (listener.old, device.old) (listener.new, device.new) result }
         ensures few { IfOk result (λ tally. tally.messages ≤ size_of (meant_by line.now)) }
         ensures two { IfOk result (λ tally. tally.bad ≤ 2) }
     {
         match line {
             Line::Remark => Ok(Tally::none()),
             Line::Piece { from, bytes } => {
-                self.tell_piece(listener, device, scope, number, *from, bytes)
+                self.tell_piece(listener, device, scope, lengths, number, *from, bytes)
             }
             Line::Lost => {
                 let bad = self.tell_end(listener, device, number)?;
                 listener.hear(device, number, &Told::Lost)?;
-                *self = BothSides::new(alloc);
+                *self = BothSides::new(alloc, lengths);
                 Ok(Tally { messages: 0, bad })
             }
         }
@@ -73,13 +88,14 @@ impl BothSides {
         listener: &mut L,
         device: &mut D,
         scope: Scope,
+        lengths: Lengths,
         number: u64,
         from: Direction,
         bytes: &[u8],
     ) -> Result<Tally, Failure>
-        requires strict { AreStrict self.old }
-        ensures strict { OnOk result (AreStrict self.new) }
-        ensures tells { (sides : Sides) → FollowBoth self.old sides → TellsLine L.hears L.fails scope number (piece from bytes.now) sides self.new (listener.old, device.old) (listener.new, device.new) result }
+        requires reading { TakeBy (reading_of lengths) self.old }
+        ensures reading { OnOk result (TakeBy (reading_of lengths) self.new) }
+        ensures tells { (sides : Sides) → FollowBoth (reading_of lengths) self.old sides → TellsLine (reading_of lengths) L.hears L.fails scope number (piece from bytes.now) sides self.new (listener.old, device.old) (listener.new, device.new) result }
         ensures few { IfOk result (λ tally. tally.messages ≤ length bytes.now) }
         ensures two { IfOk result (λ tally. tally.bad ≤ 2) }
     {
@@ -90,10 +106,14 @@ impl BothSides {
         let BothSides { till, terminal, .. } = self;
         let hearing = match from {
             Direction::FromTill => {
-                tell_beside(listener, device, scope, number, from, till, terminal, bytes)?
+                tell_beside(
+                    listener, device, scope, number, from, lengths, till, terminal, bytes,
+                )?
             }
             Direction::FromTerminal => {
-                tell_beside(listener, device, scope, number, from, terminal, till, bytes)?
+                tell_beside(
+                    listener, device, scope, number, from, lengths, terminal, till, bytes,
+                )?
             }
         };
         self.deaf = hearing.stopped;
@@ -107,7 +127,7 @@ impl BothSides {
         device: &mut D,
         number: u64,
     ) -> Result<u64, Failure>
-        ensures tells { (sides : Sides) → FollowBoth self.now sides → TellsEnd L.hears L.fails (LineEnds number sides) (listener.old, device.old) (listener.new, device.new) result }
+        ensures tells { (r : Reading) (sides : Sides) → FollowBoth r self.now sides → TellsEnd L.hears L.fails (LineEnds r number sides) (listener.old, device.old) (listener.new, device.new) result }
         ensures two { IfOk result (λ bad. bad ≤ 2) }
     {
         if self.deaf {

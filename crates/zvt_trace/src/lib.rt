@@ -1,6 +1,7 @@
 //! Traces of the line between a till and its terminal.
 //!
-//! [`read_trace`] reads one whole, and [`walk`] tells a [`Listener`] all that it says, line by line.
+//! [`read_trace`] reads one whole, and [`walk`] tells a [`Listener`] all that it says, line by line: by the shortest
+//! lengths alone, or by those that [`walk_by`] is given.
 #![tactic(auto)]
 
 mod both_sides;
@@ -21,4 +22,4 @@ pub use input::read_trace;
 pub use lines::next_line;
 pub use listener::{Failure, Listener, Scope};
 pub use told::{Head, Told};
-pub use walking::walk;
+pub use walking::{walk, walk_by};

@@ -1,6 +1,7 @@
 //! Tells a listener what one side of the line sends.
 ghost use Rattle.std.specs.Prelude.{◌≡◌, ◌≤◌, length, false, true, Some, IfOk, OnOk, MatchResult};
-ghost use Rattle.zvt_spelling.specs.Reading.{shortest};
+ghost use Rattle.zvt_spelling.specs.Reading.{Reading};
+ghost use Rattle.zvt_tlv.specs.Lengths.{reading_of};
 ghost use Rattle.zvt_apdu.specs.Message.{Message};
 ghost use Rattle.zvt_trace.specs.Told.{on};
 ghost use Rattle.zvt_trace.specs.Told as told;
@@ -15,6 +16,7 @@ use crate::listener::{Failure, Listener, Scope};
 use crate::told::{Head, Told};
 use zvt_apdu::view;
 use zvt_stream::{FedView, FeedError, Stream, Truncated};
+use zvt_tlv::Lengths;
 
 /// What a piece brought: the tally, and whether nothing more is read.
 #[derive(Clone, Copy, Debug, PartialEq, Eq)]
@@ -52,10 +54,11 @@ fn tell_message<D, L: Listener<D>>(
     device: &mut D,
     line: u64,
     from: Direction,
+    lengths: Lengths,
     stream: &Stream,
 ) -> Result<(), Failure>
     requires lent { (message : Message) × (stream.now.lent ≡ Some message) }
-    requires strict { stream.now.reading ≡ shortest }
+    requires reading { stream.now.reading ≡ reading_of lengths }
     ensures { (message : Message) → stream.now.lent ≡ Some message → MatchResult result
         (λ _. L.hears (listener.old, device.old) (on line (told.message from message)) (listener.new, device.new))
         (λ failure. L.fails (listener.old, device.old) (on line (told.message from message)) failure (listener.new, device.new)) }
@@ -64,7 +67,13 @@ fn tell_message<D, L: Listener<D>>(
         unreachable!()
     };
     let apdu = view(bytes);
-    listener.hear(device, line, &Told::Message { from, apdu, bytes })
+    let told = Told::Message {
+        from,
+        apdu,
+        bytes,
+        lengths,
+    };
+    listener.hear(device, line, &told)
 }
 
 /// Tells what a piece brings: the messages that end in it, and whether its stream is refused.
@@ -73,12 +82,13 @@ pub(crate) fn tell_piece<D, L: Listener<D>>(
     device: &mut D,
     line: u64,
     from: Direction,
+    lengths: Lengths,
     stream: &mut Stream,
     bytes: &[u8],
 ) -> Result<Hearing, Failure>
-    requires strict { stream.old.reading ≡ shortest }
-    ensures strict { OnOk result (stream.new.reading ≡ shortest) }
-    ensures tells { (side : Side) → Follows stream.old side → TellsPiece L.hears L.fails line from side bytes.now stream.new (listener.old, device.old) (listener.new, device.new) result }
+    requires reading { stream.old.reading ≡ reading_of lengths }
+    ensures reading { OnOk result (stream.new.reading ≡ reading_of lengths) }
+    ensures tells { (side : Side) → Follows (reading_of lengths) stream.old side → TellsPiece (reading_of lengths) L.hears L.fails line from side bytes.now stream.new (listener.old, device.old) (listener.new, device.new) result }
     ensures few { IfOk result (λ hearing. hearing.tally.messages ≤ length bytes.now) }
     ensures one { IfOk result (λ hearing. hearing.tally.bad ≤ 1) }
 {
@@ -89,7 +99,7 @@ pub(crate) fn tell_piece<D, L: Listener<D>>(
     'messages: loop {
         match stream.feed_view(rest) {
             Ok(FedView::Message { taken }) => {
-                tell_message(listener, device, line, from, stream)?;
+                tell_message(listener, device, line, from, lengths, stream)?;
                 messages += 1;
                 let (_, after) = rest.split_at(taken);
                 // Most pieces end with a message.
@@ -129,17 +139,18 @@ pub(crate) fn tell_beside<D, L: Listener<D>>(
     scope: Scope,
     line: u64,
     from: Direction,
+    lengths: Lengths,
     stream: &mut Stream,
     other: &Stream,
     bytes: &[u8],
 ) -> Result<Hearing, Failure>
-    requires strict { stream.old.reading ≡ shortest }
-    ensures strict { OnOk result (stream.new.reading ≡ shortest) }
-    ensures tells { (side beside : Side) → Follows stream.old side → Follows other.now beside → TellsThere L.hears L.fails scope line from side beside bytes.now stream.new other.now (listener.old, device.old) (listener.new, device.new) result }
+    requires reading { stream.old.reading ≡ reading_of lengths }
+    ensures reading { OnOk result (stream.new.reading ≡ reading_of lengths) }
+    ensures tells { (side beside : Side) → Follows (reading_of lengths) stream.old side → Follows (reading_of lengths) other.now beside → TellsThere (reading_of lengths) L.hears L.fails scope line from side beside bytes.now stream.new other.now (listener.old, device.old) (listener.new, device.new) result }
     ensures few { IfOk result (λ hearing. hearing.tally.messages ≤ length bytes.now) }
     ensures two { IfOk result (λ hearing. hearing.tally.bad ≤ 2) }
 {
-    let hearing = tell_piece(listener, device, line, from, stream, bytes)?;
+    let hearing = tell_piece(listener, device, line, from, lengths, stream, bytes)?;
     let Tally { messages, bad } = hearing.tally;
     if scope == Scope::WholeLine && hearing.stopped {
         let cut_off = tell_cut_off(listener, device, line, from.other(), other)?;
@@ -165,7 +176,7 @@ pub(crate) fn tell_cut_off<D, L: Listener<D>>(
     from: Direction,
     stream: &Stream,
 ) -> Result<u64, Failure>
-    ensures tells { (side : Side) → Follows stream.now side → TellsEnd L.hears L.fails (SideEnds line from side) (listener.old, device.old) (listener.new, device.new) result }
+    ensures tells { (r : Reading) (side : Side) → Follows r stream.now side → TellsEnd L.hears L.fails (SideEnds r line from side) (listener.old, device.old) (listener.new, device.new) result }
     ensures one { IfOk result (λ bad. bad ≤ 1) }
 {
     match stream.finish() {

@@ -5,6 +5,7 @@ ghost use Rattle.zvt_trace.specs.Told.{head_of};
 use crate::direction::Direction;
 use zvt_apdu::ApduView;
 use zvt_spelling::Why;
+use zvt_tlv::Lengths;
 
 /// The control bytes at the front of a message, as far as they have come.
 #[derive(Clone, Copy, Debug, PartialEq, Eq)]
@@ -45,11 +46,12 @@ impl Head {
 /// What a trace tells at one of its lines.
 #[derive(Drop)]
 pub enum Told<'a> {
-    /// A whole message, and its bytes.
+    /// A whole message, and its bytes: with such lengths a spelling of it.
     Message {
         from: Direction,
         apdu: ApduView<'a>,
         bytes: &'a [u8],
+        lengths: Lengths,
     },
     /// No message begins with the bytes that a side sent up to and with this one, which stands at `place`, counted from 0
     /// at the first byte of the message.

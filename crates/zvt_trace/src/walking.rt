@@ -1,7 +1,9 @@
 //! A whole trace, told to a listener.
 ghost use Rattle.std.specs.Prelude.{◌≡◌, ◌≤◌, length, IfOk, OnOk};
 ghost use Rattle.std.specs.Str.Lines.{lines};
-ghost use Rattle.zvt_trace.specs.Listening.{AnswersWalk, AreStrict, FollowBoth, WalksLine};
+ghost use Rattle.zvt_spelling.specs.Reading.{shortest};
+ghost use Rattle.zvt_tlv.specs.Lengths.{reading_of};
+ghost use Rattle.zvt_trace.specs.Listening.{AnswersWalk, FollowBoth, TakeBy, WalksLine};
 ghost use Rattle.zvt_trace.specs.Trace.{Sides};
 ghost use Rattle.zvt_trace.specs.Written.{limit};
 
@@ -11,6 +13,7 @@ use crate::line::{BadLine, read_line};
 use crate::lines::next_line;
 use crate::listener::{Listener, Scope};
 use std::alloc::Global;
+use zvt_tlv::Lengths;
 
 /// Tells the listener, line by line, what the trace says, and what is cut off at its end. Nothing is told of a line that
 /// can't be read, and of the lines behind it.
@@ -25,10 +28,25 @@ pub fn walk<D, L: Listener<D>>(
     trace: &[u8],
 ) -> Result<Tally, TraceFault>
     requires { length trace.now ≤ limit }
-    ensures { AnswersWalk L.hears L.fails scope (lines trace.now) (listener.old, device.old) (listener.new, device.new) result }
+    ensures { AnswersWalk shortest L.hears L.fails scope (lines trace.now) (listener.old, device.old) (listener.new, device.new) result }
+{
+    walk_by(listener, device, alloc, scope, Lengths::Shortest, trace)
+}
+
+/// As [`walk`], of streams that take such lengths.
+pub fn walk_by<D, L: Listener<D>>(
+    listener: &mut L,
+    device: &mut D,
+    alloc: Global,
+    scope: Scope,
+    lengths: Lengths,
+    trace: &[u8],
+) -> Result<Tally, TraceFault>
+    requires { length trace.now ≤ limit }
+    ensures { AnswersWalk (reading_of lengths) L.hears L.fails scope (lines trace.now) (listener.old, device.old) (listener.new, device.new) result }
 {
     let mut tally = Tally::none();
-    let mut sides = BothSides::new(alloc);
+    let mut sides = BothSides::new(alloc, lengths);
     let mut buffer = Vec::new(alloc);
     let mut rest = trace;
     let mut number = 0;
@@ -40,6 +58,7 @@ pub fn walk<D, L: Listener<D>>(
             device,
             alloc,
             scope,
+            lengths,
             &mut sides,
             &mut buffer,
             number,
@@ -60,14 +79,15 @@ fn tell_line<D, L: Listener<D>>(
     device: &mut D,
     alloc: Global,
     scope: Scope,
+    lengths: Lengths,
     sides: &mut BothSides,
     buffer: &mut Vec<u8>,
     number: u64,
     content: &[u8],
 ) -> Result<Tally, TraceFault>
-    requires strict { AreStrict sides.old }
-    ensures strict { OnOk result (AreStrict sides.new) }
-    ensures tells { (state : Sides) → FollowBoth sides.old state → WalksLine L.hears L.fails scope number content.now state sides.new (listener.old, device.old) (listener.new, device.new) result }
+    requires reading { TakeBy (reading_of lengths) sides.old }
+    ensures reading { OnOk result (TakeBy (reading_of lengths) sides.new) }
+    ensures tells { (state : Sides) → FollowBoth (reading_of lengths) sides.old state → WalksLine (reading_of lengths) L.hears L.fails scope number content.now state sides.new (listener.old, device.old) (listener.new, device.new) result }
     ensures few { IfOk result (λ tally. tally.messages ≤ length content.now) }
     ensures two { IfOk result (λ tally. tally.bad ≤ 2) }
 {
@@ -76,5 +96,5 @@ fn tell_line<D, L: Listener<D>>(
         Err(BadLine::Wrong(what)) => return Err(TraceFault::Trace { line: number, what }),
         Err(BadLine::Memory) => return Err(TraceFault::Memory),
     };
-    Ok(sides.tell(listener, device, alloc, scope, number, &line)?)
+    Ok(sides.tell(listener, device, alloc, scope, lengths, number, &line)?)
 }

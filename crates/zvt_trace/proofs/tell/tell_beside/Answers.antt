@@ -13,9 +13,9 @@ pub returns-in_err-cut_off-clause-tells : goal.returns-in_err-cut_off-clause-tel
 returns-in_err-cut_off-clause-tells g c = λ side beside follows other.
     let p = err_from_is_err_and c.from_residual-in_err-cut_off.result c.from_residual-in_err-cut_off.ensures.1 in
     let whole : c.args.scope ≡ WholeLine = search rules in
-    rw (p.1, p.2) (cut_off_fails g.L.Listener.hears g.L.Listener.fails _ _ _ _ _ side beside _ _ c.in_ok-hearing.hearing _ _ _ whole c.other.ensures (c.in_ok-hearing.ensures.tells side follows) c.if-hearing.true (c.in_err-cut_off.ensures.tells beside other))
+    rw (p.1, p.2) (cut_off_fails g.L.Listener.hears g.L.Listener.fails _ _ _ _ _ side beside _ _ c.in_ok-hearing.hearing _ _ _ whole c.other.ensures (c.in_ok-hearing.ensures.tells side follows) c.if-hearing.true (c.in_err-cut_off.ensures.tells _ beside other))
 
 pub returns-then-hearing-clause-tells : goal.returns-then-hearing-clause-tells
 returns-then-hearing-clause-tells g c = λ side beside follows other.
     let whole : c.args.scope ≡ WholeLine = search rules in
-    gives_up g.L.Listener.hears _ _ _ _ side beside _ _ c.args.other.now c.in_ok-hearing.hearing _ _ _ _ _ whole c.other.ensures (c.in_ok-hearing.ensures.tells side follows) c.if-hearing.true (c.in_ok-cut_off.ensures.tells beside other) refl refl refl
+    gives_up g.L.Listener.hears _ _ _ _ side beside _ _ c.args.other.now c.in_ok-hearing.hearing _ _ _ _ _ whole c.other.ensures (c.in_ok-hearing.ensures.tells side follows) c.if-hearing.true (c.in_ok-cut_off.ensures.tells _ beside other) refl refl refl

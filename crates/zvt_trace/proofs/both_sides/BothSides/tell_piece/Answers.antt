@@ -16,26 +16,26 @@ pub returns-in_err-hearing-in-FromTill-clause-tells : goal.returns-in_err-hearin
 returns-in_err-hearing-in-FromTill-clause-tells g c = λ sides follow.
     let p = err_from_is_err_and c.from_residual-in_err-hearing-in-FromTill.result c.from_residual-in_err-hearing-in-FromTill.ensures.1 in
     rw (p.1, p.2) (till_fails g.L.Listener.hears g.L.Listener.fails _ _ _ _ _ sides _ _ c.in-FromTill.is
-    (c.in_err-hearing-in-FromTill.ensures.tells sides.till sides.terminal (until _ _ _ c.if-self.false follow.till) (until _ _ _ c.if-self.false follow.terminal)))
+    (c.in_err-hearing-in-FromTill.ensures.tells sides.till sides.terminal (until _ _ _ _ c.if-self.false follow.till) (until _ _ _ _ c.if-self.false follow.terminal)))
 
 pub returns-in_err-hearing-in-FromTerminal-clause-tells : goal.returns-in_err-hearing-in-FromTerminal-clause-tells
 returns-in_err-hearing-in-FromTerminal-clause-tells g c = λ sides follow.
     let p = err_from_is_err_and c.from_residual-in_err-hearing-in-FromTerminal.result c.from_residual-in_err-hearing-in-FromTerminal.ensures.1 in
     rw (p.1, p.2) (terminal_fails g.L.Listener.hears g.L.Listener.fails _ _ _ _ _ sides _ _ c.in-FromTerminal.is
-    (c.in_err-hearing-in-FromTerminal.ensures.tells sides.terminal sides.till (until _ _ _ c.if-self.false follow.terminal) (until _ _ _ c.if-self.false follow.till)))
+    (c.in_err-hearing-in-FromTerminal.ensures.tells sides.terminal sides.till (until _ _ _ _ c.if-self.false follow.terminal) (until _ _ _ _ c.if-self.false follow.till)))
 
 pub returns-clause-tells : goal.returns-clause-tells
 returns-clause-tells g c = λ sides follow. elim c.match-from.branch [
   | in-FromTill+in_ok-hearing-in-FromTill w ↦ rw (w.self-is, w.listener-is, w.device-is, w.hearing-is)
       (till_heard g.L.Listener.hears _ _ _ _ sides c.args.self.now _ w.in_ok-hearing-in-FromTill.hearing _ _ w.in-FromTill.is
-      (w.in_ok-hearing-in-FromTill.ensures.tells sides.till sides.terminal (until _ _ _ c.if-self.false follow.till) (until _ _ _ c.if-self.false follow.terminal)) refl refl)
+      (w.in_ok-hearing-in-FromTill.ensures.tells sides.till sides.terminal (until _ _ _ _ c.if-self.false follow.till) (until _ _ _ _ c.if-self.false follow.terminal)) refl refl)
   | in-FromTerminal+in_ok-hearing-in-FromTerminal w ↦ rw (w.self-is, w.listener-is, w.device-is, w.hearing-is)
       (terminal_heard g.L.Listener.hears _ _ _ _ sides c.args.self.now _ w.in_ok-hearing-in-FromTerminal.hearing _ _ w.in-FromTerminal.is
-      (w.in_ok-hearing-in-FromTerminal.ensures.tells sides.terminal sides.till (until _ _ _ c.if-self.false follow.terminal) (until _ _ _ c.if-self.false follow.till)) refl refl)
+      (w.in_ok-hearing-in-FromTerminal.ensures.tells sides.terminal sides.till (until _ _ _ _ c.if-self.false follow.terminal) (until _ _ _ _ c.if-self.false follow.till)) refl refl)
 ]
 
-pub returns-clause-strict : goal.returns-clause-strict
-returns-clause-strict g c = elim c.match-from.branch [
-  | in-FromTill+in_ok-hearing-in-FromTill w ↦ rw w.self-is (w.in_ok-hearing-in-FromTill.ensures.strict, c.requires.strict.1)
-  | in-FromTerminal+in_ok-hearing-in-FromTerminal w ↦ rw w.self-is (c.requires.strict.0, w.in_ok-hearing-in-FromTerminal.ensures.strict)
+pub returns-clause-reading : goal.returns-clause-reading
+returns-clause-reading g c = elim c.match-from.branch [
+  | in-FromTill+in_ok-hearing-in-FromTill w ↦ rw w.self-is (w.in_ok-hearing-in-FromTill.ensures.reading, c.requires.reading.1)
+  | in-FromTerminal+in_ok-hearing-in-FromTerminal w ↦ rw w.self-is (c.requires.reading.0, w.in_ok-hearing-in-FromTerminal.ensures.reading)
 ]

@@ -1,12 +1,12 @@
 use Rattle.std.proofs.Common.{◌≡◌, length, arith, refl, rules}
 use Rattle.std.proofs.lemmas.Result.{err_from_is_err_and}
 use Rattle.zvt_trace.proofs.WalkedLemmas.{closed, end_failed, failed, none_walked, one_walked}
-use Rattle.zvt_trace.proofs.walking.walk.Goals as goal
+use Rattle.zvt_trace.proofs.walking.walk_by.Goals as goal
 
 pub lines-init : goal.lines-init
 lines-init g c = record {
   so_far = none_walked g.L.Listener.hears _ _ _ _ _ c.new-sides.ensures.follows c.none-tally.ensures.0 c.none-tally.ensures.1;
-  strict = c.new-sides.ensures.strict;
+  reading = c.new-sides.ensures.reading;
   lines = omega arith;
   messages = omega (arith, c.none-tally.ensures.0);
   bad = omega (arith, c.none-tally.ensures.1);
@@ -18,7 +18,7 @@ lines-preserved g c =
     record {
       so_far = one_walked g.L.Listener.hears g.L.Listener.fails _ _ c.lines.rest.now c.next_line.result.0.now c.next_line.result.1.now c.lines.number c.lines.sides _ c.lines.tally c.in_ok-counted.counted _ _ _ _
           so c.next_line.ensures.lines (c.in_ok-counted.ensures.tells so.sides so.follow) refl refl;
-      strict = c.in_ok-counted.ensures.strict;
+      reading = c.in_ok-counted.ensures.reading;
       lines = omega arith;
       messages = omega (arith, c.in_ok-counted.ensures.few);
       bad = omega (arith, c.in_ok-counted.ensures.two);
@@ -36,10 +36,10 @@ returns-in_err-tally g c =
     let p = err_from_is_err_and c.from_residual-in_err-tally.result c.from_residual-in_err-tally.ensures.1 in
     let so = c.lines.invariant.so_far in
     let none : length c.lines.rest.now ≡ 0 = search rules in
-    rw (p.1, p.2) (end_failed g.L.Listener.hears g.L.Listener.fails _ _ _ c.lines.rest.now _ c.lines.sides c.lines.tally _ _ _ none so (c.in_err-tally.ensures.tells so.sides so.follow))
+    rw (p.1, p.2) (end_failed g.L.Listener.hears g.L.Listener.fails _ _ _ c.lines.rest.now _ c.lines.sides c.lines.tally _ _ _ none so (c.in_err-tally.ensures.tells _ so.sides so.follow))
 
 pub returns : goal.returns
 returns g c =
     let so = c.lines.invariant.so_far in
     let none : length c.lines.rest.now ≡ 0 = search rules in
-    closed g.L.Listener.hears g.L.Listener.fails _ _ c.lines.rest.now _ c.lines.sides c.lines.tally _ _ _ _ _ none so (c.in_ok-tally.ensures.tells so.sides so.follow) refl refl
+    closed g.L.Listener.hears g.L.Listener.fails _ _ c.lines.rest.now _ c.lines.sides c.lines.tally _ _ _ _ _ none so (c.in_ok-tally.ensures.tells _ so.sides so.follow) refl refl
