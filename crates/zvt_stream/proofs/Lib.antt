@@ -17,3 +17,4 @@ pub mod WholeLemmas
 pub mod JudgedFeeds
 pub mod PassLemmas
 pub mod RunLemmas
+pub mod WholeFirst

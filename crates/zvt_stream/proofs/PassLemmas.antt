@@ -11,7 +11,7 @@ use Rattle.zvt_bcd.specs.Digits.{AreDigits, IsDigitPair}
 use Rattle.zvt_bcd.proofs.PairTests.{is_pair_test}
 use Rattle.zvt_field.specs.Grammar.{IsContent}
 use Rattle.zvt_apdu.proofs.DataMoves.{take_bytes}
-use Rattle.zvt_stream.specs.declared.judging.Passed.{Passed}
+use Rattle.zvt_stream.specs.declared.passing.Passed.{Passed}
 use Rattle.zvt_stream.specs.declared.moves.At.{At}
 use Rattle.zvt_stream.specs.declared.moves.At.TheVariants as stage
 use Rattle.zvt_stream.specs.declared.moves.Move.TheVariants.{Within}
@@ -25,7 +25,7 @@ use Rattle.zvt_stream.proofs.ContentMoves.{object_within}
 use Rattle.zvt_stream.proofs.JudgeLemmas.{goes_on_fields, passes, unfinished}
 
 -- a byte that stays in its level
-one_more : (r : Reading) (at to : At) (left less x : ℕ) (outer b : List ℕ) → x < 256 → StandsFor (record { reading = r; at = at; left = left; outer = outer }) b → one.Moves r at left outer b x (Ok (Within to less)) → StandsFor (record { reading = r; at = to; left = less; outer = outer }) (b ++ x ∷ [])
+pub one_more : (r : Reading) (at to : At) (left less x : ℕ) (outer b : List ℕ) → x < 256 → StandsFor (record { reading = r; at = at; left = left; outer = outer }) b → one.Moves r at left outer b x (Ok (Within to less)) → StandsFor (record { reading = r; at = to; left = less; outer = outer }) (b ++ x ∷ [])
 one_more r at to left less x outer b lt s q = record { unfinished = unfinished r to less outer (b ++ x ∷ []) (passes r at left x outer b lt s.unfinished.alive s.stands q.0) q.1; stands = q.1 }
 
 abbrev Stands : (r : Reading) → At → (left : ℕ) → (outer b : List ℕ) → Type 0

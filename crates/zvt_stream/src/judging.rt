@@ -1,14 +1,13 @@
 //! The judge of a line's bytes, each looked at once.
 
-ghost use Rattle.std.specs.Prelude.{◌≡◌, ℕ, ◌+◌, ◌-◌, ◌<◌, ◌≤◌, List, [], ◌∷◌, ◌++◌, false, length, take, reverse, IfSome};
-ghost use Rattle.zvt_bcd.specs.Digits.{AreDigits};
+ghost use Rattle.std.specs.Prelude.{◌≡◌, ℕ, ◌+◌, ◌-◌, ◌<◌, ◌≤◌, List, [], ◌∷◌, ◌++◌, false, length, take, reverse, IfNone, IfSome};
 ghost use Rattle.zvt_spelling.specs.Reading.{Reading, padded, shortest};
 ghost use Rattle.zvt_tlv.specs.Lengths.{reading_of};
 ghost use Rattle.zvt_stream.specs.Standing.{Where, Between};
-ghost use Rattle.zvt_stream.specs.Judge.{start, StandsFor, HasLevelsIn, Stepped, Ran, taken_by, Closes, Settles, Judges, Passes, PassesOver, Skips};
-ghost use Rattle.zvt_stream.specs.Moves.{IsReady};
+ghost use Rattle.zvt_stream.specs.Judge.{start, StandsFor, HasLevelsIn, Stepped, Ran, taken_by, Closes, Settles, Judges, Skips};
 
-use crate::moves::{At, Move, judge_byte, judge_field};
+use crate::moves::{At, Move, judge_byte};
+use crate::passing::{pass, whole_first};
 use crate::steps::Steps;
 use arrayvec::ArrayVec;
 use std::marker::Model;
@@ -40,14 +39,6 @@ pub enum Run {
 pub(crate) struct Goes {
     at: At,
     left: usize,
-}
-
-/// What bytes that end nothing lead to, and how many they are.
-#[derive(Clone, Copy)]
-pub(crate) struct Passed {
-    at: At,
-    left: usize,
-    count: usize,
 }
 
 /// What the bytes of an unfinished message leave open: the part that the next byte plays, and for each open level, the
@@ -174,9 +165,34 @@ impl Judge {
         }
     }
 
-    /// Judges bytes up to the end of a message. Both control bytes, and those of a content but its last one, are taken at
-    /// once.
+    // Takes a whole message without fields, where none of it was judged: its size.
+    #[inline(always)]
+    fn take_whole(&mut self, steps: &mut Steps, bytes: &[u8]) -> Option<usize>
+        ensures some { IfSome result (λ size. (held : List ℕ) → StandsFor self.old held → Ran self.old.reading held bytes.now (Run.Ended size) self.new) }
+        ensures count { IfSome result (λ size. steps.new.judged.count ≡ steps.old.judged.count + size) }
+        ensures none { IfNone result ((self.new ≡ self.old) × (steps.new.judged.count ≡ steps.old.judged.count)) }
+    {
+        let size = whole_first(self.at, bytes)?;
+        steps.raise(size);
+        *self = Judge::of(self.lengths);
+        Some(size)
+    }
+
+    /// Judges bytes up to the end of a message. A whole message without fields is taken at once, and so are both control
+    /// bytes, and those of a content but its last one.
+    #[inline(always)]
     pub fn run(&mut self, steps: &mut Steps, bytes: &[u8]) -> Run
+        ensures judged { (held : List ℕ) → StandsFor self.old held → Ran self.old.reading held bytes.now result self.new }
+        ensures count { steps.new.judged.count ≡ steps.old.judged.count + taken_by bytes.now result }
+    {
+        match self.take_whole(steps, bytes) {
+            Some(taken) => Run::Ended { taken },
+            None => self.run_through(steps, bytes),
+        }
+    }
+
+    // Judges bytes, some of them one by one.
+    fn run_through(&mut self, steps: &mut Steps, bytes: &[u8]) -> Run
         ensures judged { (held : List ℕ) → StandsFor self.old held → Ran self.old.reading held bytes.now result self.new }
         ensures count { steps.new.judged.count ≡ steps.old.judged.count + taken_by bytes.now result }
     {
@@ -216,153 +232,6 @@ fn judge_in(
         }
         Err(why) => Err(why),
     }
-}
-
-/// The bytes at the front that end nothing and need no step of their own: none where there is no such byte.
-fn pass(at: At, left: usize, bytes: &[u8], lengths: Lengths) -> Option<Passed>
-    requires { IsReady at left }
-    ensures { IfSome result (λ passed. (passed.count ≤ length bytes.now) × Passes (reading_of lengths) at left passed.at passed.left (take passed.count bytes.now)) }
-{
-    match at {
-        At::FirstControl => pass_control(left, bytes),
-        At::Name => pass_fields(left, bytes, lengths),
-        At::Payload => pass_payload(left, bytes.len()),
-        At::Content { digits, more } => pass_content(digits, more, left, bytes),
-        At::Object { more } => pass_object(more, left, bytes.len()),
-        _ => None,
-    }
-}
-
-/// Both control bytes, where they stand there.
-fn pass_control(left: usize, bytes: &[u8]) -> Option<Passed>
-    ensures { IfSome result (λ passed. (passed.count ≤ length bytes.now) × ((r : Reading) → Passes r At.FirstControl left passed.at passed.left (take passed.count bytes.now))) }
-{
-    match bytes {
-        [high, low, ..] => Some(Passed {
-            at: At::FirstSize {
-                high: *high,
-                low: *low,
-            },
-            left,
-            count: 2,
-        }),
-        _ => None,
-    }
-}
-
-/// Whole fields of fixed sizes, each but the last of its level.
-fn pass_fields(left: usize, bytes: &[u8], lengths: Lengths) -> Option<Passed>
-    requires { 2 ≤ left }
-    ensures { IfSome result (λ passed. (passed.count ≤ length bytes.now) × Passes (reading_of lengths) At.Name left passed.at passed.left (take passed.count bytes.now)) }
-{
-    let mut passed = pass_field(left, bytes, lengths)?;
-    'fields: while let Some(next) = pass_field(passed.left, &bytes[passed.count..], lengths) {
-        passed.left = next.left;
-        passed.count += next.count;
-    }
-    Some(passed)
-}
-
-/// The field that stands first, where all of it is there, its size is fixed, and another one follows it in its level.
-fn pass_field(left: usize, bytes: &[u8], lengths: Lengths) -> Option<Passed>
-    requires { 2 ≤ left }
-    ensures { IfSome result (λ passed. (passed.at ≡ At.Name) × (2 ≤ passed.left) × (0 < passed.count) × (passed.count ≤ length bytes.now) × Passes (reading_of lengths) At.Name left At.Name passed.left (take passed.count bytes.now)) }
-{
-    let [name, ..] = bytes else {
-        return None;
-    };
-    let Ok(
-        Move::Within {
-            at: At::Content { digits, more },
-            left: within,
-        },
-    ) = judge_field(left, *name, lengths)
-    else {
-        return None;
-    };
-    let after = within.checked_sub(more)?;
-    if after < 2 || bytes.len() <= more {
-        return None;
-    }
-    if digits && digits_first(&bytes[1..1 + more]) < more {
-        return None;
-    }
-    Some(Passed {
-        at: At::Name,
-        left: after,
-        count: 1 + more,
-    })
-}
-
-fn pass_payload(left: usize, most: usize) -> Option<Passed>
-    requires { 0 < left }
-    ensures { IfSome result (λ passed. (passed.count ≤ most) × ((r : Reading) → PassesOver r At.Payload left passed.at passed.left passed.count)) }
-{
-    let count = (left - 1).min(most);
-    if count == 0 {
-        return None;
-    }
-    Some(Passed {
-        at: At::Payload,
-        left: left - count,
-        count,
-    })
-}
-
-/// Bytes of a content but its last one: of digits, those up to the first byte that is none.
-fn pass_content(digits: bool, more: usize, left: usize, bytes: &[u8]) -> Option<Passed>
-    requires some { 0 < more }
-    requires room { more ≤ left }
-    ensures { IfSome result (λ passed. (passed.count ≤ length bytes.now) × ((r : Reading) → Passes r (At.Content digits more) left passed.at passed.left (take passed.count bytes.now))) }
-{
-    let most = (more - 1).min(bytes.len());
-    let count = if digits {
-        digits_first(&bytes[..most])
-    } else {
-        most
-    };
-    if count == 0 {
-        return None;
-    }
-    Some(Passed {
-        at: At::Content {
-            digits,
-            more: more - count,
-        },
-        left: left - count,
-        count,
-    })
-}
-
-/// How many bytes at the front are two digits each.
-fn digits_first(bytes: &[u8]) -> usize
-    ensures few { result ≤ length bytes.now }
-    ensures digits { AreDigits (take result bytes.now) }
-{
-    let mut count = 0;
-    while count < bytes.len() {
-        if bytes[count] / 16 > 9 || bytes[count] % 16 > 9 {
-            return count;
-        }
-        count += 1;
-    }
-    count
-}
-
-fn pass_object(more: usize, left: usize, most: usize) -> Option<Passed>
-    requires some { 0 < more }
-    requires room { more ≤ left }
-    ensures { IfSome result (λ passed. (passed.count ≤ most) × ((r : Reading) → PassesOver r (At.Object more) left passed.at passed.left passed.count)) }
-{
-    let count = (more - 1).min(most);
-    if count == 0 {
-        return None;
-    }
-    Some(Passed {
-        at: At::Object { more: more - count },
-        left: left - count,
-        count,
-    })
 }
 
 /// Goes on in the innermost level that has bytes to come.

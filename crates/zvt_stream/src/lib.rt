@@ -8,6 +8,7 @@ mod keeping;
 pub mod laws;
 mod line;
 mod moves;
+mod passing;
 mod steps;
 
 pub use engine::{pump, send};

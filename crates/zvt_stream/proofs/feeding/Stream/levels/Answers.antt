@@ -1,4 +1,4 @@
-use Rattle.std.proofs.Common.{ap, subst}
+use Rattle.std.proofs.Common.{subst}
 use Rattle.zvt_stream.specs.Judge.{HasLevelsIn}
 use Rattle.zvt_stream.specs.Lending.{held_of}
 use Rattle.zvt_stream.specs.StreamState.{StreamState}

@@ -2,7 +2,7 @@ use Rattle.std.proofs.Common.{arith, length-drop, ap, length}
 use Rattle.std.proofs.lemmas.List.{take_rest}
 use Rattle.zvt_tlv.specs.Lengths.{reading_of}
 use Rattle.zvt_stream.proofs.PassLemmas.{named, passes_more}
-use Rattle.zvt_stream.proofs.judging.pass_fields.Goals as goal
+use Rattle.zvt_stream.proofs.passing.pass_fields.Goals as goal
 
 pub fields-init : goal.fields-init
 fields-init c =

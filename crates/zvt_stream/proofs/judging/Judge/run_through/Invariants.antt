@@ -1,6 +1,6 @@
 use Rattle.std.proofs.Common.{◌≡◌, ℕ, ◌+◌, ◌-◌, ◌≤◌, List, ◌++◌, length, take}
 use Rattle.zvt_stream.specs.Judge.{StandsFor}
-use Rattle.zvt_stream.proofs.judging.Judge.run.Given as goal
+use Rattle.zvt_stream.proofs.judging.Judge.run_through.Given as goal
 
 abbrev pub invariant-loop-taken : goal.invariant-loop-taken
 invariant-loop-taken l = record {

@@ -1,6 +1,6 @@
 use Rattle.std.proofs.Common.{◌≤◌, ◌-◌, length, take}
 use Rattle.zvt_bcd.specs.Digits.{AreDigits}
-use Rattle.zvt_stream.proofs.judging.digits_first.Given as goal
+use Rattle.zvt_stream.proofs.passing.digits_first.Given as goal
 
 abbrev pub invariant-loop-count : goal.invariant-loop-count
 invariant-loop-count l = record {

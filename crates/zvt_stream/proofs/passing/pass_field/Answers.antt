@@ -4,8 +4,8 @@ use Rattle.zvt_apdu.proofs.DataMoves.{are_bytes}
 use Rattle.zvt_field.specs.Grammar.{IsContent}
 use Rattle.zvt_tlv.specs.Lengths.{reading_of}
 use Rattle.zvt_stream.proofs.PassLemmas.{bytes_behind, digits_all, field_front}
-use Rattle.zvt_stream.proofs.judging.pass_field.Goals.{else-digits-via-then-digits+else-digits_first-more, else-digits-via-else-digits}
-use Rattle.zvt_stream.proofs.judging.pass_field.Goals as goal
+use Rattle.zvt_stream.proofs.passing.pass_field.Goals.{else-digits-via-then-digits+else-digits_first-more, else-digits-via-else-digits}
+use Rattle.zvt_stream.proofs.passing.pass_field.Goals as goal
 
 pub returns : goal.returns
 returns c =

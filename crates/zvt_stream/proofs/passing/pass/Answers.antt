@@ -2,7 +2,7 @@ use Rattle.std.proofs.Common.{arith}
 use Rattle.zvt_apdu.proofs.DataMoves.{are_bytes}
 use Rattle.zvt_tlv.specs.Lengths.{reading_of}
 use Rattle.zvt_stream.proofs.PassLemmas.{front_passes, passes_by, passes_over_by}
-use Rattle.zvt_stream.proofs.judging.pass.Goals as goal
+use Rattle.zvt_stream.proofs.passing.pass.Goals as goal
 
 pub returns-in-FirstControl : goal.returns-in-FirstControl
 returns-in-FirstControl c = rw c.in-FirstControl.is (passes_by (reading_of c.args.lengths) _ _ _ _ c.pass_control.ensures)

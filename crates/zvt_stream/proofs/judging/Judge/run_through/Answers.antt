@@ -4,7 +4,7 @@ use Rattle.zvt_stream.specs.Apdus.{IsRefusedIn}
 use Rattle.zvt_stream.specs.Judge.{IsMessageIn, start}
 use Rattle.zvt_stream.proofs.JudgeLemmas.{ran_refused}
 use Rattle.zvt_stream.proofs.RunLemmas.{within, skipped, stands_behind, ends_behind}
-use Rattle.zvt_stream.proofs.judging.Judge.run.Goals as goal
+use Rattle.zvt_stream.proofs.judging.Judge.run_through.Goals as goal
 
 pub loop-taken-preserved : goal.loop-taken-preserved
 loop-taken-preserved c =

@@ -1,7 +1,7 @@
 use Rattle.std.proofs.Common.{arith}
 use Rattle.std.proofs.lemmas.List.Elements.{All-more}
 use Rattle.zvt_bcd.specs.Digits.{IsDigitPair}
-use Rattle.zvt_stream.proofs.judging.digits_first.Goals as goal
+use Rattle.zvt_stream.proofs.passing.digits_first.Goals as goal
 
 pub loop-count-preserved : goal.loop-count-preserved
 loop-count-preserved c = record {

@@ -2,8 +2,8 @@ use Rattle.std.proofs.Common.{◌≤◌, arith}
 use Rattle.std.proofs.lemmas.List.{length-take-le}
 use Rattle.zvt_apdu.proofs.DataMoves.{are_bytes}
 use Rattle.zvt_stream.proofs.PassLemmas.{content_passed, digits_front, bytes_front}
-use Rattle.zvt_stream.proofs.judging.pass_content.Goals.{then-digits, else-digits}
-use Rattle.zvt_stream.proofs.judging.pass_content.Goals as goal
+use Rattle.zvt_stream.proofs.passing.pass_content.Goals.{then-digits, else-digits}
+use Rattle.zvt_stream.proofs.passing.pass_content.Goals as goal
 
 pub returns : goal.returns
 returns c =

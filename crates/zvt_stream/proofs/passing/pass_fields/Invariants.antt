@@ -2,7 +2,7 @@ use Rattle.std.proofs.Common.{◌≡◌, ◌-◌, ◌≤◌, length, take}
 use Rattle.zvt_tlv.specs.Lengths.{reading_of}
 use Rattle.zvt_stream.specs.Judge.{Passes}
 use Rattle.zvt_stream.specs.declared.moves.At.TheVariants.{Name}
-use Rattle.zvt_stream.proofs.judging.pass_fields.Given as goal
+use Rattle.zvt_stream.proofs.passing.pass_fields.Given as goal
 
 abbrev pub invariant-fields : goal.invariant-fields
 invariant-fields l = record {

@@ -1,0 +1,192 @@
+//! Bytes that are judged at once.
+
+ghost use Rattle.std.specs.Prelude.{◌≡◌, ◌<◌, ◌≤◌, List, ℕ, ◌++◌, length, take, IfSome};
+ghost use Rattle.zvt_bcd.specs.Digits.{AreDigits};
+ghost use Rattle.zvt_spelling.specs.Reading.{Reading};
+ghost use Rattle.zvt_tlv.specs.Lengths.{reading_of};
+ghost use Rattle.zvt_stream.specs.Judge.{StandsFor, IsMessageIn, Passes, PassesOver};
+ghost use Rattle.zvt_stream.specs.Moves.{IsReady};
+
+use crate::moves::{At, Move, judge_field};
+use zvt_apdu::judge_size;
+use zvt_tlv::Lengths;
+
+/// What bytes that end nothing lead to, and how many they are.
+#[derive(Clone, Copy)]
+pub(crate) struct Passed {
+    pub(crate) at: At,
+    pub(crate) left: usize,
+    pub(crate) count: usize,
+}
+
+/// The size of the message that stands first, where none of it was judged, and no fields stand in it.
+#[inline(always)]
+pub(crate) fn whole_first(at: At, bytes: &[u8]) -> Option<usize>
+    ensures few { IfSome result (λ size. (0 < size) × (size ≤ length bytes.now)) }
+    ensures whole { IfSome result (λ size. (r : Reading) (left : ℕ) (outer held : List ℕ) → StandsFor (record { reading = r; at = at; left = left; outer = outer }) held → IsMessageIn r (held ++ take size bytes.now)) }
+{
+    let At::FirstControl = at else {
+        return None;
+    };
+    let [high, low, size, rest @ ..] = bytes else {
+        return None;
+    };
+    let size = usize::from(*size);
+    if size == 0xFF || rest.len() < size {
+        return None;
+    }
+    let Ok(layout) = judge_size(*high, *low, size) else {
+        return None;
+    };
+    if size > 0 && layout.fields {
+        return None;
+    }
+    Some(3 + size)
+}
+
+/// The bytes at the front that end nothing and need no step of their own: none where there is no such byte.
+pub(crate) fn pass(at: At, left: usize, bytes: &[u8], lengths: Lengths) -> Option<Passed>
+    requires { IsReady at left }
+    ensures { IfSome result (λ passed. (passed.count ≤ length bytes.now) × Passes (reading_of lengths) at left passed.at passed.left (take passed.count bytes.now)) }
+{
+    match at {
+        At::FirstControl => pass_control(left, bytes),
+        At::Name => pass_fields(left, bytes, lengths),
+        At::Payload => pass_payload(left, bytes.len()),
+        At::Content { digits, more } => pass_content(digits, more, left, bytes),
+        At::Object { more } => pass_object(more, left, bytes.len()),
+        _ => None,
+    }
+}
+
+/// Both control bytes, where they stand there.
+fn pass_control(left: usize, bytes: &[u8]) -> Option<Passed>
+    ensures { IfSome result (λ passed. (passed.count ≤ length bytes.now) × ((r : Reading) → Passes r At.FirstControl left passed.at passed.left (take passed.count bytes.now))) }
+{
+    match bytes {
+        [high, low, ..] => Some(Passed {
+            at: At::FirstSize {
+                high: *high,
+                low: *low,
+            },
+            left,
+            count: 2,
+        }),
+        _ => None,
+    }
+}
+
+/// Whole fields of fixed sizes, each but the last of its level.
+fn pass_fields(left: usize, bytes: &[u8], lengths: Lengths) -> Option<Passed>
+    requires { 2 ≤ left }
+    ensures { IfSome result (λ passed. (passed.count ≤ length bytes.now) × Passes (reading_of lengths) At.Name left passed.at passed.left (take passed.count bytes.now)) }
+{
+    let mut passed = pass_field(left, bytes, lengths)?;
+    'fields: while let Some(next) = pass_field(passed.left, &bytes[passed.count..], lengths) {
+        passed.left = next.left;
+        passed.count += next.count;
+    }
+    Some(passed)
+}
+
+/// The field that stands first, where all of it is there, its size is fixed, and another one follows it in its level.
+fn pass_field(left: usize, bytes: &[u8], lengths: Lengths) -> Option<Passed>
+    requires { 2 ≤ left }
+    ensures { IfSome result (λ passed. (passed.at ≡ At.Name) × (2 ≤ passed.left) × (0 < passed.count) × (passed.count ≤ length bytes.now) × Passes (reading_of lengths) At.Name left At.Name passed.left (take passed.count bytes.now)) }
+{
+    let [name, ..] = bytes else {
+        return None;
+    };
+    let Ok(
+        Move::Within {
+            at: At::Content { digits, more },
+            left: within,
+        },
+    ) = judge_field(left, *name, lengths)
+    else {
+        return None;
+    };
+    let after = within.checked_sub(more)?;
+    if after < 2 || bytes.len() <= more {
+        return None;
+    }
+    if digits && digits_first(&bytes[1..1 + more]) < more {
+        return None;
+    }
+    Some(Passed {
+        at: At::Name,
+        left: after,
+        count: 1 + more,
+    })
+}
+
+fn pass_payload(left: usize, most: usize) -> Option<Passed>
+    requires { 0 < left }
+    ensures { IfSome result (λ passed. (passed.count ≤ most) × ((r : Reading) → PassesOver r At.Payload left passed.at passed.left passed.count)) }
+{
+    let count = (left - 1).min(most);
+    if count == 0 {
+        return None;
+    }
+    Some(Passed {
+        at: At::Payload,
+        left: left - count,
+        count,
+    })
+}
+
+/// Bytes of a content but its last one: of digits, those up to the first byte that is none.
+fn pass_content(digits: bool, more: usize, left: usize, bytes: &[u8]) -> Option<Passed>
+    requires some { 0 < more }
+    requires room { more ≤ left }
+    ensures { IfSome result (λ passed. (passed.count ≤ length bytes.now) × ((r : Reading) → Passes r (At.Content digits more) left passed.at passed.left (take passed.count bytes.now))) }
+{
+    let most = (more - 1).min(bytes.len());
+    let count = if digits {
+        digits_first(&bytes[..most])
+    } else {
+        most
+    };
+    if count == 0 {
+        return None;
+    }
+    Some(Passed {
+        at: At::Content {
+            digits,
+            more: more - count,
+        },
+        left: left - count,
+        count,
+    })
+}
+
+/// How many bytes at the front are two digits each.
+fn digits_first(bytes: &[u8]) -> usize
+    ensures few { result ≤ length bytes.now }
+    ensures digits { AreDigits (take result bytes.now) }
+{
+    let mut count = 0;
+    while count < bytes.len() {
+        if bytes[count] / 16 > 9 || bytes[count] % 16 > 9 {
+            return count;
+        }
+        count += 1;
+    }
+    count
+}
+
+fn pass_object(more: usize, left: usize, most: usize) -> Option<Passed>
+    requires some { 0 < more }
+    requires room { more ≤ left }
+    ensures { IfSome result (λ passed. (passed.count ≤ most) × ((r : Reading) → PassesOver r (At.Object more) left passed.at passed.left passed.count)) }
+{
+    let count = (more - 1).min(most);
+    if count == 0 {
+        return None;
+    }
+    Some(Passed {
+        at: At::Object { more: more - count },
+        left: left - count,
+        count,
+    })
+}
