@@ -1,0 +1,42 @@
+/* Reads an authorisation and prints its text; then bytes that are refused. cc demo.c -lzvt */
+#include "zvt.h"
+#include <stdio.h>
+
+int main(void) {
+    const uint8_t row[] = {0x06, 0x01, 0x0A, 0x04, 0x00, 0x00, 0x00, 0x00, 0x12, 0x34, 0x49, 0x09, 0x78};
+    uint8_t text[256];
+    zvt_answer answer;
+    size_t size = zvt_text(row, sizeof row, text, sizeof text, &answer);
+    printf("status %u, %zu bytes\n%.*s", answer.status, answer.size, (int)size, (const char *)text);
+    size = zvt_text(row, sizeof row, text, 3, &answer);
+    printf("a room of 3 is too little for %zu\n", size);
+    zvt_scan(row, sizeof row - 1, &answer);
+    printf("one byte less: status %u\n", answer.status);
+    const uint8_t bad[] = {0x06, 0x01, 0x02, 0xD0};
+    zvt_scan(bad, sizeof bad, &answer);
+    printf("refused at %zu for reason %u\n", answer.place, answer.reason);
+    zvt_scan(bad, 0, &answer);
+    printf("no bytes: status %u\n", answer.status);
+
+    zvt_till till = {0};
+    zvt_step step;
+    zvt_state state;
+    uint8_t out[ZVT_ROOM];
+    printf("closed: %u\n", zvt_till_state(&till, &state));
+    zvt_till_new(&till, 0, 0xBE, 978);
+    printf("offline: %u\n", zvt_till_order(&till, ZVT_PAY, 1234, out, sizeof out, &step));
+    zvt_till_connected(&till);
+    printf("register: %u, to send:", zvt_till_order(&till, ZVT_REGISTER, 0, out, sizeof out, &step));
+    for (size_t i = 0; i < step.send; i++) printf(" %02X", out[i]);
+    printf("\n");
+    const uint8_t reply[] = {0x80, 0x00, 0x00, 0x06, 0x0F, 0x00};
+    for (size_t at = 0; at < sizeof reply; at += step.taken) {
+        uint32_t status = zvt_till_feed(&till, reply + at, sizeof reply - at, out, sizeof out, &step);
+        printf("fed: status %u, taken %zu, message %u, send %zu, outcome %u\n", status, step.taken, step.message, step.send, step.outcome.kind);
+        if (status != ZVT_OK || !step.message) break;
+    }
+    zvt_till_free(&till);
+    zvt_till_free(&till);
+    printf("closed again: %u\n", zvt_till_state(&till, &state));
+    return 0;
+}

@@ -1,0 +1,124 @@
+/* zvt.h: the ZVT reader, texts and till, for C and for what calls C.
+ *
+ * Bytes in, bytes out: nothing here opens, reads or writes a socket. No globals, no threads, no callbacks. No call
+ * aborts or unwinds: want of memory is the status ZVT_NO_MEMORY, and the call then changed nothing.
+ *
+ * What a caller owes, and nothing checks:
+ *  - each pointer is to that many bytes or to one such struct, aligned, and is never null where the length is not 0;
+ *    what a call writes to (answers, room, handles) overlaps nothing else that is passed to it;
+ *  - a zvt_till is all zeroes, or what the last call here left in it. It is never copied; it may be moved between calls.
+ *    One thread at a time uses it;
+ *  - malloc, realloc and free are the program's, and of one allocator.
+ */
+#ifndef ZVT_H
+#define ZVT_H
+#include <stdbool.h>
+#include <stddef.h>
+#include <stdint.h>
+#ifdef __cplusplus
+extern "C" {
+#endif
+
+/* Statuses. */
+enum {
+    ZVT_OK = 0, ZVT_WHOLE = 0, ZVT_MORE = 1, ZVT_REFUSED = 2, ZVT_NO_MEMORY = 3,
+    ZVT_NO_ROOM = 4,   /* less room than is needed; nothing changed */
+    ZVT_ARGUMENT = 5,  /* a number that names nothing; nothing changed */
+    ZVT_CLOSED = 6,    /* the handle has no till */
+    ZVT_STOPPED = 7,   /* this line brought bytes before that begin no message: give it up */
+    /* why an order is refused; nothing changed */
+    ZVT_OFFLINE = 10, ZVT_NOT_REGISTERED, ZVT_BUSY, ZVT_NOTHING_TO_CANCEL, ZVT_BOOK_FULL, ZVT_UNKNOWN_ENTRY,
+    ZVT_ALREADY_REVERSED, ZVT_NO_RECEIPT
+};
+
+/* Why a byte is refused. */
+enum {
+    ZVT_NOT_SHORTEST = 1, ZVT_DOES_NOT_FIT, ZVT_LENGTH_FORM, ZVT_TOO_DEEP, ZVT_TAG_TOO_LONG, ZVT_UNKNOWN_FIELD,
+    ZVT_NOT_DIGIT, ZVT_LENGTH_DIGIT
+};
+
+/* The reader. */
+typedef struct zvt_answer {
+    size_t size;     /* ZVT_WHOLE: the bytes of the message that stands first */
+    size_t place;    /* ZVT_REFUSED: the first byte after which no message can follow */
+    uint32_t reason; /* ZVT_REFUSED: why */
+    uint32_t status; /* ZVT_WHOLE, ZVT_MORE, ZVT_REFUSED or ZVT_NO_MEMORY */
+} zvt_answer;
+
+void zvt_scan(const uint8_t *bytes, size_t length, zvt_answer *answer);
+
+/* Writes the text of the message that stands first (ASCII, no final zero), and answers its size; where the room is less,
+ * nothing is written. 0: no whole message, or no memory. */
+size_t zvt_text(const uint8_t *bytes, size_t length, uint8_t *room, size_t room_length, zvt_answer *answer);
+
+/* The till. zvt_till till = {0}; is closed; zvt_till_new opens it, zvt_till_free closes it again. */
+typedef struct zvt_till {
+    void *at;
+    bool full;
+} zvt_till;
+
+enum { ZVT_REGISTER = 1, ZVT_PAY, ZVT_REVERSE, ZVT_CLOSE_DAY, ZVT_CANCEL };
+
+enum {
+    ZVT_NONE = 0, ZVT_REGISTERED, ZVT_PAID, ZVT_DECLINED, ZVT_ORDER_REFUSED, ZVT_ABORTED, ZVT_UNCLEAR, ZVT_REVERSED,
+    ZVT_DAY_CLOSED
+};
+
+/* Causes of an unclear payment. */
+enum {
+    ZVT_NO_STATUS = 1, ZVT_CONFLICT, ZVT_AMOUNT_DIFFERS, ZVT_NO_TRACE, ZVT_TRACE_USED, ZVT_ABORT_AFTER_APPROVAL,
+    ZVT_LINE, ZVT_MALFORMED, ZVT_UNFINISHED, ZVT_WRONG_CURRENCY
+};
+
+typedef struct zvt_outcome {
+    uint32_t kind;        /* ZVT_NONE .. ZVT_DAY_CLOSED */
+    uint32_t code;        /* declined, refused, aborted: the terminal's code; unclear: the cause */
+    uint32_t trace;       /* paid: the trace number */
+    uint32_t receipt;     /* paid: the receipt number's two bytes, where has_receipt is 1 */
+    uint32_t has_receipt;
+} zvt_outcome;
+
+typedef struct zvt_step {
+    size_t taken;     /* bytes of the piece that were taken */
+    size_t send;      /* bytes at the front of `out` that are to be sent to the terminal, now */
+    size_t place;     /* ZVT_REFUSED: where */
+    uint32_t reason;  /* ZVT_REFUSED: why */
+    uint32_t message; /* 1: a message ended; feed the rest of the piece */
+    zvt_outcome outcome; /* how the running order ended, if it did */
+} zvt_step;
+
+typedef struct zvt_state {
+    uint64_t total;   /* of the payments that were not taken back */
+    size_t booked, unclear;
+    size_t held;      /* bytes of an unfinished message */
+    uint32_t registered;
+    uint32_t running; /* 0, or ZVT_REGISTER .. ZVT_CLOSE_DAY */
+    zvt_outcome last;
+} zvt_state;
+
+typedef struct zvt_entry {
+    uint64_t amount;
+    uint32_t trace, receipt, has_receipt, reversed;
+    uint32_t cause; /* of an unclear payment */
+} zvt_entry;
+
+/* The room that `out` is to have. */
+#define ZVT_ROOM 32
+
+/* The password is a number of up to six digits, the currency one of ISO 4217 (978); 0xBE is a usual config byte. A till
+ * that was there is freed; where the answer is not 0 the handle is as it was. */
+uint32_t zvt_till_new(zvt_till *till, uint32_t password, uint8_t config, uint16_t currency);
+void zvt_till_free(zvt_till *till);
+uint32_t zvt_till_connected(zvt_till *till);
+uint32_t zvt_till_lost(zvt_till *till, zvt_step *step);
+/* The number is the amount of ZVT_PAY in cents, or the place in the book, from 0, of ZVT_REVERSE. */
+uint32_t zvt_till_order(zvt_till *till, uint32_t order, uint64_t number, uint8_t *out, size_t out_length, zvt_step *step);
+uint32_t zvt_till_feed(zvt_till *till, const uint8_t *piece, size_t length, uint8_t *out, size_t out_length, zvt_step *step);
+uint32_t zvt_till_state(zvt_till *till, zvt_state *state);
+uint32_t zvt_till_entry(zvt_till *till, size_t place, zvt_entry *entry);
+uint32_t zvt_till_unclear(zvt_till *till, size_t place, zvt_entry *entry);
+
+#ifdef __cplusplus
+}
+#endif
+#endif

@@ -1,0 +1,12 @@
+use Rattle.std.proofs.Common.{refl, ap}
+use Rattle.zvt_till.specs.View.{TillValue}
+use Rattle.zvt_c.specs.Ordering.{sent, refused}
+use Rattle.zvt_c.proofs.till.give.Goals as goal
+
+pub returns-in-Ok : goal.returns-in-Ok
+returns-in-Ok c = sent c.in-Ok.outgoing c.in-Ok.ensures.taken c.in-Ok.ensures.sent c.in-Ok.ensures.runs refl c.write_message-answer.ensures refl
+
+pub returns-in-Err : goal.returns-in-Err
+returns-in-Err c =
+    refused c.in-Err.why c.in-Err.ensures.refused (ap (λ (till : TillValue). record { till = till; stream = c.args.end.now.stream }) c.in-Err.ensures.unchanged) refl
+    c.refusal_status.ensures

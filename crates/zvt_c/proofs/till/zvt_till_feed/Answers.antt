@@ -1,0 +1,18 @@
+use Rattle.std.proofs.Common.{◌≡◌, Bool, Option, Some, option_map, length, sym, subst, ap, ◌∙◌, MatchBool}
+use Rattle.std.proofs.lemmas.Bool.{le-ltb}
+use Rattle.zvt_c.specs.declared.end.End.{End}
+use Rattle.zvt_c.specs.Feeding.{FeedsHandle}
+use Rattle.zvt_c.proofs.till.zvt_till_feed.Goals as goal
+
+pub returns : goal.returns
+returns c =
+    record {
+      full =
+          subst
+          (λ (small : Bool). MatchBool small ((c.of.result.shell.held ≡ c.args.till.now.shell.held) × (c.feed-status.new.out ≡ c.args.out.now) × (c.feed-status.result ≡ 4))
+          (FeedsHandle c.args.till.now.shell.held c.args.piece.now c.of.result.shell.held c.args.out.now c.feed-status.new.out c.feed-status.new.answer c.feed-status.result))
+          (sym (le-ltb (length c.args.out.now) 32 c.if-out-lt32.false))
+          (subst (λ (held : Option End). FeedsHandle held c.args.piece.now c.of.result.shell.held c.args.out.now c.feed-status.new.out c.feed-status.new.answer c.feed-status.result)
+          (ap Some c.deref_mut.ensures.value ∙ (sym (ap (option_map (λ end. end.value)) c.in-Some.is) ∙ c.take.ensures.taken))
+          (c.feed-status.new.end, c.of.ensures, c.feed-status.ensures));
+    }

@@ -1,0 +1,13 @@
+use Rattle.std.proofs.Common.{ℕ, Some, option_map, ap, ◌∙◌}
+use Rattle.zvt_till.specs.Till.{new_till}
+use Rattle.zvt_c.proofs.till.zvt_till_new.Goals as goal
+
+pub returns-in-Ok-clause-made : goal.returns-in-Ok-clause-made
+returns-in-Ok-clause-made c _ =
+    let held = c.of.ensures ∙ ap Some c.in-Ok.ensures.ok in (
+      c.put.new.out,
+      c.put.ensures.digits,
+      c.put.ensures.value ∙ c.from.ensures,
+      ap (option_map (λ end. end.till.state)) held ∙ ap Some (c.new-2.ensures ∙ ap (λ (n : ℕ). new_till (record { password = c.put.new.out; config = c.args.config; currency = n })) c.in-Some.ensures.value),
+      ap (option_map (λ end. end.stream)) held ∙ ap Some c.new-3.ensures,
+    )

@@ -1,0 +1,75 @@
+-- Outcomes and rows in numbers.
+use Rattle.std.specs.Prelude.{◌≡◌, ℕ, ◌+◌, ◌*◌, cond, List, length, Option, Some, None, slice_index_or}
+use Rattle.zvt_till.specs.declared.entries.Entry.{Entry}
+use Rattle.zvt_till.specs.declared.outcomes.Cause.{Cause}
+use Rattle.zvt_till.specs.declared.outcomes.Cause.TheVariants.{NoStatus, Conflict, AmountDiffers, NoTrace, TraceUsed, AbortAfterApproval, Line, Malformed, Unfinished, WrongCurrency}
+use Rattle.zvt_till.specs.declared.outcomes.Outcome.{Outcome}
+use Rattle.zvt_till.specs.declared.outcomes.Outcome.TheVariants.{Registered, Paid, Declined, Refused, Aborted, Unclear, Reversed, DayClosed}
+use Rattle.zvt_till.specs.Marks.{total}
+use Rattle.zvt_c.specs.declared.end.End.{End}
+use Rattle.zvt_c.specs.declared.numbers.ZvtOutcome.{ZvtOutcome}
+use Rattle.zvt_c.specs.declared.numbers.ZvtState.{ZvtState}
+use Rattle.zvt_c.specs.declared.numbers.ZvtEntry.{ZvtEntry}
+
+abbrev pub cause_number : Cause → ℕ
+cause_number NoStatus = 1
+cause_number Conflict = 2
+cause_number AmountDiffers = 3
+cause_number NoTrace = 4
+cause_number TraceUsed = 5
+cause_number AbortAfterApproval = 6
+cause_number Line = 7
+cause_number Malformed = 8
+cause_number Unfinished = 9
+cause_number WrongCurrency = 10
+
+-- A receipt number, and whether there is one.
+abbrev pub receipt_of : Option (List ℕ) → ℕ × ℕ
+receipt_of None = (0, 0)
+receipt_of (Some bytes) = (slice_index_or bytes 0 0 * 256 + slice_index_or bytes 1 0, 1)
+
+abbrev pub coded : (kind code : ℕ) → ZvtOutcome
+coded kind code = record { kind = kind; code = code; trace = 0; receipt = 0; has_receipt = 0 }
+
+abbrev pub paid : (trace : ℕ) → Option (List ℕ) → ZvtOutcome
+paid trace receipt = record { kind = 2; code = 0; trace = trace; receipt = (receipt_of receipt).0; has_receipt = (receipt_of receipt).1 }
+
+abbrev pub ended : Outcome → ZvtOutcome
+ended Registered = coded 1 0
+ended (Paid trace receipt) = paid trace receipt
+ended (Declined code) = coded 3 code
+ended (Refused code) = coded 4 code
+ended (Aborted code) = coded 5 code
+ended (Unclear cause) = coded 6 (cause_number cause)
+ended Reversed = coded 7 0
+ended DayClosed = coded 8 0
+
+-- How an order ended, if it did.
+abbrev pub outcome_of : Option Outcome → ZvtOutcome
+outcome_of None = coded 0 0
+outcome_of (Some outcome) = ended outcome
+
+-- A row of the book.
+abbrev pub row_of : Entry → ZvtEntry
+row_of entry =
+    record {
+      amount = entry.amount;
+      trace = entry.trace;
+      receipt = (receipt_of entry.receipt).0;
+      has_receipt = (receipt_of entry.receipt).1;
+      reversed = cond entry.reversed 1 0;
+      cause = 0;
+    }
+
+-- A row of the unclear payments.
+abbrev pub unclear_row_of : ℕ × Cause → ZvtEntry
+unclear_row_of row = record { amount = row.0; trace = 0; receipt = 0; has_receipt = 0; reversed = 0; cause = cause_number row.1 }
+
+-- The state of a till and its stream.
+pub record IsStateOf (end : End) (state : ZvtState) : Type 0 where
+  pub sum : state.total ≡ total end.till.state.book
+  pub booked : state.booked ≡ length end.till.state.book
+  pub unclear : state.unclear ≡ length end.till.state.unclear
+  pub held : state.held ≡ length end.stream.held
+  pub registered : state.registered ≡ cond end.till.state.registered 1 0
+  pub last : state.last ≡ outcome_of end.till.state.last_outcome

@@ -1,0 +1,49 @@
+-- What an order of a caller makes of a till.
+use Rattle.std.specs.Prelude.{◌≡◌, ◌⊎◌, ℕ, List, Option, Some, None}
+use Rattle.zvt_apdu.specs.Briefs.{message_of_brief, PutsMessage}
+use Rattle.zvt_till.specs.declared.orders.Order.{Order}
+use Rattle.zvt_till.specs.declared.orders.Order.TheVariants.{Register, Pay, Reverse, CloseDay, Cancel}
+use Rattle.zvt_till.specs.declared.orders.OrderRefusal.{OrderRefusal}
+use Rattle.zvt_till.specs.declared.orders.OrderRefusal.TheVariants.{Offline, NotRegistered, Busy, NothingToCancel, BookFull, UnknownEntry, AlreadyReversed, NoReceipt, Memory}
+use Rattle.zvt_till.specs.declared.orders.Outgoing.{Outgoing}
+use Rattle.zvt_till.specs.Refusals.{refusal}
+use Rattle.zvt_till.specs.Sending.{message_of}
+use Rattle.zvt_till.specs.Till.{accept, facts_of}
+use Rattle.zvt_till.specs.View.{IsRefusedAs}
+use Rattle.zvt_c.specs.declared.end.End.{End}
+use Rattle.zvt_c.specs.declared.numbers.ZvtStep.{ZvtStep}
+
+-- The order that two numbers name.
+abbrev pub Names : (kind number : ℕ) → Order → Type 0
+Names kind number Register = kind ≡ 1
+Names kind number (Pay amount) = (kind ≡ 2) × (amount ≡ number)
+Names kind number (Reverse entry) = (kind ≡ 3) × (entry ≡ number)
+Names kind number CloseDay = kind ≡ 4
+Names kind number Cancel = kind ≡ 5
+
+-- The status of a refused order.
+abbrev pub status_of : OrderRefusal → ℕ
+status_of Offline = 10
+status_of NotRegistered = 11
+status_of Busy = 12
+status_of NothingToCancel = 13
+status_of BookFull = 14
+status_of UnknownEntry = 15
+status_of AlreadyReversed = 16
+status_of NoReceipt = 17
+status_of Memory = 3
+
+-- An order is sent: its message stands at the front of the room, and it runs. Or it is refused, and nothing changes.
+pub data OrdersEnd (before : End) (order : Order) (after : End) (room_before room_after : List ℕ) (answer : ZvtStep) (status : ℕ) : Type 0 where
+  sent : (message : Outgoing) → refusal (facts_of before.till.state) order ≡ None → message_of before.till.state.settings before.till.state.book order ≡ Some message
+      → after.till.state ≡ accept before.till.state order → after.stream ≡ before.stream
+      → PutsMessage (message_of_brief message.brief) room_before room_after answer.send → status ≡ 0 → OrdersEnd before order after room_before room_after answer status
+  refused : (why : OrderRefusal) → IsRefusedAs (facts_of before.till.state) before.till.spare order why → after ≡ before → room_after ≡ room_before → status ≡ status_of why
+      → OrdersEnd before order after room_before room_after answer status
+
+-- A handle is given an order by two numbers, which may name none.
+abbrev pub OrdersHandle : Option End → (kind number : ℕ) → Option End → (room_before room_after : List ℕ) → ZvtStep → (status : ℕ) → Type 0
+OrdersHandle None kind number after room_before room_after answer status = (after ≡ None) × (room_after ≡ room_before) × ((status ≡ 5) ⊎ (status ≡ 6))
+OrdersHandle (Some before) kind number after room_before room_after answer status =
+    ((after ≡ Some before) × (room_after ≡ room_before) × (status ≡ 5))
+    ⊎ ((order : Order) × Names kind number order × (end : End) × (after ≡ Some end) × OrdersEnd before order end room_before room_after answer status)

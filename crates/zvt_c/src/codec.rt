@@ -1,0 +1,98 @@
+//! The reader and the texts.
+ghost use Rattle.std.specs.Prelude.{◌≡◌, IfSome, IfNone, length};
+ghost use Rattle.zvt_text.specs.Said.{said};
+ghost use Rattle.zvt_c.specs.Answers.{Says};
+ghost use Rattle.zvt_c.specs.Texts.{Texts, Writes};
+
+use crate::answer::{ZvtAnswer, bare, reason_code};
+use std::alloc::Global;
+use zvt_apdu::{ApduView, view};
+use zvt_spelling::Scan;
+use zvt_text::Text;
+
+/// Says what stands first in the bytes: a whole message and its size, the beginning of one, or bytes with which none
+/// begins. Bytes behind a whole message are not looked at.
+#[unsafe(no_mangle)]
+pub extern "C" fn zvt_scan(alloc: Global, bytes: &[u8], answer: &mut ZvtAnswer)
+    ensures { Says bytes.now answer.new }
+{
+    *answer = match zvt_apdu::scan(alloc, bytes) {
+        Ok(Scan::Whole((_, size))) => ZvtAnswer {
+            size,
+            place: 0,
+            reason: 0,
+            status: 0,
+        },
+        Ok(Scan::More) => bare(1),
+        Ok(Scan::Refused { place, why }) => ZvtAnswer {
+            size: 0,
+            place,
+            reason: reason_code(why),
+            status: 2,
+        },
+        Err(_) => bare(3),
+    };
+}
+
+/// Writes the text of the message that stands first, and answers its size: 0 where no whole message stands there, or
+/// memory was refused. Where the room is less than the size nothing is written.
+#[unsafe(no_mangle)]
+pub extern "C" fn zvt_text(
+    alloc: Global,
+    bytes: &[u8],
+    room: &mut [u8],
+    answer: &mut ZvtAnswer,
+) -> usize
+    ensures { Texts bytes.now room.old room.new answer.new result }
+{
+    match zvt_apdu::scan(alloc, bytes) {
+        Ok(Scan::Whole((_, size))) => match tell(alloc, &view(&bytes[..size]), room) {
+            Some(written) => {
+                *answer = ZvtAnswer {
+                    size,
+                    place: 0,
+                    reason: 0,
+                    status: 0,
+                };
+                written
+            }
+            None => {
+                *answer = bare(3);
+                0
+            }
+        },
+        Ok(Scan::More) => {
+            *answer = bare(1);
+            0
+        }
+        Ok(Scan::Refused { place, why }) => {
+            *answer = ZvtAnswer {
+                size: 0,
+                place,
+                reason: reason_code(why),
+                status: 2,
+            };
+            0
+        }
+        Err(_) => {
+            *answer = bare(3);
+            0
+        }
+    }
+}
+
+/// Writes the text of a message where it fits, and answers its size, or None where memory was refused.
+fn tell(alloc: Global, apdu: &ApduView<'_>, room: &mut [u8]) -> Option<usize>
+    ensures some { IfSome result (λ size. (size ≡ length (said apdu.now)) × Writes (said apdu.now) room.old room.new) }
+    ensures none { IfNone result (room.new ≡ room.old) }
+{
+    let mut text = Text::new(alloc);
+    if zvt_text::message(&mut text, apdu).is_err() {
+        return None;
+    }
+    let size = text.size();
+    if size <= room.len() {
+        room[..size].copy_from_slice(text.bytes());
+    }
+    Some(size)
+}

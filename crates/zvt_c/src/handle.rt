@@ -1,0 +1,51 @@
+//! What a caller in C holds of a till.
+ghost use Rattle.std.specs.Prelude.{◌≡◌, Some, None, is_some, option_map};
+
+use crate::end::End;
+use crate::loose::Loose;
+use crate::shell::Shell;
+use std::alloc::Global;
+
+/// A till, or nothing: a struct of zeroes is closed.
+#[repr(C)]
+#[derive(Drop)]
+pub struct ZvtTill {
+    pub shell: Shell,
+    full: bool,
+    ghost tied: { is_some shell.held ≡ full },
+}
+
+impl ZvtTill {
+    /// A handle with no till.
+    pub fn closed() -> ZvtTill
+        ensures { result.shell.held ≡ None }
+    {
+        ZvtTill {
+            shell: Shell::closed(),
+            full: false,
+        }
+    }
+
+    /// A handle of this till.
+    pub fn of(end: Box<End>) -> ZvtTill
+        ensures { result.shell.held ≡ Some end.value }
+    {
+        ZvtTill {
+            shell: Shell::of(Loose::of(end)),
+            full: true,
+        }
+    }
+
+    /// Takes the till out.
+    pub fn take(&mut self, alloc: Global) -> Option<Box<End>>
+        ensures taken { option_map (λ end. end.value) result ≡ self.old.shell.held }
+        ensures closed { self.new.shell.held ≡ None }
+    {
+        let ZvtTill { shell, full } = std::mem::replace(self, ZvtTill::closed());
+        if full {
+            Some(shell.into_loose(alloc).into_box())
+        } else {
+            None
+        }
+    }
+}

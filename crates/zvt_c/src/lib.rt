@@ -1,0 +1,15 @@
+//! What programs in C, and in languages that call C, use of the reader, of the texts and of the till.
+#![tactic(auto)]
+
+mod answer;
+mod codec;
+mod end;
+mod handle;
+mod loose;
+mod numbers;
+mod shell;
+mod till;
+
+pub use answer::ZvtAnswer;
+pub use handle::ZvtTill;
+pub use numbers::{ZvtEntry, ZvtOutcome, ZvtState, ZvtStep};

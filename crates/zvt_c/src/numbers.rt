@@ -1,0 +1,257 @@
+//! Orders, outcomes and rows of the book in numbers.
+ghost use Rattle.std.specs.Prelude.{◌≡◌, IfSome, None};
+ghost use Rattle.zvt_c.specs.Numbers.{cause_number, coded, ended, outcome_of, paid, receipt_of, row_of, unclear_row_of};
+ghost use Rattle.zvt_c.specs.Ordering.{Names, status_of};
+
+use zvt_bcd::{Amount, Trace};
+use zvt_till::{Cause, Entry, Order, OrderRefusal, Outcome};
+
+/// How an order ended. What a kind does not have is 0.
+#[repr(C)]
+#[derive(Clone, Copy, Drop)]
+pub struct ZvtOutcome {
+    /// 0 none, 1 registered, 2 paid, 3 declined, 4 refused, 5 aborted, 6 unclear, 7 reversed, 8 day closed.
+    pub kind: u32,
+    /// The terminal's code where declined, refused or aborted; the cause where unclear.
+    pub code: u32,
+    /// The trace number of a payment.
+    pub trace: u32,
+    /// Its receipt number, two bytes as they were read, where `has_receipt` is 1.
+    pub receipt: u32,
+    pub has_receipt: u32,
+}
+
+/// What a call came to.
+#[repr(C)]
+#[derive(Clone, Copy, Drop)]
+pub struct ZvtStep {
+    /// How many bytes of the piece were taken.
+    pub taken: usize,
+    /// How many bytes are to be sent: they stand at the front of `out`.
+    pub send: usize,
+    /// Where the terminal's bytes are no message, the first byte after which none can follow.
+    pub place: usize,
+    /// And why.
+    pub reason: u32,
+    /// 1 where a message ended in what was taken.
+    pub message: u32,
+    /// How the running order ended, if it did.
+    pub outcome: ZvtOutcome,
+}
+
+/// The state of a till.
+#[repr(C)]
+#[derive(Clone, Copy, Drop)]
+pub struct ZvtState {
+    /// The sum of the payments that were not taken back.
+    pub total: u64,
+    pub booked: usize,
+    pub unclear: usize,
+    /// The bytes of an unfinished message that are held.
+    pub held: usize,
+    pub registered: u32,
+    /// The order that runs: 0 none, 1 register, 2 pay, 3 reverse, 4 close the day.
+    pub running: u32,
+    /// How the order that ended last ended.
+    pub last: ZvtOutcome,
+}
+
+/// A row of the book, or of the unclear payments.
+#[repr(C)]
+#[derive(Clone, Copy, Drop)]
+pub struct ZvtEntry {
+    pub amount: u64,
+    pub trace: u32,
+    pub receipt: u32,
+    pub has_receipt: u32,
+    /// 1 where it was taken back.
+    pub reversed: u32,
+    /// The cause of an unclear payment, 0 in the book.
+    pub cause: u32,
+}
+
+/// No outcome.
+pub fn no_outcome() -> ZvtOutcome
+    ensures { result ≡ outcome_of None }
+{
+    ZvtOutcome {
+        kind: 0,
+        code: 0,
+        trace: 0,
+        receipt: 0,
+        has_receipt: 0,
+    }
+}
+
+/// Nothing taken, sent or ended.
+pub fn no_step() -> ZvtStep {
+    ZvtStep {
+        taken: 0,
+        send: 0,
+        place: 0,
+        reason: 0,
+        message: 0,
+        outcome: no_outcome(),
+    }
+}
+
+/// An outcome of that kind with a code.
+fn coded(kind: u32, code: u32) -> ZvtOutcome
+    ensures { result ≡ coded kind code }
+{
+    ZvtOutcome {
+        kind,
+        code,
+        trace: 0,
+        receipt: 0,
+        has_receipt: 0,
+    }
+}
+
+/// The number of a cause.
+pub fn cause_code(cause: Cause) -> u32
+    ensures { result ≡ cause_number cause }
+{
+    match cause {
+        Cause::NoStatus => 1,
+        Cause::Conflict => 2,
+        Cause::AmountDiffers => 3,
+        Cause::NoTrace => 4,
+        Cause::TraceUsed => 5,
+        Cause::AbortAfterApproval => 6,
+        Cause::Line => 7,
+        Cause::Malformed => 8,
+        Cause::Unfinished => 9,
+        Cause::WrongCurrency => 10,
+    }
+}
+
+/// The status of a refused order.
+pub fn refusal_status(why: OrderRefusal) -> u32
+    ensures { result ≡ status_of why }
+{
+    match why {
+        OrderRefusal::Offline => 10,
+        OrderRefusal::NotRegistered => 11,
+        OrderRefusal::Busy => 12,
+        OrderRefusal::NothingToCancel => 13,
+        OrderRefusal::BookFull => 14,
+        OrderRefusal::UnknownEntry => 15,
+        OrderRefusal::AlreadyReversed => 16,
+        OrderRefusal::NoReceipt => 17,
+        OrderRefusal::Memory => 3,
+    }
+}
+
+/// A receipt number, and whether there is one.
+fn receipt_numbers(receipt: Option<[u8; 2]>) -> (u32, u32)
+    ensures { result ≡ receipt_of receipt }
+{
+    match receipt {
+        None => (0, 0),
+        Some(bytes) => (u32::from(bytes[0]) * 256 + u32::from(bytes[1]), 1),
+    }
+}
+
+/// A payment that was booked, in numbers.
+fn paid_numbers(trace: Trace, receipt: Option<[u8; 2]>) -> ZvtOutcome
+    ensures { result ≡ paid trace receipt }
+{
+    let (receipt, has_receipt) = receipt_numbers(receipt);
+    ZvtOutcome {
+        kind: 2,
+        code: 0,
+        trace: trace.get(),
+        receipt,
+        has_receipt,
+    }
+}
+
+/// How an order ended, in numbers.
+fn ended_numbers(outcome: &Outcome) -> ZvtOutcome
+    ensures { result ≡ ended outcome.now }
+{
+    match outcome {
+        Outcome::Registered => coded(1, 0),
+        Outcome::Paid { trace, receipt } => paid_numbers(*trace, *receipt),
+        Outcome::Declined(code) => coded(3, u32::from(*code)),
+        Outcome::Refused(code) => coded(4, u32::from(*code)),
+        Outcome::Aborted(code) => coded(5, u32::from(*code)),
+        Outcome::Unclear(cause) => coded(6, cause_code(*cause)),
+        Outcome::Reversed => coded(7, 0),
+        Outcome::DayClosed => coded(8, 0),
+    }
+}
+
+/// How an order ended, if it did, in numbers.
+pub fn outcome_numbers(outcome: Option<Outcome>) -> ZvtOutcome
+    ensures { result ≡ outcome_of outcome }
+{
+    match outcome {
+        None => no_outcome(),
+        Some(outcome) => ended_numbers(&outcome),
+    }
+}
+
+/// A row of the book in numbers.
+pub fn entry_numbers(entry: &Entry) -> ZvtEntry
+    ensures { result ≡ row_of entry.now }
+{
+    let (receipt, has_receipt) = receipt_numbers(entry.receipt);
+    ZvtEntry {
+        amount: entry.amount.get(),
+        trace: entry.trace.get(),
+        receipt,
+        has_receipt,
+        reversed: u32::from(entry.reversed),
+        cause: 0,
+    }
+}
+
+/// An unclear payment in numbers.
+pub fn unclear_numbers(row: &(Amount, Cause)) -> ZvtEntry
+    ensures { result ≡ unclear_row_of row.now }
+{
+    let (amount, cause) = row;
+    ZvtEntry {
+        amount: amount.get(),
+        trace: 0,
+        receipt: 0,
+        has_receipt: 0,
+        reversed: 0,
+        cause: cause_code(*cause),
+    }
+}
+
+/// The order of that kind: 1 register, 2 pay so much, 3 take back the payment at this place of the book, counted from
+/// 0, 4 close the day, 5 cancel.
+pub fn order_of(kind: u32, number: u64) -> Option<Order>
+    ensures { IfSome result (Names kind number) }
+{
+    match kind {
+        1 => Some(Order::Register),
+        2 => match Amount::new(number) {
+            Some(amount) => Some(Order::Pay(amount)),
+            None => None,
+        },
+        3 => match usize::try_from(number) {
+            Ok(entry) => Some(Order::Reverse(entry)),
+            Err(_) => None,
+        },
+        4 => Some(Order::CloseDay),
+        5 => Some(Order::Cancel),
+        _ => None,
+    }
+}
+
+/// The kind of a running order.
+pub fn running_number(running: Option<Order>) -> u32 {
+    match running {
+        None => 0,
+        Some(Order::Register) => 1,
+        Some(Order::Pay(_)) => 2,
+        Some(Order::Reverse(_)) => 3,
+        Some(Order::CloseDay) => 4,
+        Some(Order::Cancel) => 5,
+    }
+}

@@ -1,0 +1,308 @@
+//! The till. Each call answers 0 where it did what it says, else a status, and then nothing changed but the answer's
+//! numbers: 3 out of memory, 4 too little room to write, 5 an argument that names nothing, 6 the handle is closed, 7 the
+//! line brought bytes before that begin no message, 10 to 17 the order is refused.
+ghost use Rattle.std.specs.Prelude.{◌≡◌, ◌≤◌, None, option_map, length, MatchBool, MatchOption, nat_lt, cond, slice_get};
+ghost use Rattle.zvt_till.specs.Till.{step, outcome_at};
+ghost use Rattle.zvt_till.specs.Hearing.{heard_as};
+ghost use Rattle.zvt_apdu.specs.Briefs.{message_of_brief, PutsMessage};
+ghost use Rattle.zvt_stream.specs.StreamState.{at_start};
+ghost use Rattle.zvt_c.specs.States.{state_of, IsNewTill};
+ghost use Rattle.zvt_c.specs.Feeding.{Sends, replied, FeedsEnd, FeedsHandle};
+ghost use Rattle.zvt_c.specs.Numbers.{outcome_of, row_of, IsStateOf};
+ghost use Rattle.zvt_c.specs.Ordering.{OrdersEnd, OrdersHandle};
+
+use crate::answer::reason_code;
+use crate::end::End;
+use crate::handle::ZvtTill;
+use crate::numbers::{
+    ZvtEntry, ZvtState, ZvtStep, entry_numbers, no_step, order_of, outcome_numbers, refusal_status,
+    running_number, unclear_numbers,
+};
+use std::alloc::Global;
+use zvt_apdu::Apdu;
+use zvt_bcd::Currency;
+use zvt_stream::{Fed, FeedError, Stream};
+use zvt_till::hearing::heard;
+use zvt_till::{Happening, Order, Outcome, Outgoing, Till};
+
+/// Makes a till, whose line is down, behind the handle. A till that was behind it is freed. The password and the
+/// configuration byte go into a registration as they are. Where the answer is not 0 nothing changes.
+#[unsafe(no_mangle)]
+pub extern "C" fn zvt_till_new(
+    alloc: Global,
+    till: &mut ZvtTill,
+    password: u32,
+    config: u8,
+    currency: u16,
+) -> u32
+    ensures made { result ≡ 0 → IsNewTill password config currency till.new.shell.held }
+    ensures unchanged { (result ≡ 0 → ⊥) → till.new.shell.held ≡ till.old.shell.held }
+{
+    let Some(currency) = Currency::new(currency) else {
+        return 5;
+    };
+    if password > 999_999 {
+        return 5;
+    }
+    let mut digits = [0; 3];
+    zvt_bcd::put(u64::from(password), &mut digits);
+    let end = End {
+        till: Till::new(alloc, digits, config, currency),
+        stream: Stream::new(alloc),
+    };
+    match Box::new(alloc, end) {
+        Ok(end) => {
+            let _ = till.take(alloc);
+            *till = ZvtTill::of(end);
+            0
+        }
+        Err(_) => 3,
+    }
+}
+
+/// Frees the till. The handle is then closed.
+#[unsafe(no_mangle)]
+pub extern "C" fn zvt_till_free(alloc: Global, till: &mut ZvtTill)
+    ensures { state_of till.new ≡ None }
+{
+    let _ = till.take(alloc);
+}
+
+/// A new line is up.
+#[unsafe(no_mangle)]
+pub extern "C" fn zvt_till_connected(alloc: Global, till: &mut ZvtTill) -> u32
+    ensures state { state_of till.new ≡ option_map (λ state. step state Happening.Connected) (state_of till.old) }
+    ensures stream { option_map (λ end. end.stream) till.new.shell.held ≡ option_map (λ _. at_start) till.old.shell.held }
+{
+    let Some(mut end) = till.take(alloc) else {
+        return 6;
+    };
+    end.till.connected();
+    end.stream = Stream::new(alloc);
+    *till = ZvtTill::of(end);
+    0
+}
+
+/// The line was lost, and with it a running order.
+#[unsafe(no_mangle)]
+pub extern "C" fn zvt_till_lost(alloc: Global, till: &mut ZvtTill, answer: &mut ZvtStep) -> u32
+    ensures state { state_of till.new ≡ option_map (λ state. step state Happening.Lost) (state_of till.old) }
+    ensures said { MatchOption till.old.shell.held (result ≡ 6) (λ end. (result ≡ 0) × (answer.new.outcome ≡ outcome_of (outcome_at end.till.state Happening.Lost))) }
+{
+    *answer = no_step();
+    let Some(mut end) = till.take(alloc) else {
+        return 6;
+    };
+    answer.outcome = outcome_numbers(end.till.lost());
+    *till = ZvtTill::of(end);
+    0
+}
+
+/// Writes a message at the front of `out`, which has room for it, and says its size.
+fn write_message(outgoing: &Outgoing, out: &mut [u8]) -> usize
+    requires { 32 ≤ length out.old }
+    ensures { PutsMessage (message_of_brief outgoing.now.brief) out.old out.new result }
+{
+    let mut buffer = [0; 32];
+    let size = outgoing.put(&mut buffer);
+    out[..size].copy_from_slice(&buffer[..size]);
+    size
+}
+
+/// Gives the till an order. The bytes to send are written to `out`, which is to have room for 32.
+#[unsafe(no_mangle)]
+pub extern "C" fn zvt_till_order(
+    alloc: Global,
+    till: &mut ZvtTill,
+    kind: u32,
+    number: u64,
+    out: &mut [u8],
+    answer: &mut ZvtStep,
+) -> u32
+    ensures { MatchBool (nat_lt (length out.old) 32) ((till.new.shell.held ≡ till.old.shell.held) × (out.new ≡ out.old) × (result ≡ 4))
+        (OrdersHandle till.old.shell.held kind number till.new.shell.held out.old out.new answer.new result) }
+{
+    *answer = no_step();
+    if out.len() < 32 {
+        return 4;
+    }
+    let Some(order) = order_of(kind, number) else {
+        return 5;
+    };
+    let Some(mut end) = till.take(alloc) else {
+        return 6;
+    };
+    let status = give(&mut end, order, out, answer);
+    *till = ZvtTill::of(end);
+    status
+}
+
+fn give(end: &mut End, order: Order, out: &mut [u8], answer: &mut ZvtStep) -> u32
+    requires { 32 ≤ length out.old }
+    ensures { OrdersEnd end.old order end.new out.old out.new answer.new result }
+{
+    match end.till.order(order) {
+        Ok(outgoing) => {
+            answer.send = write_message(&outgoing, out);
+            0
+        }
+        Err(why) => refusal_status(why),
+    }
+}
+
+/// Feeds bytes of the terminal, up to the end of one message. The caller feeds the rest of the piece again, as long as
+/// `message` is 1. What is to be sent is written to `out`, which is to have room for 32.
+#[unsafe(no_mangle)]
+pub extern "C" fn zvt_till_feed(
+    alloc: Global,
+    till: &mut ZvtTill,
+    piece: &[u8],
+    out: &mut [u8],
+    answer: &mut ZvtStep,
+) -> u32
+    ensures full { MatchBool (nat_lt (length out.old) 32) ((till.new.shell.held ≡ till.old.shell.held) × (out.new ≡ out.old) × (result ≡ 4))
+        (FeedsHandle till.old.shell.held piece.now till.new.shell.held out.old out.new answer.new result) }
+{
+    *answer = no_step();
+    if out.len() < 32 {
+        return 4;
+    }
+    let Some(mut end) = till.take(alloc) else {
+        return 6;
+    };
+    let status = feed(alloc, &mut end, piece, out, answer);
+    *till = ZvtTill::of(end);
+    status
+}
+
+/// Lets the till hear a message, and writes what it answers. It says how much was written, and how the running order
+/// ended, if it did.
+fn hear(till: &mut Till, apdu: &Apdu, out: &mut [u8]) -> (usize, Option<Outcome>)
+    requires { 32 ≤ length out.old }
+    ensures state { till.new.state ≡ step till.old.state (Happening.Heard (heard_as apdu.now)) }
+    ensures sent { Sends (replied till.old.state apdu.now) out.old out.new result.0 }
+    ensures outcome { result.1 ≡ cond till.old.state.line_up (outcome_at till.old.state (Happening.Heard (heard_as apdu.now))) None }
+{
+    let reply = till.hear(heard(apdu));
+    let size = match &reply.send {
+        Some(outgoing) => write_message(outgoing, out),
+        None => 0,
+    };
+    (size, reply.outcome)
+}
+
+fn feed(alloc: Global, end: &mut End, piece: &[u8], out: &mut [u8], answer: &mut ZvtStep) -> u32
+    requires { 32 ≤ length out.old }
+    ensures { FeedsEnd end.old piece.now end.new out.old out.new answer.new result }
+{
+    match end.stream.feed(alloc, piece) {
+        Ok(Fed::Message { apdu, taken }) => {
+            let (send, outcome) = hear(&mut end.till, &apdu, out);
+            *answer = ZvtStep {
+                taken,
+                send,
+                place: 0,
+                reason: 0,
+                message: 1,
+                outcome: outcome_numbers(outcome),
+            };
+            0
+        }
+        Ok(Fed::More) => {
+            *answer = ZvtStep {
+                taken: piece.len(),
+                send: 0,
+                place: 0,
+                reason: 0,
+                message: 0,
+                outcome: outcome_numbers(None),
+            };
+            0
+        }
+        Ok(Fed::Refused { place, why }) => {
+            let outcome = end.till.malformed();
+            *answer = ZvtStep {
+                taken: 0,
+                send: 0,
+                place,
+                reason: reason_code(why),
+                message: 0,
+                outcome: outcome_numbers(outcome),
+            };
+            2
+        }
+        Err(FeedError::Stopped) => 7,
+        Err(FeedError::Memory) => 3,
+    }
+}
+
+/// The state of the till.
+#[unsafe(no_mangle)]
+pub extern "C" fn zvt_till_state(alloc: Global, till: &mut ZvtTill, state: &mut ZvtState) -> u32
+    ensures same { till.new.shell.held ≡ till.old.shell.held }
+    ensures said { MatchOption till.old.shell.held (result ≡ 6) (λ end. (result ≡ 0) × IsStateOf end state.new) }
+{
+    let Some(end) = till.take(alloc) else {
+        return 6;
+    };
+    *state = ZvtState {
+        total: end.till.total(),
+        booked: end.till.book().len(),
+        unclear: end.till.unclear().len(),
+        held: end.stream.held(),
+        registered: u32::from(end.till.registered()),
+        running: running_number(end.till.running()),
+        last: outcome_numbers(end.till.last_outcome()),
+    };
+    *till = ZvtTill::of(end);
+    0
+}
+
+/// The row of the book at this place, counted from 0.
+#[unsafe(no_mangle)]
+pub extern "C" fn zvt_till_entry(
+    alloc: Global,
+    till: &mut ZvtTill,
+    place: usize,
+    entry: &mut ZvtEntry,
+) -> u32
+    ensures same { till.new.shell.held ≡ till.old.shell.held }
+    ensures row { MatchOption till.old.shell.held (result ≡ 6) (λ end. MatchOption (slice_get end.till.state.book place) (result ≡ 5) (λ row. (result ≡ 0) × (entry.new ≡ row_of row))) }
+{
+    let Some(end) = till.take(alloc) else {
+        return 6;
+    };
+    let status = match end.till.book().get(place) {
+        Some(row) => {
+            *entry = entry_numbers(row);
+            0
+        }
+        None => 5,
+    };
+    *till = ZvtTill::of(end);
+    status
+}
+
+/// The unclear payment at this place, counted from 0.
+#[unsafe(no_mangle)]
+pub extern "C" fn zvt_till_unclear(
+    alloc: Global,
+    till: &mut ZvtTill,
+    place: usize,
+    entry: &mut ZvtEntry,
+) -> u32
+    ensures same { till.new.shell.held ≡ till.old.shell.held }
+{
+    let Some(end) = till.take(alloc) else {
+        return 6;
+    };
+    let status = match end.till.unclear().get(place) {
+        Some(row) => {
+            *entry = unclear_numbers(row);
+            0
+        }
+        None => 5,
+    };
+    *till = ZvtTill::of(end);
+    status
+}
