@@ -9,6 +9,7 @@ pub mod Worth
 pub mod Endings
 pub mod Tied
 pub mod Registrations
+pub mod Restored
 pub mod Steps
 pub mod Approvals
 pub mod Kept

@@ -5,6 +5,7 @@ pub mod Marks
 pub mod Outcomes
 pub mod UsedTraces
 pub mod Refusals
+pub mod Restoring
 pub mod Sending
 pub mod Till
 pub mod Log

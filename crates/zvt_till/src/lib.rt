@@ -25,4 +25,4 @@ pub use line::{RunFault, run_order, send_order};
 pub use messages::{CurrencyFact, Heard, Original, StatusFacts};
 pub use orders::{Order, OrderRefusal, Outgoing, Reply};
 pub use outcomes::{Cause, Outcome};
-pub use till::{MOST_ROWS, Till};
+pub use till::{MOST_ROWS, RestoreError, Till};

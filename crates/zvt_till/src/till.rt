@@ -2,6 +2,7 @@
 ghost use Rattle.std.specs.Prelude.{◌≡◌, ◌+◌, ◌≤◌, length, if◌then◌else◌, option_map};
 
 mod ordering;
+mod restoring;
 mod room;
 
 use crate::entries::Entry;
@@ -11,6 +12,7 @@ use crate::orders::{Order, Reply};
 use crate::outcomes::{Cause, Outcome, outcome_by};
 use crate::statuses::{Running, demand_of, listened};
 use crate::used_traces::UsedTraces;
+pub use restoring::RestoreError;
 use std::alloc::Global;
 use std::marker::Model;
 use zvt_bcd::{Amount, Currency};
@@ -101,8 +103,22 @@ impl Till {
         self.line_up
     }
 
+    /// The password that goes into a registration, a reversal and an end of day.
+    pub fn password(&self) -> [u8; 3]
+        ensures { result ≡ self.now.state.settings.password }
+    {
+        self.password
+    }
+
+    /// The configuration byte that goes into a registration.
+    pub fn config(&self) -> u8
+        ensures { result ≡ self.now.state.settings.config }
+    {
+        self.config
+    }
+
     /// The currency in which it registers and pays.
-    pub(crate) fn currency(&self) -> Currency
+    pub fn currency(&self) -> Currency
         ensures { result ≡ self.now.state.settings.currency }
     {
         self.currency

@@ -1,0 +1,76 @@
+//! A till that goes on with rows that were written down.
+ghost use Rattle.std.specs.Prelude.{◌≡◌, length, IfOk, IfErr, OnOk};
+ghost use Rattle.zvt_till.specs.UsedTraces.{AreTracesOf};
+ghost use Rattle.zvt_till.specs.Restoring.{OnceBelow};
+
+use super::{MOST_ROWS, Till};
+use crate::entries::Entry;
+use crate::outcomes::{Cause, Outcome};
+use crate::used_traces::UsedTraces;
+use std::alloc::Global;
+use zvt_bcd::Amount;
+
+/// Why no till has rows.
+#[derive(Clone, Copy, Debug, PartialEq, Eq)]
+pub enum RestoreError {
+    /// There are more than `MOST_ROWS` of a kind, or a trace number stands twice in the book.
+    Impossible,
+    /// Memory was refused.
+    Memory,
+}
+
+/// The trace numbers of a book in which none stands twice.
+fn traces_of(alloc: Global, book: &[Entry]) -> Result<UsedTraces, RestoreError>
+    ensures traces { IfOk result (λ used. AreTracesOf used book.now) }
+    ensures once { OnOk result (OnceBelow (length book.now) book.now) }
+    ensures err { IfErr result (λ why. why ≡ RestoreError.Impossible → OnceBelow (length book.now) book.now → ⊥) }
+{
+    let mut used = UsedTraces::new(alloc);
+    if used.make_room().is_err() {
+        return Err(RestoreError::Memory);
+    }
+    'rows: for entry in book {
+        if used.contains(entry.trace) {
+            return Err(RestoreError::Impossible);
+        }
+        used.insert(entry.trace);
+    }
+    Ok(used)
+}
+
+impl Till {
+    ghost use Rattle.zvt_till.specs.Restoring.{CanStand, IsUnrestored, at_rest};
+
+    /// A till with the settings of this one, whose line is down, with these payments booked and these unclear, and with
+    /// this as its last outcome. Err where no till has these rows, or memory was refused.
+    pub fn restored(
+        &self,
+        alloc: Global,
+        book: Vec<Entry>,
+        unclear: Vec<(Amount, Cause)>,
+        last: Option<Outcome>,
+    ) -> Result<Till, RestoreError>
+        ensures state { IfOk result (λ till. till.state ≡ at_rest self.now.state.settings book.items unclear.items last) }
+        ensures stands { OnOk result (CanStand book.items unclear.items) }
+        ensures err { IfErr result (λ why. IsUnrestored why book.items unclear.items) }
+    {
+        if MOST_ROWS < book.len() || MOST_ROWS < unclear.len() {
+            return Err(RestoreError::Impossible);
+        }
+        match traces_of(alloc, book.as_slice()) {
+            Ok(used) => Ok(Till {
+                password: self.password,
+                config: self.config,
+                currency: self.currency,
+                line_up: false,
+                registered: false,
+                running: None,
+                book,
+                used,
+                unclear,
+                last_outcome: last,
+            }),
+            Err(why) => Err(why),
+        }
+    }
+}
