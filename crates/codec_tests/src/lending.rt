@@ -5,7 +5,7 @@ use std::process::Abort;
 use std::test::Fail;
 use zvt_apdu::Kind;
 use zvt_spelling::Why;
-use zvt_stream::{Fed, FedView, FeedError, Held, LONGEST, Stream};
+use zvt_stream::{FedView, FeedError, Held, LONGEST, Stream};
 
 const STATUS: [u8; 19] = [
     0x04, 0x0F, 0x10, 0x27, 0x00, 0x04, 0x00, 0x00, 0x00, 0x00, 0x12, 0x34, 0x0B, 0x00, 0x00, 0x17,
@@ -44,19 +44,6 @@ fn a_message_is_lent_at_any_cut(rt: HostRuntime) -> Result<(), Fail> {
         );
         lends(&rt, &stream, Kind::Status, &STATUS);
     }
-    Ok(())
-}
-
-#[test]
-fn the_next_feed_gives_it_up(rt: HostRuntime) -> Result<(), Fail> {
-    let mut stream = Stream::new(rt.alloc());
-    assert_eq!(rt; feed(&mut stream, &ACK)?, FedView::Message { taken: 3 });
-    lends(&rt, &stream, Kind::Ack, &ACK);
-    assert_eq!(rt; feed(&mut stream, &STATUS)?, FedView::Message { taken: 19 });
-    lends(&rt, &stream, Kind::Status, &STATUS);
-    let fed = stream.feed(rt.alloc(), &ACK)?;
-    assert!(rt; matches!(fed, Fed::Message { taken: 3, .. }));
-    assert_eq!(rt; stream.lent_bytes(), None);
     Ok(())
 }
 
