@@ -20,6 +20,7 @@ fn fits(size: usize, left: usize) -> bool
 }
 
 /// Judges a BMP. `left` counts the bytes of the fields after it.
+#[inline(always)]
 pub fn judge_name(left: usize, byte: u8, lengths: Lengths) -> Result<Shape, Why>
     ensures { JudgesName (reading_of lengths) left byte result }
 {

@@ -173,7 +173,7 @@ impl<'a> Iterator for FieldsView<'a> {
 
     ghost remaining = { fields_left };
 
-    #[inline]
+    #[inline(always)]
     fn next(&mut self) -> Option<FieldView<'a>> {
         let bytes = self.bytes;
         if bytes.is_empty() {

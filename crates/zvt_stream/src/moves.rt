@@ -120,6 +120,7 @@ fn judge_high_size(high: u8, low: u8, size_low: u8, byte: u8, lengths: Lengths) 
 }
 
 /// Data of that size begins.
+#[inline(always)]
 fn begin_data(high: u8, low: u8, size: usize) -> Result<Move, Why>
     ensures { (r : Reading) → BeginsData r high low size result }
 {

@@ -1,10 +1,14 @@
-use Rattle.std.proofs.Common.{arith}
-use Rattle.zvt_trace.proofs.SpelledLemmas.{read_plain}
+use Rattle.std.proofs.Common.{◌≡◌, ◌+◌, ◌*◌, ◌∙◌, slice_index, arith}
+use Rattle.zvt_trace.proofs.SpelledLemmas.{are_digits, read_plain}
 use Rattle.zvt_trace.proofs.spelled.read_pairs.Goals as goal
 
 pub loop-count-preserved : goal.loop-count-preserved
-loop-count-preserved c = record {
-  few = omega (arith, c.loop-count-test.true);
-  so_far = read_plain c.args.text.now c.loop-count.room c.loop-count.count c.value-high.result c.value-low.result (omega arith) c.loop-count-test.true c.value-high.ensures c.value-low.ensures (omega (arith, c.if-high-gt15.false))
-      (omega (arith, c.if-low-gt15.false)) c.loop-count.invariant.so_far;
-}
+loop-count-preserved c =
+    let text = c.args.text.now in
+    let count = c.loop-count.count in
+    let both = are_digits (slice_index text (2 * count)) (slice_index text (2 * count + 1)) (omega (arith, c.pair-byte.ensures, c.if-byte-gt255.false)) in
+    let sum : c.pair-byte.result ≡ both.high * 16 + both.low = c.pair-byte.ensures ∙ both.is_sum in
+    record {
+      few = omega (arith, c.loop-count-test.true);
+      so_far = rw sum (read_plain text c.loop-count.room count both.high both.low (omega arith) c.loop-count-test.true both.is_high both.is_low both.high_small both.low_small c.loop-count.invariant.so_far);
+    }
