@@ -110,6 +110,16 @@ impl Stream {
         }
     }
 
+    /// A stream at the start of a line, which takes such lengths.
+    pub fn of(alloc: Global, lengths: Lengths) -> Stream
+        ensures { result ≡ start_in (reading_of lengths) }
+    {
+        match lengths {
+            Lengths::Shortest => Stream::new(alloc),
+            Lengths::Padded => Stream::loose(alloc),
+        }
+    }
+
     /// A stream at the start of a line, with room for the longest message: `feed_view` never asks it for memory.
     pub fn reserved(alloc: Global) -> Result<Stream, AllocError>
         ensures new { IfOk result (λ stream. Holds [] stream × (stream.lent ≡ None)) }

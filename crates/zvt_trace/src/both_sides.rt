@@ -2,7 +2,6 @@
 ghost use Rattle.std.specs.Prelude.{◌≡◌, ◌≤◌, length, IfOk, OnOk};
 ghost use Rattle.zvt_spelling.specs.Reading.{Reading};
 ghost use Rattle.zvt_tlv.specs.Lengths.{reading_of};
-ghost use Rattle.zvt_stream.specs.StreamState.{start_in};
 ghost use Rattle.zvt_trace.specs.Meanings.{meant_by, piece, size_of};
 ghost use Rattle.zvt_trace.specs.Trace.{Sides, new_line};
 ghost use Rattle.zvt_trace.specs.Telling.{LineEnds};
@@ -26,16 +25,6 @@ pub(crate) struct BothSides {
     pub(crate) deaf: bool,
 }
 
-/// A stream at the start of a line, which takes such lengths.
-fn stream_of(alloc: Global, lengths: Lengths) -> Stream
-    ensures { result ≡ start_in (reading_of lengths) }
-{
-    match lengths {
-        Lengths::Shortest => Stream::new(alloc),
-        Lengths::Padded => Stream::loose(alloc),
-    }
-}
-
 impl BothSides {
     /// Those of a new line.
     pub(crate) fn new(alloc: Global, lengths: Lengths) -> BothSides
@@ -43,8 +32,8 @@ impl BothSides {
         ensures reading { TakeBy (reading_of lengths) result }
     {
         BothSides {
-            till: stream_of(alloc, lengths),
-            terminal: stream_of(alloc, lengths),
+            till: Stream::of(alloc, lengths),
+            terminal: Stream::of(alloc, lengths),
             deaf: false,
         }
     }

@@ -4,7 +4,7 @@ use Rattle.zvt_trace.proofs.StartLemmas.{new_follows}
 use Rattle.zvt_trace.proofs.both_sides.BothSides.new.Goals as goal
 
 pub returns-clause-follows : goal.returns-clause-follows
-returns-clause-follows c = record { till = new_follows c.stream_of.result c.stream_of.ensures; terminal = new_follows c.stream_of-2.result c.stream_of-2.ensures }
+returns-clause-follows c = record { till = new_follows c.of.result c.of.ensures; terminal = new_follows c.of-2.result c.of-2.ensures }
 
 pub returns-clause-reading : goal.returns-clause-reading
-returns-clause-reading c = (ap (λ (s : StreamState). s.reading) c.stream_of.ensures, ap (λ (s : StreamState). s.reading) c.stream_of-2.ensures)
+returns-clause-reading c = (ap (λ (s : StreamState). s.reading) c.of.ensures, ap (λ (s : StreamState). s.reading) c.of-2.ensures)
