@@ -28,10 +28,9 @@ impl Orders {
     pub(crate) fn notice(&mut self, from: Direction, apdu: &ApduView<'_>)
         ensures { self.new ≡ noticed self.old (told.message from apdu.now) }
     {
-        let is_order = is_order(apdu);
         match from {
-            Direction::FromTill => self.till = self.till || is_order,
-            Direction::FromTerminal => self.terminal = self.terminal || is_order,
+            Direction::FromTill => self.till = self.till || is_order(apdu),
+            Direction::FromTerminal => self.terminal = self.terminal || is_order(apdu),
         }
     }
 
