@@ -1,4 +1,5 @@
 mod Digits
+mod Absences
 pub mod UsedTraces
 pub mod Segments
 pub mod Summaries

@@ -95,9 +95,13 @@ pub fn heard(apdu: &Apdu) -> Heard
 fn original_shown(fields: &FieldsView<'_>) -> Original
     ensures { result ≡ original_in fields.now }
 {
+    // Most statuses name none, which one look at the fields tells.
+    if fields.count(ORIGINAL_TRACE) == 0 {
+        return Original::Absent;
+    }
     match fields.original() {
         Some(bytes) => Original::Once(bytes),
-        None => not_once(fields.count(ORIGINAL_TRACE)),
+        None => Original::Many,
     }
 }
 
@@ -105,9 +109,12 @@ fn original_shown(fields: &FieldsView<'_>) -> Original
 pub fn currency_shown(fields: &FieldsView<'_>) -> CurrencyFact
     ensures { result ≡ currency_in fields.now }
 {
+    if fields.count(CURRENCY) == 0 {
+        return CurrencyFact::Absent;
+    }
     match fields.currency() {
         Some(currency) => CurrencyFact::Once(currency),
-        None => not_one(fields.count(CURRENCY)),
+        None => CurrencyFact::Many,
     }
 }
 
