@@ -1,7 +1,9 @@
 -- Facts on views: the field that stands first in bytes that spell fields, and what is behind it.
-use Rattle.std.proofs.Common.{◌≡◌, ℕ, ◌+◌, ◌-◌, ◌<◌, ◌≤◌, true, false, Bool, Option, Some, None, List, [], ◌∷◌, ◌++◌, length, take, drop, slice_index_or, refl, sym, ◌∙◌, ap, subst, append_assoc, arith, length-append, suc, filter, is_some, cond, count_by}
+use Rattle.std.proofs.Common.{◌≡◌, ℕ, ◌+◌, ◌-◌, ◌<◌, ◌≤◌, true, false, Bool, Option, Some, None, List, [], ◌∷◌, ◌++◌, length, take, drop, slice_index_or, refl, sym, ◌∙◌, ap, subst, append_assoc, arith, length-append, suc, filter, is_some, cond, count_by, Bor}
+use Rattle.std.specs.Prelude.{IfSome, not, ◌==◌}
+use Rattle.std.proofs.lemmas.List.Elements.{filter_passes}
 use Rattle.std.proofs.lemmas.Bool.{cond-true, cond-false, eq-eqb, ne_eqb}
-use Rattle.std.proofs.lemmas.List.Sums.{count_by-le-length, sum_by-cons}
+use Rattle.std.proofs.lemmas.List.Sums.{length-filter, count_by-le-length, sum_by-cons}
 use Rattle.std.proofs.Math.Seq.{take-length}
 use Rattle.std.proofs.Math.Logic.{∥∥₁_elim, ∥∥₁_map}
 use Rattle.std.specs.Coded.{Coded-set, coded_list, coded_ℕ, le_prop, ×_prop, Π_prop}
@@ -21,7 +23,6 @@ use Rattle.zvt_field.specs.Bodies.{name_of}
 use Rattle.zvt_field.specs.Named.{bytes_of, is_named, sole, only_of, count_of}
 use Rattle.zvt_field.specs.Lent.{shown, all_shown}
 use Rattle.zvt_field.proofs.NamedLemmas.{sole_named, digits_of, fixed_of}
-use Rattle.std.proofs.lemmas.List.Elements.{filter_passes}
 use Rattle.zvt_field.specs.Once.{field_size}
 
 -- what stands before a content
@@ -236,6 +237,13 @@ plain_of bmp content (plain n c, h) e =
     (∥∥₁_map h (λ h. h.2), ap Some (∥∥₁_elim h (Coded-set (coded_list coded_ℕ) _ _) (λ h. h.1)))
 plain_of bmp content (tree n o, h) e = absurd (cc (e))
 
+-- a plain content, where there is one
+pub plain_in : (bmp : ℕ) (content : Option (Bor (List ℕ))) (bytes : Bor (List ℕ)) → content ≡ Some bytes → IfSome content (λ b. PlainBytes bmp b.now) → PlainBytes bmp bytes.now
+plain_in bmp content bytes e p = subst (λ (o : Option (Bor (List ℕ))). IfSome o (λ b. PlainBytes bmp b.now)) e p
+
+pub plain_named : (bmp name : ℕ) (content : Option (Bor (List ℕ))) → bmp ≡ name → IfSome content (λ b. PlainBytes bmp b.now) → IfSome content (λ b. PlainBytes name b.now)
+plain_named bmp name content e p = subst (λ (n : ℕ). IfSome content (λ b. PlainBytes n b.now)) e p
+
 pub no_plain : (bmp : ℕ) (content : List ℕ) → (v : FieldBytes bmp content) → (o : Objects) → Some o ≡ tree_of v.0 → bytes_of v.0 ≡ None
 no_plain bmp content (plain n c, h) o e = absurd (cc (e))
 no_plain bmp content (tree n i, h) o e = refl
@@ -297,3 +305,19 @@ field_loosened (tree bmp o) s p = record {
 pub fields_loosened : (fs : List Field) (s : List ℕ) → FieldList shortest fs s → FieldList padded fs s
 fields_loosened [] s p = p
 fields_loosened (f ∷ fs) s (one, after, whole, p, more) = (one, after, whole, field_loosened f one p, fields_loosened fs after more)
+
+-- what was seen of a BMP in all the fields
+pub once_named : (bmp : ℕ) (fs : List Field) (v : FieldView) → filter (is_named bmp) fs ≡ shown v ∷ [] → v.bmp ≡ bmp
+once_named bmp fs v e = only_named bmp fs v (sym (ap sole e))
+
+pub none_counted : (bmp : ℕ) (fs : List Field) → filter (is_named bmp) fs ≡ [] → count_of bmp fs ≡ 0
+none_counted bmp fs e = sym (length-filter (is_named bmp) fs) ∙ ap length e
+
+pub some_counted : (bmp : ℕ) (fs : List Field) (f : Field) (rest : List Field) → filter (is_named bmp) fs ≡ f ∷ rest → count_of bmp fs ≡ suc (length rest)
+some_counted bmp fs f rest e = sym (length-filter (is_named bmp) fs) ∙ ap length e
+
+pub not_there : (bmp : ℕ) (fs : List Field) → filter (is_named bmp) fs ≡ [] → false ≡ not (count_of bmp fs == 0)
+not_there bmp fs e = sym (ap not (eq-eqb (count_of bmp fs) 0 (none_counted bmp fs e)))
+
+pub is_there : (bmp : ℕ) (fs : List Field) (f : Field) (rest : List Field) → filter (is_named bmp) fs ≡ f ∷ rest → true ≡ not (count_of bmp fs == 0)
+is_there bmp fs f rest e = sym (ap not (ne_eqb (count_of bmp fs) 0 (λ none. omega (arith, none, some_counted bmp fs f rest e))))

@@ -1,4 +1,5 @@
 pub mod Shapes
+pub mod Single
 pub mod Grammar
 pub mod Judging
 pub mod Spelling

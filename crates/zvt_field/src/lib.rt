@@ -2,6 +2,7 @@
 #![tactic(auto)]
 
 mod bodies;
+mod contents;
 pub mod judging;
 pub mod laws;
 mod lists;
@@ -10,6 +11,7 @@ mod names;
 mod owning;
 mod reader;
 mod shapes;
+mod single;
 mod sizes;
 mod table;
 mod views;
@@ -22,6 +24,7 @@ pub use names::name;
 pub use owning::{owned, owned_field};
 pub use reader::{scan, scan_fields, scan_loose};
 pub use shapes::Shape;
+pub use single::{Single, read_single};
 pub use sizes::size;
 pub use table::shape;
 pub use views::{FieldView, FieldsView};

@@ -4,13 +4,13 @@ ghost use Rattle.std.specs.Prelude.{◌≡◌, ℕ, ◌%◌, ◌<◌, ◌^◌, L
 ghost use Rattle.std.specs.Option.{option_copied};
 ghost use Rattle.zvt_spelling.specs.Reading.{padded};
 ghost use Rattle.zvt_field.specs.Grammar.{Field, FieldList};
-ghost use Rattle.zvt_field.specs.Named.{count_of, only_of, content_of, amount_of, trace_of, result_of, receipt_of, currency_of, original_of};
+ghost use Rattle.zvt_field.specs.Named.{bytes_of, count_of, only_of, content_of, amount_of, trace_of, result_of, receipt_of, currency_of, original_of};
 ghost use Rattle.zvt_field.specs.Views.{FieldsBytes, fields_once, FieldBytes, field_once, IsLead, LeadFirst, ContentFirst, tree_of, PlainBytes};
 
-use crate::Shape;
 use crate::table::shape;
+use crate::{Shape, contents};
 use std::marker::Model;
-use zvt_bcd::{Amount, Currency, Trace, number};
+use zvt_bcd::{Amount, Currency, Trace};
 use zvt_tlv::{ForestView, length_first};
 
 /// A field: its BMP, and its content without the length.
@@ -32,6 +32,18 @@ impl<'a> FieldView<'a> {
         match shape(self.bmp) {
             Some(Shape::Tree) => Some(ForestView::of(self.content)),
             _ => None,
+        }
+    }
+
+    /// Its bytes, where it is no container.
+    #[inline(always)]
+    pub(crate) fn plain(&self) -> Option<&'a [u8]>
+        ensures content { option_copied result ≡ bytes_of (shown self.now) }
+        ensures spelled { IfSome result (λ bytes. PlainBytes self.now.bmp bytes.now) }
+    {
+        match self.tree() {
+            Some(_) => None,
+            None => Some(self.content),
         }
     }
 }
@@ -94,59 +106,49 @@ impl<'a> FieldsView<'a> {
         ensures content { option_copied result ≡ content_of bmp self.now }
         ensures spelled { IfSome result (λ bytes. PlainBytes bmp bytes.now) }
     {
-        let field = self.only(bmp)?;
-        match field.tree() {
-            Some(_) => None,
-            None => Some(field.content),
-        }
+        self.only(bmp)?.plain()
     }
 
     /// The amount in BMP 04, where it stands exactly once and isn't zero.
     pub fn amount(&self) -> Option<Amount>
         ensures { result ≡ amount_of self.now }
     {
-        Amount::new(number(self.content(0x04)?))
+        contents::amount(self.content(0x04))
     }
 
     /// The trace number in BMP 0B, where it stands exactly once.
     pub fn trace(&self) -> Option<Trace>
         ensures { result ≡ trace_of self.now }
     {
-        Trace::new(number(self.content(0x0B)?) as u32)
+        contents::trace(self.content(0x0B))
     }
 
     /// The result code in BMP 27, where it stands exactly once.
     pub fn result(&self) -> Option<u8>
         ensures { result ≡ result_of self.now }
     {
-        self.content(0x27)?.first().copied()
+        contents::result(self.content(0x27))
     }
 
     /// The receipt number in BMP 87, where it stands exactly once: two bytes as they were read, digits or not.
     pub fn receipt(&self) -> Option<[u8; 2]>
         ensures { result ≡ receipt_of self.now }
     {
-        match self.content(0x87)? {
-            [high, low] => Some([*high, *low]),
-            _ => None,
-        }
+        contents::receipt(self.content(0x87))
     }
 
     /// The currency in BMP 49, where it stands exactly once.
     pub fn currency(&self) -> Option<Currency>
         ensures { result ≡ currency_of self.now }
     {
-        Currency::new(number(self.content(0x49)?) as u16)
+        contents::currency(self.content(0x49))
     }
 
     /// The original trace number in BMP 37, where it stands exactly once: three bytes as they were read.
     pub fn original(&self) -> Option<[u8; 3]>
         ensures { result ≡ original_of self.now }
     {
-        match self.content(0x37)? {
-            [high, middle, low] => Some([*high, *middle, *low]),
-            _ => None,
-        }
+        contents::original(self.content(0x37))
     }
 
     /// How often that BMP stands.

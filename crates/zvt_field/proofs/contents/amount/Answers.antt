@@ -1,0 +1,16 @@
+use Rattle.std.proofs.Common.{arith, ap, sym, ◌∙◌}
+use Rattle.std.specs.Option.{option_copied}
+use Rattle.zvt_field.proofs.NamedLemmas.{amount_small, is_amount}
+use Rattle.zvt_field.proofs.ViewLemmas.{amount_parts, plain_in}
+use Rattle.zvt_field.proofs.contents.amount.Goals as goal
+
+pub number-requires-clause-digits : goal.number-requires-clause-digits
+number-requires-clause-digits c = (amount_parts c.in-Some.bytes.now (plain_in 0x04 _ _ c.in-Some.is c.requires)).0
+
+pub number-requires-clause-short : goal.number-requires-clause-short
+number-requires-clause-short c = omega (arith, (amount_parts c.in-Some.bytes.now (plain_in 0x04 _ _ c.in-Some.is c.requires)).1)
+
+pub returns-in-Some : goal.returns-in-Some
+returns-in-Some c = λ fields says.
+    is_amount fields c.in-Some.bytes.now c.number.result c.new.result (sym (ap option_copied c.in-Some.is) ∙ says) c.number.ensures.value
+    (amount_small c.in-Some.bytes.now c.number.result c.number.ensures.bound (amount_parts c.in-Some.bytes.now (plain_in 0x04 _ _ c.in-Some.is c.requires)).1) c.new.ensures.given c.new.ensures.value

@@ -1,0 +1,144 @@
+//! The fields that a status information counts, each where it stands exactly once, found in one walk.
+
+ghost use Rattle.std.specs.Prelude.{◌≡◌, List, [], ◌∷◌, IfSome, not, ◌==◌};
+ghost use Rattle.std.specs.Option.{option_copied};
+ghost use Rattle.zvt_field.specs.Grammar.{Field};
+ghost use Rattle.zvt_field.specs.Lent.{shown};
+ghost use Rattle.zvt_field.specs.Named.{content_of, count_of};
+ghost use Rattle.zvt_field.specs.Single.{Saw, Collected, Says};
+ghost use Rattle.zvt_field.specs.Views.{PlainBytes};
+
+use crate::contents;
+use crate::views::{FieldView, FieldsView};
+use zvt_bcd::{Amount, Currency, Trace};
+
+/// What fields say that count only where their BMP stands exactly once.
+#[derive(Clone, Copy, Debug, PartialEq, Eq)]
+pub struct Single {
+    /// BMP 27.
+    pub result: Option<u8>,
+    /// BMP 04, where it isn't zero.
+    pub amount: Option<Amount>,
+    /// BMP 0B.
+    pub trace: Option<Trace>,
+    /// BMP 87: two bytes as they were read, digits or not.
+    pub receipt: Option<[u8; 2]>,
+    /// BMP 37: three bytes as they were read.
+    pub original: Option<[u8; 3]>,
+    /// Whether BMP 37 stands at all.
+    pub has_original: bool,
+    /// BMP 49.
+    pub currency: Option<Currency>,
+    /// Whether BMP 49 stands at all.
+    pub has_currency: bool,
+}
+
+/// What was seen of a BMP.
+#[derive(Clone, Copy, Drop)]
+pub(crate) enum Slot<'a> {
+    Absent,
+    Once(FieldView<'a>),
+    Many,
+}
+
+impl<'a> Slot<'a> {
+    /// Sees the next field.
+    #[inline(always)]
+    fn see(&mut self, bmp: u8, field: &FieldView<'a>)
+        ensures { (fields left rest : List Field) → Saw bmp fields self.old left → left ≡ shown field.now ∷ rest → Saw bmp fields self.new rest }
+    {
+        if field.bmp == bmp {
+            *self = match self {
+                Slot::Absent => Slot::Once(*field),
+                _ => Slot::Many,
+            };
+        }
+    }
+
+    /// The bytes of the field that stands once and is no container.
+    #[inline(always)]
+    fn content(&self, bmp: u8) -> Option<&'a [u8]>
+        requires { (fields : List Field) × Saw bmp fields self.now [] }
+        ensures content { (fields : List Field) → Saw bmp fields self.now [] → option_copied result ≡ content_of bmp fields }
+        ensures spelled { IfSome result (λ bytes. PlainBytes bmp bytes.now) }
+    {
+        match self {
+            Slot::Once(field) => field.plain(),
+            _ => None,
+        }
+    }
+
+    /// Whether the BMP stands.
+    #[inline(always)]
+    fn is_there(&self, bmp: u8) -> bool
+        ensures { (fields : List Field) → Saw bmp fields self.now [] → result ≡ not (count_of bmp fields == 0) }
+    {
+        match self {
+            Slot::Absent => false,
+            Slot::Once(_) => true,
+            Slot::Many => true,
+        }
+    }
+}
+
+/// What was seen of each BMP that counts.
+#[derive(Clone, Copy, Drop)]
+pub(crate) struct Slots<'a> {
+    pub(crate) result: Slot<'a>,
+    pub(crate) amount: Slot<'a>,
+    pub(crate) trace: Slot<'a>,
+    pub(crate) receipt: Slot<'a>,
+    pub(crate) original: Slot<'a>,
+    pub(crate) currency: Slot<'a>,
+}
+
+impl<'a> Slots<'a> {
+    /// Sees the next field.
+    #[inline(always)]
+    fn see(&mut self, field: &FieldView<'a>)
+        ensures { (fields left rest : List Field) → Collected fields self.old left → left ≡ shown field.now ∷ rest → Collected fields self.new rest }
+    {
+        self.result.see(0x27, field);
+        self.amount.see(0x04, field);
+        self.trace.see(0x0B, field);
+        self.receipt.see(0x87, field);
+        self.original.see(0x37, field);
+        self.currency.see(0x49, field);
+    }
+}
+
+/// What was seen of each BMP in all the fields.
+#[inline(always)]
+fn collect<'a>(fields: &FieldsView<'a>) -> Slots<'a>
+    ensures { Collected fields.now result [] }
+{
+    let mut slots = Slots {
+        result: Slot::Absent,
+        amount: Slot::Absent,
+        trace: Slot::Absent,
+        receipt: Slot::Absent,
+        original: Slot::Absent,
+        currency: Slot::Absent,
+    };
+    for field in fields.again() {
+        slots.see(&field);
+    }
+    slots
+}
+
+/// What the fields say that count only where their BMP stands exactly once.
+pub fn read_single(fields: &FieldsView<'_>) -> Single
+    ensures { Says fields.now result }
+{
+    let slots = collect(fields);
+    Single {
+        result: contents::result(slots.result.content(0x27)),
+        amount: contents::amount(slots.amount.content(0x04)),
+        trace: contents::trace(slots.trace.content(0x0B)),
+        receipt: contents::receipt(slots.receipt.content(0x87)),
+        original: contents::original(slots.original.content(0x37)),
+        has_original: slots.original.is_there(0x37),
+        currency: contents::currency(slots.currency.content(0x49)),
+        has_currency: slots.currency.is_there(0x49),
+    }
+}
