@@ -1,10 +1,12 @@
 //! What a message of the terminal is to a till.
-ghost use Rattle.std.specs.Prelude.{◌≡◌, ◌==◌, cond};
+ghost use Rattle.std.specs.Prelude.{◌≡◌, ◌==◌, cond, List};
+ghost use Rattle.zvt_field.specs.Grammar.{Field};
+ghost use Rattle.zvt_field.specs.Single.{Says};
 ghost use Rattle.zvt_till.specs.Hearing.{original_in, currency_in, facts_in_fields, heard_as};
 
 use crate::messages::{CurrencyFact, Heard, Original, StatusFacts};
 use zvt_apdu::{Apdu, ApduView, Kind, Message};
-use zvt_field::{Fields, FieldsView, count, currency, original};
+use zvt_field::{Fields, FieldsView, Single, count, currency, original, read_single};
 
 /// The BMP of the trace number of a payment that is taken back.
 const ORIGINAL_TRACE: u8 = 0x37;
@@ -91,17 +93,25 @@ pub fn heard(apdu: &Apdu) -> Heard
     }
 }
 
-/// The payment that the fields of a view say is taken back.
-fn original_shown(fields: &FieldsView<'_>) -> Original
-    ensures { result ≡ original_in fields.now }
+/// The payment that is taken back, where BMP 37 stands once.
+fn original_shown(single: &Single) -> Original
+    ensures { (fields : List Field) → Says fields single.now → result ≡ original_in fields }
 {
-    // Most statuses name none, which one look at the fields tells.
-    if fields.count(ORIGINAL_TRACE) == 0 {
-        return Original::Absent;
-    }
-    match fields.original() {
+    match single.original {
         Some(bytes) => Original::Once(bytes),
-        None => Original::Many,
+        None if single.has_original => Original::Many,
+        None => Original::Absent,
+    }
+}
+
+/// The currency that is named, where BMP 49 stands once.
+fn currency_named(single: &Single) -> CurrencyFact
+    ensures { (fields : List Field) → Says fields single.now → result ≡ currency_in fields }
+{
+    match single.currency {
+        Some(currency) => CurrencyFact::Once(currency),
+        None if single.has_currency => CurrencyFact::Many,
+        None => CurrencyFact::Absent,
     }
 }
 
@@ -122,17 +132,19 @@ pub fn currency_shown(fields: &FieldsView<'_>) -> CurrencyFact
 fn facts_shown(fields: &FieldsView<'_>) -> StatusFacts
     ensures { result ≡ facts_in_fields fields.now }
 {
+    let single = read_single(fields);
     StatusFacts {
-        result: fields.result(),
-        amount: fields.amount(),
-        trace: fields.trace(),
-        receipt: fields.receipt(),
-        original: original_shown(fields),
-        currency: currency_shown(fields),
+        result: single.result,
+        amount: single.amount,
+        trace: single.trace,
+        receipt: single.receipt,
+        original: original_shown(&single),
+        currency: currency_named(&single),
     }
 }
 
 /// What the message that a view shows is to a till: as `heard` of the message.
+#[inline(always)]
 pub fn heard_view(apdu: &ApduView<'_>) -> Heard
     ensures { result ≡ heard_as apdu.now }
 {
