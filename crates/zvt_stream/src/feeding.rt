@@ -253,6 +253,7 @@ impl Stream {
     }
 
     /// The same, with the count of the bytes that are judged.
+    #[inline(always)]
     pub fn feed_view_counted(
         &mut self,
         steps: &mut Steps,
