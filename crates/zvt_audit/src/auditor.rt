@@ -29,6 +29,7 @@ impl Listener<()> for Auditor {
 
     ghost fails = { λ _ _ failure _. failure ≡ Memory };
 
+    #[inline(always)]
     fn hear(&mut self, _device: &mut (), _line: u64, told: &Told<'_>) -> Result<(), Failure> {
         match told {
             Told::Message { from, apdu, .. } => {

@@ -77,6 +77,7 @@ fn tell_message<D, L: Listener<D>>(
 }
 
 /// Tells what a piece brings: the messages that end in it, and whether its stream is refused.
+#[inline(always)]
 pub(crate) fn tell_piece<D, L: Listener<D>>(
     listener: &mut L,
     device: &mut D,
