@@ -98,6 +98,7 @@ fn can_fill(layout: Layout, size: usize) -> bool
 }
 
 /// Judges the length of the data behind these control bytes: what stands in data of that size.
+#[inline(always)]
 pub fn judge_size(high: u8, low: u8, size: usize) -> Result<Layout, Why>
     ensures { JudgesSize high low size result }
 {
