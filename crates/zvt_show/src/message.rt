@@ -15,6 +15,7 @@ use zvt_tlv::Lengths;
 use zvt_trace::Direction;
 
 /// A message with its fields, as a line of a trace, or as a line of a receipt.
+#[inline(always)]
 pub(crate) fn write(
     text: &mut Text,
     alloc: Global,
