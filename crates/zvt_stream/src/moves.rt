@@ -192,6 +192,7 @@ fn judge_head(free: usize, digits: usize, left: usize, byte: u8) -> Result<Move,
     }
 }
 
+#[inline(always)]
 pub(crate) fn judge_field(left: usize, byte: u8, lengths: Lengths) -> Result<Move, Why>
     requires { 2 ≤ left }
     ensures { (depth : ℕ) → Judges (reading_of lengths) At.Name left depth byte result }
