@@ -11,6 +11,7 @@ use std::alloc::AllocError;
 use zvt_bcd::Currency;
 
 /// The payload, if there is any.
+#[inline(always)]
 pub(crate) fn data(text: &mut Text, payload: Option<&[u8]>) -> Result<(), AllocError>
     ensures { OnOk result (text.new ≡ text.old ++ part_text data_text (option_copied payload.entry)) }
 {
@@ -31,6 +32,7 @@ fn payload_data(text: &mut Text, payload: &[u8]) -> Result<(), AllocError>
 }
 
 /// A code, a status or an attribute, in hexadecimal.
+#[inline(always)]
 pub(crate) fn byte_part(text: &mut Text, part: Option<u8>) -> Result<(), AllocError>
     ensures { OnOk result (text.new ≡ text.old ++ part_text hex_part part) }
 {
