@@ -38,15 +38,22 @@ fn refused(alloc: Global, line: &str) -> Result<(ErrorKind, String), Fail> {
 fn commands_and_their_options(rt: HostRuntime) -> Result<(), Fail> {
     let alloc = rt.alloc();
     let cases = [
-        ("", "Show { file: None }"),
-        ("zvt", "Show { file: None }"),
-        ("zvt show", "Show { file: None }"),
+        ("", "Show { file: None, loose: false }"),
+        ("zvt", "Show { file: None, loose: false }"),
+        ("zvt show", "Show { file: None, loose: false }"),
         ("zvt join", "Join { file: None }"),
-        ("zvt audit", "Audit { file: None }"),
-        ("zvt receipts", "Receipts { file: None }"),
+        ("zvt audit", "Audit { file: None, loose: false }"),
+        ("zvt receipts", "Receipts { file: None, loose: false }"),
         ("zvt vectors v.txt", "Vectors { file: Some(\"v.txt\") }"),
-        ("zvt show -", r#"Show { file: Some("-") }"#),
-        ("zvt audit t.trace", r#"Audit { file: Some("t.trace") }"#),
+        ("zvt show -", r#"Show { file: Some("-"), loose: false }"#),
+        (
+            "zvt audit --loose t.trace",
+            r#"Audit { file: Some("t.trace"), loose: true }"#,
+        ),
+        (
+            "zvt normalise t.trace",
+            r#"Normalise { file: Some("t.trace") }"#,
+        ),
         ("zvt loop", "Loop { trace: None, steps: [] }"),
         (
             "zvt loop register decline:500:6C",
@@ -54,23 +61,23 @@ fn commands_and_their_options(rt: HostRuntime) -> Result<(), Fail> {
         ),
         (
             "zvt till --port 4711 register --host ::1 close",
-            r#"Till { port: 4711, host: "::1", password: None, config: None, currency: None, trace: None, steps: ["register", "close"] }"#,
+            r#"Till { port: 4711, host: "::1", password: None, config: None, currency: None, trace: None, loose: false, steps: ["register", "close"] }"#,
         ),
         (
             "zvt till --port=65535",
-            r#"Till { port: 65535, host: "127.0.0.1", password: None, config: None, currency: None, trace: None, steps: [] }"#,
+            r#"Till { port: 65535, host: "127.0.0.1", password: None, config: None, currency: None, trace: None, loose: false, steps: [] }"#,
         ),
         (
-            "zvt till --port 1 --password 12 --config 8A --currency 0752 --trace t.trace",
-            r#"Till { port: 1, host: "127.0.0.1", password: Some("12"), config: Some("8A"), currency: Some("0752"), trace: Some("t.trace"), steps: [] }"#,
+            "zvt till --port 1 --loose --password 12 --config 8A --currency 0752 --trace t.trace",
+            r#"Till { port: 1, host: "127.0.0.1", password: Some("12"), config: Some("8A"), currency: Some("0752"), trace: Some("t.trace"), loose: true, steps: [] }"#,
         ),
         (
-            "zvt terminal --port=1 --decline 6c --tid=99999999 --host ::1 --trace t --connections 3",
-            r#"Terminal { port: 1, host: "::1", tid: 99999999, connections: 3, decline: Some("6c"), trace: Some("t") }"#,
+            "zvt terminal --port=1 --decline 6c --tid=99999999 --host ::1 --trace t --connections 3 --loose",
+            r#"Terminal { port: 1, host: "::1", tid: 99999999, connections: 3, decline: Some("6c"), trace: Some("t"), loose: true }"#,
         ),
         (
             "zvt terminal --port 4711",
-            r#"Terminal { port: 4711, host: "127.0.0.1", tid: 12345678, connections: 1, decline: None, trace: None }"#,
+            r#"Terminal { port: 4711, host: "127.0.0.1", tid: 12345678, connections: 1, decline: None, trace: None, loose: false }"#,
         ),
     ];
     for (line, choice) in cases {
@@ -86,6 +93,7 @@ fn wrong_words(rt: HostRuntime) -> Result<(), Fail> {
         ("zvt pay", ErrorKind::InvalidSubcommand),
         ("zvt show x y", ErrorKind::UnknownArgument),
         ("zvt --port 1", ErrorKind::UnknownArgument),
+        ("zvt join --loose", ErrorKind::UnknownArgument),
         ("zvt till close", ErrorKind::MissingRequiredArgument),
         ("zvt terminal", ErrorKind::MissingRequiredArgument),
         ("zvt till --port=65536", ErrorKind::ValueValidation),
@@ -120,7 +128,7 @@ fn texts_of_refused_words(rt: HostRuntime) -> Result<(), Fail> {
 
   tip: a similar subcommand exists: 'receipts'
 
-Usage: zvt [show|join|audit|receipts|vectors|loop|till|terminal]
+Usage: zvt [show|join|normalise|audit|receipts|vectors|loop|till|terminal]
 
 For more information, try '--help'.
 ",
@@ -129,7 +137,7 @@ For more information, try '--help'.
             "zvt xyz",
             "error: unrecognized subcommand 'xyz'
 
-Usage: zvt [show|join|audit|receipts|vectors|loop|till|terminal]
+Usage: zvt [show|join|normalise|audit|receipts|vectors|loop|till|terminal]
 
 For more information, try '--help'.
 ",
@@ -154,6 +162,7 @@ fn help_of_the_program(rt: HostRuntime) -> Result<(), Fail> {
     for word in [
         "\n  show ",
         "\n  join ",
+        "\n  normalise ",
         "\n  audit ",
         "\n  receipts ",
         "\n  vectors ",
@@ -177,7 +186,15 @@ fn help_of_the_program(rt: HostRuntime) -> Result<(), Fail> {
 fn help_of_each_command(rt: HostRuntime) -> Result<(), Fail> {
     let alloc = rt.alloc();
     for name in [
-        "show", "join", "audit", "receipts", "vectors", "loop", "till", "terminal",
+        "show",
+        "join",
+        "normalise",
+        "audit",
+        "receipts",
+        "vectors",
+        "loop",
+        "till",
+        "terminal",
     ] {
         let line = format!(in alloc; "zvt {name} --help")?;
         let (_, text) = refused(alloc, line.as_str())?;

@@ -11,6 +11,7 @@ use zvt_run::{
 use zvt_spelling::Why;
 use zvt_stream::{LineFault, Stream};
 use zvt_term::{Served, Terminal, Verdict};
+use zvt_tlv::Lengths;
 
 const USUAL: &str = r#"register -> registered
 pay:1000 -> paid trace 000001 receipt 0001
@@ -226,7 +227,18 @@ fn no_till_connects(rt: HostRuntime) -> Result<(), Fail> {
     let mut tell = Over::new(Vec::new(rt.alloc()));
     let host = "127.0.0.1";
     let verdict = Verdict::Approve;
-    let ended = run_terminal(&rt, rt.alloc(), host, port, 1, verdict, 1, None, &mut tell);
+    let ended = run_terminal(
+        &rt,
+        rt.alloc(),
+        host,
+        port,
+        1,
+        verdict,
+        Lengths::Shortest,
+        1,
+        None,
+        &mut tell,
+    );
     assert!(rt; matches!(ended, Err(EndFault::Net(NetFault::InUse))));
     assert!(rt; tell.inner.is_empty());
     Ok(())
@@ -252,6 +264,7 @@ fn till_at(
         "127.0.0.1",
         port,
         &settings,
+        Lengths::Shortest,
         steps,
         None,
         writer,

@@ -1,5 +1,7 @@
 //! The runs of either end of a line, as the command line asks for them.
-ghost use Rattle.std.specs.Prelude.{◌≤◌};
+ghost use Rattle.std.specs.Prelude.{◌≡◌, ◌≤◌};
+ghost use Rattle.zvt_spelling.specs.Reading.{reading};
+ghost use Rattle.zvt_tlv.specs.Lengths.{reading_of};
 
 use crate::finish::finish_run;
 use crate::output::Output;
@@ -9,7 +11,7 @@ use std::io;
 use zvt_io::Over;
 use zvt_term::Verdict;
 use zvt_tool::{
-    Ends, TillSettings, config_of, currency_of, password_of, plan, result_code, run_loop,
+    Ends, Lengths, TillSettings, config_of, currency_of, password_of, plan, result_code, run_loop,
     run_terminal, run_till,
 };
 
@@ -19,6 +21,17 @@ pub struct SettingWords<'a> {
     pub password: Option<&'a str>,
     pub config: Option<&'a str>,
     pub currency: Option<&'a str>,
+}
+
+/// The lengths that are read where a command is loose, or is not.
+pub fn lengths(loose: bool) -> Lengths
+    ensures { reading_of result ≡ reading loose }
+{
+    if loose {
+        Lengths::Padded
+    } else {
+        Lengths::Shortest
+    }
 }
 
 /// Runs both ends in this process, and answers the exit status.
@@ -38,6 +51,7 @@ pub fn till(
     host: &str,
     port: u16,
     words: &SettingWords<'_>,
+    lengths: Lengths,
     trace: Option<&str>,
     steps: &[&str],
 ) -> io::Result<u8> {
@@ -60,6 +74,7 @@ pub fn till(
         host,
         port,
         &settings,
+        lengths,
         steps,
         file,
         &mut writer,
@@ -73,6 +88,7 @@ pub fn terminal(
     host: &str,
     port: u16,
     tid: u32,
+    lengths: Lengths,
     connections: u16,
     decline: Option<&str>,
     trace: Option<&str>,
@@ -108,6 +124,7 @@ pub fn terminal(
         port,
         tid,
         verdict,
+        lengths,
         connections,
         file,
         &mut tell,

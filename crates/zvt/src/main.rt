@@ -13,7 +13,7 @@ mod on_trace;
 mod output;
 mod statuses;
 
-use crate::ends::SettingWords;
+use crate::ends::{SettingWords, lengths};
 use crate::statuses::{DEVICE, DONE, MEMORY, WORDS};
 use std::io::ErrorKind;
 use std::process::ExitCode;
@@ -73,10 +73,11 @@ fn execute(rt: &HostRuntime, chosen: &Choice<'_>) -> io::Result<u8>
     requires { (reading : Option (Text × List Row)) × IsChoiceOf reading chosen.now }
 {
     match chosen {
-        Choice::Show { file }
+        Choice::Show { file, .. }
         | Choice::Join { file }
-        | Choice::Audit { file }
-        | Choice::Receipts { file }
+        | Choice::Normalise { file }
+        | Choice::Audit { file, .. }
+        | Choice::Receipts { file, .. }
         | Choice::Vectors { file } => inputs::work_on(rt, chosen, *file),
         Choice::Loop { trace, steps } => ends::both_ends(rt, *trace, steps.as_slice()),
         Choice::Till {
@@ -86,6 +87,7 @@ fn execute(rt: &HostRuntime, chosen: &Choice<'_>) -> io::Result<u8>
             config,
             currency,
             trace,
+            loose,
             steps,
         } => {
             let words = SettingWords {
@@ -93,7 +95,15 @@ fn execute(rt: &HostRuntime, chosen: &Choice<'_>) -> io::Result<u8>
                 config: *config,
                 currency: *currency,
             };
-            ends::till(rt, host, *port, &words, *trace, steps.as_slice())
+            ends::till(
+                rt,
+                host,
+                *port,
+                &words,
+                lengths(*loose),
+                *trace,
+                steps.as_slice(),
+            )
         }
         Choice::Terminal {
             port,
@@ -102,6 +112,16 @@ fn execute(rt: &HostRuntime, chosen: &Choice<'_>) -> io::Result<u8>
             connections,
             decline,
             trace,
-        } => ends::terminal(rt, host, *port, *tid, *connections, *decline, *trace),
+            loose,
+        } => ends::terminal(
+            rt,
+            host,
+            *port,
+            *tid,
+            lengths(*loose),
+            *connections,
+            *decline,
+            *trace,
+        ),
     }
 }

@@ -2,6 +2,7 @@
 ghost use Rattle.std.specs.Prelude.{◌≤◌, length};
 ghost use Rattle.zvt_trace.specs.Written.{limit};
 
+use crate::ends::lengths;
 use crate::finish::say;
 use std::io::{self, ErrorKind};
 use zvt_io::Over;
@@ -27,7 +28,7 @@ pub fn say_notes(
         Err(TraceFault::Trace { .. }) => true,
         Err(_) => false,
     };
-    if is_bad && !say_bad(rt, scope, trace)? {
+    if is_bad && !say_bad(rt, scope, lengths_of(chosen), trace)? {
         return Ok(false);
     }
     if let Ok(found) = answer {
@@ -65,18 +66,31 @@ pub fn say_hint(rt: &HostRuntime, trace: &[u8], line: Option<u64>) -> io::Result
 /// What a refusal leaves unread under the command, if it reads messages of a line.
 fn scope_of(chosen: &Choice<'_>) -> Option<Scope> {
     match chosen {
-        Choice::Show { .. } | Choice::Join { .. } | Choice::Receipts { .. } => Some(Scope::OneSide),
+        Choice::Show { .. }
+        | Choice::Join { .. }
+        | Choice::Normalise { .. }
+        | Choice::Receipts { .. } => Some(Scope::OneSide),
         Choice::Audit { .. } => Some(Scope::WholeLine),
         _ => None,
     }
 }
 
+/// The lengths that the command reads.
+fn lengths_of(chosen: &Choice<'_>) -> Lengths {
+    match chosen {
+        Choice::Show { loose, .. } | Choice::Audit { loose, .. } | Choice::Receipts { loose, .. } =>
+            { lengths(*loose) }
+        Choice::Normalise { .. } => Lengths::Padded,
+        _ => Lengths::Shortest,
+    }
+}
+
 /// Says which streams of the trace are bad, or that there is too little memory for it, and answers whether there was.
-fn say_bad(rt: &HostRuntime, scope: Scope, trace: &[u8]) -> io::Result<bool>
+fn say_bad(rt: &HostRuntime, scope: Scope, lengths: Lengths, trace: &[u8]) -> io::Result<bool>
     requires { length trace.now ≤ limit }
 {
     let mut device = Over::new(rt.stderr());
-    match write_notes(rt.alloc(), scope, Lengths::Shortest, trace, &mut device) {
+    match write_notes(rt.alloc(), scope, lengths, trace, &mut device) {
         Ok(()) => Ok(true),
         Err(Failure::Memory) => {
             say(rt, None, &ToolFault::from(TraceFault::Memory))?;

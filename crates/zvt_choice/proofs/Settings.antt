@@ -44,6 +44,10 @@ shows a b c name help rule e f has =
     let named = set (λ (r : Rule). record r { value_names = 1 }) a b rule (ap rule_of e) (ap (λ (x : Arg). x.global) e) has in
     set (λ (r : Rule). r) b c (record rule { value_names = 1 }) (ap rule_of f) (ap (λ (x : Arg). x.global) f) named
 
+-- a help text says nothing to the rule
+pub helps : (a b : Arg) (help : Bor (List ℕ)) (rule : Rule) → b ≡ record a { help = Some help } → Has a rule → Has b rule
+helps a b help rule e = set (λ (r : Rule). r) a b rule (ap rule_of e) (ap (λ (x : Arg). x.global) e)
+
 -- a parser of 32 bits, narrowed to this range
 pub narrowed : (p r : ValueParser) (least most : ℤ) (low high n : ℕ) → p ≡ Signed (pos 0) (pos n) → NarrowsTo p (Some least) (Some most) r
     → least ≡ pos low → most ≡ pos high → NarrowsTo (Signed (pos 0) (pos n)) (Some (pos low)) (Some (pos high)) r

@@ -1,5 +1,5 @@
 -- What the words of a command line choose.
-use Rattle.std.specs.Prelude.{◌≡◌, ◌≢◌, ◌≤◌, ◌⊎◌, ⊤, ℕ, List, [], Option, Some, None, codes, map, option_map, unwrap_or}
+use Rattle.std.specs.Prelude.{◌≡◌, ◌≢◌, ◌≤◌, ◌⊎◌, ⊤, ℕ, Bool, false, true, List, [], Option, Some, None, codes, map, option_map, unwrap_or}
 use Rattle.std.specs.Borrow.{Bor}
 use Rattle.std.specs.Str.Parse.{IsNumeral, digits_value, without_leading_plus}
 use Rattle.clap.specs.Words.{IsAmong, Kinds, Row, Text, all_of, fault_of, first_of, kind_of, one_of, subcommand_of}
@@ -7,7 +7,7 @@ use Rattle.clap.specs.declared.error.Error.{Error}
 use Rattle.clap.specs.declared.error.kind.ErrorKind.TheVariants.{MissingRequiredArgument, OutOfMemory}
 use Rattle.zvt_choice.specs.Commands.{zvt_app}
 use Rattle.zvt_choice.specs.declared.chosen.Choice.{Choice}
-use Rattle.zvt_choice.specs.declared.chosen.Choice.TheVariants.{Audit, Join, Loop, Receipts, Show, Terminal, Till, Vectors}
+use Rattle.zvt_choice.specs.declared.chosen.Choice.TheVariants.{Audit, Join, Loop, Normalise, Receipts, Show, Terminal, Till, Vectors}
 use Rattle.zvt_choice.specs.declared.chosen.ChoiceFault.{ChoiceFault}
 use Rattle.zvt_choice.specs.declared.chosen.ChoiceFault.TheVariants.{Memory, Words}
 
@@ -38,31 +38,39 @@ steps_of rows = unwrap_or (all_of (codes "step") rows) []
 abbrev pub IsTextOf : Text → List Row → Option (Bor Text) → Type 0
 IsTextOf id rows text = first_of id rows ≡ option_map (λ text. text.now) text
 
+-- the flag is set, or it is not
+abbrev pub IsFlagOf : Text → List Row → Bool → Type 0
+IsFlagOf id rows flag =
+    (one_of id rows ≡ None → flag ≡ false) × (one_of id rows ≡ Some (codes "true") → flag ≡ true) × (one_of id rows ≡ Some (codes "false") → flag ≡ false)
+
 -- the command of this name, given these, is the choice
 abbrev pub IsCommandOf : Text → List Row → Choice → Type 0
-IsCommandOf name rows (Show file) = (name ≡ codes "show") × IsTextOf (codes "file") rows file
+IsCommandOf name rows (Show file loose) = (name ≡ codes "show") × IsTextOf (codes "file") rows file × IsFlagOf (codes "loose") rows loose
 IsCommandOf name rows (Join file) = (name ≡ codes "join") × IsTextOf (codes "file") rows file
-IsCommandOf name rows (Audit file) = (name ≡ codes "audit") × IsTextOf (codes "file") rows file
-IsCommandOf name rows (Receipts file) = (name ≡ codes "receipts") × IsTextOf (codes "file") rows file
+IsCommandOf name rows (Normalise file) = (name ≡ codes "normalise") × IsTextOf (codes "file") rows file
+IsCommandOf name rows (Audit file loose) = (name ≡ codes "audit") × IsTextOf (codes "file") rows file × IsFlagOf (codes "loose") rows loose
+IsCommandOf name rows (Receipts file loose) = (name ≡ codes "receipts") × IsTextOf (codes "file") rows file × IsFlagOf (codes "loose") rows loose
 IsCommandOf name rows (Vectors file) = (name ≡ codes "vectors") × IsTextOf (codes "file") rows file
 IsCommandOf name rows (Loop trace steps) =
     (name ≡ codes "loop") × IsTextOf (codes "trace") rows trace
     × (map (λ step. step.now) steps.items ≡ steps_of rows)
-IsCommandOf name rows (Till port host password config currency trace steps) =
+IsCommandOf name rows (Till port host password config currency trace loose steps) =
     (name ≡ codes "till") × GivesNumber (codes "port") rows 65535 port
     × (first_of (codes "host") rows ≡ Some host.now)
     × IsTextOf (codes "password") rows password
     × IsTextOf (codes "config") rows config
     × IsTextOf (codes "currency") rows currency
     × IsTextOf (codes "trace") rows trace
+    × IsFlagOf (codes "loose") rows loose
     × (map (λ step. step.now) steps.items ≡ steps_of rows)
-IsCommandOf name rows (Terminal port host tid connections decline trace) =
+IsCommandOf name rows (Terminal port host tid connections decline trace loose) =
     (name ≡ codes "terminal") × GivesNumber (codes "port") rows 65535 port
     × (first_of (codes "host") rows ≡ Some host.now)
     × GivesNumber (codes "tid") rows 99999999 tid
     × GivesNumber (codes "connections") rows 65535 connections
     × IsTextOf (codes "decline") rows decline
     × IsTextOf (codes "trace") rows trace
+    × IsFlagOf (codes "loose") rows loose
 
 -- no command is `show`
 abbrev pub IsChoiceOf : Option (Text × List Row) → Choice → Type 0

@@ -4,7 +4,7 @@ use Rattle.clap.specs.Simple.{on_top}
 use Rattle.clap.specs.Words.{App, Rule, Text, app_of, new_app, new_rule, with_rule, with_subcommand}
 use Rattle.clap.specs.declared.builder.command.Command.{Command}
 use Rattle.clap.specs.declared.builder.command.Command.TheViews.{out-Command as fields_of}
-use Rattle.clap.specs.declared.builder.action.ArgAction.TheVariants.{Append}
+use Rattle.clap.specs.declared.builder.action.ArgAction.TheVariants.{Append, SetTrue}
 use Rattle.clap.specs.declared.builder.value_parser.ValueParser.TheVariants as parser
 
 -- any number of words
@@ -14,6 +14,10 @@ step_rule = record (new_rule (codes "step")) { action = Some Append; value_names
 -- a word that may be left out
 abbrev pub file_rule : Rule
 file_rule = record (new_rule (codes "file")) { value_names = 1 }
+
+-- an option without a value
+abbrev pub loose_rule : Rule
+loose_rule = record (new_rule (codes "loose")) { long = Some (codes "loose"); action = Some SetTrue }
 
 -- an option that has one value
 abbrev pub option_rule : Text → Rule
@@ -49,15 +53,15 @@ loop_app = with_rule (plain_option (new_app (codes "loop")) (codes "trace")) ste
 
 abbrev pub till_app : App
 till_app =
-    with_rule (plain_option (plain_option (plain_option
+    with_rule (with_rule (plain_option (plain_option (plain_option
     (plain_option (with_rule (with_rule (new_app (codes "till")) port_rule) host_rule) (codes "password"))
-    (codes "config")) (codes "currency")) (codes "trace")) step_rule
+    (codes "config")) (codes "currency")) (codes "trace")) loose_rule) step_rule
 
 abbrev pub terminal_app : App
 terminal_app =
-    plain_option (plain_option
+    with_rule (plain_option (plain_option
     (with_rule (with_rule (with_rule (with_rule (new_app (codes "terminal")) port_rule) host_rule) tid_rule) connections_rule)
-    (codes "decline")) (codes "trace")
+    (codes "decline")) (codes "trace")) loose_rule
 
 -- a command of this line, whose options are its own
 abbrev pub IsLocalAppOf : App → Command → Type 0
@@ -75,12 +79,17 @@ with_command app command = with_subcommand app command.top
 abbrev pub on_trace_app : Text → App
 on_trace_app name = with_rule (new_app name) file_rule
 
+-- a command that reads a trace with padded lengths too
+abbrev pub loose_trace_app : Text → App
+loose_trace_app name = with_rule (on_trace_app name) loose_rule
+
 -- with the commands that read a trace, or vectors
 abbrev pub trace_app : App
 trace_app =
-    with_command (with_command (with_command
-    (with_command (with_command program_app (on_trace_app (codes "show"))) (on_trace_app (codes "join")))
-    (on_trace_app (codes "audit"))) (on_trace_app (codes "receipts"))) (on_trace_app (codes "vectors"))
+    with_command (with_command (with_command (with_command
+    (with_command (with_command program_app (loose_trace_app (codes "show"))) (on_trace_app (codes "join")))
+    (on_trace_app (codes "normalise"))) (loose_trace_app (codes "audit"))) (loose_trace_app (codes "receipts")))
+    (on_trace_app (codes "vectors"))
 
 -- the program with its commands and their options
 abbrev pub zvt_app : App

@@ -11,18 +11,26 @@ use thiserror::Error;
 /// their form.
 #[derive(Debug, Drop)]
 pub enum Choice<'a> {
-    /// Also where no command is given. A file is named, or none or `-` for standard input.
+    /// Also where no command is given. A file is named, or none or `-` for standard input. Where it is `loose`, here and
+    /// below, lengths are read in any form that holds them.
     Show {
         file: Option<&'a str>,
+        loose: bool,
     },
     Join {
         file: Option<&'a str>,
     },
+    /// Lengths are read in any form that holds them.
+    Normalise {
+        file: Option<&'a str>,
+    },
     Audit {
         file: Option<&'a str>,
+        loose: bool,
     },
     Receipts {
         file: Option<&'a str>,
+        loose: bool,
     },
     /// Vectors are read from the file in place of a trace.
     Vectors {
@@ -40,6 +48,7 @@ pub enum Choice<'a> {
         config: Option<&'a str>,
         currency: Option<&'a str>,
         trace: Option<&'a str>,
+        loose: bool,
         steps: Vec<&'a str>,
     },
     /// The host is 127.0.0.1 unless one is given. The terminal's number `tid` is at most 99,999,999, and 12345678
@@ -51,6 +60,7 @@ pub enum Choice<'a> {
         connections: u16,
         decline: Option<&'a str>,
         trace: Option<&'a str>,
+        loose: bool,
     },
 }
 

@@ -2,7 +2,7 @@
 ghost use Rattle.std.specs.Prelude.{◌≡◌, IfOk, IsOkAnd, false};
 ghost use Rattle.clap.specs.Words.{App, Rule, app_of, new_app, rule_of, with_rule};
 ghost use Rattle.clap.specs.declared.builder.command.Command.TheViews.{out-Command as fields_of};
-ghost use Rattle.zvt_choice.specs.Commands.{IsLocalAppOf, loop_app, on_trace_app, program_app, terminal_app, till_app, trace_app, with_command, zvt_app};
+ghost use Rattle.zvt_choice.specs.Commands.{IsLocalAppOf, loop_app, loose_trace_app, on_trace_app, program_app, terminal_app, till_app, trace_app, with_command, zvt_app};
 
 use crate::{help, options};
 use clap::{Arg, Command};
@@ -23,13 +23,15 @@ pub fn zvt<'a>(alloc: Global) -> Result<Command<'a>, AllocError>
 fn trace_commands<'a>(alloc: Global) -> Result<Command<'a>, AllocError>
     ensures { IfOk result (λ r. app_of r ≡ trace_app) }
 {
-    let show = on_trace(alloc, "show", help::SHOW, help::SHOW_EXAMPLE);
+    let show = loose_on_trace(alloc, "show", help::SHOW, help::SHOW_EXAMPLE);
     let showing = with(program(alloc), show)?;
     let join = on_trace(alloc, "join", help::JOIN, help::JOIN_EXAMPLE);
     let joining = with(showing, join)?;
-    let audit = on_trace(alloc, "audit", help::AUDIT, help::AUDIT_EXAMPLE);
-    let auditing = with(joining, audit)?;
-    let receipts = on_trace(alloc, "receipts", help::RECEIPTS, help::RECEIPTS_EXAMPLE);
+    let normalise = on_trace(alloc, "normalise", help::NORMALISE, help::NORMALISE_EXAMPLE);
+    let normalising = with(joining, normalise)?;
+    let audit = loose_on_trace(alloc, "audit", help::AUDIT, help::AUDIT_EXAMPLE);
+    let auditing = with(normalising, audit)?;
+    let receipts = loose_on_trace(alloc, "receipts", help::RECEIPTS, help::RECEIPTS_EXAMPLE);
     let printing = with(auditing, receipts)?;
     let vectors = on_trace(alloc, "vectors", help::VECTORS, help::VECTORS_EXAMPLE);
     with(printing, vectors)
@@ -47,6 +49,21 @@ fn on_trace<'a>(
 {
     let named = Ok(plain(alloc, name, about, more));
     and(named, options::file(alloc))
+}
+
+/// A command that reads a trace with padded lengths too, where it is asked to.
+fn loose_on_trace<'a>(
+    alloc: Global,
+    name: &'a str,
+    about: &'a str,
+    more: &'a str,
+) -> Result<Command<'a>, AllocError>
+    ensures app { IfOk result (λ r. app_of r ≡ loose_trace_app name.entry.now) }
+    ensures local { IfOk result (λ r. (fields_of r).has_globals ≡ false) }
+{
+    let named = Ok(plain(alloc, name, about, more));
+    let read = and(named, options::file(alloc));
+    and(read, options::loose(alloc, help::LOOSE))
 }
 
 /// The program without a command.
@@ -114,7 +131,8 @@ fn till<'a>(alloc: Global) -> Result<Command<'a>, AllocError>
         options::text(alloc, "currency", "NNNN", help::CURRENCY),
     );
     let traced = and(paying, options::text(alloc, "trace", "FILE", help::TRACE));
-    and(traced, options::step(alloc, help::TILL_STEP))
+    let reading = and(traced, options::loose(alloc, help::TILL_LOOSE));
+    and(reading, options::step(alloc, help::TILL_STEP))
 }
 
 fn terminal<'a>(alloc: Global) -> Result<Command<'a>, AllocError>
@@ -130,5 +148,6 @@ fn terminal<'a>(alloc: Global) -> Result<Command<'a>, AllocError>
         counted,
         options::text(alloc, "decline", "XX", help::DECLINE),
     );
-    and(decided, options::text(alloc, "trace", "FILE", help::TRACE))
+    let traced = and(decided, options::text(alloc, "trace", "FILE", help::TRACE));
+    and(traced, options::loose(alloc, help::TERMINAL_LOOSE))
 }

@@ -9,6 +9,9 @@ pub const SHOW: &str = "Writes each message of a trace with its fields; the same
 
 pub const JOIN: &str = "Writes each message of a trace as one line of a trace";
 
+pub const NORMALISE: &str =
+    "Writes each message of a trace as one line of a trace, each length in its shortest form";
+
 pub const AUDIT: &str =
     "Writes which payments of a trace are booked, which are unclear, and the total";
 
@@ -28,11 +31,11 @@ pub const FILE: &str =
     "The file that the trace is read from; without it, or with '-', standard input";
 
 /// The names of the commands, as a usage line shows them.
-pub const NAMES: &str = "show|join|audit|receipts|vectors|loop|till|terminal";
+pub const NAMES: &str = "show|join|normalise|audit|receipts|vectors|loop|till|terminal";
 
 /// What follows the commands.
 pub const MORE: &str =
-    "show, join, audit and receipts read a trace from a file, or from standard input where none or '-' is named.
+    "show, join, normalise, audit and receipts read a trace from a file, or from standard input where none or '-' is named.
 
 Steps, which run in the order in which they are given:
   register      Registers the till at the terminal
@@ -65,6 +68,12 @@ pub const SHOW_EXAMPLE: &str = "Example:
 
 pub const JOIN_EXAMPLE: &str = "Example:
   zvt join payment.trace";
+
+pub const NORMALISE_EXAMPLE: &str =
+    "Lengths are read in any form that holds them, as with --loose: what is written can be read without it.
+
+Example:
+  zvt normalise padded.trace";
 
 pub const AUDIT_EXAMPLE: &str = "Example:
   zvt audit payment.trace";
@@ -112,6 +121,15 @@ pub const CURRENCY: &str = "The currency's number, four digits; without it 0978"
 
 pub const TRACE: &str =
     "Writes a trace of the line to this file while it runs, as the till sees it; what the file had is lost";
+
+pub const LOOSE: &str =
+    "Also reads lengths in longer forms than they need, as some terminals write them";
+
+pub const TILL_LOOSE: &str =
+    "Also reads lengths in longer forms than they need: for a terminal that is known to write them alone, since a till that pays reads strictly";
+
+pub const TERMINAL_LOOSE: &str =
+    "Also reads lengths in longer forms than they need, as some tills write them";
 
 pub const TID: &str = "The terminal's number, at most 99999999";
 

@@ -1,7 +1,7 @@
 //! The options and steps of the commands.
 ghost use Rattle.std.specs.Prelude.{◌≡◌, false};
 ghost use Rattle.clap.specs.Words.{rule_of};
-ghost use Rattle.zvt_choice.specs.Commands.{connections_rule, file_rule, host_rule, option_rule, port_rule, step_rule, tid_rule};
+ghost use Rattle.zvt_choice.specs.Commands.{connections_rule, file_rule, host_rule, loose_rule, option_rule, port_rule, step_rule, tid_rule};
 
 use crate::help;
 use clap::{Arg, ArgAction, value_parser};
@@ -69,6 +69,16 @@ pub fn connections<'a>(alloc: Global) -> Arg<'a>
         .default_value("1")
         .value_name("N")
         .help(help::CONNECTIONS)
+}
+
+pub fn loose<'a>(alloc: Global, text: &'a str) -> Arg<'a>
+    ensures rule { rule_of result ≡ loose_rule }
+    ensures local { result.global ≡ false }
+{
+    Arg::new(alloc, "loose")
+        .long("loose")
+        .action(ArgAction::SetTrue)
+        .help(text)
 }
 
 /// An option that has one value of this name, and no default.

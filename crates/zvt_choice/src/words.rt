@@ -1,7 +1,7 @@
 //! The words of a command line, as a choice.
 ghost use Rattle.std.specs.Prelude.{◌≡◌, codes, IfErr, IfOk, map, option_map, unwrap_or, Some, []};
 ghost use Rattle.clap.specs.Words.{all_of, first_of, found_of, kind_of, rows_of, subcommand_rows_of};
-ghost use Rattle.zvt_choice.specs.Chosen.{HasNoChoice, IsChoiceOf, IsFaultOf, IsMissing, IsNumberOf, IsTakenAs, MayBeChoiceOf, faults_of_words, reading_of_words};
+ghost use Rattle.zvt_choice.specs.Chosen.{HasNoChoice, IsChoiceOf, IsFaultOf, IsFlagOf, IsMissing, IsNumberOf, IsTakenAs, MayBeChoiceOf, faults_of_words, reading_of_words};
 
 use crate::chosen::{Choice, ChoiceFault};
 use crate::command;
@@ -21,7 +21,10 @@ pub fn choice<'a>(alloc: Global, words: &'a [&'a str]) -> Result<Choice<'a>, Cho
 {
     let matches = matches(alloc, words)?;
     match matches.subcommand() {
-        None => Ok(Choice::Show { file: None }),
+        None => Ok(Choice::Show {
+            file: None,
+            loose: false,
+        }),
         Some((name, inner)) => match chosen(alloc, name, inner)? {
             Some(choice) => Ok(choice),
             None => Err(incomplete(alloc)),
@@ -81,15 +84,21 @@ fn chosen<'a>(
     Ok(match name {
         "show" => Some(Choice::Show {
             file: text(inner, "file"),
+            loose: flag(inner, "loose"),
         }),
         "join" => Some(Choice::Join {
             file: text(inner, "file"),
         }),
+        "normalise" => Some(Choice::Normalise {
+            file: text(inner, "file"),
+        }),
         "audit" => Some(Choice::Audit {
             file: text(inner, "file"),
+            loose: flag(inner, "loose"),
         }),
         "receipts" => Some(Choice::Receipts {
             file: text(inner, "file"),
+            loose: flag(inner, "loose"),
         }),
         "vectors" => Some(Choice::Vectors {
             file: text(inner, "file"),
@@ -121,6 +130,7 @@ fn till<'a>(alloc: Global, inner: &ArgMatches<'a>) -> Result<Option<Choice<'a>>,
         config: text(inner, "config"),
         currency: text(inner, "currency"),
         trace: text(inner, "trace"),
+        loose: flag(inner, "loose"),
         steps,
     }))
 }
@@ -139,6 +149,7 @@ fn terminal<'a>(inner: &ArgMatches<'a>) -> Option<Choice<'a>>
         connections,
         decline: text(inner, "decline"),
         trace: text(inner, "trace"),
+        loose: flag(inner, "loose"),
     })
 }
 
@@ -161,6 +172,13 @@ fn text<'a>(inner: &ArgMatches<'a>, id: &str) -> Option<&'a str>
     ensures { option_map (λ text. text.now) result ≡ first_of id.now (rows_of (found_of inner.now)) }
 {
     inner.get_str(id)
+}
+
+/// Whether the flag of this name is set.
+fn flag(inner: &ArgMatches<'_>, id: &str) -> bool
+    ensures { IsFlagOf id.now (rows_of (found_of inner.now)) result }
+{
+    inner.get_flag(id)
 }
 
 fn steps<'a>(alloc: Global, inner: &ArgMatches<'a>) -> Result<Vec<&'a str>, AllocError>

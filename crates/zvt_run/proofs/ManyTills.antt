@@ -2,8 +2,9 @@
 use Rattle.std.proofs.Common.{◌≡◌, ◌∙◌, ◌+◌, ◌<◌, ℕ, List, [], ◌∷◌, ◌++◌, Option, Some, None, Result, Ok, Err, ap, refl, subst, sym, arith}
 use Rattle.std.proofs.lemmas.List.{length-append}
 use Rattle.std.specs.Result.{result_err}
+use Rattle.zvt_spelling.specs.Reading.{Reading}
 use Rattle.zvt_stream.specs.Course.{Told}
-use Rattle.zvt_stream.specs.StreamState.{at_start}
+use Rattle.zvt_stream.specs.StreamState.{start_in}
 use Rattle.zvt_stream.specs.declared.line.LineFault.{LineFault}
 use Rattle.zvt_stream.specs.declared.line.LineFault.TheVariants.{Read, Write, Ended, Turns, Malformed, Memory, Stopped}
 use Rattle.zvt_term.specs.Served.{served_loses}
@@ -27,21 +28,21 @@ told_offline (Malformed place why) old new t = lost_offline old.terminal new.ter
 told_offline Memory old new t = lost_offline old.terminal new.terminal t.0
 told_offline Stopped old new t = lost_offline old.terminal new.terminal t.0
 
-pub left_offline : (old : Served) (broke : Option LineFault) (new : Served) → ServesLine old broke new → IsOffline new.terminal
-left_offline old None new line = told_offline (Ended 0) line.serves.middle new line.serves.told
-left_offline old (Some fault) new line = told_offline fault line.serves.1.middle new line.serves.1.told
+pub left_offline : (r : Reading) (old : Served) (broke : Option LineFault) (new : Served) → ServesLine r old broke new → IsOffline new.terminal
+left_offline r old None new line = told_offline (Ended 0) line.serves.middle new line.serves.told
+left_offline r old (Some fault) new line = told_offline fault line.serves.1.middle new line.serves.1.told
 
-pub served_line : (result : Result Unit LineFault) (before after : EndState) (old new : Served) → before.stream ≡ at_start → IsOffline old.terminal
-    → Serves before old after new result → ServesLine old (result_err result) new
-served_line (Ok done) before after old new begins offline serves = record { before = before; after = after; begins = begins; offline = offline; serves = serves }
-served_line (Err fault) before after old new begins offline serves = record { before = before; after = after; begins = begins; offline = offline; serves = serves }
+pub served_line : (r : Reading) (result : Result Unit LineFault) (before after : EndState) (old new : Served) → before.stream ≡ start_in r → IsOffline old.terminal
+    → Serves before old after new result → ServesLine r old (result_err result) new
+served_line r (Ok done) before after old new begins offline serves = record { before = before; after = after; begins = begins; offline = offline; serves = serves }
+served_line r (Err fault) before after old new begins offline serves = record { before = before; after = after; begins = begins; offline = offline; serves = serves }
 
 -- ---- one line more
 
-one_more : (lines : List (Option LineFault)) (broke : Option LineFault) (old middle new : Served) → ServesLines lines old middle → ServesLine middle broke new
-    → ServesLines (lines ++ broke ∷ []) old new
-one_more [] broke old middle new e line = (new, subst (λ (s : Served). ServesLine s broke new) e line, refl)
-one_more (first ∷ lines) broke old middle new so line = (so.0, so.1, one_more lines broke so.0 middle new so.2 line)
+one_more : (r : Reading) (lines : List (Option LineFault)) (broke : Option LineFault) (old middle new : Served) → ServesLines r lines old middle → ServesLine r middle broke new
+    → ServesLines r (lines ++ broke ∷ []) old new
+one_more r [] broke old middle new e line = (new, subst (λ (s : Served). ServesLine r s broke new) e line, refl)
+one_more r (first ∷ lines) broke old middle new so line = (so.0, so.1, one_more r lines broke so.0 middle new so.2 line)
 
 -- the first of both that broke
 abbrev pub or_later : Option LineFault → Option LineFault → Option LineFault
@@ -54,35 +55,35 @@ still_first [] (Some fault) = refl
 still_first (None ∷ lines) broke = still_first lines broke
 still_first (Some fault ∷ lines) broke = refl
 
-many_more : (count : ℕ) (first broke : Option LineFault) (old middle new : Served) → ServesMany count first old middle → ServesLine middle broke new
-    → ServesMany (count + 1) (or_later first broke) old new
-many_more count first broke old middle new so line = record {
+many_more : (r : Reading) (count : ℕ) (first broke : Option LineFault) (old middle new : Served) → ServesMany r count first old middle → ServesLine r middle broke new
+    → ServesMany r (count + 1) (or_later first broke) old new
+many_more r count first broke old middle new so line = record {
   lines = so.lines ++ broke ∷ [];
-  serves = one_more so.lines broke old middle new so.serves line;
+  serves = one_more r so.lines broke old middle new so.serves line;
   counted = length-append so.lines (broke ∷ []) ∙ ap (λ n. n + 1) so.counted;
   is_first = still_first so.lines broke ∙ ap (λ f. or_later f broke) so.is_first;
 }
 
 -- a fault of the next line ends the service
-pub stopped : (count most : ℕ) (first : Option LineFault) (fault : EndFault) (old middle new : Served) → count < most → ServesMany count first old middle
-    → AnswersTill middle new (Err fault) → AnswersTills most old new (Err fault)
-stopped count most first Trace old middle new below so till = (count + 1, or_later first till.0, omega (arith, below), many_more count first till.0 old middle new so till.1)
-stopped count most first (LineBroke fault) old middle new below so till = absurd till
-stopped count most first (Net why) old middle new below so till = absurd till
-stopped count most first (BadStep at) old middle new below so till = absurd till
-stopped count most first NotWritten old middle new below so till = absurd till
-stopped count most first NoMemory old middle new below so till = (count, first, omega (arith, below), subst (λ (s : Served). ServesMany count first old s) (sym till) so)
+pub stopped : (r : Reading) (count most : ℕ) (first : Option LineFault) (fault : EndFault) (old middle new : Served) → count < most → ServesMany r count first old middle
+    → AnswersTill r middle new (Err fault) → AnswersTills r most old new (Err fault)
+stopped r count most first Trace old middle new below so till = (count + 1, or_later first till.0, omega (arith, below), many_more r count first till.0 old middle new so till.1)
+stopped r count most first (LineBroke fault) old middle new below so till = absurd till
+stopped r count most first (Net why) old middle new below so till = absurd till
+stopped r count most first (BadStep at) old middle new below so till = absurd till
+stopped r count most first NotWritten old middle new below so till = absurd till
+stopped r count most first NoMemory old middle new below so till = (count, first, omega (arith, below), subst (λ (s : Served). ServesMany r count first old s) (sym till) so)
 
 -- that a line was served could not be told, which ends the service
-pub untold : (count most : ℕ) (first broke : Option LineFault) (old middle new : Served) → count < most → ServesMany count first old middle
-    → ServesLine middle broke new → ServesSome most old new
-untold count most first broke old middle new below so line = (count + 1, or_later first broke, omega (arith, below), many_more count first broke old middle new so line)
+pub untold : (r : Reading) (count most : ℕ) (first broke : Option LineFault) (old middle new : Served) → count < most → ServesMany r count first old middle
+    → ServesLine r middle broke new → ServesSome r most old new
+untold r count most first broke old middle new below so line = (count + 1, or_later first broke, omega (arith, below), many_more r count first broke old middle new so line)
 
 -- the line that was served is one more
-pub goes_on : (count : ℕ) (first kept broke : Option LineFault) (old middle new : Served) → kept ≡ or_later first broke → ServesMany count first old middle
-    → ServesLine middle broke new → ServesMany (count + 1) kept old new
-goes_on count first kept broke old middle new e so line = subst (λ (f : Option LineFault). ServesMany (count + 1) f old new) (sym e) (many_more count first broke old middle new so line)
+pub goes_on : (r : Reading) (count : ℕ) (first kept broke : Option LineFault) (old middle new : Served) → kept ≡ or_later first broke → ServesMany r count first old middle
+    → ServesLine r middle broke new → ServesMany r (count + 1) kept old new
+goes_on r count first kept broke old middle new e so line = subst (λ (f : Option LineFault). ServesMany r (count + 1) f old new) (sym e) (many_more r count first broke old middle new so line)
 
 -- no line was served
-pub none_served : (most : ℕ) (served : Served) → ServesSome most served served
-none_served most served = (0, None, omega arith, record { lines = []; serves = refl; counted = refl; is_first = refl })
+pub none_served : (r : Reading) (most : ℕ) (served : Served) → ServesSome r most served served
+none_served r most served = (0, None, omega arith, record { lines = []; serves = refl; counted = refl; is_first = refl })

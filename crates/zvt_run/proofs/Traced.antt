@@ -1,9 +1,11 @@
 -- A run whose trace broke, or did not.
 use Rattle.std.proofs.Common.{◌≡◌, ℕ, List, Option, Bool, true, false, Result, Ok, Err, inr, subst, sym}
+use Rattle.zvt_spelling.specs.Reading.{Reading}
 use Rattle.zvt_till.specs.Sending.{Settings}
 use Rattle.zvt_run.specs.OverTcp.{AnswersRun, RunsPlan}
 use Rattle.zvt_run.specs.Plans.{Plans, words_of}
 use Rattle.zvt_run.specs.Runs.{Law}
+use Rattle.zvt_run.specs.TillEnd.{BeginsThere, MakesThere}
 use Rattle.zvt_run.specs.declared.plans.Planned.{Planned}
 use Rattle.zvt_run.specs.declared.words.Ends.{Ends}
 use Rattle.zvt_run.specs.Traced.{AnswersTraced, by_trace}
@@ -48,3 +50,8 @@ traced_run makes begins settings given ends words plan made broken old new answe
     let run : RunsPlan makes begins settings plan old new answer = subst (λ (p : List Planned). RunsPlan makes begins settings p old new answer) same (subst (λ (s : Settings). RunsPlan makes begins s made old new answer) set runs) in
     subst (λ (r : Result Unit EndFault). AnswersRun makes begins settings ends words old new r) (sym is)
     (answers makes begins settings ends words plan old new (by_trace broken answer) plans (traced (RunsPlan makes begins settings plan old new) broken answer (λ r. r.answers) run))
+
+-- a run on a line whose stream has that reading
+pub begun_by : {r k : Reading} {settings : Settings} {plan : List Planned} {old new : Option (List ℕ)} {result : Result Unit EndFault} → r ≡ k → RunsPlan MakesThere (BeginsThere r) settings plan old new result
+    → RunsPlan MakesThere (BeginsThere k) settings plan old new result
+begun_by {settings = settings} {plan = plan} {old = old} {new = new} {result = result} e = subst (λ (x : Reading). RunsPlan MakesThere (BeginsThere x) settings plan old new result) e

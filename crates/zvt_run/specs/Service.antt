@@ -1,6 +1,7 @@
 -- What a simulated terminal does on its connections.
 use Rattle.std.specs.Prelude.{◌≡◌, ◌≢◌, ◌≤◌, ℕ, List, [], ◌∷◌, length, Option, Some, None, Result, Ok, Err}
-use Rattle.zvt_stream.specs.StreamState.{at_start}
+use Rattle.zvt_spelling.specs.Reading.{Reading}
+use Rattle.zvt_stream.specs.StreamState.{start_in}
 use Rattle.zvt_stream.specs.declared.line.LineFault.{LineFault}
 use Rattle.zvt_stream.specs.declared.line.LineFault.TheVariants.{Ended}
 use Rattle.zvt_stream.specs.declared.line.Until.TheVariants.{Rest}
@@ -33,20 +34,20 @@ abbrev pub ended_by : Option LineFault → Result Unit LineFault
 ended_by None = Ok tt
 ended_by (Some fault) = Err fault
 
--- A terminal without a line served one from its start, which broke so, if it broke.
-pub record ServesLine (old : Served) (broke : Option LineFault) (new : Served) : Type 0 where
+-- A terminal without a line served one from its start, whose lengths are read so. It broke so, if it broke.
+pub record ServesLine (r : Reading) (old : Served) (broke : Option LineFault) (new : Served) : Type 0 where
   pub before : EndState
   pub after : EndState
-  pub begins : before.stream ≡ at_start
+  pub begins : before.stream ≡ start_in r
   pub offline : IsOffline old.terminal
   pub serves : Serves before old after new (ended_by broke)
 
 -- ---- one line after another
 
 -- The terminal that one line leaves serves the next.
-abbrev pub ServesLines : List (Option LineFault) → Served → Served → Type 0
-ServesLines [] old new = new ≡ old
-ServesLines (broke ∷ more) old new = (middle : Served) × ServesLine old broke middle × ServesLines more middle new
+abbrev pub ServesLines : Reading → List (Option LineFault) → Served → Served → Type 0
+ServesLines r [] old new = new ≡ old
+ServesLines r (broke ∷ more) old new = (middle : Served) × ServesLine r old broke middle × ServesLines r more middle new
 
 -- the first that broke
 abbrev pub first_broken : List (Option LineFault) → Option LineFault
@@ -55,37 +56,37 @@ first_broken (None ∷ more) = first_broken more
 first_broken (Some fault ∷ more) = Some fault
 
 -- so many lines were served, and this is how the first of them broke that did
-pub record ServesMany (count : ℕ) (first : Option LineFault) (old new : Served) : Type 0 where
+pub record ServesMany (r : Reading) (count : ℕ) (first : Option LineFault) (old new : Served) : Type 0 where
   pub lines : List (Option LineFault)
-  pub serves : ServesLines lines old new
+  pub serves : ServesLines r lines old new
   pub counted : length lines ≡ count
   pub is_first : first_broken lines ≡ first
 
 -- at most so many were
-abbrev pub ServesSome : ℕ → Served → Served → Type 0
-ServesSome most old new = (count : ℕ) × (first : Option LineFault) × (count ≤ most) × ServesMany count first old new
+abbrev pub ServesSome : Reading → ℕ → Served → Served → Type 0
+ServesSome r most old new = (count : ℕ) × (first : Option LineFault) × (count ≤ most) × ServesMany r count first old new
 
 -- What is answered of so many tills: all were served, whatever broke; or the next could not be, or a trace could not be
 -- written, or there was too little memory to begin with one or to tell of it.
-abbrev pub AnswersTills : ℕ → Served → Served → Result Unit EndFault → Type 0
-AnswersTills count old new (Ok done) = ServesMany count None old new
-AnswersTills count old new (Err (LineBroke fault)) = ServesMany count (Some fault) old new
-AnswersTills count old new (Err (Net why)) = ServesSome count old new
-AnswersTills count old new (Err Trace) = ServesSome count old new
-AnswersTills count old new (Err (BadStep at)) = ⊥
-AnswersTills count old new (Err Write) = ⊥
-AnswersTills count old new (Err Memory) = ServesSome count old new
+abbrev pub AnswersTills : Reading → ℕ → Served → Served → Result Unit EndFault → Type 0
+AnswersTills r count old new (Ok done) = ServesMany r count None old new
+AnswersTills r count old new (Err (LineBroke fault)) = ServesMany r count (Some fault) old new
+AnswersTills r count old new (Err (Net why)) = ServesSome r count old new
+AnswersTills r count old new (Err Trace) = ServesSome r count old new
+AnswersTills r count old new (Err (BadStep at)) = ⊥
+AnswersTills r count old new (Err Write) = ⊥
+AnswersTills r count old new (Err Memory) = ServesSome r count old new
 
 -- by a new terminal of this number and verdict
-abbrev pub AnswersService : ℕ → ℕ → Verdict → Result Unit EndFault → Type 0
-AnswersService count tid verdict result = (new : Served) × AnswersTills count (record { terminal = new_terminal tid; verdict = verdict }) new result
+abbrev pub AnswersService : Reading → ℕ → ℕ → Verdict → Result Unit EndFault → Type 0
+AnswersService r count tid verdict result = (new : Served) × AnswersTills r count (record { terminal = new_terminal tid; verdict = verdict }) new result
 
 -- what is answered of one till
-abbrev pub AnswersTill : Served → Served → Result (Option LineFault) EndFault → Type 0
-AnswersTill old new (Ok broke) = ServesLine old broke new
-AnswersTill old new (Err Trace) = (broke : Option LineFault) × ServesLine old broke new
-AnswersTill old new (Err (LineBroke fault)) = ⊥
-AnswersTill old new (Err (Net why)) = ⊥
-AnswersTill old new (Err (BadStep at)) = ⊥
-AnswersTill old new (Err Write) = ⊥
-AnswersTill old new (Err Memory) = new ≡ old
+abbrev pub AnswersTill : Reading → Served → Served → Result (Option LineFault) EndFault → Type 0
+AnswersTill r old new (Ok broke) = ServesLine r old broke new
+AnswersTill r old new (Err Trace) = (broke : Option LineFault) × ServesLine r old broke new
+AnswersTill r old new (Err (LineBroke fault)) = ⊥
+AnswersTill r old new (Err (Net why)) = ⊥
+AnswersTill r old new (Err (BadStep at)) = ⊥
+AnswersTill r old new (Err Write) = ⊥
+AnswersTill r old new (Err Memory) = new ≡ old

@@ -1,6 +1,7 @@
 -- What becomes of a step at a till's end of a line to a terminal elsewhere.
 use Rattle.std.specs.Prelude.{◌≡◌, ◌+◌, Result, Ok, Err}
-use Rattle.zvt_stream.specs.StreamState.{at_start}
+use Rattle.zvt_spelling.specs.Reading.{Reading}
+use Rattle.zvt_stream.specs.StreamState.{start_in}
 use Rattle.zvt_till.specs.Line.{Fails, Runs, reads_failed, writes_failed}
 use Rattle.zvt_till.specs.View.{TillValue}
 use Rattle.zvt_till.specs.declared.line.RunFault.{RunFault}
@@ -25,6 +26,6 @@ abbrev pub MakesThere : EndState → TillValue → Step → Result Outcome RunFa
 MakesThere before old step (Ok outcome) after new = RunsThere step outcome before old after new
 MakesThere before old step (Err fault) after new = FailsThere step fault before old after new
 
--- a line at its start
-abbrev pub BeginsThere : EndState → Type 0
-BeginsThere end = end.stream ≡ at_start
+-- a line at its start, whose lengths are read so
+abbrev pub BeginsThere : Reading → EndState → Type 0
+BeginsThere r end = end.stream ≡ start_in r

@@ -1,7 +1,8 @@
 //! Runs over TCP.
 ghost use Rattle.std.specs.Prelude.{◌≡◌, ◌<◌, ◌≤◌, Err, IfOk, map};
 ghost use Rattle.zvt_run.specs.BothEnds.{BeginsHere, MakesHereBy};
-ghost use Rattle.zvt_stream.specs.StreamState.{at_start};
+ghost use Rattle.zvt_stream.specs.StreamState.{at_start, start_in};
+ghost use Rattle.zvt_tlv.specs.Lengths.{reading_of};
 ghost use Rattle.zvt_till.specs.Events.{run_settings};
 ghost use Rattle.zvt_run.specs.OverTcp.{AnswersRun};
 ghost use Rattle.zvt_run.specs.Settings.{settings_of};
@@ -25,6 +26,7 @@ use std::net::{Net, TcpListener, TcpStream};
 use zvt_io::{Over, Sink, Source};
 use zvt_stream::{LineFault, Stream};
 use zvt_term::{Served, Terminal, USUAL_TID, Verdict};
+use zvt_tlv::Lengths;
 
 /// Runs both ends of a line in this process: it listens at a free port of 127.0.0.1, connects to itself, and till and
 /// terminal take turns. The words name the steps, and no words the usual ones: `register pay:1000 decline:500:6C
@@ -48,7 +50,7 @@ where
     let (till_end, terminal_end) = both_ends(rt).map_err(EndFault::Net)?;
     match trace {
         None => {
-            let till = plain_end(alloc, &till_end);
+            let till = plain_end(alloc, &till_end, Lengths::Shortest);
             let mut line = both_ends_of(alloc, till, &terminal_end);
             run_both_ends(
                 alloc,
@@ -59,7 +61,14 @@ where
             )
         }
         Some(file) => {
-            let till = recorded_end(alloc, &till_end, Way::FromTerminal, Way::FromTill, file)?;
+            let till = recorded_end(
+                alloc,
+                &till_end,
+                Lengths::Shortest,
+                Way::FromTerminal,
+                Way::FromTill,
+                file,
+            )?;
             let mut line = both_ends_of(alloc, till, &terminal_end);
             let answer = run_both_ends(
                 alloc,
@@ -86,7 +95,7 @@ fn both_ends_of<'a, R: Source, W: Sink>(
 {
     BothEnds {
         till,
-        terminal: plain_end(alloc, terminal_end),
+        terminal: plain_end(alloc, terminal_end, Lengths::Shortest),
         served: Served {
             terminal: Terminal::new(alloc, USUAL_TID),
             verdict: Verdict::Approve,
@@ -95,8 +104,8 @@ fn both_ends_of<'a, R: Source, W: Sink>(
 }
 
 /// Connects a till to a terminal at this host and port, and runs the steps that the words name, by no words `register
-/// close`. Each order has 100,000 reads. The trace has what the till heard and sent: each read and each write a line, and
-/// `!` at the end. One that can't be written ends the run with `Trace`.
+/// close`. It reads such lengths. Each order has 100,000 reads. The trace has what the till heard and sent: each read and
+/// each write a line, and `!` at the end. One that can't be written ends the run with `Trace`.
 ///
 /// `BadStep` comes before anything is opened, and `Net` before anything is written. Else see [`run_till_end`].
 pub fn run_till<R, W>(
@@ -105,6 +114,7 @@ pub fn run_till<R, W>(
     host: &str,
     port: u16,
     settings: &TillSettings,
+    lengths: Lengths,
     steps: &[&str],
     trace: Option<&File>,
     writer: &mut W,
@@ -112,18 +122,25 @@ pub fn run_till<R, W>(
 where
     R: Net<Listener = TcpListener, Stream = TcpStream>,
     W: Sink,
-    ensures run { AnswersRun MakesThere BeginsThere (settings_of settings.now) Ends.Till (map (λ step. step.now) steps.now) (W.written writer.old) (W.written writer.new) result }
+    ensures run { AnswersRun MakesThere (BeginsThere (reading_of lengths)) (settings_of settings.now) Ends.Till (map (λ step. step.now) steps.now) (W.written writer.old) (W.written writer.new) result }
     ensures write { result ≡ Err EndFault.Write → W.failures writer.old < W.failures writer.new }
 {
     let plan = plan(alloc, Ends::Till, steps)?;
     let end = connect(rt, host, port).map_err(EndFault::Net)?;
     match trace {
         None => {
-            let mut line = plain_end(alloc, &end);
+            let mut line = plain_end(alloc, &end, lengths);
             run_till_end(alloc, &mut line, settings, plan.as_slice(), writer)
         }
         Some(file) => {
-            let mut line = recorded_end(alloc, &end, Way::FromTerminal, Way::FromTill, file)?;
+            let mut line = recorded_end(
+                alloc,
+                &end,
+                lengths,
+                Way::FromTerminal,
+                Way::FromTill,
+                file,
+            )?;
             let answer = run_till_end(alloc, &mut line, settings, plan.as_slice(), writer);
             by_trace(is_broken(&line, file), answer)
         }
@@ -131,8 +148,8 @@ where
 }
 
 /// Listens at this port of this address, and serves so many tills one after another, each to the end of its connection,
-/// with one terminal of this number and this verdict on each payment. It waits for each till as long as it takes. The
-/// terminal's ledger goes on from till to till, and each begins unregistered.
+/// with one terminal of this number and this verdict on each payment, which reads such lengths. It waits for each till
+/// as long as it takes. The terminal's ledger goes on from till to till, and each begins unregistered.
 ///
 /// The end of a connection between two messages is no fault. One that breaks otherwise ends that till's service alone:
 /// the first such fault is answered, as `Line`, once all tills were served. `Net` ends the service where the port can't be
@@ -146,6 +163,7 @@ pub fn run_terminal<R, W>(
     port: u16,
     tid: u32,
     verdict: Verdict,
+    lengths: Lengths,
     connections: u16,
     trace: Option<&File>,
     tell: &mut W,
@@ -154,7 +172,7 @@ where
     R: Net<Listener = TcpListener, Stream = TcpStream>,
     W: Sink,
     requires { tid ≤ 99999999 }
-    ensures { AnswersService connections tid verdict result }
+    ensures { AnswersService (reading_of lengths) connections tid verdict result }
 {
     let listener = match listen(rt, host, port) {
         Ok(listener) => listener,
@@ -165,25 +183,34 @@ where
         terminal: Terminal::new(alloc, tid),
         verdict,
     };
-    serve_tills(alloc, &listener, connections, &mut served, trace, tell)
+    serve_tills(
+        alloc,
+        &listener,
+        lengths,
+        connections,
+        &mut served,
+        trace,
+        tell,
+    )
 }
 
 /// Serves so many tills one after another.
 fn serve_tills<W: Sink>(
     alloc: Global,
     listener: &TcpListener,
+    lengths: Lengths,
     connections: u16,
     served: &mut Served,
     trace: Option<&File>,
     tell: &mut W,
 ) -> Result<(), EndFault>
     requires { IsOffline served.old.terminal }
-    ensures { AnswersTills connections served.old served.new result }
+    ensures { AnswersTills (reading_of lengths) connections served.old served.new result }
 {
     let mut first = None;
     'tills: for gone in 0..connections {
         let connection = accept(listener).map_err(EndFault::Net)?;
-        let broke = serve_till(alloc, &connection, served, trace)?;
+        let broke = serve_till(alloc, &connection, lengths, served, trace)?;
         tell_ledger(alloc, gone + 1, broke, &served.terminal, tell)?;
         if first.is_none() {
             first = broke;
@@ -200,16 +227,24 @@ fn serve_tills<W: Sink>(
 fn serve_till(
     alloc: Global,
     connection: &TcpStream,
+    lengths: Lengths,
     served: &mut Served,
     trace: Option<&File>,
 ) -> Result<Option<LineFault>, EndFault>
     requires { IsOffline served.old.terminal }
-    ensures { AnswersTill served.old served.new result }
+    ensures { AnswersTill (reading_of lengths) served.old served.new result }
 {
     let Some(file) = trace else {
-        return Ok(serve(alloc, &mut plain_end(alloc, connection), served).err());
+        return Ok(serve(alloc, &mut plain_end(alloc, connection, lengths), served).err());
     };
-    let mut end = recorded_end(alloc, connection, Way::FromTill, Way::FromTerminal, file)?;
+    let mut end = recorded_end(
+        alloc,
+        connection,
+        lengths,
+        Way::FromTill,
+        Way::FromTerminal,
+        file,
+    )?;
     let broke = serve(alloc, &mut end, served).err();
     if is_broken(&end, file) {
         return Err(EndFault::Trace);
@@ -226,33 +261,34 @@ type RecordedEnd<'a> = End<
     Recorded<Over<&'a TcpStream>, Over<&'a File>>,
 >;
 
-/// An end of a line at its start.
-fn plain_end<'a>(alloc: Global, connection: &'a TcpStream) -> PlainEnd<'a>
-    ensures { result.stream ≡ at_start }
+/// An end of a line at its start, whose stream takes such lengths.
+fn plain_end<'a>(alloc: Global, connection: &'a TcpStream, lengths: Lengths) -> PlainEnd<'a>
+    ensures { result.stream ≡ start_in (reading_of lengths) }
 {
     End {
         reader: Over::new(connection),
         writer: Over::new(connection),
-        stream: Stream::new(alloc),
+        stream: Stream::of(alloc, lengths),
     }
 }
 
-/// An end of a line at its start, whose reads and writes go these ways in its trace.
+/// The same, whose reads and writes go these ways in its trace.
 fn recorded_end<'a>(
     alloc: Global,
     connection: &'a TcpStream,
+    lengths: Lengths,
     read: Way,
     written: Way,
     trace: &'a File,
 ) -> Result<RecordedEnd<'a>, AllocError>
-    ensures { IfOk result (λ end. end.stream ≡ at_start) }
+    ensures { IfOk result (λ end. end.stream ≡ start_in (reading_of lengths)) }
 {
     let trace_of_reads = Over::new(trace);
     let trace_of_writes = Over::new(trace);
     Ok(End {
         reader: Recorded::new(alloc, read, Over::new(connection), trace_of_reads)?,
         writer: Recorded::new(alloc, written, Over::new(connection), trace_of_writes)?,
-        stream: Stream::new(alloc),
+        stream: Stream::of(alloc, lengths),
     })
 }
 

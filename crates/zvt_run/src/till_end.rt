@@ -1,6 +1,6 @@
 //! The till's end of a line to a terminal elsewhere.
 ghost use Rattle.std.specs.Prelude.{◌≡◌, ◌<◌, Err};
-ghost use Rattle.zvt_stream.specs.StreamState.{at_start};
+ghost use Rattle.zvt_stream.specs.StreamState.{start_in};
 ghost use Rattle.zvt_run.specs.OverTcp.{RunsPlan};
 ghost use Rattle.zvt_run.specs.Settings.{settings_of};
 ghost use Rattle.zvt_run.specs.TillEnd.{BeginsThere, MakesThere};
@@ -51,8 +51,8 @@ pub fn run_till_end<R: Source, W: Sink, T: Sink>(
     plan: &[Planned],
     writer: &mut T,
 ) -> Result<(), EndFault>
-    requires { end.old.stream ≡ at_start }
-    ensures run { RunsPlan MakesThere BeginsThere (settings_of settings.now) plan.now (T.written writer.old) (T.written writer.new) result }
+    requires { end.old.stream ≡ start_in end.old.stream.reading }
+    ensures run { RunsPlan MakesThere (BeginsThere end.old.stream.reading) (settings_of settings.now) plan.now (T.written writer.old) (T.written writer.new) result }
     ensures write { result ≡ Err EndFault.Write → T.failures writer.old < T.failures writer.new }
 {
     let mut till = connected_till(alloc, settings);

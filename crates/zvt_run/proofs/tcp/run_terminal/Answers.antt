@@ -1,5 +1,6 @@
 use Rattle.std.proofs.Common.{subst}
 use Rattle.std.proofs.lemmas.Result.{err_from_is_err_and}
+use Rattle.zvt_tlv.specs.Lengths.{reading_of}
 use Rattle.zvt_term.specs.Terminal.{TerminalState, new_terminal}
 use Rattle.zvt_term.specs.declared.served.Served.{Served}
 use Rattle.zvt_run.specs.Service.{AnswersTills}
@@ -7,13 +8,13 @@ use Rattle.zvt_run.proofs.ManyTills.{none_served}
 use Rattle.zvt_run.proofs.tcp.run_terminal.Goals as goal
 
 pub returns-in-Err : goal.returns-in-Err
-returns-in-Err g c = (record { terminal = new_terminal c.args.tid; verdict = c.args.verdict }, none_served c.args.connections (record { terminal = new_terminal c.args.tid; verdict = c.args.verdict }))
+returns-in-Err g c = (record { terminal = new_terminal c.args.tid; verdict = c.args.verdict }, none_served (reading_of c.args.lengths) c.args.connections (record { terminal = new_terminal c.args.tid; verdict = c.args.verdict }))
 
 pub returns-in_err-tell_address : goal.returns-in_err-tell_address
 returns-in_err-tell_address g c =
     let p = err_from_is_err_and c.from_residual.result c.from_residual.ensures.1 in
-    rw (p.1, p.2) (record { terminal = new_terminal c.args.tid; verdict = c.args.verdict }, none_served c.args.connections (record { terminal = new_terminal c.args.tid; verdict = c.args.verdict }))
+    rw (p.1, p.2) (record { terminal = new_terminal c.args.tid; verdict = c.args.verdict }, none_served (reading_of c.args.lengths) c.args.connections (record { terminal = new_terminal c.args.tid; verdict = c.args.verdict }))
 
 pub returns : goal.returns
 returns g c =
-    subst (λ (t : TerminalState). (new : Served) × AnswersTills c.args.connections (record { terminal = t; verdict = c.args.verdict }) new c.serve_tills.result) c.new.ensures (c.serve_tills.new.served, c.serve_tills.ensures)
+    subst (λ (t : TerminalState). (new : Served) × AnswersTills (reading_of c.args.lengths) c.args.connections (record { terminal = t; verdict = c.args.verdict }) new c.serve_tills.result) c.new.ensures (c.serve_tills.new.served, c.serve_tills.ensures)

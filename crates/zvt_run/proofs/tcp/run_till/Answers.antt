@@ -1,11 +1,15 @@
-use Rattle.std.proofs.Common.{map, refl, Bor, List, ℕ}
+use Rattle.std.proofs.Common.{ap, map, refl, Bor, List, ℕ}
+use Rattle.zvt_tlv.specs.Lengths.{reading_of}
+use Rattle.zvt_stream.specs.StreamState.{StreamState}
 use Rattle.zvt_run.specs.Settings.{settings_of}
 use Rattle.zvt_run.specs.TillEnd.{BeginsThere, MakesThere}
 use Rattle.zvt_run.specs.declared.words.Ends.TheVariants.{Till}
-use Rattle.zvt_run.proofs.Traced.{traced_run}
+use Rattle.zvt_run.proofs.Traced.{begun_by, traced_run}
 use Rattle.zvt_run.proofs.tcp.run_till.Goals as goal
 
 pub returns-clause-run : goal.returns-clause-run
 returns-clause-run g c =
-    traced_run MakesThere BeginsThere (settings_of c.args.settings.now) (settings_of c.args.settings.now) Till (map (λ (step : Bor (List ℕ)). step.now) c.args.steps.now) c.in_ok-plan.plan.items c.as_slice-in-Some.result.now c.is_broken.result _ _ c.run_till_end-answer.result c.by_trace.result
-    refl c.as_slice-in-Some.ensures.value c.by_trace.ensures c.in_ok-plan.ensures c.run_till_end-answer.ensures.run
+    let read = ap (λ (s : StreamState). s.reading) c.in_ok-line-in-Some.ensures in
+    let ran = begun_by read c.run_till_end-answer.ensures.run in
+    traced_run MakesThere (BeginsThere (reading_of c.args.lengths)) (settings_of c.args.settings.now) (settings_of c.args.settings.now) Till (map (λ (step : Bor (List ℕ)). step.now) c.args.steps.now) c.in_ok-plan.plan.items c.as_slice-in-Some.result.now c.is_broken.result _ _ c.run_till_end-answer.result c.by_trace.result
+    refl c.as_slice-in-Some.ensures.value c.by_trace.ensures c.in_ok-plan.ensures ran

@@ -1,8 +1,9 @@
+use Rattle.zvt_tlv.specs.Lengths.{reading_of}
 use Rattle.zvt_run.specs.Service.{IsOffline, ServesMany}
 use Rattle.zvt_run.proofs.tcp.serve_tills.Given as goal
 
 abbrev pub invariant-tills : goal.invariant-tills
 invariant-tills g l = record {
-  served : ServesMany l.gone l.first l.fn.served l.served;
+  served : ServesMany (reading_of l.lengths) l.gone l.first l.fn.served l.served;
   offline : IsOffline l.served.terminal;
 }

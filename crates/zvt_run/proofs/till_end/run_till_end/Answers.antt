@@ -8,4 +8,4 @@ use Rattle.zvt_run.proofs.till_end.run_till_end.Goals as goal
 pub returns-clause-run : goal.returns-clause-run
 returns-clause-run g c =
     ran (λ end. end_state end.stream (g.R.Source.remaining end.reader) (g.W.Sink.written end.writer) (g.R.Source.reads end.reader) (g.R.Source.failures end.reader) (g.W.Sink.failures end.writer))
-    MakesThere BeginsThere (settings_of c.args.settings.now) c.args.plan.now (standing c.args.end.now c.connected_till-till.result) (standing c.run_steps.new.line c.run_steps.new.till) _ _ c.run_steps.result c.requires c.connected_till-till.ensures c.run_steps.ensures.run
+    MakesThere (BeginsThere c.args.end.now.stream.reading) (settings_of c.args.settings.now) c.args.plan.now (standing c.args.end.now c.connected_till-till.result) (standing c.run_steps.new.line c.run_steps.new.till) _ _ c.run_steps.result c.requires c.connected_till-till.ensures c.run_steps.ensures.run
