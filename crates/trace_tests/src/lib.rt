@@ -7,8 +7,6 @@ mod command_lines;
 #[cfg(test)]
 mod devices;
 #[cfg(test)]
-mod padded;
-#[cfg(test)]
 mod recorded_runs;
 #[cfg(test)]
 mod run_faults;
