@@ -1,8 +1,10 @@
 //! A till that outlives its process: its bytes, and the till that they are of.
 #![tactic(auto)]
 
+mod loading;
 mod reading;
 mod saving;
 mod sums;
 
+pub use loading::LoadError;
 pub use saving::save;
