@@ -1,3 +1,4 @@
 pub mod Bodies
+pub mod Headers
 pub mod Numbers
 pub mod Rows

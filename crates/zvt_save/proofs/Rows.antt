@@ -61,7 +61,7 @@ read-all {X = X} f P w long bytes rest read short before all are is =
       nothing (x ∷ more) p e =
           absurd (omega (arith, short, ap length e, length-append (f x) (flat_map f more), long x (All-head P x more p)))
 
-receipt-long : (receipt : Option (List ℕ)) → IsReceipt receipt → length (receipt_bytes receipt) ≡ 3
+pub receipt-long : (receipt : Option (List ℕ)) → IsReceipt receipt → length (receipt_bytes receipt) ≡ 3
 receipt-long None p = refl
 receipt-long (Some receipt) p = ap suc p
 

@@ -6,5 +6,5 @@ mod reading;
 mod saving;
 mod sums;
 
-pub use loading::LoadError;
+pub use loading::{LoadError, load};
 pub use saving::save;

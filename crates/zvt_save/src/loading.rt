@@ -1,14 +1,21 @@
 //! The till that saved bytes are of.
-ghost use Rattle.std.specs.Prelude.{◌≡◌, ℕ, List, MatchResult, flat_map};
+ghost use Rattle.std.specs.Prelude.{◌≡◌, ℕ, ◌≤◌, List, Option, Some, IfOk, MatchResult, flat_map, length};
 ghost use Rattle.std.specs.List.{All};
 ghost use Rattle.zvt_till.specs.declared.entries.Entry.{Entry};
 ghost use Rattle.zvt_till.specs.declared.outcomes.Cause.{Cause};
-ghost use Rattle.zvt_save.specs.Saved.{entry_bytes, unclear_bytes, IsEntry, IsUnclear};
+ghost use Rattle.zvt_till.specs.declared.outcomes.Outcome.{Outcome};
+ghost use Rattle.zvt_till.specs.Restoring.{CanStand};
+ghost use Rattle.zvt_till.specs.Sending.{Settings};
+ghost use Rattle.zvt_till.specs.Till.{TillState, step};
+ghost use Rattle.zvt_apdu.specs.Briefs.{digits};
+ghost use Rattle.zvt_save.specs.Loading.{IsMade, IsLoaded, LeadsTo};
+ghost use Rattle.zvt_save.specs.Saved.{body_bytes, entry_bytes, saved, settings_bytes, unclear_bytes, IsEntry, IsKept, IsOutcome, IsUnclear};
 
-use crate::reading::{read_entry, read_unclear};
+use crate::reading::{read_entry, read_number, read_outcome, read_unclear};
+use crate::saving::save;
 use std::alloc::Global;
-use zvt_bcd::Amount;
-use zvt_till::{Cause, Entry};
+use zvt_bcd::{Amount, Currency};
+use zvt_till::{Cause, Entry, Happening, Outcome, RestoreError, Till};
 
 /// Why no till was made of bytes.
 #[derive(Clone, Copy, Debug, PartialEq, Eq)]
@@ -55,4 +62,123 @@ fn read_rows(alloc: Global, bytes: &[u8]) -> Result<Vec<(Amount, Cause)>, LoadEr
         rest = after;
     }
     Ok(rows)
+}
+
+/// How many rows the book has, where these are digits.
+fn booked_of(bytes: &[u8]) -> usize
+    requires { length bytes.now ≡ 3 }
+    ensures value { (n : ℕ) → n ≤ 999999 → bytes.now ≡ digits 3 n → result ≡ n }
+    ensures few { result ≤ 999999 }
+{
+    match read_number(bytes) {
+        Some(number) => number as usize,
+        None => 0,
+    }
+}
+
+/// The currency in two bytes.
+fn read_currency(bytes: &[u8]) -> Option<Currency>
+    requires { length bytes.now ≡ 2 }
+    ensures { (n : ℕ) → n ≤ 9999 → bytes.now ≡ digits 2 n → result ≡ Some n }
+{
+    match read_number(bytes) {
+        Some(number) => Currency::new(number as u16),
+        None => None,
+    }
+}
+
+/// What a till was made with, and its last outcome.
+#[derive(Clone, Copy)]
+struct Made {
+    password: [u8; 3],
+    config: u8,
+    currency: Currency,
+    last: Option<Outcome>,
+}
+
+/// What 14 bytes say of it.
+fn read_made(bytes: &[u8]) -> Option<Made>
+    requires { length bytes.now ≡ 14 }
+    ensures { (settings : Settings) (last : Option Outcome) → IsOutcome last → settings.currency ≤ 9999 → length settings.password ≡ 3 → bytes.now ≡ settings_bytes settings last → IsMade result settings last }
+{
+    let tail = &bytes[10..];
+    let last = read_outcome(&bytes[2..10])?;
+    let currency = read_currency(&bytes[..2])?;
+    Some(Made {
+        password: [tail[1], tail[2], tail[3]],
+        config: tail[0],
+        currency,
+        last,
+    })
+}
+
+/// The till at rest with these rows.
+fn restore(
+    alloc: Global,
+    made: Made,
+    book: Vec<Entry>,
+    unclear: Vec<(Amount, Cause)>,
+) -> Result<Till, LoadError>
+    ensures { CanStand book.items unclear.items → IsLoaded result made book.items unclear.items }
+{
+    let till = Till::new(alloc, made.password, made.config, made.currency);
+    match till.restored(alloc, book, unclear, made.last) {
+        Ok(till) => Ok(till),
+        Err(RestoreError::Impossible) => Err(LoadError::Damaged),
+        Err(RestoreError::Memory) => Err(LoadError::Memory),
+    }
+}
+
+/// The till whose header and rows these are.
+fn read_body(alloc: Global, bytes: &[u8]) -> Result<Till, LoadError>
+    requires { 24 ≤ length bytes.now }
+    ensures { (s : TillState) → IsKept s → bytes.now ≡ body_bytes s → LeadsTo result s }
+{
+    let (_, rows) = bytes.split_at(24);
+    let size = (13 * booked_of(&bytes[4..7])).min(rows.len());
+    let (entries, others) = rows.split_at(size);
+    let Some(made) = read_made(&bytes[10..24]) else {
+        return Err(LoadError::Damaged);
+    };
+    let book = match read_book(alloc, entries) {
+        Ok(book) => book,
+        Err(why) => return Err(why),
+    };
+    let unclear = match read_rows(alloc, others) {
+        Ok(unclear) => unclear,
+        Err(why) => return Err(why),
+    };
+    restore(alloc, made, book, unclear)
+}
+
+/// The till that the bytes were saved of, before its check sums are looked at.
+fn read_till(alloc: Global, bytes: &[u8]) -> Result<Till, LoadError>
+    ensures { (s : TillState) → IsKept s → bytes.now ≡ saved s → LeadsTo result s }
+{
+    if bytes.len() < 32 {
+        return Err(LoadError::Damaged);
+    }
+    let (body, _) = bytes.split_at(bytes.len() - 8);
+    read_body(alloc, body)
+}
+
+/// The till that the bytes were saved of: its line is down, and no order runs. Err where they are no till's, or memory
+/// was refused.
+pub fn load(alloc: Global, bytes: &[u8]) -> Result<Till, LoadError>
+    ensures whole { (s : TillState) → IsKept s → bytes.now ≡ saved s → LeadsTo result s }
+    ensures only { IfOk result (λ till. bytes.now ≡ saved (step till.state Happening.Lost)) }
+{
+    let till = match read_till(alloc, bytes) {
+        Ok(till) => till,
+        Err(why) => return Err(why),
+    };
+    let again = match save(alloc, &till) {
+        Ok(again) => again,
+        Err(_) => return Err(LoadError::Memory),
+    };
+    if again.as_slice() == bytes {
+        Ok(till)
+    } else {
+        Err(LoadError::Damaged)
+    }
 }
