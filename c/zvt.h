@@ -118,6 +118,14 @@ uint32_t zvt_till_state(zvt_till *till, zvt_state *state);
 uint32_t zvt_till_entry(zvt_till *till, size_t place, zvt_entry *entry);
 uint32_t zvt_till_unclear(zvt_till *till, size_t place, zvt_entry *entry);
 
+/* Writes the bytes that the till is saved in, at any moment: those of the till after its line was lost, so a payment
+ * that runs is unclear in them. Save before an order is sent and after each outcome. The answer's size is theirs; where
+ * the room is less, nothing is written. Its status is ZVT_OK, ZVT_NO_MEMORY or ZVT_CLOSED. */
+void zvt_till_save(zvt_till *till, uint8_t *room, size_t room_length, zvt_answer *answer);
+/* The till that the bytes were saved of. A till that was there is freed. ZVT_REFUSED: the bytes are cut, altered, or no
+ * till's; the handle is then as it was. */
+uint32_t zvt_till_load(zvt_till *till, const uint8_t *bytes, size_t length);
+
 #ifdef __cplusplus
 }
 #endif

@@ -4,5 +4,6 @@ pub mod Feeding
 pub mod Numbers
 pub mod Ordering
 pub mod Owned
+pub mod Saving
 pub mod States
 pub mod Texts

@@ -7,6 +7,7 @@ mod end;
 mod handle;
 mod loose;
 mod numbers;
+mod saving;
 mod shell;
 mod till;
 

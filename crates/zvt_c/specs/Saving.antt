@@ -1,0 +1,27 @@
+-- What is saved of a handle, and what is loaded behind one.
+use Rattle.std.specs.Prelude.{◌≡◌, ◌⊎◌, ℕ, List, length, Option, Some, None, option_map}
+use Rattle.zvt_save.specs.Saved.{saved}
+use Rattle.zvt_stream.specs.StreamState.{at_start}
+use Rattle.zvt_till.specs.Till.{TillState, step}
+use Rattle.zvt_till.specs.declared.happenings.Happening.TheVariants.{Lost}
+use Rattle.zvt_c.specs.declared.answer.ZvtAnswer.{ZvtAnswer}
+use Rattle.zvt_c.specs.declared.end.End.{End}
+use Rattle.zvt_c.specs.Texts.{Writes}
+
+-- The size of the bytes, which stand at the front of the room where they fit.
+abbrev pub Written : (bytes : List ℕ) (size : ℕ) (room_before room_after : List ℕ) → Type 0
+Written bytes size before after = (size ≡ length bytes) × Writes bytes before after
+
+abbrev pub bare : ℕ → ZvtAnswer
+bare status = record { size = 0; place = 0; reason = 0; status = status }
+
+-- The bytes of the till after its line was lost; or nothing, where the handle is closed or memory was refused.
+abbrev pub Saves : Option End → (room_before room_after : List ℕ) → ZvtAnswer → Type 0
+Saves None before after answer = (after ≡ before) × (answer ≡ bare 6)
+Saves (Some end) before after answer =
+    ((answer.status ≡ 0) × Written (saved (step end.till.state Lost)) answer.size before after) ⊎ ((after ≡ before) × (answer ≡ bare 3))
+
+-- A till that is saved in these bytes, and a stream at the start of its line.
+abbrev pub Loads : List ℕ → Option End → Type 0
+Loads bytes None = ⊥
+Loads bytes (Some end) = (bytes ≡ saved (step end.till.state Lost)) × (end.stream ≡ at_start)
