@@ -40,7 +40,7 @@ impl Source for Remark {
 }
 
 /// A remark of so many bytes.
-fn remark(bytes_left: usize, breaks: bool) -> Remark {
+fn remark_of(bytes_left: usize, breaks: bool) -> Remark {
     Remark {
         bytes_left,
         breaks,
@@ -52,7 +52,7 @@ fn remark(bytes_left: usize, breaks: bool) -> Remark {
 /// What `show` answers to a remark, and how much it writes.
 fn remarked(alloc: Global, bytes: usize, breaks: bool) -> (Option<TraceFault>, usize) {
     let mut writer = Over::new(Vec::new(alloc));
-    let answer = show(alloc, &mut remark(bytes, breaks), &mut writer);
+    let answer = show(alloc, &mut remark_of(bytes, breaks), &mut writer);
     (answer.err(), writer.inner.len())
 }
 
@@ -69,7 +69,7 @@ fn a_read_that_fails_is_told(rt: HostRuntime) {
     let broken = remarked(rt.alloc(), 5, true);
     assert!(rt; matches!(broken, (Some(TraceFault::Read), 0)));
     let mut writer = Over::new(Vec::new(rt.alloc()));
-    let audited = audit(rt.alloc(), &mut remark(5, true), &mut writer);
+    let audited = audit(rt.alloc(), &mut remark_of(5, true), &mut writer);
     assert!(rt; matches!(audited, Err(TraceFault::Read)));
     assert_eq!(rt; writer.inner.len(), 0);
 }
