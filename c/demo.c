@@ -14,7 +14,8 @@ int main(void) {
     printf("one byte less: status %u\n", answer.status);
     const uint8_t bad[] = {0x06, 0x01, 0x02, 0xD0};
     zvt_scan(bad, sizeof bad, &answer);
-    printf("refused at %zu for reason %u\n", answer.place, answer.reason);
+    size = zvt_reason_name(answer.reason, text, sizeof text);
+    printf("refused at %zu for reason %u, %.*s\n", answer.place, answer.reason, (int)size, (const char *)text);
     zvt_scan(bad, 0, &answer);
     printf("no bytes: status %u\n", answer.status);
 
@@ -24,7 +25,9 @@ int main(void) {
     uint8_t out[ZVT_ROOM];
     printf("closed: %u\n", zvt_till_state(&till, &state));
     zvt_till_new(&till, 0, 0xBE, 978);
-    printf("offline: %u\n", zvt_till_order(&till, ZVT_PAY, 1234, out, sizeof out, &step));
+    uint32_t refusal = zvt_till_order(&till, ZVT_PAY, 1234, out, sizeof out, &step);
+    size = zvt_refusal_name(refusal, text, sizeof text);
+    printf("refused: %u, %.*s\n", refusal, (int)size, (const char *)text);
     zvt_till_connected(&till);
     printf("register: %u, to send:", zvt_till_order(&till, ZVT_REGISTER, 0, out, sizeof out, &step));
     for (size_t i = 0; i < step.send; i++) printf(" %02X", out[i]);
@@ -32,9 +35,22 @@ int main(void) {
     const uint8_t reply[] = {0x80, 0x00, 0x00, 0x06, 0x0F, 0x00};
     for (size_t at = 0; at < sizeof reply; at += step.taken) {
         uint32_t status = zvt_till_feed(&till, reply + at, sizeof reply - at, out, sizeof out, &step);
-        printf("fed: status %u, taken %zu, message %u, send %zu, outcome %u\n", status, step.taken, step.message, step.send, step.outcome.kind);
+        size = zvt_outcome_name(step.outcome.kind, text, sizeof text);
+        printf("fed: status %u, taken %zu, message %u, send %zu, outcome %u%s%.*s\n", status, step.taken, step.message, step.send,
+               step.outcome.kind, size ? ", " : "", (int)size, (const char *)text);
         if (status != ZVT_OK || !step.message) break;
     }
+    zvt_till_order(&till, ZVT_PAY, 1234, out, sizeof out, &step);
+    zvt_till_state(&till, &state);
+    printf("running: %u\n", state.running);
+    zvt_till_lost(&till, &step);
+    size = zvt_cause_name(step.outcome.code, text, sizeof text);
+    printf("the line is lost: outcome %u, %.*s\n", step.outcome.kind, (int)size, (const char *)text);
+    zvt_entry entry;
+    uint32_t shown = zvt_till_unclear(&till, 0, &entry);
+    printf("unclear: status %u, %llu for cause %u\n", shown, (unsigned long long)entry.amount, entry.cause);
+    printf("no second one: status %u\n", zvt_till_unclear(&till, 1, &entry));
+    printf("a number that names nothing: %zu\n", zvt_cause_name(0, text, sizeof text));
     zvt_till_free(&till);
     zvt_till_free(&till);
     printf("closed again: %u\n", zvt_till_state(&till, &state));

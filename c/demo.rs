@@ -1,42 +1,34 @@
-//! The reader from Rust: rustc demo.rs -L out -l dylib=zvt
-#[repr(C)]
-#[derive(Default)]
-struct Answer {
-    size: usize,
-    place: usize,
-    reason: u32,
-    status: u32,
-}
+//! Reads a message, pays in memory, saves while a second payment runs, and goes on from what was saved:
+//! rustc demo.rs -L out -l dylib=zvt
+#[allow(dead_code)] // a part of it is used here
+mod zvt;
 
-unsafe extern "C" {
-    fn zvt_text(bytes: *const u8, length: usize, room: *mut u8, room_length: usize, answer: *mut Answer) -> usize;
-}
+use zvt::{Order, Refused, Till, text};
 
-/// The text of the message that stands first, and its size; or the answer that says why there is none.
-fn text(bytes: &[u8]) -> Result<(String, usize), Answer> {
-    let mut answer = Answer::default();
-    let mut room = vec![0; 64];
-    loop {
-        // SAFETY: both slices are lent for the call and apart, and the declaration fits zvt.h.
-        let size = unsafe { zvt_text(bytes.as_ptr(), bytes.len(), room.as_mut_ptr(), room.len(), &mut answer) };
-        if answer.status != 0 {
-            return Err(answer);
-        }
-        if size <= room.len() {
-            room.truncate(size);
-            return Ok((String::from_utf8_lossy(&room).into_owned(), answer.size));
-        }
-        room.resize(size, 0);
-    }
-}
+const REGISTERED: &[u8] = &[0x80, 0x00, 0x00, 0x06, 0x0F, 0x00];
+const APPROVED: &[u8] = &[
+    0x80, 0x00, 0x00, 0x04, 0x0F, 0x10, 0x27, 0x00, 0x04, 0x00, 0x00, 0x00, 0x00, 0x12, 0x34, 0x0B, 0x00, 0x00, 0x17,
+    0x87, 0x00, 0x05, 0x06, 0x0F, 0x00,
+];
 
-fn main() {
+fn main() -> Result<(), Refused> {
     let row = [0x06, 0x01, 0x0A, 0x04, 0, 0, 0, 0, 0x12, 0x34, 0x49, 0x09, 0x78];
     match text(&row) {
         Ok((text, size)) => print!("{size} bytes\n{text}"),
-        Err(answer) => println!("status {}", answer.status),
+        Err(why) => println!("{why:?}"),
     }
-    if let Err(answer) = text(&[0x06, 0x01, 0x02, 0xD0]) {
-        println!("refused at {} for reason {}", answer.place, answer.reason);
-    }
+    println!("{:?}", text(&[0x06, 0x01, 0x02, 0xD0]));
+
+    let mut till = Till::new(0, 0xBE, 978)?;
+    println!("{:?}", till.order(Order::Pay(1234)).map_err(|refused| refused.to_string()));
+    till.connected()?;
+    println!("{:02X?}", till.order(Order::Register)?);
+    println!("{:02X?}", till.feed(REGISTERED)?);
+    till.order(Order::Pay(1234))?;
+    println!("{:?}", till.feed(APPROVED)?.outcome);
+    till.order(Order::Pay(777))?;
+    let mut again = Till::load(&till.save()?)?;
+    println!("{:?}\n{:?}\ntotal {}", again.book()?, again.unclear()?, again.total()?);
+    println!("{:?}", Till::load(&[0; 8]).err());
+    Ok(())
 }

@@ -126,6 +126,13 @@ void zvt_till_save(zvt_till *till, uint8_t *room, size_t room_length, zvt_answer
  * till's; the handle is then as it was. */
 uint32_t zvt_till_load(zvt_till *till, const uint8_t *bytes, size_t length);
 
+/* Names of numbers, as the program writes them (ASCII, no final zero). Each call answers the name's size; where the room
+ * is less, nothing is written. 0: the number names nothing. */
+size_t zvt_reason_name(uint32_t reason, uint8_t *room, size_t room_length);   /* ZVT_NOT_SHORTEST .. ZVT_LENGTH_DIGIT */
+size_t zvt_cause_name(uint32_t cause, uint8_t *room, size_t room_length);     /* ZVT_NO_STATUS .. ZVT_WRONG_CURRENCY */
+size_t zvt_outcome_name(uint32_t kind, uint8_t *room, size_t room_length);    /* ZVT_REGISTERED .. ZVT_DAY_CLOSED */
+size_t zvt_refusal_name(uint32_t status, uint8_t *room, size_t room_length);  /* ZVT_OFFLINE .. ZVT_NO_RECEIPT, ZVT_NO_MEMORY */
+
 #ifdef __cplusplus
 }
 #endif

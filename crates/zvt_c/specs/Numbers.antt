@@ -1,27 +1,17 @@
 -- Outcomes and rows in numbers.
-use Rattle.std.specs.Prelude.{◌≡◌, ℕ, ◌+◌, ◌*◌, cond, List, length, Option, Some, None, slice_index_or}
+use Rattle.std.specs.Prelude.{◌≡◌, ℕ, ◌+◌, ◌*◌, cond, List, length, Option, Some, None, option_map, slice_index_or}
 use Rattle.zvt_till.specs.declared.entries.Entry.{Entry}
 use Rattle.zvt_till.specs.declared.outcomes.Cause.{Cause}
-use Rattle.zvt_till.specs.declared.outcomes.Cause.TheVariants.{NoStatus, Conflict, AmountDiffers, NoTrace, TraceUsed, AbortAfterApproval, Line, Malformed, Unfinished, WrongCurrency}
 use Rattle.zvt_till.specs.declared.outcomes.Outcome.{Outcome}
 use Rattle.zvt_till.specs.declared.outcomes.Outcome.TheVariants.{Registered, Paid, Declined, Refused, Aborted, Unclear, Reversed, DayClosed}
+use Rattle.zvt_till.specs.declared.orders.Order.{Order}
+use Rattle.zvt_till.specs.declared.orders.Order.TheVariants.{Register, Pay, Reverse, CloseDay, Cancel}
 use Rattle.zvt_till.specs.Marks.{total}
+use Rattle.zvt_save.specs.Saved.{cause_code}
 use Rattle.zvt_c.specs.declared.end.End.{End}
 use Rattle.zvt_c.specs.declared.numbers.ZvtOutcome.{ZvtOutcome}
 use Rattle.zvt_c.specs.declared.numbers.ZvtState.{ZvtState}
 use Rattle.zvt_c.specs.declared.numbers.ZvtEntry.{ZvtEntry}
-
-abbrev pub cause_number : Cause → ℕ
-cause_number NoStatus = 1
-cause_number Conflict = 2
-cause_number AmountDiffers = 3
-cause_number NoTrace = 4
-cause_number TraceUsed = 5
-cause_number AbortAfterApproval = 6
-cause_number Line = 7
-cause_number Malformed = 8
-cause_number Unfinished = 9
-cause_number WrongCurrency = 10
 
 -- A receipt number, and whether there is one.
 abbrev pub receipt_of : Option (List ℕ) → ℕ × ℕ
@@ -40,7 +30,7 @@ ended (Paid trace receipt) = paid trace receipt
 ended (Declined code) = coded 3 code
 ended (Refused code) = coded 4 code
 ended (Aborted code) = coded 5 code
-ended (Unclear cause) = coded 6 (cause_number cause)
+ended (Unclear cause) = coded 6 (cause_code cause)
 ended Reversed = coded 7 0
 ended DayClosed = coded 8 0
 
@@ -63,7 +53,16 @@ row_of entry =
 
 -- A row of the unclear payments.
 abbrev pub unclear_row_of : ℕ × Cause → ZvtEntry
-unclear_row_of row = record { amount = row.0; trace = 0; receipt = 0; has_receipt = 0; reversed = 0; cause = cause_number row.1 }
+unclear_row_of row = record { amount = row.0; trace = 0; receipt = 0; has_receipt = 0; reversed = 0; cause = cause_code row.1 }
+
+-- The kind of the running order: 0 where none runs.
+abbrev pub kind_of_running : Option Order → ℕ
+kind_of_running None = 0
+kind_of_running (Some Register) = 1
+kind_of_running (Some (Pay amount)) = 2
+kind_of_running (Some (Reverse entry)) = 3
+kind_of_running (Some CloseDay) = 4
+kind_of_running (Some Cancel) = 5
 
 -- The state of a till and its stream.
 pub record IsStateOf (end : End) (state : ZvtState) : Type 0 where
@@ -71,5 +70,6 @@ pub record IsStateOf (end : End) (state : ZvtState) : Type 0 where
   pub booked : state.booked ≡ length end.till.state.book
   pub unclear : state.unclear ≡ length end.till.state.unclear
   pub held : state.held ≡ length end.stream.held
+  pub running : state.running ≡ kind_of_running (option_map (λ running. running.order) end.till.state.running)
   pub registered : state.registered ≡ cond end.till.state.registered 1 0
   pub last : state.last ≡ outcome_of end.till.state.last_outcome

@@ -6,6 +6,7 @@ mod codec;
 mod end;
 mod handle;
 mod loose;
+mod names;
 mod numbers;
 mod saving;
 mod shell;

@@ -1,9 +1,10 @@
 //! Orders, outcomes and rows of the book in numbers.
 ghost use Rattle.std.specs.Prelude.{◌≡◌, IfSome, None};
-ghost use Rattle.zvt_c.specs.Numbers.{cause_number, coded, ended, outcome_of, paid, receipt_of, row_of, unclear_row_of};
+ghost use Rattle.zvt_c.specs.Numbers.{coded, ended, kind_of_running, outcome_of, paid, receipt_of, row_of, unclear_row_of};
 ghost use Rattle.zvt_c.specs.Ordering.{Names, status_of};
 
 use zvt_bcd::{Amount, Trace};
+use zvt_save::cause_code;
 use zvt_till::{Cause, Entry, Order, OrderRefusal, Outcome};
 
 /// How an order ended. What a kind does not have is 0.
@@ -108,24 +109,6 @@ fn coded(kind: u32, code: u32) -> ZvtOutcome
     }
 }
 
-/// The number of a cause.
-pub fn cause_code(cause: Cause) -> u32
-    ensures { result ≡ cause_number cause }
-{
-    match cause {
-        Cause::NoStatus => 1,
-        Cause::Conflict => 2,
-        Cause::AmountDiffers => 3,
-        Cause::NoTrace => 4,
-        Cause::TraceUsed => 5,
-        Cause::AbortAfterApproval => 6,
-        Cause::Line => 7,
-        Cause::Malformed => 8,
-        Cause::Unfinished => 9,
-        Cause::WrongCurrency => 10,
-    }
-}
-
 /// The status of a refused order.
 pub fn refusal_status(why: OrderRefusal) -> u32
     ensures { result ≡ status_of why }
@@ -177,7 +160,7 @@ fn ended_numbers(outcome: &Outcome) -> ZvtOutcome
         Outcome::Declined(code) => coded(3, u32::from(*code)),
         Outcome::Refused(code) => coded(4, u32::from(*code)),
         Outcome::Aborted(code) => coded(5, u32::from(*code)),
-        Outcome::Unclear(cause) => coded(6, cause_code(*cause)),
+        Outcome::Unclear(cause) => coded(6, u32::from(cause_code(*cause))),
         Outcome::Reversed => coded(7, 0),
         Outcome::DayClosed => coded(8, 0),
     }
@@ -219,7 +202,7 @@ pub fn unclear_numbers(row: &(Amount, Cause)) -> ZvtEntry
         receipt: 0,
         has_receipt: 0,
         reversed: 0,
-        cause: cause_code(*cause),
+        cause: u32::from(cause_code(*cause)),
     }
 }
 
@@ -244,8 +227,10 @@ pub fn order_of(kind: u32, number: u64) -> Option<Order>
     }
 }
 
-/// The kind of a running order.
-pub fn running_number(running: Option<Order>) -> u32 {
+/// The kind of a running order: 0 where none runs.
+pub fn running_number(running: Option<Order>) -> u32
+    ensures { result ≡ kind_of_running running }
+{
     match running {
         None => 0,
         Some(Order::Register) => 1,

@@ -8,7 +8,7 @@ ghost use Rattle.zvt_apdu.specs.Briefs.{message_of_brief, PutsMessage};
 ghost use Rattle.zvt_stream.specs.StreamState.{at_start};
 ghost use Rattle.zvt_c.specs.States.{state_of, IsNewTill};
 ghost use Rattle.zvt_c.specs.Feeding.{Sends, replied, FeedsEnd, FeedsHandle};
-ghost use Rattle.zvt_c.specs.Numbers.{outcome_of, row_of, IsStateOf};
+ghost use Rattle.zvt_c.specs.Numbers.{outcome_of, row_of, unclear_row_of, IsStateOf};
 ghost use Rattle.zvt_c.specs.Ordering.{OrdersEnd, OrdersHandle};
 
 use crate::answer::reason_code;
@@ -20,10 +20,10 @@ use crate::numbers::{
 };
 use std::alloc::Global;
 use zvt_apdu::Apdu;
-use zvt_bcd::Currency;
+use zvt_bcd::{Amount, Currency};
 use zvt_stream::{Fed, FeedError, Stream};
 use zvt_till::hearing::heard;
-use zvt_till::{Happening, Order, Outcome, Outgoing, Till};
+use zvt_till::{Cause, Happening, Order, Outcome, Outgoing, Till};
 
 /// Makes a till, whose line is down, behind the handle. A till that was behind it is freed. The password and the
 /// configuration byte go into a registration as they are. Where the answer is not 0 nothing changes.
@@ -283,6 +283,16 @@ pub extern "C" fn zvt_till_entry(
     status
 }
 
+/// The unclear payment at this place in numbers.
+fn unclear_at(unclear: &[(Amount, Cause)], place: usize) -> Option<ZvtEntry>
+    ensures { result ≡ option_map unclear_row_of (slice_get unclear.now place) }
+{
+    match unclear.get(place) {
+        Some(row) => Some(unclear_numbers(row)),
+        None => None,
+    }
+}
+
 /// The unclear payment at this place, counted from 0.
 #[unsafe(no_mangle)]
 pub extern "C" fn zvt_till_unclear(
@@ -292,13 +302,14 @@ pub extern "C" fn zvt_till_unclear(
     entry: &mut ZvtEntry,
 ) -> u32
     ensures same { till.new.shell.held ≡ till.old.shell.held }
+    ensures row { MatchOption till.old.shell.held (result ≡ 6) (λ end. MatchOption (slice_get end.till.state.unclear place) (result ≡ 5) (λ row. (result ≡ 0) × (entry.new ≡ unclear_row_of row))) }
 {
     let Some(end) = till.take(alloc) else {
         return 6;
     };
-    let status = match end.till.unclear().get(place) {
+    let status = match unclear_at(end.till.unclear(), place) {
         Some(row) => {
-            *entry = unclear_numbers(row);
+            *entry = row;
             0
         }
         None => 5,

@@ -12,7 +12,7 @@ use Rattle.zvt_till.specs.Sending.{Settings}
 use Rattle.zvt_till.specs.Till.{TillState}
 use Rattle.zvt_save.specs.Sums.{sums_of}
 
--- the number of a cause
+-- the number of a cause, in what is saved and for C
 abbrev pub cause_code : Cause → ℕ
 cause_code NoStatus = 1
 cause_code Conflict = 2

@@ -7,4 +7,4 @@ mod saving;
 mod sums;
 
 pub use loading::{LoadError, load};
-pub use saving::save;
+pub use saving::{cause_code, save};

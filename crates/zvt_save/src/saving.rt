@@ -24,7 +24,7 @@ fn put_number(bytes: &mut Vec<u8>, count: usize, number: u64) -> Result<(), Allo
     bytes.extend_from_slice(part)
 }
 
-/// The number of a cause.
+/// The number of a cause: in what is saved, and for C.
 pub fn cause_code(cause: Cause) -> u8
     ensures { result ≡ cause_code cause }
 {

@@ -1,0 +1,34 @@
+// Pays in memory, saves while a second payment runs, and goes on from what was saved. c++ -std=c++17 demo.cpp -lzvt
+#include "zvt.hpp"
+#include <cstdio>
+
+static void say(const char *what, const zvt::Reply &reply) {
+    std::printf("%s: outcome %u, to send:", what, reply.outcome.kind);
+    for (uint8_t byte : reply.send) std::printf(" %02X", byte);
+    std::printf("\n");
+}
+
+int main() {
+    const uint8_t registered[] = {0x80, 0x00, 0x00, 0x06, 0x0F, 0x00};
+    const uint8_t approved[] = {0x80, 0x00, 0x00, 0x04, 0x0F, 0x10, 0x27, 0x00, 0x04, 0x00, 0x00, 0x00, 0x00,
+                                0x12, 0x34, 0x0B, 0x00, 0x00, 0x17, 0x87, 0x00, 0x05, 0x06, 0x0F, 0x00};
+    zvt::Till till;
+    till.connected();
+    till.order(ZVT_REGISTER);
+    say("registered", till.feed(registered, sizeof registered));
+    till.order(ZVT_PAY, 1234);
+    say("paid", till.feed(approved, sizeof approved));
+    try {
+        till.order(ZVT_REVERSE, 7);
+    } catch (const zvt::Refused &refused) {
+        std::printf("refused: status %u\n", refused.status);
+    }
+    till.order(ZVT_PAY, 777);
+    zvt::Till again = zvt::Till::loaded(till.save());
+    for (const zvt_entry &entry : again.book())
+        std::printf("booked %llu under trace number %06u\n", (unsigned long long)entry.amount, entry.trace);
+    for (const zvt_entry &entry : again.unclear())
+        std::printf("unclear %llu for cause %u\n", (unsigned long long)entry.amount, entry.cause);
+    till = std::move(again);
+    std::printf("total %llu\n", (unsigned long long)till.state().total);
+}

@@ -1,0 +1,107 @@
+/* zvt.hpp: the till of zvt.h for C++ (17), in one class that owns its handle. Header only. */
+#ifndef ZVT_HPP
+#define ZVT_HPP
+#include "zvt.h"
+#include <stdexcept>
+#include <string>
+#include <utility>
+#include <vector>
+
+namespace zvt {
+
+/* A call that was refused; the till is as it was. */
+class Refused : public std::runtime_error {
+public:
+    explicit Refused(uint32_t status) : std::runtime_error("zvt: status " + std::to_string(status)), status(status) {}
+    const uint32_t status; /* one of zvt.h's */
+};
+
+/* What is to be sent to the terminal now, and how the running order ended, if it did. */
+struct Reply {
+    std::vector<uint8_t> send;
+    zvt_outcome outcome{};
+    bool malformed = false; /* the bytes are no message: give the line up, and call lost() */
+};
+
+/* A till. It is moved, never copied, and stays on the thread that made it. */
+class Till {
+public:
+    explicit Till(uint32_t password = 0, uint8_t config = 0xBE, uint16_t currency = 978) {
+        check(zvt_till_new(&handle, password, config, currency));
+    }
+    static Till loaded(const std::vector<uint8_t> &saved) {
+        Till till;
+        check(zvt_till_load(&till.handle, saved.data(), saved.size()));
+        return till;
+    }
+    Till(Till &&other) noexcept : handle(std::exchange(other.handle, zvt_till{})) {}
+    Till &operator=(Till &&other) noexcept {
+        std::swap(handle, other.handle);
+        return *this;
+    }
+    Till(const Till &) = delete;
+    Till &operator=(const Till &) = delete;
+    ~Till() { zvt_till_free(&handle); }
+
+    void connected() { check(zvt_till_connected(&handle)); }
+    zvt_outcome lost() {
+        zvt_step step{};
+        check(zvt_till_lost(&handle, &step));
+        return step.outcome;
+    }
+    /* The bytes to send. Save before they go out. */
+    std::vector<uint8_t> order(uint32_t order, uint64_t number = 0) {
+        uint8_t out[ZVT_ROOM];
+        zvt_step step{};
+        check(zvt_till_order(&handle, order, number, out, sizeof out, &step));
+        return {out, out + step.send};
+    }
+    /* Takes all that the terminal sent, up to bytes that are no message. */
+    Reply feed(const uint8_t *piece, size_t length) {
+        Reply reply;
+        uint8_t out[ZVT_ROOM];
+        while (length > 0) {
+            zvt_step step{};
+            const uint32_t status = zvt_till_feed(&handle, piece, length, out, sizeof out, &step);
+            reply.malformed = status == ZVT_REFUSED;
+            if (!reply.malformed) check(status);
+            if (step.outcome.kind != ZVT_NONE) reply.outcome = step.outcome;
+            if (reply.malformed) break;
+            reply.send.insert(reply.send.end(), out, out + step.send);
+            piece += step.taken;
+            length -= step.taken;
+        }
+        return reply;
+    }
+    zvt_state state() {
+        zvt_state state{};
+        check(zvt_till_state(&handle, &state));
+        return state;
+    }
+    std::vector<zvt_entry> book() { return entries(state().booked, zvt_till_entry); }
+    std::vector<zvt_entry> unclear() { return entries(state().unclear, zvt_till_unclear); }
+    std::vector<uint8_t> save() {
+        std::vector<uint8_t> bytes;
+        zvt_answer answer{};
+        do {
+            bytes.resize(answer.size);
+            zvt_till_save(&handle, bytes.data(), bytes.size(), &answer);
+            check(answer.status);
+        } while (answer.size != bytes.size());
+        return bytes;
+    }
+
+private:
+    static void check(uint32_t status) {
+        if (status != ZVT_OK) throw Refused(status);
+    }
+    std::vector<zvt_entry> entries(size_t count, uint32_t (*show)(zvt_till *, size_t, zvt_entry *)) {
+        std::vector<zvt_entry> entries(count);
+        for (size_t place = 0; place < count; place++) check(show(&handle, place, &entries[place]));
+        return entries;
+    }
+    zvt_till handle{};
+};
+
+}
+#endif

@@ -1,0 +1,309 @@
+"""A till in Python, over libzvt.so. The library keeps the till and its book; this module moves the bytes.
+
+    import zvt
+
+    with zvt.Till("libzvt.so", keep=write_to_disk) as till:
+        till.connect("192.0.2.7", 20007)
+        till.register()
+        print(till.pay(1000))          # paid, trace 000001, receipt 0001
+
+Amounts are in the smallest unit of the currency. A Till stays on the thread that made it.
+"""
+import ctypes as c
+import enum
+import select
+import socket
+from typing import NamedTuple, Optional
+
+ROOM = 32
+
+
+class Order(enum.IntEnum):
+    REGISTER, PAY, REVERSE, CLOSE_DAY, CANCEL = range(1, 6)
+
+
+class Ending(enum.IntEnum):
+    """How an order ended."""
+    NONE, REGISTERED, PAID, DECLINED, ORDER_REFUSED, ABORTED, UNCLEAR, REVERSED, DAY_CLOSED = range(9)
+
+
+class Cause(enum.IntEnum):
+    """Why a payment is unclear: ask the terminal's journal, and book nothing by guess."""
+    NO_STATUS, CONFLICT, AMOUNT_DIFFERS, NO_TRACE, TRACE_USED, ABORT_AFTER_APPROVAL, LINE, MALFORMED, UNFINISHED, WRONG_CURRENCY = range(1, 11)
+
+
+class Status(enum.IntEnum):
+    OK, MORE, REFUSED, NO_MEMORY, NO_ROOM, ARGUMENT, CLOSED, STOPPED = range(8)
+    OFFLINE, NOT_REGISTERED, BUSY, NOTHING_TO_CANCEL, BOOK_FULL, UNKNOWN_ENTRY, ALREADY_REVERSED, NO_RECEIPT = range(10, 18)
+
+
+class Refused(Exception):
+    """A call that the library refused; the till is as it was. `status` says why."""
+
+    def __init__(self, status):
+        self.status = Status(status)
+        super().__init__(words(self.status))
+
+
+class _BrokenLine(Exception):
+    """The line ended, broke or fell silent."""
+
+
+class Outcome(NamedTuple):
+    ending: Ending
+    code: Optional[int] = None       # the terminal's, where it declined, refused or aborted
+    cause: Optional[Cause] = None    # where the payment is unclear
+    trace: Optional[int] = None      # where it is paid
+    receipt: Optional[int] = None    # where it is paid and the terminal gave one
+
+    def __str__(self):
+        text = words(self.ending)
+        if self.code is not None:
+            text += f", code {self.code:02X}"
+        if self.cause is not None:
+            text += f": {words(self.cause)}"
+        return text + numbers(self.trace, self.receipt)
+
+
+class Entry(NamedTuple):
+    """A payment that is booked, or that is unclear for a cause."""
+    amount: int
+    trace: Optional[int] = None
+    receipt: Optional[int] = None
+    reversed: bool = False
+    cause: Optional[Cause] = None
+
+    def __str__(self):
+        text = f"{self.amount}" + numbers(self.trace, self.receipt)
+        if self.cause is not None:
+            text += f": {words(self.cause)}"
+        return text + (", taken back" if self.reversed else "")
+
+
+def words(name):
+    return name.name.lower().replace("_", " ")
+
+
+def numbers(trace, receipt):
+    text = "" if trace is None else f", trace {trace:06}"
+    return text if receipt is None else text + f", receipt {receipt:04X}"
+
+
+class _Outcome(c.Structure):
+    _fields_ = [(n, c.c_uint32) for n in ("kind", "code", "trace", "receipt", "has_receipt")]
+
+    def value(self):
+        ending = Ending(self.kind)
+        if ending == Ending.PAID:
+            return Outcome(ending, trace=self.trace, receipt=self.receipt if self.has_receipt else None)
+        if ending == Ending.UNCLEAR:
+            return Outcome(ending, cause=Cause(self.code))
+        if ending in (Ending.DECLINED, Ending.ORDER_REFUSED, Ending.ABORTED):
+            return Outcome(ending, code=self.code)
+        return Outcome(ending)
+
+
+class _Step(c.Structure):
+    _fields_ = [("taken", c.c_size_t), ("send", c.c_size_t), ("place", c.c_size_t), ("reason", c.c_uint32),
+                ("message", c.c_uint32), ("outcome", _Outcome)]
+
+
+class _State(c.Structure):
+    _fields_ = [("total", c.c_uint64), ("booked", c.c_size_t), ("unclear", c.c_size_t), ("held", c.c_size_t),
+                ("registered", c.c_uint32), ("running", c.c_uint32), ("last", _Outcome)]
+
+
+class _Entry(c.Structure):
+    _fields_ = [("amount", c.c_uint64)] + [(n, c.c_uint32) for n in ("trace", "receipt", "has_receipt", "reversed", "cause")]
+
+
+class _Answer(c.Structure):
+    _fields_ = [("size", c.c_size_t), ("place", c.c_size_t), ("reason", c.c_uint32), ("status", c.c_uint32)]
+
+
+class _Handle(c.Structure):
+    _fields_ = [("at", c.c_void_p), ("full", c.c_bool)]
+
+
+_TYPES = {
+    "zvt_till_new": [c.c_void_p, c.c_uint32, c.c_uint8, c.c_uint16],
+    "zvt_till_free": [c.c_void_p],
+    "zvt_till_connected": [c.c_void_p],
+    "zvt_till_lost": [c.c_void_p, c.c_void_p],
+    "zvt_till_order": [c.c_void_p, c.c_uint32, c.c_uint64, c.c_void_p, c.c_size_t, c.c_void_p],
+    "zvt_till_feed": [c.c_void_p, c.c_char_p, c.c_size_t, c.c_void_p, c.c_size_t, c.c_void_p],
+    "zvt_till_state": [c.c_void_p, c.c_void_p],
+    "zvt_till_entry": [c.c_void_p, c.c_size_t, c.c_void_p],
+    "zvt_till_unclear": [c.c_void_p, c.c_size_t, c.c_void_p],
+    "zvt_till_save": [c.c_void_p, c.c_void_p, c.c_size_t, c.c_void_p],
+    "zvt_till_load": [c.c_void_p, c.c_char_p, c.c_size_t],
+}
+
+
+class Till:
+    """A till on a socket. `keep`, where it is given, is called with the bytes that the till is saved in: before an order
+    goes out, and after each outcome. What it raises stops the order before anything was sent."""
+
+    def __init__(self, library, password=0, config=0xBE, currency=978, keep=None):
+        self._library = c.CDLL(library)
+        for name, types in _TYPES.items():
+            function = getattr(self._library, name)
+            function.argtypes, function.restype = types, c.c_uint32
+        self._library.zvt_till_free.restype = self._library.zvt_till_save.restype = None
+        self._handle, self._step, self._out = _Handle(), _Step(), c.create_string_buffer(ROOM)
+        self._keep, self._line = keep, None
+        self._call("new", password, config, currency)
+
+    def __enter__(self):
+        return self
+
+    def __exit__(self, *_):
+        self.close()
+
+    def close(self):
+        """Gives the line and the till up."""
+        if self._line is not None:
+            self._line.close()
+            self._line = None
+        self._library.zvt_till_free(c.byref(self._handle))
+
+    def _call(self, name, *arguments):
+        status = getattr(self._library, f"zvt_till_{name}")(c.byref(self._handle), *arguments)
+        if status:
+            raise Refused(status)
+
+    def connect(self, host, port, timeout=60):
+        """Opens the line. A line that stood before is lost."""
+        self.disconnect()
+        self._line = socket.create_connection((host, port), timeout=timeout)
+        self._call("connected")
+
+    def disconnect(self):
+        """Gives the line up, and answers how the running order ended, if one ran."""
+        if self._line is None:
+            return None
+        self._drop()
+        return self._ended()
+
+    def _drop(self):
+        self._line.close()
+        self._line = None
+        self._call("lost", c.byref(self._step))
+
+    def _send(self, message):
+        try:
+            self._line.sendall(message)
+        except OSError as error:
+            raise _BrokenLine from error
+
+    def _receive(self):
+        try:
+            piece = self._line.recv(4096)
+        except OSError as error:
+            raise _BrokenLine from error
+        if not piece:
+            raise _BrokenLine
+        return piece
+
+    def register(self):
+        return self._run(Order.REGISTER)
+
+    def pay(self, amount, wants_cancel=None):
+        """`wants_cancel`, where it is given, is asked five times a second whether the payment is to be cancelled; the
+        terminal says what comes of it."""
+        return self._run(Order.PAY, amount, wants_cancel)
+
+    def reverse(self, place):
+        """Takes back the payment at that place of the book, from 0."""
+        return self._run(Order.REVERSE, place)
+
+    def close_day(self):
+        return self._run(Order.CLOSE_DAY)
+
+    def _order(self, order, number):
+        self._call("order", order, number, self._out, ROOM, c.byref(self._step))
+        send = self._out.raw[:self._step.send]
+        if self._keep is not None:
+            try:
+                self._keep(self.save())
+            except BaseException:
+                self._drop()
+                raise
+        self._send(send)
+
+    def _ended(self):
+        outcome = self._step.outcome.value()
+        if outcome.ending == Ending.NONE:
+            return None
+        if self._keep is not None:
+            self._keep(self.save())
+        return outcome
+
+    def _run(self, order, number=0, wants_cancel=None):
+        """One order from end to end. A line that breaks, falls silent or brings what is no message is given up, and the
+        outcome says so."""
+        try:
+            self._order(order, number)
+            ended = None
+            while ended is None:
+                if wants_cancel is not None and not select.select([self._line], [], [], 0.2)[0]:
+                    if wants_cancel():
+                        wants_cancel = None
+                        self._order(Order.CANCEL, 0)
+                    continue
+                ended = self._heard(self._receive())
+            return ended
+        except _BrokenLine:
+            return self.disconnect()
+
+    def _heard(self, piece):
+        """Feeds a whole piece. How the order ended, if it did."""
+        ended = None
+        while piece:
+            status = self._library.zvt_till_feed(c.byref(self._handle), piece, len(piece), self._out, ROOM, c.byref(self._step))
+            if status not in (Status.OK, Status.REFUSED):
+                raise Refused(status)
+            ended = self._ended() or ended
+            if status == Status.REFUSED:
+                return ended or self.disconnect()
+            if self._step.send:
+                self._send(self._out.raw[:self._step.send])
+            piece = piece[self._step.taken:]
+        return ended
+
+    def state(self):
+        """The total, the counts of booked and unclear payments, whether the till is registered, the last outcome."""
+        state = _State()
+        self._call("state", c.byref(state))
+        return state
+
+    def book(self):
+        """The payments that are booked."""
+        return [self._entry("entry", place) for place in range(self.state().booked)]
+
+    def unclear(self):
+        """The payments that are neither booked nor known not to be."""
+        return [self._entry("unclear", place) for place in range(self.state().unclear)]
+
+    def _entry(self, kind, place):
+        entry = _Entry()
+        self._call(kind, place, c.byref(entry))
+        if kind == "unclear":
+            return Entry(entry.amount, cause=Cause(entry.cause))
+        return Entry(entry.amount, entry.trace, entry.receipt if entry.has_receipt else None, bool(entry.reversed))
+
+    def save(self):
+        """The bytes that the till is saved in: those of the till after its line was lost."""
+        answer, room = _Answer(), c.create_string_buffer(0)
+        while True:
+            self._library.zvt_till_save(c.byref(self._handle), room, len(room), c.byref(answer))
+            if answer.status:
+                raise Refused(answer.status)
+            if answer.size <= len(room):
+                return room.raw[:answer.size]
+            room = c.create_string_buffer(answer.size)
+
+    def load(self, saved):
+        """Makes this the till that the bytes were saved of. Its line is down then."""
+        self.disconnect()
+        self._call("load", saved, len(saved))

@@ -1,0 +1,409 @@
+//! The till of zvt.h in safe Rust, for programs that are built without Rattle: put this file beside yours, say `mod zvt;`
+//! and link libzvt. It needs Rust alone.
+use std::fmt;
+use std::marker::PhantomData;
+use std::ptr::null_mut;
+
+const ROOM: usize = 32;
+
+#[repr(C)]
+struct Handle {
+    at: *mut u8,
+    full: bool,
+}
+
+#[repr(C)]
+#[derive(Clone, Copy, Default)]
+struct OutcomeNumbers {
+    kind: u32,
+    code: u32,
+    trace: u32,
+    receipt: u32,
+    has_receipt: u32,
+}
+
+#[repr(C)]
+#[derive(Default)]
+struct Step {
+    taken: usize,
+    send: usize,
+    place: usize,
+    reason: u32,
+    message: u32,
+    outcome: OutcomeNumbers,
+}
+
+#[repr(C)]
+#[derive(Default)]
+struct State {
+    total: u64,
+    booked: usize,
+    unclear: usize,
+    held: usize,
+    registered: u32,
+    running: u32,
+    last: OutcomeNumbers,
+}
+
+#[repr(C)]
+#[derive(Default)]
+struct EntryNumbers {
+    amount: u64,
+    trace: u32,
+    receipt: u32,
+    has_receipt: u32,
+    reversed: u32,
+    cause: u32,
+}
+
+#[repr(C)]
+#[derive(Default)]
+struct Answer {
+    size: usize,
+    place: usize,
+    reason: u32,
+    status: u32,
+}
+
+unsafe extern "C" {
+    fn zvt_text(bytes: *const u8, length: usize, room: *mut u8, room_length: usize, answer: *mut Answer) -> usize;
+    fn zvt_till_new(till: *mut Handle, password: u32, config: u8, currency: u16) -> u32;
+    fn zvt_till_free(till: *mut Handle);
+    fn zvt_till_connected(till: *mut Handle) -> u32;
+    fn zvt_till_lost(till: *mut Handle, step: *mut Step) -> u32;
+    fn zvt_till_order(till: *mut Handle, order: u32, number: u64, out: *mut u8, room: usize, step: *mut Step) -> u32;
+    fn zvt_till_feed(till: *mut Handle, piece: *const u8, length: usize, out: *mut u8, room: usize, step: *mut Step) -> u32;
+    fn zvt_till_state(till: *mut Handle, state: *mut State) -> u32;
+    fn zvt_till_entry(till: *mut Handle, place: usize, entry: *mut EntryNumbers) -> u32;
+    fn zvt_till_unclear(till: *mut Handle, place: usize, entry: *mut EntryNumbers) -> u32;
+    fn zvt_till_save(till: *mut Handle, room: *mut u8, room_length: usize, answer: *mut Answer);
+    fn zvt_till_load(till: *mut Handle, bytes: *const u8, length: usize) -> u32;
+}
+
+const REFUSED: u32 = 2;
+
+/// Why a call was refused: a status of zvt.h other than 0. It changed nothing.
+#[derive(Clone, Copy, Debug, PartialEq, Eq)]
+pub enum Refused {
+    /// The bytes are no saved till.
+    Bytes,
+    NoMemory,
+    Argument,
+    Stopped,
+    Offline,
+    NotRegistered,
+    Busy,
+    NothingToCancel,
+    BookFull,
+    UnknownEntry,
+    AlreadyReversed,
+    NoReceipt,
+    /// A status that no call of this class answers.
+    Other(u32),
+}
+
+impl Refused {
+    fn of(status: u32) -> Refused {
+        match status {
+            REFUSED => Refused::Bytes,
+            3 => Refused::NoMemory,
+            5 => Refused::Argument,
+            7 => Refused::Stopped,
+            10 => Refused::Offline,
+            11 => Refused::NotRegistered,
+            12 => Refused::Busy,
+            13 => Refused::NothingToCancel,
+            14 => Refused::BookFull,
+            15 => Refused::UnknownEntry,
+            16 => Refused::AlreadyReversed,
+            17 => Refused::NoReceipt,
+            status => Refused::Other(status),
+        }
+    }
+}
+
+impl fmt::Display for Refused {
+    fn fmt(&self, f: &mut fmt::Formatter<'_>) -> fmt::Result {
+        f.write_str(match self {
+            Refused::Bytes => "the bytes are no saved till",
+            Refused::NoMemory => "memory is wanted",
+            Refused::Argument => "a number names nothing",
+            Refused::Stopped => "this line brought bytes before that begin no message",
+            Refused::Offline => "the line is down",
+            Refused::NotRegistered => "the till is not registered",
+            Refused::Busy => "an order runs",
+            Refused::NothingToCancel => "no payment runs that could be cancelled",
+            Refused::BookFull => "the book is full",
+            Refused::UnknownEntry => "no such payment is booked",
+            Refused::AlreadyReversed => "the payment is taken back",
+            Refused::NoReceipt => "the payment has no receipt number",
+            Refused::Other(status) => return write!(f, "status {status}"),
+        })
+    }
+}
+
+impl std::error::Error for Refused {}
+
+fn checked(status: u32) -> Result<(), Refused> {
+    if status == 0 { Ok(()) } else { Err(Refused::of(status)) }
+}
+
+#[derive(Clone, Copy, Debug, PartialEq, Eq)]
+pub enum Order {
+    Register,
+    /// An amount in the smallest unit of the currency.
+    Pay(u64),
+    /// The place in the book, from 0.
+    Reverse(u64),
+    CloseDay,
+    Cancel,
+}
+
+/// Why a payment is unclear: ask the terminal's journal, and book nothing by guess.
+#[derive(Clone, Copy, Debug, PartialEq, Eq)]
+pub enum Cause {
+    NoStatus,
+    Conflict,
+    AmountDiffers,
+    NoTrace,
+    TraceUsed,
+    AbortAfterApproval,
+    Line,
+    Malformed,
+    Unfinished,
+    WrongCurrency,
+    /// A number that zvt.h does not name.
+    Other(u32),
+}
+
+impl Cause {
+    fn of(number: u32) -> Cause {
+        match number {
+            1 => Cause::NoStatus,
+            2 => Cause::Conflict,
+            3 => Cause::AmountDiffers,
+            4 => Cause::NoTrace,
+            5 => Cause::TraceUsed,
+            6 => Cause::AbortAfterApproval,
+            7 => Cause::Line,
+            8 => Cause::Malformed,
+            9 => Cause::Unfinished,
+            10 => Cause::WrongCurrency,
+            number => Cause::Other(number),
+        }
+    }
+}
+
+/// How an order ended. Codes are the terminal's.
+#[derive(Clone, Copy, Debug, PartialEq, Eq)]
+pub enum Outcome {
+    Registered,
+    Paid { trace: u32, receipt: Option<u16> },
+    Declined(u32),
+    OrderRefused(u32),
+    Aborted(u32),
+    Unclear { cause: Cause },
+    Reversed,
+    DayClosed,
+}
+
+fn receipt(numbers: (u32, u32)) -> Option<u16> {
+    (numbers.1 == 1).then_some(numbers.0 as u16)
+}
+
+impl OutcomeNumbers {
+    fn outcome(self) -> Option<Outcome> {
+        Some(match self.kind {
+            1 => Outcome::Registered,
+            2 => Outcome::Paid { trace: self.trace, receipt: receipt((self.receipt, self.has_receipt)) },
+            3 => Outcome::Declined(self.code),
+            4 => Outcome::OrderRefused(self.code),
+            5 => Outcome::Aborted(self.code),
+            6 => Outcome::Unclear { cause: Cause::of(self.code) },
+            7 => Outcome::Reversed,
+            8 => Outcome::DayClosed,
+            _ => return None,
+        })
+    }
+}
+
+#[derive(Clone, Copy, Debug, PartialEq, Eq)]
+pub struct Entry {
+    pub amount: u64,
+    pub trace: u32,
+    pub receipt: Option<u16>,
+    pub reversed: bool,
+}
+
+#[derive(Clone, Copy, Debug, PartialEq, Eq)]
+pub struct Unclear {
+    pub amount: u64,
+    pub cause: Cause,
+}
+
+/// What is to be sent to the terminal now, and how the running order ended, if it did.
+#[derive(Debug, Default, PartialEq, Eq)]
+pub struct Reply {
+    pub send: Vec<u8>,
+    pub outcome: Option<Outcome>,
+    /// The bytes are no message: give the line up, and call [`Till::lost`].
+    pub malformed: bool,
+}
+
+/// A till. It stays on the thread that made it.
+pub struct Till {
+    handle: Handle,
+    _stays: PhantomData<*mut ()>,
+}
+
+impl Drop for Till {
+    fn drop(&mut self) {
+        // SAFETY: the handle is what the last call left in it.
+        unsafe { zvt_till_free(&mut self.handle) }
+    }
+}
+
+// SAFETY of all calls below: the handle is zeroes or what the last call left in it and is borrowed for the call alone;
+// slices and structs are lent for the call, apart from each other, and laid out as zvt.h has them.
+impl Till {
+    fn closed() -> Till {
+        Till { handle: Handle { at: null_mut(), full: false }, _stays: PhantomData }
+    }
+
+    /// A till whose book is empty. The password is a number of up to six digits, the currency one of ISO 4217 (978); 0xBE
+    /// is a usual config byte.
+    pub fn new(password: u32, config: u8, currency: u16) -> Result<Till, Refused> {
+        let mut till = Till::closed();
+        checked(unsafe { zvt_till_new(&mut till.handle, password, config, currency) })?;
+        Ok(till)
+    }
+
+    /// The till that the bytes were saved of. Its line is down.
+    pub fn load(saved: &[u8]) -> Result<Till, Refused> {
+        let mut till = Till::closed();
+        checked(unsafe { zvt_till_load(&mut till.handle, saved.as_ptr(), saved.len()) })?;
+        Ok(till)
+    }
+
+    /// The bytes that the till is saved in: those of the till after its line was lost.
+    pub fn save(&mut self) -> Result<Vec<u8>, Refused> {
+        let mut bytes = Vec::new();
+        loop {
+            let mut answer = Answer::default();
+            unsafe { zvt_till_save(&mut self.handle, bytes.as_mut_ptr(), bytes.len(), &mut answer) };
+            checked(answer.status)?;
+            if answer.size == bytes.len() {
+                return Ok(bytes);
+            }
+            bytes.resize(answer.size, 0);
+        }
+    }
+
+    /// A line to the terminal is up.
+    pub fn connected(&mut self) -> Result<(), Refused> {
+        checked(unsafe { zvt_till_connected(&mut self.handle) })
+    }
+
+    /// The line is lost. How the running order ended, if one ran.
+    pub fn lost(&mut self) -> Result<Option<Outcome>, Refused> {
+        let mut step = Step::default();
+        checked(unsafe { zvt_till_lost(&mut self.handle, &mut step) })?;
+        Ok(step.outcome.outcome())
+    }
+
+    /// The bytes to send to the terminal. Save before they go out.
+    pub fn order(&mut self, order: Order) -> Result<Vec<u8>, Refused> {
+        let (kind, number) = match order {
+            Order::Register => (1, 0),
+            Order::Pay(amount) => (2, amount),
+            Order::Reverse(place) => (3, place),
+            Order::CloseDay => (4, 0),
+            Order::Cancel => (5, 0),
+        };
+        let (mut out, mut step) = ([0; ROOM], Step::default());
+        checked(unsafe { zvt_till_order(&mut self.handle, kind, number, out.as_mut_ptr(), ROOM, &mut step) })?;
+        Ok(out[..step.send].to_vec())
+    }
+
+    /// Takes all that the terminal sent, up to bytes that are no message.
+    pub fn feed(&mut self, mut piece: &[u8]) -> Result<Reply, Refused> {
+        let mut reply = Reply::default();
+        while !piece.is_empty() && !reply.malformed {
+            let (mut out, mut step) = ([0; ROOM], Step::default());
+            let status = unsafe {
+                zvt_till_feed(&mut self.handle, piece.as_ptr(), piece.len(), out.as_mut_ptr(), ROOM, &mut step)
+            };
+            reply.malformed = status == REFUSED;
+            if !reply.malformed {
+                checked(status)?;
+            }
+            reply.outcome = step.outcome.outcome().or(reply.outcome);
+            reply.send.extend_from_slice(&out[..step.send]);
+            piece = &piece[step.taken..];
+        }
+        Ok(reply)
+    }
+
+    fn state(&mut self) -> Result<State, Refused> {
+        let mut state = State::default();
+        checked(unsafe { zvt_till_state(&mut self.handle, &mut state) })?;
+        Ok(state)
+    }
+
+    /// What the payments that were not taken back come to.
+    pub fn total(&mut self) -> Result<u64, Refused> {
+        Ok(self.state()?.total)
+    }
+
+    /// The payments that are booked.
+    pub fn book(&mut self) -> Result<Vec<Entry>, Refused> {
+        (0..self.state()?.booked)
+            .map(|place| {
+                let mut entry = EntryNumbers::default();
+                checked(unsafe { zvt_till_entry(&mut self.handle, place, &mut entry) })?;
+                let receipt = receipt((entry.receipt, entry.has_receipt));
+                Ok(Entry { amount: entry.amount, trace: entry.trace, receipt, reversed: entry.reversed == 1 })
+            })
+            .collect()
+    }
+
+    /// The payments that are neither booked nor known not to be.
+    pub fn unclear(&mut self) -> Result<Vec<Unclear>, Refused> {
+        (0..self.state()?.unclear)
+            .map(|place| {
+                let mut entry = EntryNumbers::default();
+                checked(unsafe { zvt_till_unclear(&mut self.handle, place, &mut entry) })?;
+                Ok(Unclear { amount: entry.amount, cause: Cause::of(entry.cause) })
+            })
+            .collect()
+    }
+}
+
+/// Why no text is written: more bytes are needed, no message can follow the byte at a place, or memory is wanted.
+#[derive(Clone, Copy, Debug, PartialEq, Eq)]
+pub enum NoText {
+    More,
+    RefusedAt { place: usize, reason: u32 },
+    Memory,
+}
+
+/// The text of the message that stands first, and its size in bytes.
+pub fn text(bytes: &[u8]) -> Result<(String, usize), NoText> {
+    let mut room = vec![0; 256];
+    loop {
+        let mut answer = Answer::default();
+        // SAFETY: both slices are lent for the call and apart, and the declaration fits zvt.h.
+        let size = unsafe { zvt_text(bytes.as_ptr(), bytes.len(), room.as_mut_ptr(), room.len(), &mut answer) };
+        match answer.status {
+            0 => {}
+            1 => return Err(NoText::More),
+            REFUSED => return Err(NoText::RefusedAt { place: answer.place, reason: answer.reason }),
+            _ => return Err(NoText::Memory),
+        }
+        if size <= room.len() {
+            room.truncate(size);
+            return Ok((String::from_utf8_lossy(&room).into_owned(), answer.size));
+        }
+        room.resize(size, 0);
+    }
+}

@@ -1,0 +1,124 @@
+//! The names of what numbers stand for, as the program writes them. Each call writes the name (ASCII, no final zero) at
+//! the front of the room where it fits, and answers its size: 0 where the number names nothing. Where the room is less
+//! than the size nothing is written.
+ghost use Rattle.std.specs.Prelude.{◌≡◌};
+ghost use Rattle.zvt_c.specs.Names.{causes, name_in, outcomes, reasons, refusals};
+ghost use Rattle.zvt_c.specs.Saving.{Written};
+
+use zvt_spelling::Why;
+use zvt_till::{Cause, OrderRefusal};
+
+/// Writes a name where it fits, and answers its size.
+fn put_name(name: &str, room: &mut [u8]) -> usize
+    ensures { Written name.now result room.old room.new }
+{
+    let bytes = name.as_bytes();
+    let size = bytes.len();
+    if size <= room.len() {
+        room[..size].copy_from_slice(bytes);
+    }
+    size
+}
+
+/// The name of a reason.
+fn reason_word(number: u32) -> &'static str
+    ensures { result.now ≡ name_in reasons number }
+{
+    match number {
+        1 => Why::NotShortest.name(),
+        2 => Why::DoesNotFit.name(),
+        3 => Why::LengthForm.name(),
+        4 => Why::TooDeep.name(),
+        5 => Why::TagTooLong.name(),
+        6 => Why::UnknownField.name(),
+        7 => Why::NotDigit.name(),
+        8 => Why::LengthDigit.name(),
+        _ => "",
+    }
+}
+
+/// The name of a cause.
+fn cause_word(number: u32) -> &'static str
+    ensures { result.now ≡ name_in causes number }
+{
+    match number {
+        1 => Cause::NoStatus.name(),
+        2 => Cause::Conflict.name(),
+        3 => Cause::AmountDiffers.name(),
+        4 => Cause::NoTrace.name(),
+        5 => Cause::TraceUsed.name(),
+        6 => Cause::AbortAfterApproval.name(),
+        7 => Cause::Line.name(),
+        8 => Cause::Malformed.name(),
+        9 => Cause::Unfinished.name(),
+        10 => Cause::WrongCurrency.name(),
+        _ => "",
+    }
+}
+
+/// The name of a kind of outcome.
+fn outcome_word(number: u32) -> &'static str
+    ensures { result.now ≡ name_in outcomes number }
+{
+    match number {
+        1 => "registered",
+        2 => "paid",
+        3 => "declined",
+        4 => "refused",
+        5 => "aborted",
+        6 => "unclear",
+        7 => "reversed",
+        8 => "day closed",
+        _ => "",
+    }
+}
+
+/// The name of the refusal of an order.
+fn refusal_word(number: u32) -> &'static str
+    ensures { result.now ≡ name_in refusals number }
+{
+    match number {
+        3 => OrderRefusal::Memory.name(),
+        10 => OrderRefusal::Offline.name(),
+        11 => OrderRefusal::NotRegistered.name(),
+        12 => OrderRefusal::Busy.name(),
+        13 => OrderRefusal::NothingToCancel.name(),
+        14 => OrderRefusal::BookFull.name(),
+        15 => OrderRefusal::UnknownEntry.name(),
+        16 => OrderRefusal::AlreadyReversed.name(),
+        17 => OrderRefusal::NoReceipt.name(),
+        _ => "",
+    }
+}
+
+/// The name of the reason why a byte is refused, 1 to 8.
+#[unsafe(no_mangle)]
+pub extern "C" fn zvt_reason_name(number: u32, room: &mut [u8]) -> usize
+    ensures { Written (name_in reasons number) result room.old room.new }
+{
+    put_name(reason_word(number), room)
+}
+
+/// The name of the cause of an unclear payment, 1 to 10.
+#[unsafe(no_mangle)]
+pub extern "C" fn zvt_cause_name(number: u32, room: &mut [u8]) -> usize
+    ensures { Written (name_in causes number) result room.old room.new }
+{
+    put_name(cause_word(number), room)
+}
+
+/// The name of a kind of outcome, 1 to 8.
+#[unsafe(no_mangle)]
+pub extern "C" fn zvt_outcome_name(number: u32, room: &mut [u8]) -> usize
+    ensures { Written (name_in outcomes number) result room.old room.new }
+{
+    put_name(outcome_word(number), room)
+}
+
+/// The name of the status with which an order is refused, 3 or 10 to 17.
+#[unsafe(no_mangle)]
+pub extern "C" fn zvt_refusal_name(number: u32, room: &mut [u8]) -> usize
+    ensures { Written (name_in refusals number) result room.old room.new }
+{
+    put_name(refusal_word(number), room)
+}
