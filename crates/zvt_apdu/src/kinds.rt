@@ -34,7 +34,7 @@ pub enum Kind {
     Other,
 }
 
-/// The kind of the message that has these control bytes.
+/// The kind of the message that has these control bytes. The commonest stand first.
 #[tactic(auto, unfolding(crate::specs::Kinds::kind_at))]
 #[inline(always)]
 pub fn kind_at(high: u8, low: u8) -> Kind
@@ -42,18 +42,18 @@ pub fn kind_at(high: u8, low: u8) -> Kind
 {
     match [high, low] {
         control_bytes::ACK => Kind::Ack,
-        [control_bytes::NACK, _] => Kind::Nack,
-        control_bytes::REGISTRATION => Kind::Registration,
+        control_bytes::STATUS => Kind::Status,
+        control_bytes::COMPLETION => Kind::Completion,
         control_bytes::AUTHORISATION => Kind::Authorisation,
+        control_bytes::PRINT_LINE => Kind::PrintLine,
+        control_bytes::INTERMEDIATE => Kind::Intermediate,
+        control_bytes::TEXT_BLOCK => Kind::TextBlock,
+        control_bytes::ABORT => Kind::Abort,
+        control_bytes::REGISTRATION => Kind::Registration,
         control_bytes::REVERSAL => Kind::Reversal,
         control_bytes::END_OF_DAY => Kind::EndOfDay,
         control_bytes::ABORT_ORDER => Kind::AbortOrder,
-        control_bytes::STATUS => Kind::Status,
-        control_bytes::INTERMEDIATE => Kind::Intermediate,
-        control_bytes::PRINT_LINE => Kind::PrintLine,
-        control_bytes::TEXT_BLOCK => Kind::TextBlock,
-        control_bytes::COMPLETION => Kind::Completion,
-        control_bytes::ABORT => Kind::Abort,
+        [control_bytes::NACK, _] => Kind::Nack,
         _ => Kind::Other,
     }
 }

@@ -9,7 +9,7 @@ use Rattle.zvt_till.specs.Books.{Books, books}
 use Rattle.zvt_till.specs.Judging.{BooksSoFar, HasJudged}
 use Rattle.zvt_till.specs.declared.happenings.Happening.{Happening}
 use Rattle.zvt_till.specs.declared.happenings.Happening.TheVariants.{Connected}
-use Rattle.zvt_trace.specs.Listening.{AnswersWalk, Fails, Hears, HearsAll, Stops}
+use Rattle.zvt_trace.specs.Listening.{AnswersWalkBy, Fails, Hears, HearsAll, Stops}
 use Rattle.zvt_trace.specs.Told.{At}
 use Rattle.zvt_trace.specs.Telling.{ToldSoFar}
 use Rattle.zvt_trace.specs.Written.{AppendsFront, limit}
@@ -19,7 +19,7 @@ use Rattle.zvt_trace.specs.declared.fault.TraceFault.{TraceFault}
 use Rattle.zvt_trace.specs.declared.fault.TraceFault.TheVariants.{Memory, Read, TooLong, Trace, Write}
 use Rattle.zvt_trace.specs.declared.listener.Failure.TheVariants as failure
 use Rattle.zvt_trace.specs.declared.listener.Scope.TheVariants.{WholeLine}
-use Rattle.zvt_audit.specs.Audited.{AnswersAudit, AnswersRead, Takes}
+use Rattle.zvt_audit.specs.Audited.{AnswersAudit, AnswersReadBy, Takes}
 use Rattle.zvt_audit.specs.Booked.{books_text}
 use Rattle.zvt_audit.specs.Happened.{happenings_of, log_of}
 use Rattle.zvt_audit.specs.Orders.{are_swapped, is_order_from, noticed, orders_from}
@@ -94,9 +94,9 @@ keeps_same (Some bytes) = refl
 
 pub audited : {S : Type 0} {r : Reading} (books_of : S → BooksSoFar) (orders : S → Orders) (trace : List ℕ) (answer : Found) (old new : Option (List ℕ)) (first : BooksSoFar) (connected closed : S) (found : Books) (text : List ℕ)
     → HasJudged [] first → Takes first (books_of connected) (Connected ∷ []) → (orders connected).till ≡ false → (orders connected).terminal ≡ false
-    → AnswersWalk r (hears books_of orders) wants_memory WholeLine (lines trace) connected closed (Ok answer.tally) → answer.swapped ≡ (not (orders closed).till && (orders closed).terminal)
+    → AnswersWalkBy r (hears books_of orders) wants_memory WholeLine (lines trace) connected closed (Ok answer.tally) → answer.swapped ≡ (not (orders closed).till && (orders closed).terminal)
     → ((log : List Happening) → HasJudged log (books_of closed) → found ≡ books log) → text ≡ books_text found → Appends old new text
-    → AnswersRead r trace old new (Ok answer)
+    → AnswersReadBy r trace old new (Ok answer)
 audited books_of orders trace answer old new first connected closed found text start connects till terminal walked is_swapped closes says appended =
     let judged = log_judged books_of orders walked.0 first connected closed start connects walked.2 in (
       walked.0,
@@ -107,9 +107,9 @@ audited books_of orders trace answer old new first connected closed found text s
     )
 
 pub audit_failed : {S : Type 0} {r : Reading} (books_of : S → BooksSoFar) (orders : S → Orders) (trace : List ℕ) (tally : Tally) (old new : Option (List ℕ)) (first : BooksSoFar) (connected closed : S) (found : Books) (text : List ℕ)
-    → HasJudged [] first → Takes first (books_of connected) (Connected ∷ []) → AnswersWalk r (hears books_of orders) wants_memory WholeLine (lines trace) connected closed (Ok tally)
+    → HasJudged [] first → Takes first (books_of connected) (Connected ∷ []) → AnswersWalkBy r (hears books_of orders) wants_memory WholeLine (lines trace) connected closed (Ok tally)
     → ((log : List Happening) → HasJudged log (books_of closed) → found ≡ books log) → text ≡ books_text found → AppendsFront old new text
-    → AnswersRead r trace old new (Err Write)
+    → AnswersReadBy r trace old new (Err Write)
 audit_failed books_of orders trace tally old new first connected closed found text start connects walked closes says front =
     let judged = log_judged books_of orders walked.0 first connected closed start connects walked.2 in
     (walked.0, walked.1, subst (λ (t : List ℕ). AppendsFront old new t) (says ∙ ap books_text (closes (log_of walked.0) judged)) front)
@@ -117,7 +117,7 @@ audit_failed books_of orders trace tally old new first connected closed found te
 -- ---- where the walk fails
 
 -- an auditor writes nothing, so no write fails
-pub no_write : {S : Type 0} {r : Reading} (books_of : S → BooksSoFar) (orders : S → Orders) (lines : List (List ℕ)) (old new : S) → AnswersWalk r (hears books_of orders) wants_memory WholeLine lines old new (Err Write) → ⊥
+pub no_write : {S : Type 0} {r : Reading} (books_of : S → BooksSoFar) (orders : S → Orders) (lines : List (List ℕ)) (old new : S) → AnswersWalkBy r (hears books_of orders) wants_memory WholeLine lines old new (Err Write) → ⊥
 no_write {S = S} {r = r} books_of orders lines old new failed = by failed.stops
   where
     differ : failure.Write ≡ failure.Memory → ⊥
@@ -128,7 +128,7 @@ no_write {S = S} {r = r} books_of orders lines old new failed = by failed.stops
     by (inr (event, so_far, left)) = differ left
 
 pub walk_failed : {S : Type 0} (r : Reading) (books_of : S → BooksSoFar) (orders : S → Orders) (trace : List ℕ) (fault : TraceFault) (held : Option (List ℕ)) (old new : S)
-    → AnswersWalk r (hears books_of orders) wants_memory WholeLine (lines trace) old new (Err fault) → AnswersRead r trace held held (Err fault)
+    → AnswersWalkBy r (hears books_of orders) wants_memory WholeLine (lines trace) old new (Err fault) → AnswersReadBy r trace held held (Err fault)
 walk_failed r books_of orders trace (Trace number what) held old new walked = (walked.0, walked.1, keeps_same held)
 walk_failed r books_of orders trace Memory held old new walked = keeps_same held
 walk_failed r books_of orders trace Write held old new walked = absurd (no_write books_of orders (lines trace) old new walked)
@@ -138,19 +138,19 @@ walk_failed r books_of orders trace Read held old new never = absurd never
 -- ---- a trace that is read first
 
 pub read_audited : (left : Option (List ℕ)) (trace slice : List ℕ) (old new : Option (List ℕ)) (found : Found) → IfSome left (λ bytes. trace ≡ bytes) → length trace ≤ limit → slice ≡ trace
-    → AnswersRead shortest slice old new (Ok found) → IfSome left (λ bytes. AnswersAudit bytes old new (Ok found.tally))
+    → AnswersReadBy shortest slice old new (Ok found) → IfSome left (λ bytes. AnswersAudit bytes old new (Ok found.tally))
 read_audited None trace slice old new found read few same answers = tt
 read_audited (Some bytes) trace slice old new found read few same answers =
-    let here = subst (λ (b : List ℕ). AnswersRead shortest b old new (Ok found)) same answers in
+    let here = subst (λ (b : List ℕ). AnswersReadBy shortest b old new (Ok found)) same answers in
     subst (λ (b : List ℕ). AnswersAudit b old new (Ok found.tally)) read (few, (here.0, here.1, here.2, here.3))
 
 pub read_failed : (left : Option (List ℕ)) (trace slice : List ℕ) (old new : Option (List ℕ)) (fault : TraceFault) → IfSome left (λ bytes. trace ≡ bytes) → length trace ≤ limit → slice ≡ trace
-    → AnswersRead shortest slice old new (Err fault) → IfSome left (λ bytes. AnswersAudit bytes old new (Err fault))
+    → AnswersReadBy shortest slice old new (Err fault) → IfSome left (λ bytes. AnswersAudit bytes old new (Err fault))
 read_failed None trace slice old new fault read few same answers = tt
 read_failed (Some bytes) trace slice old new fault read few same answers =
-    subst (λ (b : List ℕ). AnswersAudit b old new (Err fault)) read (by fault (subst (λ (b : List ℕ). AnswersRead shortest b old new (Err fault)) same answers))
+    subst (λ (b : List ℕ). AnswersAudit b old new (Err fault)) read (by fault (subst (λ (b : List ℕ). AnswersReadBy shortest b old new (Err fault)) same answers))
   where
-    by : (fault : TraceFault) → AnswersRead shortest trace old new (Err fault) → AnswersAudit trace old new (Err fault)
+    by : (fault : TraceFault) → AnswersReadBy shortest trace old new (Err fault) → AnswersAudit trace old new (Err fault)
     by (Trace number what) answers = (few, answers.0, answers.1, answers.2)
     by Memory answers = answers
     by Write answers = (few, answers.0, answers.1, answers.2)

@@ -27,17 +27,22 @@ abbrev pub WritesBooks : (trace : List ℕ) → Tally → (old new : Option (Lis
 WritesBooks trace tally old new =
     (events : List At) × WholeTrace shortest WholeLine (lines trace) events × Appends old new (books_text (books (log_of events))) × Tallies tally events
 
--- What an audit answers for a trace that was read, by that reading of lengths. Where it fails nothing is written, but of a write that failed a front of the text.
-abbrev pub AnswersRead : Reading → (trace : List ℕ) → (old new : Option (List ℕ)) → Result Found TraceFault → Type 0
-AnswersRead r trace old new (Ok audited) =
+-- What an audit answers for a trace that was read, by that reading of lengths. Where it fails nothing is written, but of
+-- a write that failed a front of the text.
+abbrev pub AnswersReadBy : Reading → (trace : List ℕ) → (old new : Option (List ℕ)) → Result Found TraceFault → Type 0
+AnswersReadBy r trace old new (Ok audited) =
     (events : List At) × WholeTrace r WholeLine (lines trace) events × Appends old new (books_text (books (log_of events))) × Tallies audited.tally events × (audited.swapped ≡ are_swapped events)
-AnswersRead r trace old new (Err (Trace number what)) = (events : List At) × BrokenTrace r WholeLine (lines trace) number what events × Keeps old new
-AnswersRead r trace old new (Err Memory) = Keeps old new
-AnswersRead r trace old new (Err Write) = (events : List At) × WholeTrace r WholeLine (lines trace) events × AppendsFront old new (books_text (books (log_of events)))
-AnswersRead r trace old new (Err TooLong) = ⊥
-AnswersRead r trace old new (Err Read) = ⊥
+AnswersReadBy r trace old new (Err (Trace number what)) = (events : List At) × BrokenTrace r WholeLine (lines trace) number what events × Keeps old new
+AnswersReadBy r trace old new (Err Memory) = Keeps old new
+AnswersReadBy r trace old new (Err Write) = (events : List At) × WholeTrace r WholeLine (lines trace) events × AppendsFront old new (books_text (books (log_of events)))
+AnswersReadBy r trace old new (Err TooLong) = ⊥
+AnswersReadBy r trace old new (Err Read) = ⊥
 
--- The same of a strict audit for a trace of known bytes, which may be too long.
+-- The same of a strict audit.
+abbrev pub AnswersRead : (trace : List ℕ) → (old new : Option (List ℕ)) → Result Found TraceFault → Type 0
+AnswersRead trace old new answer = AnswersReadBy shortest trace old new answer
+
+-- What a strict audit answers for a trace of known bytes, which may be too long.
 abbrev pub AnswersAudit : (trace : List ℕ) → (old new : Option (List ℕ)) → Result Tally TraceFault → Type 0
 AnswersAudit trace old new (Ok tally) = (length trace ≤ limit) × WritesBooks trace tally old new
 AnswersAudit trace old new (Err (Trace number what)) = (length trace ≤ limit) × (events : List At) × BrokenTrace shortest WholeLine (lines trace) number what events × Keeps old new

@@ -1,9 +1,9 @@
 //! The books of a whole trace.
 ghost use Rattle.std.specs.Prelude.{◌≡◌, ◌<◌, ◌≤◌, length, Err, IfSome};
-ghost use Rattle.zvt_spelling.specs.Reading.{padded, shortest};
+ghost use Rattle.zvt_spelling.specs.Reading.{padded};
 ghost use Rattle.zvt_tlv.specs.Lengths.{reading_of};
 ghost use Rattle.zvt_trace.specs.Written.{limit};
-ghost use Rattle.zvt_audit.specs.Audited.{AnswersAudit, AnswersRead};
+ghost use Rattle.zvt_audit.specs.Audited.{AnswersAudit, AnswersRead, AnswersReadBy};
 
 use crate::auditor::Auditor;
 use crate::booked;
@@ -55,7 +55,7 @@ pub fn audit_trace<W: Sink>(
     writer: &mut W,
 ) -> Result<Found, TraceFault>
     requires { length trace.now ≤ limit }
-    ensures writes { AnswersRead shortest trace.now (W.written writer.old) (W.written writer.new) result }
+    ensures writes { AnswersRead trace.now (W.written writer.old) (W.written writer.new) result }
     ensures write { result ≡ Err TraceFault.Write → W.failures writer.old < W.failures writer.new }
 {
     audit_by(alloc, Lengths::Shortest, trace, writer)
@@ -68,7 +68,7 @@ pub fn audit_loose<W: Sink>(
     writer: &mut W,
 ) -> Result<Found, TraceFault>
     requires { length trace.now ≤ limit }
-    ensures writes { AnswersRead padded trace.now (W.written writer.old) (W.written writer.new) result }
+    ensures writes { AnswersReadBy padded trace.now (W.written writer.old) (W.written writer.new) result }
     ensures write { result ≡ Err TraceFault.Write → W.failures writer.old < W.failures writer.new }
 {
     audit_by(alloc, Lengths::Padded, trace, writer)
@@ -82,7 +82,7 @@ fn audit_by<W: Sink>(
     writer: &mut W,
 ) -> Result<Found, TraceFault>
     requires { length trace.now ≤ limit }
-    ensures writes { AnswersRead (reading_of lengths) trace.now (W.written writer.old) (W.written writer.new) result }
+    ensures writes { AnswersReadBy (reading_of lengths) trace.now (W.written writer.old) (W.written writer.new) result }
     ensures write { result ≡ Err TraceFault.Write → W.failures writer.old < W.failures writer.new }
 {
     let mut books = Bookkeeping::new(alloc);

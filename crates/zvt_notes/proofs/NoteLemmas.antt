@@ -4,7 +4,7 @@ use Rattle.std.specs.List.{flat_map}
 use Rattle.std.specs.Io.KnownBytes.{Appends}
 use Rattle.std.proofs.lemmas.List.Concat.{flat_map-cons}
 use Rattle.zvt_spelling.specs.Reading.{Reading}
-use Rattle.zvt_trace.specs.Listening.{AnswersWalk, Fails, Hears, HearsAll, Stops}
+use Rattle.zvt_trace.specs.Listening.{AnswersWalkBy, Fails, Hears, HearsAll, Stops}
 use Rattle.zvt_trace.specs.Told.{At, Told, message_count, messages_in, on}
 use Rattle.zvt_trace.specs.Told as told
 use Rattle.zvt_trace.specs.Telling.{ToldSoFar}
@@ -145,7 +145,7 @@ all_said {S = S} view scope events old new text start heard closes =
 
 -- ---- what a walk answers
 
-heard_all : {S : Type 0} (r : Reading) (view : S → Notes) (scope : Scope) (lines : List (List ℕ)) (answer : Result Tally TraceFault) (old new : S) → (answer ≡ Err Memory → ⊥) → AnswersWalk r (notes view) wants_memory scope lines old new answer
+heard_all : {S : Type 0} (r : Reading) (view : S → Notes) (scope : Scope) (lines : List (List ℕ)) (answer : Result Tally TraceFault) (old new : S) → (answer ≡ Err Memory → ⊥) → AnswersWalkBy r (notes view) wants_memory scope lines old new answer
     → (events : List At) × TellsAll r scope lines events × HearsAll (notes view) old events new
 heard_all r view scope lines (Ok tally) old new some walked = (walked.0, inl walked.1, walked.2)
 heard_all r view scope lines (Err (Trace number what)) old new some walked = (walked.0, inr (number, what, walked.1), walked.2)
@@ -161,14 +161,14 @@ heard_all r view scope lines (Err Read) old new some never = absurd never
 -- ---- what is written
 
 pub answered : {S : Type 0} (r : Reading) (view : S → Notes) (scope : Scope) (lines : List (List ℕ)) (answer : Result Tally TraceFault) (old new : S) (text written : List ℕ) (first now : Option (List ℕ)) (done : Unit {0})
-    → AtStart scope (view old) → (answer ≡ Err Memory → ⊥) → AnswersWalk r (notes view) wants_memory scope lines old new answer → Closes (view new) text
+    → AtStart scope (view old) → (answer ≡ Err Memory → ⊥) → AnswersWalkBy r (notes view) wants_memory scope lines old new answer → Closes (view new) text
     → written ≡ text → Appends first now written → AnswersNotes r scope lines first now (Ok done)
 answered r view scope lines answer old new text written first now done start some walked closes same appended =
     let heard = heard_all r view scope lines answer old new some walked in
     (heard.0, heard.1, subst (λ (t : List ℕ). Appends first now t) (same ∙ all_said view scope heard.0 old new text start heard.2 closes) appended)
 
 pub unwritten : {S : Type 0} (r : Reading) (view : S → Notes) (scope : Scope) (lines : List (List ℕ)) (answer : Result Tally TraceFault) (old new : S) (text written : List ℕ) (first now : Option (List ℕ))
-    → AtStart scope (view old) → (answer ≡ Err Memory → ⊥) → AnswersWalk r (notes view) wants_memory scope lines old new answer → Closes (view new) text
+    → AtStart scope (view old) → (answer ≡ Err Memory → ⊥) → AnswersWalkBy r (notes view) wants_memory scope lines old new answer → Closes (view new) text
     → written ≡ text → AppendsFront first now written → AnswersNotes r scope lines first now (Err failure.Write)
 unwritten r view scope lines answer old new text written first now start some walked closes same front =
     let heard = heard_all r view scope lines answer old new some walked in

@@ -5,7 +5,7 @@ use Rattle.std.specs.Io.KnownBytes.{Appends}
 use Rattle.std.specs.Prelude.{IfSome}
 use Rattle.std.specs.Str.Lines.{lines}
 use Rattle.zvt_spelling.specs.Reading.{Reading, shortest}
-use Rattle.zvt_trace.specs.Listening.{AnswersWalk, Fails, FailsIn, Hears, HearsAll, Stops}
+use Rattle.zvt_trace.specs.Listening.{AnswersWalkBy, Fails, FailsIn, Hears, HearsAll, Stops}
 use Rattle.zvt_trace.specs.Told.{At}
 use Rattle.zvt_trace.specs.Telling.{BrokenTrace, FrontOf, SideEnds, ToldSoFar, WholeTrace}
 use Rattle.zvt_trace.specs.Trace.{new_line, running}
@@ -23,7 +23,7 @@ use Rattle.zvt_trace.specs.declared.listener.Scope.{Scope}
 use Rattle.zvt_trace.specs.declared.listener.Scope.TheVariants.{OneSide}
 use Rattle.zvt_trace.proofs.EventLemmas.{front_whole}
 use Rattle.zvt_show.specs.Text.{EventsText}
-use Rattle.zvt_show.specs.Written.{AnswersLines, AnswersTrace, Extends, FailsEvent, Page, WritesEvent, all_of}
+use Rattle.zvt_show.specs.Written.{AnswersLinesBy, AnswersTrace, Extends, FailsEvent, Page, WritesEvent, all_of}
 use Rattle.zvt_show.specs.declared.style.Style.{Style}
 use Rattle.zvt_show.proofs.BlockLemmas.{all_written, appends_none, behind_nothing, extends_more, extends_none, keeps_same, last_failed, last_written, short_of, whole_front}
 
@@ -182,7 +182,7 @@ wrote_failed {S = S} r view lines why old new empty failed = by failed.stops
     by (inl (is, so_far, same)) = subst (λ (s : S). Wrote r (view old).style lines (view old) (view s)) (sym same) (wrote_all view lines failed.events old failed.middle empty so_far failed.heard)
     by (inr (event, so_far, left)) = wrote_less view lines failed.events event why old failed.middle new empty so_far failed.heard left
 
-wrote : {S : Type 0} (r : Reading) (view : S → Page) (lines : List (List ℕ)) (answer : Result Tally TraceFault) (old new : S) → (view old).block ≡ [] → AnswersWalk r (writes view) (fails view) OneSide lines old new answer → Wrote r (view old).style lines (view old) (view new)
+wrote : {S : Type 0} (r : Reading) (view : S → Page) (lines : List (List ℕ)) (answer : Result Tally TraceFault) (old new : S) → (view old).block ≡ [] → AnswersWalkBy r (writes view) (fails view) OneSide lines old new answer → Wrote r (view old).style lines (view old) (view new)
 wrote r view lines (Ok tally) old new empty walked = wrote_all view lines walked.0 old new empty (whole_so_far OneSide lines walked.0 walked.1) walked.2
 wrote r view lines (Err (Trace number what)) old new empty walked = wrote_all view lines walked.0 old new empty (broken_so_far OneSide lines number what walked.0 walked.1) walked.2
 wrote r view lines (Err Memory) old new empty failed = wrote_failed r view lines failure.Memory old new empty failed
@@ -194,21 +194,21 @@ wrote r view lines (Err Read) old new empty never = absurd never
 
 -- it was written
 memory_written : {S : Type 0} (r : Reading) (view : S → Page) (lines : List (List ℕ)) (old new : S) (device : Option (List ℕ)) → (view old).block ≡ [] → FailsIn (writes view) (fails view) failure.Memory (ToldSoFar r OneSide lines) old new
-    → Appends (view new).written device (view new).block → AnswersLines r (view old).style lines (view old).written device (Err Memory)
+    → Appends (view new).written device (view new).block → AnswersLinesBy r (view old).style lines (view old).written device (Err Memory)
 memory_written {S = S} r view lines old new device empty failed last = by failed.stops
   where
     shows : Shows (view old).style failed.events (view old) (view failed.middle)
     shows = shown view failed.events old failed.middle failed.heard
 
-    all : Appends (all_of (view old)) (all_of (view new)) shows.text → ToldSoFar r OneSide lines failed.events → AnswersLines r (view old).style lines (view old).written device (Err Memory)
+    all : Appends (all_of (view old)) (all_of (view new)) shows.text → ToldSoFar r OneSide lines failed.events → AnswersLinesBy r (view old).style lines (view old).written device (Err Memory)
     all appended so_far = (failed.events, shows.text, so_far, shows.says, all_written (view old).written (view new).written device (view new).block shows.text (started (view old) (all_of (view new)) shows.text empty appended) last)
 
-    by : Stops (fails view) failure.Memory (ToldSoFar r OneSide lines) failed.events failed.middle new → AnswersLines r (view old).style lines (view old).written device (Err Memory)
+    by : Stops (fails view) failure.Memory (ToldSoFar r OneSide lines) failed.events failed.middle new → AnswersLinesBy r (view old).style lines (view old).written device (Err Memory)
     by (inl (is, so_far, same)) = all (subst (λ (s : S). Appends (all_of (view old)) (all_of (view s)) shows.text) (sym same) shows.appended) so_far
     by (inr (event, so_far, left)) = all (Appends-kept (all_of (view old)) (all_of (view failed.middle)) (all_of (view new)) shows.text shows.appended left.0) (front_fewer failed.events (event ∷ []) so_far)
 
-written_so : {S : Type 0} (r : Reading) (view : S → Page) (lines : List (List ℕ)) (answer : Result Tally TraceFault) (old new : S) (device : Option (List ℕ)) → (view old).block ≡ [] → AnswersWalk r (writes view) (fails view) OneSide lines old new answer
-    → Appends (view new).written device (view new).block → AnswersLines r (view old).style lines (view old).written device answer
+written_so : {S : Type 0} (r : Reading) (view : S → Page) (lines : List (List ℕ)) (answer : Result Tally TraceFault) (old new : S) (device : Option (List ℕ)) → (view old).block ≡ [] → AnswersWalkBy r (writes view) (fails view) OneSide lines old new answer
+    → Appends (view new).written device (view new).block → AnswersLinesBy r (view old).style lines (view old).written device answer
 written_so r view lines (Ok tally) old new device empty walked last =
     let shows = shown view walked.0 old new walked.2 in
     (walked.0, shows.text, walked.1, shows.says, all_written (view old).written (view new).written device (view new).block shows.text (started (view old) (all_of (view new)) shows.text empty shows.appended) last, walked.3)
@@ -223,24 +223,24 @@ written_so r view lines (Err TooLong) old new device empty never last = absurd n
 written_so r view lines (Err Read) old new device empty never last = absurd never
 
 pub written : {S : Type 0} (r : Reading) (view : S → Page) (style : Style) (lines : List (List ℕ)) (answer : Result Tally TraceFault) (old new : S) (device : Option (List ℕ)) → (view old).style ≡ style → (view old).block ≡ []
-    → AnswersWalk r (writes view) (fails view) OneSide lines old new answer → Appends (view new).written device (view new).block → AnswersLines r style lines (view old).written device answer
-written r view style lines answer old new device is empty walked last = subst (λ (s : Style). AnswersLines r s lines (view old).written device answer) is (written_so r view lines answer old new device empty walked last)
+    → AnswersWalkBy r (writes view) (fails view) OneSide lines old new answer → Appends (view new).written device (view new).block → AnswersLinesBy r style lines (view old).written device answer
+written r view style lines answer old new device is empty walked last = subst (λ (s : Style). AnswersLinesBy r s lines (view old).written device answer) is (written_so r view lines answer old new device empty walked last)
 
 -- it could not be written
 pub not_written : {S : Type 0} (r : Reading) (view : S → Page) (style : Style) (lines : List (List ℕ)) (answer : Result Tally TraceFault) (old new : S) (device : Option (List ℕ)) → (view old).style ≡ style → (view old).block ≡ []
-    → AnswersWalk r (writes view) (fails view) OneSide lines old new answer → AppendsFront (view new).written device (view new).block → AnswersLines r style lines (view old).written device (Err Write)
+    → AnswersWalkBy r (writes view) (fails view) OneSide lines old new answer → AppendsFront (view new).written device (view new).block → AnswersLinesBy r style lines (view old).written device (Err Write)
 not_written r view style lines answer old new device is empty walked last =
     let some = wrote r view lines answer old new empty walked in
-    subst (λ (s : Style). AnswersLines r s lines (view old).written device (Err Write)) is
+    subst (λ (s : Style). AnswersLinesBy r s lines (view old).written device (Err Write)) is
     (some.events, some.text, some.so_far, some.says, last_failed (view old).written (view new).written device (view new).block some.text some.extends some.front last)
 
 -- ---- failures
 
-pub least : {S : Type 0} (r : Reading) (view : S → Page) (lines : List (List ℕ)) (answer : Result Tally TraceFault) (old new : S) → (view old).block ≡ [] → AnswersWalk r (writes view) (fails view) OneSide lines old new answer → (view old).failures ≤ (view new).failures
+pub least : {S : Type 0} (r : Reading) (view : S → Page) (lines : List (List ℕ)) (answer : Result Tally TraceFault) (old new : S) → (view old).block ≡ [] → AnswersWalkBy r (writes view) (fails view) OneSide lines old new answer → (view old).failures ≤ (view new).failures
 least r view lines answer old new empty walked = (wrote r view lines answer old new empty walked).least
 
 -- the walk failed since a write did
-pub write_counted : {S : Type 0} (r : Reading) (view : S → Page) (lines : List (List ℕ)) (answer : Result Tally TraceFault) (old new : S) → AnswersWalk r (writes view) (fails view) OneSide lines old new answer → answer ≡ Err Write → (view old).failures < (view new).failures
+pub write_counted : {S : Type 0} (r : Reading) (view : S → Page) (lines : List (List ℕ)) (answer : Result Tally TraceFault) (old new : S) → AnswersWalkBy r (writes view) (fails view) OneSide lines old new answer → answer ≡ Err Write → (view old).failures < (view new).failures
 write_counted r view lines (Ok tally) old new walked e = cc
 write_counted r view lines (Err (Trace number what)) old new walked e = cc
 write_counted r view lines (Err Memory) old new walked e = cc
@@ -254,7 +254,7 @@ write_counted {S = S} r view lines (Err Write) old new failed e = by failed.stop
 
 -- ---- nothing was read
 
-unread : (r : Reading) (style : Style) (lines : List (List ℕ)) (held : Option (List ℕ)) → AnswersLines r style lines held held (Err Memory)
+unread : (r : Reading) (style : Style) (lines : List (List ℕ)) (held : Option (List ℕ)) → AnswersLinesBy r style lines held held (Err Memory)
 unread r style lines held = ([], [], none_so_far OneSide lines, refl, appends_none held)
 
 -- the trace could not be read

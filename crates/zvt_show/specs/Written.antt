@@ -80,25 +80,30 @@ FailsEvent failure.Write old new = IsShortOf (all_of old) (all_of new) × Extend
 
 -- ---- what a command answers
 
--- What a command answers for the lines of a trace, by that reading of lengths. Where memory is refused, the text of all that the lines before tell is
--- written, and of a front of what comes next; of a write that failed, some front of such a text.
-abbrev pub AnswersLines : Reading → Style → List (List ℕ) → (old new : Option (List ℕ)) → Result Tally TraceFault → Type 0
-AnswersLines r style lines old new (Ok tally) =
+-- What a command answers for the lines of a trace, by that reading of lengths. Where memory is refused, the text of all
+-- that the lines before tell is written, and of a front of what comes next; of a write that failed, some front of such a
+-- text.
+abbrev pub AnswersLinesBy : Reading → Style → List (List ℕ) → (old new : Option (List ℕ)) → Result Tally TraceFault → Type 0
+AnswersLinesBy r style lines old new (Ok tally) =
     (events : List At) × (text : List ℕ) × WholeTrace r OneSide lines events × EventsText style events text × Appends old new text × Tallies tally events
-AnswersLines r style lines old new (Err (Trace number what)) =
+AnswersLinesBy r style lines old new (Err (Trace number what)) =
     (events : List At) × (text : List ℕ) × BrokenTrace r OneSide lines number what events × EventsText style events text × Appends old new text
-AnswersLines r style lines old new (Err Write) =
+AnswersLinesBy r style lines old new (Err Write) =
     (events : List At) × (text : List ℕ) × ToldSoFar r OneSide lines events × EventsText style events text × AppendsFront old new text
-AnswersLines r style lines old new (Err Memory) =
+AnswersLinesBy r style lines old new (Err Memory) =
     (events : List At) × (text : List ℕ) × ToldSoFar r OneSide lines events × EventsText style events text × Appends old new text
-AnswersLines r style lines old new (Err TooLong) = ⊥
-AnswersLines r style lines old new (Err Read) = ⊥
+AnswersLinesBy r style lines old new (Err TooLong) = ⊥
+AnswersLinesBy r style lines old new (Err Read) = ⊥
+
+-- The same of a strict command.
+abbrev pub AnswersLines : Style → List (List ℕ) → (old new : Option (List ℕ)) → Result Tally TraceFault → Type 0
+AnswersLines style lines old new answer = AnswersLinesBy shortest style lines old new answer
 
 -- What a strict command answers for a trace of known bytes.
 abbrev pub AnswersTrace : Style → (trace : List ℕ) → (old new : Option (List ℕ)) → Result Tally TraceFault → Type 0
-AnswersTrace style trace old new (Ok tally) = (length trace ≤ limit) × AnswersLines shortest style (lines trace) old new (Ok tally)
-AnswersTrace style trace old new (Err (Trace line what)) = (length trace ≤ limit) × AnswersLines shortest style (lines trace) old new (Err (Trace line what))
+AnswersTrace style trace old new (Ok tally) = (length trace ≤ limit) × AnswersLines style (lines trace) old new (Ok tally)
+AnswersTrace style trace old new (Err (Trace line what)) = (length trace ≤ limit) × AnswersLines style (lines trace) old new (Err (Trace line what))
 AnswersTrace style trace old new (Err TooLong) = (limit < length trace) × Keeps old new
 AnswersTrace style trace old new (Err Read) = Keeps old new
-AnswersTrace style trace old new (Err Write) = (length trace ≤ limit) × AnswersLines shortest style (lines trace) old new (Err Write)
-AnswersTrace style trace old new (Err Memory) = AnswersLines shortest style (lines trace) old new (Err Memory)
+AnswersTrace style trace old new (Err Write) = (length trace ≤ limit) × AnswersLines style (lines trace) old new (Err Write)
+AnswersTrace style trace old new (Err Memory) = AnswersLines style (lines trace) old new (Err Memory)

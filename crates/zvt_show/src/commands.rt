@@ -1,10 +1,10 @@
 //! The commands that write the text of a trace.
 ghost use Rattle.std.specs.Prelude.{◌≡◌, ◌<◌, ◌≤◌, length, Err, IfSome};
 ghost use Rattle.std.specs.Str.Lines.{lines};
-ghost use Rattle.zvt_spelling.specs.Reading.{padded, shortest};
+ghost use Rattle.zvt_spelling.specs.Reading.{padded};
 ghost use Rattle.zvt_tlv.specs.Lengths.{reading_of};
 ghost use Rattle.zvt_trace.specs.Written.{limit};
-ghost use Rattle.zvt_show.specs.Written.{AnswersLines, AnswersTrace};
+ghost use Rattle.zvt_show.specs.Written.{AnswersLines, AnswersLinesBy, AnswersTrace};
 ghost use Rattle.zvt_show.specs.declared.style.Style.TheVariants.{Join, Receipts, Show};
 
 use crate::pages::{Pages, flush};
@@ -61,7 +61,7 @@ pub fn receipts<R: Source, W: Sink>(
 /// As [`show`], of a trace that was read.
 pub fn show_trace<W: Sink>(alloc: Global, trace: &[u8], writer: &mut W) -> Result<Tally, TraceFault>
     requires { length trace.now ≤ limit }
-    ensures writes { AnswersLines shortest Show (lines trace.now) (W.written writer.old) (W.written writer.new) result }
+    ensures writes { AnswersLines Show (lines trace.now) (W.written writer.old) (W.written writer.new) result }
     ensures write { result ≡ Err TraceFault.Write → W.failures writer.old < W.failures writer.new }
 {
     write_lines(alloc, Style::Show, Lengths::Shortest, trace, writer)
@@ -70,7 +70,7 @@ pub fn show_trace<W: Sink>(alloc: Global, trace: &[u8], writer: &mut W) -> Resul
 /// As [`join`], of a trace that was read.
 pub fn join_trace<W: Sink>(alloc: Global, trace: &[u8], writer: &mut W) -> Result<Tally, TraceFault>
     requires { length trace.now ≤ limit }
-    ensures writes { AnswersLines shortest Join (lines trace.now) (W.written writer.old) (W.written writer.new) result }
+    ensures writes { AnswersLines Join (lines trace.now) (W.written writer.old) (W.written writer.new) result }
     ensures write { result ≡ Err TraceFault.Write → W.failures writer.old < W.failures writer.new }
 {
     write_lines(alloc, Style::Join, Lengths::Shortest, trace, writer)
@@ -83,7 +83,7 @@ pub fn receipts_trace<W: Sink>(
     writer: &mut W,
 ) -> Result<Tally, TraceFault>
     requires { length trace.now ≤ limit }
-    ensures writes { AnswersLines shortest Receipts (lines trace.now) (W.written writer.old) (W.written writer.new) result }
+    ensures writes { AnswersLines Receipts (lines trace.now) (W.written writer.old) (W.written writer.new) result }
     ensures write { result ≡ Err TraceFault.Write → W.failures writer.old < W.failures writer.new }
 {
     write_lines(alloc, Style::Receipts, Lengths::Shortest, trace, writer)
@@ -92,7 +92,7 @@ pub fn receipts_trace<W: Sink>(
 /// As [`show_trace`], of streams that take lengths in any form that holds them.
 pub fn show_loose<W: Sink>(alloc: Global, trace: &[u8], writer: &mut W) -> Result<Tally, TraceFault>
     requires { length trace.now ≤ limit }
-    ensures writes { AnswersLines padded Show (lines trace.now) (W.written writer.old) (W.written writer.new) result }
+    ensures writes { AnswersLinesBy padded Show (lines trace.now) (W.written writer.old) (W.written writer.new) result }
     ensures write { result ≡ Err TraceFault.Write → W.failures writer.old < W.failures writer.new }
 {
     write_lines(alloc, Style::Show, Lengths::Padded, trace, writer)
@@ -105,7 +105,7 @@ pub fn receipts_loose<W: Sink>(
     writer: &mut W,
 ) -> Result<Tally, TraceFault>
     requires { length trace.now ≤ limit }
-    ensures writes { AnswersLines padded Receipts (lines trace.now) (W.written writer.old) (W.written writer.new) result }
+    ensures writes { AnswersLinesBy padded Receipts (lines trace.now) (W.written writer.old) (W.written writer.new) result }
     ensures write { result ≡ Err TraceFault.Write → W.failures writer.old < W.failures writer.new }
 {
     write_lines(alloc, Style::Receipts, Lengths::Padded, trace, writer)
@@ -119,7 +119,7 @@ pub fn normalise_trace<W: Sink>(
     writer: &mut W,
 ) -> Result<Tally, TraceFault>
     requires { length trace.now ≤ limit }
-    ensures writes { AnswersLines padded Join (lines trace.now) (W.written writer.old) (W.written writer.new) result }
+    ensures writes { AnswersLinesBy padded Join (lines trace.now) (W.written writer.old) (W.written writer.new) result }
     ensures write { result ≡ Err TraceFault.Write → W.failures writer.old < W.failures writer.new }
 {
     write_lines(alloc, Style::Join, Lengths::Padded, trace, writer)
@@ -134,7 +134,7 @@ fn write_lines<W: Sink>(
     writer: &mut W,
 ) -> Result<Tally, TraceFault>
     requires { length trace.now ≤ limit }
-    ensures writes { AnswersLines (reading_of lengths) style (lines trace.now) (W.written writer.old) (W.written writer.new) result }
+    ensures writes { AnswersLinesBy (reading_of lengths) style (lines trace.now) (W.written writer.old) (W.written writer.new) result }
     ensures write { result ≡ Err TraceFault.Write → W.failures writer.old < W.failures writer.new }
 {
     let mut pages = Pages::new(alloc, style);

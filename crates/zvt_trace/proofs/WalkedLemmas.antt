@@ -2,7 +2,7 @@
 use Rattle.std.proofs.Common.{◌≡◌, inl, inr, ℕ, ◌+◌, List, [], ◌∷◌, ◌++◌, Ok, Err, length, refl, sym, ◌∙◌, ap, subst, arith, append_assoc, append-nil, length-append}
 use Rattle.std.specs.Str.Lines.{lines}
 use Rattle.zvt_spelling.specs.Reading.{Reading}
-use Rattle.zvt_trace.specs.Listening.{AnswersWalk, Fails, FailsIn, FollowBoth, Hears, HearsAll, HearsEnd, WalksLine, fault_of}
+use Rattle.zvt_trace.specs.Listening.{AnswersWalkBy, Fails, FailsIn, FollowBoth, Hears, HearsAll, HearsEnd, WalksLine, fault_of}
 use Rattle.zvt_trace.specs.Meanings.{Meaning, meaning_of}
 use Rattle.zvt_trace.specs.Told.{At, Tallies}
 use Rattle.zvt_trace.specs.Telling.{FrontOf, LineEnds, LineSoFar, LineTells, LinesTell, MeaningBegins, ToldSoFar}
@@ -89,7 +89,7 @@ one_walked {r = r} hears fails scope trace rest content after number state next 
 -- no line is left, and what is cut off was heard
 pub closed : {S : Type 0} {r : Reading} (hears : Hears S) (fails : Fails S) (scope : Scope) (trace rest : List ℕ) (number : ℕ) (state : BothSides) (tally grown : Tally) (bad : ℕ) (old now new : S) → length rest ≡ 0
     → (so : Walked r hears scope trace rest number state tally old now) → HearsEnd hears (LineEnds r number so.sides) bad now new
-    → grown.messages ≡ tally.messages → grown.bad ≡ tally.bad + bad → AnswersWalk r hears fails scope (lines trace) old new (Ok grown)
+    → grown.messages ≡ tally.messages → grown.bad ≡ tally.bad + bad → AnswersWalkBy r hears fails scope (lines trace) old new (Ok grown)
 closed hears fails scope trace (byte ∷ rest) number state tally grown bad old now new none so last messages bads = absurd (omega (arith, none))
 closed {r = r} hears fails scope trace [] number state tally grown bad old now new none so last messages bads =
     let all : lines trace ≡ so.done = so.cut ∙ append-nil so.done in
@@ -144,7 +144,7 @@ next_so_far hears fails why scope trace rest content after number state tally ol
 -- the next line could not be told
 pub failed : {S : Type 0} {r : Reading} (hears : Hears S) (fails : Fails S) (scope : Scope) (trace rest content after : List ℕ) (number : ℕ) (state next : BothSides) (tally : Tally) (fault : TraceFault) (old now new : S)
     → (so : Walked r hears scope trace rest number state tally old now) → lines rest ≡ content ∷ lines after → WalksLine r hears fails scope (number + 1) content so.sides next now new (Err fault)
-    → AnswersWalk r hears fails scope (lines trace) old new (Err fault)
+    → AnswersWalkBy r hears fails scope (lines trace) old new (Err fault)
 failed {S = S} hears fails scope trace rest content after number state next tally (Trace line what) old now new so first wrong = (
   so.all,
   record {
@@ -183,7 +183,7 @@ end_so_far {r = r} hears fails why scope trace [] number state tally old now new
 
 -- what is cut off could not be told
 pub end_failed : {S : Type 0} {r : Reading} (hears : Hears S) (fails : Fails S) (why : Failure) (scope : Scope) (trace rest : List ℕ) (number : ℕ) (state : BothSides) (tally : Tally) (old now new : S) → length rest ≡ 0
-    → (so : Walked r hears scope trace rest number state tally old now) → FailsIn hears fails why (FrontOf (LineEnds r number so.sides)) now new → AnswersWalk r hears fails scope (lines trace) old new (Err (fault_of why))
+    → (so : Walked r hears scope trace rest number state tally old now) → FailsIn hears fails why (FrontOf (LineEnds r number so.sides)) now new → AnswersWalkBy r hears fails scope (lines trace) old new (Err (fault_of why))
 end_failed hears fails failure.Memory scope trace rest number state tally old now new none so fault = end_so_far hears fails failure.Memory scope trace rest number state tally old now new none so fault
 end_failed hears fails failure.Write scope trace rest number state tally old now new none so fault = end_so_far hears fails failure.Write scope trace rest number state tally old now new none so fault
 

@@ -1,6 +1,6 @@
 -- What a listener is told, and what becomes of it.
 use Rattle.std.specs.Prelude.{◌≡◌, ◌⊎◌, ℕ, Bool, true, false, List, [], ◌∷◌, ◌++◌, Result, Ok, Err}
-use Rattle.zvt_spelling.specs.Reading.{Reading}
+use Rattle.zvt_spelling.specs.Reading.{Reading, shortest}
 use Rattle.zvt_stream.specs.StreamState.{StreamState}
 use Rattle.zvt_trace.specs.Meanings.{Meaning, meaning_of}
 use Rattle.zvt_trace.specs.Told.{At, Tallies}
@@ -151,11 +151,15 @@ WalksLine r hears fails scope number line sides state old new (Err Read) = ⊥
 
 -- ---- the trace
 
--- What a walk over lines answers. Where it fails, the events of the lines before were heard, and a front of those that came next.
-abbrev pub AnswersWalk : {S : Type 0} → Reading → Hears S → Fails S → Scope → List (List ℕ) → (old new : S) → Result Tally TraceFault → Type 0
-AnswersWalk r hears fails scope lines old new (Ok tally) = (events : List At) × WholeTrace r scope lines events × HearsAll hears old events new × Tallies tally events
-AnswersWalk r hears fails scope lines old new (Err (Trace number what)) = (events : List At) × BrokenTrace r scope lines number what events × HearsAll hears old events new
-AnswersWalk r hears fails scope lines old new (Err Memory) = FailsIn hears fails failure.Memory (ToldSoFar r scope lines) old new
-AnswersWalk r hears fails scope lines old new (Err Write) = FailsIn hears fails failure.Write (ToldSoFar r scope lines) old new
-AnswersWalk r hears fails scope lines old new (Err TooLong) = ⊥
-AnswersWalk r hears fails scope lines old new (Err Read) = ⊥
+-- What a walk over lines answers, by that reading of lengths. Where it fails, the events of the lines before were heard, and a front of those that came next.
+abbrev pub AnswersWalkBy : {S : Type 0} → Reading → Hears S → Fails S → Scope → List (List ℕ) → (old new : S) → Result Tally TraceFault → Type 0
+AnswersWalkBy r hears fails scope lines old new (Ok tally) = (events : List At) × WholeTrace r scope lines events × HearsAll hears old events new × Tallies tally events
+AnswersWalkBy r hears fails scope lines old new (Err (Trace number what)) = (events : List At) × BrokenTrace r scope lines number what events × HearsAll hears old events new
+AnswersWalkBy r hears fails scope lines old new (Err Memory) = FailsIn hears fails failure.Memory (ToldSoFar r scope lines) old new
+AnswersWalkBy r hears fails scope lines old new (Err Write) = FailsIn hears fails failure.Write (ToldSoFar r scope lines) old new
+AnswersWalkBy r hears fails scope lines old new (Err TooLong) = ⊥
+AnswersWalkBy r hears fails scope lines old new (Err Read) = ⊥
+
+-- the same of a strict walk
+abbrev pub AnswersWalk : {S : Type 0} → Hears S → Fails S → Scope → List (List ℕ) → (old new : S) → Result Tally TraceFault → Type 0
+AnswersWalk hears fails scope lines old new answer = AnswersWalkBy shortest hears fails scope lines old new answer

@@ -1,9 +1,8 @@
 //! A whole trace, told to a listener.
 ghost use Rattle.std.specs.Prelude.{◌≡◌, ◌≤◌, length, IfOk, OnOk};
 ghost use Rattle.std.specs.Str.Lines.{lines};
-ghost use Rattle.zvt_spelling.specs.Reading.{shortest};
 ghost use Rattle.zvt_tlv.specs.Lengths.{reading_of};
-ghost use Rattle.zvt_trace.specs.Listening.{AnswersWalk, FollowBoth, TakeBy, WalksLine};
+ghost use Rattle.zvt_trace.specs.Listening.{AnswersWalk, AnswersWalkBy, FollowBoth, TakeBy, WalksLine};
 ghost use Rattle.zvt_trace.specs.Trace.{Sides};
 ghost use Rattle.zvt_trace.specs.Written.{limit};
 
@@ -28,7 +27,7 @@ pub fn walk<D, L: Listener<D>>(
     trace: &[u8],
 ) -> Result<Tally, TraceFault>
     requires { length trace.now ≤ limit }
-    ensures { AnswersWalk shortest L.hears L.fails scope (lines trace.now) (listener.old, device.old) (listener.new, device.new) result }
+    ensures { AnswersWalk L.hears L.fails scope (lines trace.now) (listener.old, device.old) (listener.new, device.new) result }
 {
     walk_by(listener, device, alloc, scope, Lengths::Shortest, trace)
 }
@@ -43,7 +42,7 @@ pub fn walk_by<D, L: Listener<D>>(
     trace: &[u8],
 ) -> Result<Tally, TraceFault>
     requires { length trace.now ≤ limit }
-    ensures { AnswersWalk (reading_of lengths) L.hears L.fails scope (lines trace.now) (listener.old, device.old) (listener.new, device.new) result }
+    ensures { AnswersWalkBy (reading_of lengths) L.hears L.fails scope (lines trace.now) (listener.old, device.old) (listener.new, device.new) result }
 {
     let mut tally = Tally::none();
     let mut sides = BothSides::new(alloc, lengths);
