@@ -35,7 +35,7 @@ fn refused(alloc: Global, line: &str) -> Result<(ErrorKind, String), Fail> {
 }
 
 #[test]
-fn commands_and_their_options(rt: HostRuntime) -> Result<(), Fail> {
+fn commands_on_a_trace(rt: HostRuntime) -> Result<(), Fail> {
     let alloc = rt.alloc();
     let cases = [
         ("", "Show { file: None, loose: false }"),
@@ -54,6 +54,17 @@ fn commands_and_their_options(rt: HostRuntime) -> Result<(), Fail> {
             "zvt normalise t.trace",
             r#"Normalise { file: Some("t.trace") }"#,
         ),
+    ];
+    for (line, choice) in cases {
+        assert_eq!(rt; chosen(alloc, line)?.as_str(), choice);
+    }
+    Ok(())
+}
+
+#[test]
+fn commands_at_the_ends_of_a_line(rt: HostRuntime) -> Result<(), Fail> {
+    let alloc = rt.alloc();
+    let cases = [
         ("zvt loop", "Loop { trace: None, steps: [] }"),
         (
             "zvt loop register decline:500:6C",

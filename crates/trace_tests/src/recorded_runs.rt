@@ -120,6 +120,25 @@ impl Write for Shared<'_> {
     }
 }
 
+/// A payment most often, else the reversal of the first one or the end of the day.
+fn next_order(chance: &mut Chance) -> Result<Order, Fail> {
+    Ok(match chance.next(6) {
+        0 => Order::Reverse(0),
+        1 => Order::CloseDay,
+        _ => Order::Pay(Amount::new(1234).ok_or("an amount")?),
+    })
+}
+
+/// The messages that a terminal answers to an order: to the first those of a registration.
+fn next_answers(chance: &mut Chance, made: u32) -> Result<&'static [&'static [u8]; 4], Fail> {
+    let number = if made == 0 {
+        0
+    } else {
+        chance.next(ANSWERS.len())
+    };
+    Ok(ANSWERS.get(number).ok_or("answers")?)
+}
+
 /// Makes orders at a till over one line, each answered as chance has it, until the line breaks or five are made.
 fn make_orders(
     alloc: Global,
@@ -143,20 +162,13 @@ fn make_orders(
     let mut stream = Stream::new(alloc);
     till.connected();
     for made in 0..5 {
-        let number = if made == 0 {
-            0
-        } else {
-            chance.next(ANSWERS.len())
-        };
-        let answers = ANSWERS.get(number).ok_or("answers")?;
-        for message in *answers {
+        for message in next_answers(chance, made)? {
             reader.device.inner.bytes.extend_from_slice(message)?;
         }
-        let order = match chance.next(6) {
-            _ if made == 0 => Order::Register,
-            0 => Order::Reverse(0),
-            1 => Order::CloseDay,
-            _ => Order::Pay(Amount::new(1234).ok_or("an amount")?),
+        let order = if made == 0 {
+            Order::Register
+        } else {
+            next_order(chance)?
         };
         let _ = run_order(
             alloc,

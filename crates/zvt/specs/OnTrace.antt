@@ -4,11 +4,11 @@ use Rattle.std.specs.Str.Lines.{lines}
 use Rattle.zvt_spelling.specs.Reading.{Reading, padded, reading, shortest}
 use Rattle.zvt_choice.specs.declared.chosen.Choice.{Choice}
 use Rattle.zvt_choice.specs.declared.chosen.Choice.TheVariants.{Audit, Join, Loop, Normalise, Receipts, Show, Terminal, Till, Vectors}
-use Rattle.zvt_audit.specs.Audited.{AnswersRead}
+use Rattle.zvt_audit.specs.Audited.{AnswersReadBy}
 use Rattle.zvt_audit.specs.declared.auditing.Found.{Found}
 use Rattle.zvt_vectors.specs.Checked.{AnswersVectors}
 use Rattle.zvt_show.specs.Lines.{mark_of}
-use Rattle.zvt_show.specs.Written.{AnswersLines}
+use Rattle.zvt_show.specs.Written.{AnswersLinesBy}
 use Rattle.zvt_trace.specs.declared.fault.Tally.{Tally}
 use Rattle.zvt_trace.specs.declared.fault.TraceFault.{TraceFault}
 
@@ -30,7 +30,7 @@ tally_of (Err fault) = Err fault
 
 -- what is answered and written by that reading of lengths, in the style that marks its faults so
 abbrev pub AnswersMarked : Reading → Option (List ℕ) → (trace : List ℕ) → (old new : Option (List ℕ)) → Result Tally TraceFault → Type 0
-AnswersMarked r mark trace old new result = (style : _) × (mark_of style ≡ mark) × AnswersLines r style (lines trace) old new result
+AnswersMarked r mark trace old new result = (style : _) × (mark_of style ≡ mark) × AnswersLinesBy r style (lines trace) old new result
 
 -- What the command answers for a trace that was read. Of the three styles `show` writes its faults as they are, `join`
 -- as remarks, and `receipts` none. `normalise` joins what it reads loosely.
@@ -39,7 +39,7 @@ AnswersOnTrace (Show file loose) trace old new result = AnswersMarked (reading l
 AnswersOnTrace (Join file) trace old new result = AnswersMarked shortest (Some (codes "# ")) trace old new (tally_of result)
 AnswersOnTrace (Normalise file) trace old new result = AnswersMarked padded (Some (codes "# ")) trace old new (tally_of result)
 AnswersOnTrace (Receipts file loose) trace old new result = AnswersMarked (reading loose) None trace old new (tally_of result)
-AnswersOnTrace (Audit file loose) trace old new result = AnswersRead (reading loose) trace old new result
+AnswersOnTrace (Audit file loose) trace old new result = AnswersReadBy (reading loose) trace old new result
 AnswersOnTrace (Vectors file) trace old new result = AnswersVectors trace old new (tally_of result)
 AnswersOnTrace (Loop file steps) trace old new result = ⊥
 AnswersOnTrace (Till port host password config currency file loose steps) trace old new result = ⊥

@@ -2,6 +2,7 @@
 ghost use Rattle.std.specs.Prelude.{◌≡◌, ◌≤◌};
 ghost use Rattle.zvt_spelling.specs.Reading.{reading};
 ghost use Rattle.zvt_tlv.specs.Lengths.{reading_of};
+ghost use Rattle.zvt.specs.OneEnd.{IsTill};
 
 use crate::finish::finish_run;
 use crate::output::Output;
@@ -11,16 +12,16 @@ use std::io;
 use zvt_io::Over;
 use zvt_term::Verdict;
 use zvt_tool::{
-    Ends, Lengths, TillSettings, config_of, currency_of, password_of, plan, result_code, run_loop,
-    run_terminal, run_till,
+    Choice, Ends, Lengths, TillSettings, config_of, currency_of, password_of, plan, result_code,
+    run_loop, run_terminal, run_till,
 };
 
 /// The words that a till's settings were given by.
 #[derive(Clone, Copy)]
-pub struct SettingWords<'a> {
-    pub password: Option<&'a str>,
-    pub config: Option<&'a str>,
-    pub currency: Option<&'a str>,
+struct SettingWords<'a> {
+    password: Option<&'a str>,
+    config: Option<&'a str>,
+    currency: Option<&'a str>,
 }
 
 /// The lengths that are read where a command is loose, or is not.
@@ -45,8 +46,35 @@ pub fn both_ends(rt: &HostRuntime, trace: Option<&str>, steps: &[&str]) -> io::R
     finish_run(rt, steps, writer.inner.has_gone, answer)
 }
 
-/// Runs a till, and answers the exit status.
-pub fn till(
+/// Runs the till that was chosen, and answers the exit status.
+pub fn till(rt: &HostRuntime, chosen: &Choice<'_>) -> io::Result<u8>
+    requires { IsTill chosen.now }
+{
+    match chosen {
+        Choice::Till {
+            port,
+            host,
+            password,
+            config,
+            currency,
+            trace,
+            loose,
+            steps,
+        } => {
+            let words = SettingWords {
+                password: *password,
+                config: *config,
+                currency: *currency,
+            };
+            let lengths = lengths(*loose);
+            till_with(rt, host, *port, &words, lengths, *trace, steps.as_slice())
+        }
+        _ => unreachable!(),
+    }
+}
+
+/// Runs a till with these settings, and answers the exit status.
+fn till_with(
     rt: &HostRuntime,
     host: &str,
     port: u16,

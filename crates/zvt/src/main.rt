@@ -13,7 +13,7 @@ mod on_trace;
 mod output;
 mod statuses;
 
-use crate::ends::{SettingWords, lengths};
+use crate::ends::lengths;
 use crate::statuses::{DEVICE, DONE, MEMORY, WORDS};
 use std::io::ErrorKind;
 use std::process::ExitCode;
@@ -80,31 +80,7 @@ fn execute(rt: &HostRuntime, chosen: &Choice<'_>) -> io::Result<u8>
         | Choice::Receipts { file, .. }
         | Choice::Vectors { file } => inputs::work_on(rt, chosen, *file),
         Choice::Loop { trace, steps } => ends::both_ends(rt, *trace, steps.as_slice()),
-        Choice::Till {
-            port,
-            host,
-            password,
-            config,
-            currency,
-            trace,
-            loose,
-            steps,
-        } => {
-            let words = SettingWords {
-                password: *password,
-                config: *config,
-                currency: *currency,
-            };
-            ends::till(
-                rt,
-                host,
-                *port,
-                &words,
-                lengths(*loose),
-                *trace,
-                steps.as_slice(),
-            )
-        }
+        Choice::Till { .. } => ends::till(rt, chosen),
         Choice::Terminal {
             port,
             host,
