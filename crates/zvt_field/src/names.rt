@@ -1,11 +1,24 @@
 //! The names of the BMPs, after the list of bitmaps of PA00P015.
-ghost use Rattle.std.specs.Prelude.{◌≡◌, is_some, option_map};
+ghost use Rattle.std.specs.Prelude.{◌≡◌, ◌≤◌, ◌<◌, is_some, option_map};
 ghost use Rattle.zvt_field.specs.Names.{name_of};
 ghost use Rattle.zvt_field.specs.Shapes.{shape_of};
 
 /// The name of the field of that BMP, where the table lists it.
-#[tactic(auto, unfolding(crate::specs::Shapes::shape_of))]
 pub fn name(bmp: u8) -> Option<&'static str>
+    ensures value { option_map (λ name. name.now) result ≡ name_of bmp }
+    ensures listed { is_some result ≡ is_some (shape_of bmp) }
+{
+    if bmp < 0x40 {
+        name_of_low(bmp)
+    } else {
+        name_of_high(bmp)
+    }
+}
+
+/// The names of the BMPs below 40.
+#[tactic(auto, unfolding(crate::specs::Shapes::shape_of))]
+fn name_of_low(bmp: u8) -> Option<&'static str>
+    requires { bmp < 64 }
     ensures value { option_map (λ name. name.now) result ≡ name_of bmp }
     ensures listed { is_some result ≡ is_some (shape_of bmp) }
 {
@@ -35,6 +48,18 @@ pub fn name(bmp: u8) -> Option<&'static str>
         0x3B => "attribute",
         0x3C => "text",
         0x3D => "password",
+        _ => return None,
+    })
+}
+
+/// The names of the BMPs from 40 on.
+#[tactic(auto, unfolding(crate::specs::Shapes::shape_of))]
+fn name_of_high(bmp: u8) -> Option<&'static str>
+    requires { 64 ≤ bmp }
+    ensures value { option_map (λ name. name.now) result ≡ name_of bmp }
+    ensures listed { is_some result ≡ is_some (shape_of bmp) }
+{
+    Some(match bmp {
         0x49 => "currency",
         0x60 => "totals",
         0x87 => "receipt",

@@ -39,10 +39,22 @@ fn field_line(text: &mut Text, field: &FieldView<'_>) -> Result<(), AllocError>
     }
 }
 
-/// A BMP and its name: those of the table in one word each.
+/// A BMP and its name.
+#[inline(always)]
+fn named(text: &mut Text, bmp: u8) -> Result<(), AllocError>
+    ensures { OnOk result (text.new ≡ text.old ++ named_text bmp) }
+{
+    if bmp < 0x40 {
+        named_low(text, bmp)
+    } else {
+        named_high(text, bmp)
+    }
+}
+
+/// Those of the table below 40 in one word each.
 #[inline(always)]
 #[tactic(auto, unfolding(hex::specs::Hex::encode_with))]
-fn named(text: &mut Text, bmp: u8) -> Result<(), AllocError>
+fn named_low(text: &mut Text, bmp: u8) -> Result<(), AllocError>
     ensures { OnOk result (text.new ≡ text.old ++ named_text bmp) }
 {
     match bmp {
@@ -71,6 +83,17 @@ fn named(text: &mut Text, bmp: u8) -> Result<(), AllocError>
         0x3B => text.word(b"  3B attribute"),
         0x3C => text.word(b"  3C text"),
         0x3D => text.word(b"  3D password"),
+        _ => unlisted(text, bmp),
+    }
+}
+
+/// Those of the table from 40 on in one word each.
+#[inline(always)]
+#[tactic(auto, unfolding(hex::specs::Hex::encode_with))]
+fn named_high(text: &mut Text, bmp: u8) -> Result<(), AllocError>
+    ensures { OnOk result (text.new ≡ text.old ++ named_text bmp) }
+{
+    match bmp {
         0x49 => text.word(b"  49 currency"),
         0x60 => text.word(b"  60 totals"),
         0x87 => text.word(b"  87 receipt"),
