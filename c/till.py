@@ -6,7 +6,7 @@ import zvt
 
 def main():
     saves = []
-    with zvt.Till(sys.argv[1], keep=saves.append) as till:
+    with zvt.Till(sys.argv[1], keep=saves.append, print_line=show) as till:
         till.connect(sys.argv[2], int(sys.argv[3]))
         print(f"register -> {till.register()}")
         print(f"pay:1000 -> {till.pay(1000)}")
@@ -21,6 +21,10 @@ def main():
     with zvt.Till(sys.argv[1]) as till:
         till.load(saves[2])
         report(till)
+
+
+def show(line):
+    print(f"  | {line.decode('cp437')}")
 
 
 def report(till):

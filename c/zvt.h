@@ -81,9 +81,11 @@ typedef struct zvt_outcome {
 typedef struct zvt_step {
     size_t taken;     /* bytes of the piece that were taken */
     size_t send;      /* bytes at the front of `out` that are to be sent to the terminal, now */
-    size_t place;     /* ZVT_REFUSED: where */
+    size_t place;     /* ZVT_REFUSED: where, in the message that had begun */
+    size_t line;      /* bytes of the print line that was heard, at the front of `line` where they fit */
     uint32_t reason;  /* ZVT_REFUSED: why */
     uint32_t message; /* 1: a message ended; feed the rest of the piece */
+    uint32_t printed; /* 1: the message that ended last is a print line, to be printed now */
     zvt_outcome outcome; /* how the running order ended, if it did */
 } zvt_step;
 
@@ -104,6 +106,8 @@ typedef struct zvt_entry {
 
 /* The room that `out` is to have. */
 #define ZVT_ROOM 32
+/* The room for a print line that holds each, in whatever character set the terminal writes. */
+#define ZVT_LINE 65534
 
 /* The password is a number of up to six digits, the currency one of ISO 4217 (978); 0xBE is a usual config byte. A till
  * that was there is freed; where the answer is not 0 the handle is as it was. */
@@ -113,7 +117,13 @@ uint32_t zvt_till_connected(zvt_till *till);
 uint32_t zvt_till_lost(zvt_till *till, zvt_step *step);
 /* The number is the amount of ZVT_PAY in cents, or the place in the book, from 0, of ZVT_REVERSE. */
 uint32_t zvt_till_order(zvt_till *till, uint32_t order, uint64_t number, uint8_t *out, size_t out_length, zvt_step *step);
+/* Takes one message. Where it is a print line, its text is not handed out. */
 uint32_t zvt_till_feed(zvt_till *till, const uint8_t *piece, size_t length, uint8_t *out, size_t out_length, zvt_step *step);
+/* Takes all messages of a piece, up to a print line, whose text goes to `line`, or to where `out` has room for fewer than
+ * ZVT_ROOM bytes more; feed what was not taken again. Send `step->send` bytes whatever the status is: on ZVT_REFUSED and
+ * ZVT_NO_MEMORY the messages before were heard. */
+uint32_t zvt_till_feed_all(zvt_till *till, const uint8_t *piece, size_t length, uint8_t *out, size_t out_length,
+                           uint8_t *line, size_t line_length, zvt_step *step);
 uint32_t zvt_till_state(zvt_till *till, zvt_state *state);
 uint32_t zvt_till_entry(zvt_till *till, size_t place, zvt_entry *entry);
 uint32_t zvt_till_unclear(zvt_till *till, size_t place, zvt_entry *entry);

@@ -16,11 +16,13 @@ public:
     const uint32_t status; /* one of zvt.h's */
 };
 
-/* What is to be sent to the terminal now, and how the running order ended, if it did. */
+/* What the terminal's bytes came to. Send `send` whatever the status is. */
 struct Reply {
     std::vector<uint8_t> send;
-    zvt_outcome outcome{};
-    bool malformed = false; /* the bytes are no message: give the line up, and call lost() */
+    std::vector<std::string> lines; /* to print, in the terminal's character set */
+    zvt_outcome outcome{};          /* how the running order ended, if it did */
+    size_t taken = 0;
+    uint32_t status = ZVT_OK; /* ZVT_REFUSED: no message: give the line up, and call lost(). ZVT_NO_MEMORY: feed what was not taken again. */
 };
 
 /* A till. It is moved, never copied, and stays on the thread that made it. */
@@ -34,9 +36,10 @@ public:
         check(zvt_till_load(&till.handle, saved.data(), saved.size()));
         return till;
     }
-    Till(Till &&other) noexcept : handle(std::exchange(other.handle, zvt_till{})) {}
+    Till(Till &&other) noexcept : handle(std::exchange(other.handle, zvt_till{})), line(std::move(other.line)) {}
     Till &operator=(Till &&other) noexcept {
         std::swap(handle, other.handle);
+        std::swap(line, other.line);
         return *this;
     }
     Till(const Till &) = delete;
@@ -59,17 +62,15 @@ public:
     /* Takes all that the terminal sent, up to bytes that are no message. */
     Reply feed(const uint8_t *piece, size_t length) {
         Reply reply;
-        uint8_t out[ZVT_ROOM];
-        while (length > 0) {
+        uint8_t out[8 * ZVT_ROOM];
+        while (reply.taken < length && reply.status == ZVT_OK) {
             zvt_step step{};
-            const uint32_t status = zvt_till_feed(&handle, piece, length, out, sizeof out, &step);
-            reply.malformed = status == ZVT_REFUSED;
-            if (!reply.malformed) check(status);
-            if (step.outcome.kind != ZVT_NONE) reply.outcome = step.outcome;
-            if (reply.malformed) break;
+            reply.status = zvt_till_feed_all(&handle, piece + reply.taken, length - reply.taken, out, sizeof out, line.data(), line.size(), &step);
+            if (reply.status != ZVT_REFUSED && reply.status != ZVT_NO_MEMORY) check(reply.status);
             reply.send.insert(reply.send.end(), out, out + step.send);
-            piece += step.taken;
-            length -= step.taken;
+            if (step.printed) reply.lines.emplace_back(line.begin(), line.begin() + step.line);
+            if (step.outcome.kind != ZVT_NONE) reply.outcome = step.outcome;
+            reply.taken += step.taken;
         }
         return reply;
     }
@@ -101,6 +102,7 @@ private:
         return entries;
     }
     zvt_till handle{};
+    std::vector<uint8_t> line = std::vector<uint8_t>(ZVT_LINE);
 };
 
 }

@@ -15,7 +15,7 @@ import select
 import socket
 from typing import NamedTuple, Optional
 
-ROOM = 32
+ROOM, LINE = 8 * 32, 65534
 
 
 class Order(enum.IntEnum):
@@ -104,8 +104,8 @@ class _Outcome(c.Structure):
 
 
 class _Step(c.Structure):
-    _fields_ = [("taken", c.c_size_t), ("send", c.c_size_t), ("place", c.c_size_t), ("reason", c.c_uint32),
-                ("message", c.c_uint32), ("outcome", _Outcome)]
+    _fields_ = ([(n, c.c_size_t) for n in ("taken", "send", "place", "line")]
+                + [(n, c.c_uint32) for n in ("reason", "message", "printed")] + [("outcome", _Outcome)])
 
 
 class _State(c.Structure):
@@ -131,7 +131,7 @@ _TYPES = {
     "zvt_till_connected": [c.c_void_p],
     "zvt_till_lost": [c.c_void_p, c.c_void_p],
     "zvt_till_order": [c.c_void_p, c.c_uint32, c.c_uint64, c.c_void_p, c.c_size_t, c.c_void_p],
-    "zvt_till_feed": [c.c_void_p, c.c_char_p, c.c_size_t, c.c_void_p, c.c_size_t, c.c_void_p],
+    "zvt_till_feed_all": [c.c_void_p, c.c_char_p, c.c_size_t, c.c_void_p, c.c_size_t, c.c_void_p, c.c_size_t, c.c_void_p],
     "zvt_till_state": [c.c_void_p, c.c_void_p],
     "zvt_till_entry": [c.c_void_p, c.c_size_t, c.c_void_p],
     "zvt_till_unclear": [c.c_void_p, c.c_size_t, c.c_void_p],
@@ -142,16 +142,18 @@ _TYPES = {
 
 class Till:
     """A till on a socket. `keep`, where it is given, is called with the bytes that the till is saved in: before an order
-    goes out, and after each outcome. What it raises stops the order before anything was sent."""
+    goes out, and after each outcome. What it raises stops the order before anything was sent. `print_line`, where it is
+    given, is called with the bytes of each print line of the terminal, in the terminal's character set."""
 
-    def __init__(self, library, password=0, config=0xBE, currency=978, keep=None):
+    def __init__(self, library, password=0, config=0xBE, currency=978, keep=None, print_line=None):
         self._library = c.CDLL(library)
         for name, types in _TYPES.items():
             function = getattr(self._library, name)
             function.argtypes, function.restype = types, c.c_uint32
         self._library.zvt_till_free.restype = self._library.zvt_till_save.restype = None
-        self._handle, self._step, self._out = _Handle(), _Step(), c.create_string_buffer(ROOM)
-        self._keep, self._line = keep, None
+        self._handle, self._step = _Handle(), _Step()
+        self._out, self._text = c.create_string_buffer(ROOM), c.create_string_buffer(LINE)
+        self._keep, self._print_line, self._line = keep, print_line, None
         self._call("new", password, config, currency)
 
     def __enter__(self):
@@ -260,14 +262,17 @@ class Till:
         """Feeds a whole piece. How the order ended, if it did."""
         ended = None
         while piece:
-            status = self._library.zvt_till_feed(c.byref(self._handle), piece, len(piece), self._out, ROOM, c.byref(self._step))
-            if status not in (Status.OK, Status.REFUSED):
-                raise Refused(status)
+            status = self._library.zvt_till_feed_all(
+                c.byref(self._handle), piece, len(piece), self._out, ROOM, self._text, LINE, c.byref(self._step))
             ended = self._ended() or ended
-            if status == Status.REFUSED:
-                return ended or self.disconnect()
             if self._step.send:
                 self._send(self._out.raw[:self._step.send])
+            if self._step.printed and self._print_line is not None:
+                self._print_line(self._text.raw[:self._step.line])
+            if status == Status.REFUSED:
+                return ended or self.disconnect()
+            if status != Status.OK:
+                raise Refused(status)
             piece = piece[self._step.taken:]
         return ended
 

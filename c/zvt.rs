@@ -5,6 +5,8 @@ use std::marker::PhantomData;
 use std::ptr::null_mut;
 
 const ROOM: usize = 32;
+/// The room that holds each print line.
+const LINE: usize = 65_534;
 
 #[repr(C)]
 struct Handle {
@@ -28,8 +30,10 @@ struct Step {
     taken: usize,
     send: usize,
     place: usize,
+    line: usize,
     reason: u32,
     message: u32,
+    printed: u32,
     outcome: OutcomeNumbers,
 }
 
@@ -72,7 +76,9 @@ unsafe extern "C" {
     fn zvt_till_connected(till: *mut Handle) -> u32;
     fn zvt_till_lost(till: *mut Handle, step: *mut Step) -> u32;
     fn zvt_till_order(till: *mut Handle, order: u32, number: u64, out: *mut u8, room: usize, step: *mut Step) -> u32;
-    fn zvt_till_feed(till: *mut Handle, piece: *const u8, length: usize, out: *mut u8, room: usize, step: *mut Step) -> u32;
+    fn zvt_till_feed_all(
+        till: *mut Handle, piece: *const u8, length: usize, out: *mut u8, room: usize, line: *mut u8, line_length: usize, step: *mut Step,
+    ) -> u32;
     fn zvt_till_state(till: *mut Handle, state: *mut State) -> u32;
     fn zvt_till_entry(till: *mut Handle, place: usize, entry: *mut EntryNumbers) -> u32;
     fn zvt_till_unclear(till: *mut Handle, place: usize, entry: *mut EntryNumbers) -> u32;
@@ -81,6 +87,7 @@ unsafe extern "C" {
 }
 
 const REFUSED: u32 = 2;
+const NO_MEMORY: u32 = 3;
 
 /// Why a call was refused: a status of zvt.h other than 0. It changed nothing.
 #[derive(Clone, Copy, Debug, PartialEq, Eq)]
@@ -106,7 +113,7 @@ impl Refused {
     fn of(status: u32) -> Refused {
         match status {
             REFUSED => Refused::Bytes,
-            3 => Refused::NoMemory,
+            NO_MEMORY => Refused::NoMemory,
             5 => Refused::Argument,
             7 => Refused::Stopped,
             10 => Refused::Offline,
@@ -241,13 +248,25 @@ pub struct Unclear {
     pub cause: Cause,
 }
 
-/// What is to be sent to the terminal now, and how the running order ended, if it did.
+/// What the terminal's bytes came to. Send `send` whatever `stop` is.
 #[derive(Debug, Default, PartialEq, Eq)]
 pub struct Reply {
     pub send: Vec<u8>,
+    /// Print lines, in the terminal's character set.
+    pub lines: Vec<Vec<u8>>,
+    /// How the running order ended, if it did.
     pub outcome: Option<Outcome>,
-    /// The bytes are no message: give the line up, and call [`Till::lost`].
-    pub malformed: bool,
+    pub taken: usize,
+    pub stop: Option<Stop>,
+}
+
+/// Why not all bytes were taken.
+#[derive(Clone, Copy, Debug, PartialEq, Eq)]
+pub enum Stop {
+    /// They are no message: give the line up, and call [`Till::lost`].
+    Malformed,
+    /// Feed what was not taken again.
+    NoMemory,
 }
 
 /// A till. It stays on the thread that made it.
@@ -326,20 +345,23 @@ impl Till {
     }
 
     /// Takes all that the terminal sent, up to bytes that are no message.
-    pub fn feed(&mut self, mut piece: &[u8]) -> Result<Reply, Refused> {
-        let mut reply = Reply::default();
-        while !piece.is_empty() && !reply.malformed {
-            let (mut out, mut step) = ([0; ROOM], Step::default());
-            let status = unsafe {
-                zvt_till_feed(&mut self.handle, piece.as_ptr(), piece.len(), out.as_mut_ptr(), ROOM, &mut step)
-            };
-            reply.malformed = status == REFUSED;
-            if !reply.malformed {
-                checked(status)?;
+    pub fn feed(&mut self, piece: &[u8]) -> Result<Reply, Refused> {
+        let (mut reply, mut line) = (Reply::default(), vec![0; LINE]);
+        while reply.taken < piece.len() && reply.stop.is_none() {
+            let (mut out, mut step) = ([0; 8 * ROOM], Step::default());
+            let rest = &piece[reply.taken..];
+            let (to, room) = (out.as_mut_ptr(), out.len());
+            match unsafe { zvt_till_feed_all(&mut self.handle, rest.as_ptr(), rest.len(), to, room, line.as_mut_ptr(), LINE, &mut step) } {
+                REFUSED => reply.stop = Some(Stop::Malformed),
+                NO_MEMORY => reply.stop = Some(Stop::NoMemory),
+                status => checked(status)?,
+            }
+            reply.send.extend_from_slice(&out[..step.send]);
+            if step.printed == 1 {
+                reply.lines.push(line[..step.line].to_vec());
             }
             reply.outcome = step.outcome.outcome().or(reply.outcome);
-            reply.send.extend_from_slice(&out[..step.send]);
-            piece = &piece[step.taken..];
+            reply.taken += step.taken;
         }
         Ok(reply)
     }

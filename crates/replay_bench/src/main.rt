@@ -1,5 +1,6 @@
 //! Runs a till over so many payments and prints its book: bench/payments measures its time. Under `replay` the till is
 //! run over the events of its line, under `orders` each payment is an order that runs to its end over memory; else both.
+//! Under `scan` it reads a short message a hundred times as often: bench/scan compares that with the library for C.
 #![tactic(auto)]
 
 ghost use Rattle.std.specs.Prelude.{◌≤◌};
@@ -7,8 +8,10 @@ ghost use Rattle.std.specs.Prelude.{◌≤◌};
 use std::alloc::{AllocError, Global};
 use std::process::ExitCode;
 use std::{env, io};
+use zvt_apdu::scan;
 use zvt_bcd::{Amount, put};
 use zvt_io::Over;
+use zvt_spelling::Scan;
 use zvt_stream::Stream;
 use zvt_till::{Event, Order, RunFault, Till, replay, run_order};
 
@@ -24,12 +27,18 @@ const APPROVED: [u8; 25] = [
     0x00, 0x00, 0x00, 0x87, 0x00, 0x01, 0x06, 0x0F, 0x00,
 ];
 
+/// An authorisation of 1234.
+const AUTHORISATION: [u8; 13] = [
+    0x06, 0x01, 0x0A, 0x04, 0x00, 0x00, 0x00, 0x00, 0x12, 0x34, 0x49, 0x09, 0x78,
+];
+
 /// What the command line asks for.
 #[derive(Clone, Copy)]
 struct Work {
     payments: u32,
     replay: bool,
     orders: bool,
+    scan: bool,
 }
 
 fn main(rt: HostRuntime) -> ExitCode {
@@ -54,6 +63,12 @@ fn run(rt: &HostRuntime) -> io::Result<()> {
         };
         println!(rt; "{payments} payments ordered: {entries} booked, {total} in all")?;
     }
+    if asked.scan {
+        let Ok(whole) = scanned(rt.alloc(), 100 * payments) else {
+            return eprintln!(rt; "replay_bench: too little memory");
+        };
+        println!(rt; "{whole} messages scanned")?;
+    }
     Ok(())
 }
 
@@ -66,6 +81,7 @@ fn asked(rt: &HostRuntime) -> Work
         payments: 100,
         replay: true,
         orders: true,
+        scan: false,
     };
     let Ok(words) = env::args(rt) else {
         return asked;
@@ -74,6 +90,7 @@ fn asked(rt: &HostRuntime) -> Work
         match word.as_str() {
             "replay" => asked.orders = false,
             "orders" => asked.replay = false,
+            "scan" => asked = Work { replay: false, orders: false, scan: true, ..asked },
             other => {
                 if let Ok(number) = other.parse::<u32>() {
                     asked.payments = number;
@@ -83,6 +100,17 @@ fn asked(rt: &HostRuntime) -> Work
     }
     asked.payments = asked.payments.min(MOST);
     asked
+}
+
+/// How many of so many readings of a short message find it whole.
+fn scanned(alloc: Global, times: u32) -> Result<u32, AllocError> {
+    let mut whole = 0;
+    for _ in 0..times {
+        if let Scan::Whole((_, 13)) = scan(alloc, &AUTHORISATION)? {
+            whole += 1;
+        }
+    }
+    Ok(whole)
 }
 
 /// The worked price, in cents.

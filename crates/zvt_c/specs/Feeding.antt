@@ -1,9 +1,12 @@
 -- What bytes of a terminal make of a till and its stream.
-use Rattle.std.specs.Prelude.{◌≡◌, ℕ, true, cond, List, length, Option, Some, None}
+use Rattle.std.specs.Prelude.{◌≡◌, ℕ, true, cond, List, [], length, Option, Some, None}
 use Rattle.zvt_apdu.specs.Message.{Message}
 use Rattle.zvt_apdu.specs.Briefs.{message_of_brief, PutsMessage}
+use Rattle.zvt_apdu.specs.Views.{text_in}
 use Rattle.zvt_stream.specs.Feeds.{Feeds}
 use Rattle.zvt_stream.specs.StreamState.{Keeps}
+use Rattle.zvt_stream.specs.declared.feeding.FeedError.{FeedError}
+use Rattle.zvt_stream.specs.declared.feeding.FeedError.TheVariants.{Stopped, Memory}
 use Rattle.zvt_stream.specs.declared.feeding.Fed.{Fed}
 use Rattle.zvt_stream.specs.declared.feeding.Fed.TheVariants.{Message as Whole, More, Refused}
 use Rattle.zvt_till.specs.declared.happenings.Happening.TheVariants.{Heard, Malformed}
@@ -14,7 +17,8 @@ use Rattle.zvt_till.specs.Till.{TillState, step, outcome_at}
 use Rattle.zvt_c.specs.declared.end.End.{End}
 use Rattle.zvt_c.specs.declared.numbers.ZvtStep.{ZvtStep}
 use Rattle.zvt_c.specs.Answers.{code_of_why}
-use Rattle.zvt_c.specs.Numbers.{outcome_of}
+use Rattle.zvt_c.specs.Numbers.{nothing, outcome_of, silent}
+use Rattle.zvt_c.specs.Saving.{Written}
 
 -- What the till is to send: nothing, or the spelling of one message at the front of the room.
 abbrev pub Sends : Option Outgoing → (room_before room_after : List ℕ) → (send : ℕ) → Type 0
@@ -25,28 +29,51 @@ Sends (Some outgoing) before after send = PutsMessage (message_of_brief outgoing
 abbrev pub replied : TillState → Message → Option Outgoing
 replied state message = cond state.line_up (reply_to (heard_as message)) None
 
+-- The text of a print line stands at the front of its room where it fits, and its size is told.
+abbrev pub Prints : Option (List ℕ) → (line_before line_after : List ℕ) → (size printed : ℕ) → Type 0
+Prints None before after size printed = (after ≡ before) × (size ≡ 0) × (printed ≡ 0)
+Prints (Some text) before after size printed = Written text size before after × (printed ≡ 1)
+
+-- A message leads the till from one state to another, is answered so, and is told in these numbers.
+pub record TellsMessage (apdu : Message) (taken : ℕ) (before after : TillState) (room_before room_after line_before line_after : List ℕ) (answer : ZvtStep) : Type 0 where
+  pub state : after ≡ step before (Heard (heard_as apdu))
+  pub sends : Sends (replied before apdu) room_before room_after answer.send
+  pub prints : Prints (text_in apdu) line_before line_after answer.line answer.printed
+  pub outcome : answer.outcome ≡ outcome_of (cond before.line_up (outcome_at before (Heard (heard_as apdu))) None)
+  pub taken_is : answer.taken ≡ taken
+  pub message : answer.message ≡ 1
+  pub place : answer.place ≡ 0
+  pub reason : answer.reason ≡ 0
+
 -- What was fed leads the till from one state to another, is answered so, and is told in these numbers.
-abbrev pub Told : Fed → (piece : List ℕ) → (before after : TillState) → (room_before room_after : List ℕ) → ZvtStep → (status : ℕ) → Type 0
-Told (Whole apdu taken) piece before after room_before room_after answer status =
-    (after ≡ step before (Heard (heard_as apdu))) × Sends (replied before apdu) room_before room_after answer.send
-    × (answer.outcome ≡ outcome_of (cond before.line_up (outcome_at before (Heard (heard_as apdu))) None))
-    × (answer.taken ≡ taken) × (answer.message ≡ 1) × (status ≡ 0)
-Told More piece before after room_before room_after answer status =
-    (after ≡ before) × (room_after ≡ room_before) × (answer.taken ≡ length piece) × (answer.message ≡ 0) × (answer.send ≡ 0)
-    × (answer.outcome ≡ outcome_of None) × (status ≡ 0)
-Told (Refused place why) piece before after room_before room_after answer status =
-    (after ≡ step before Malformed) × (room_after ≡ room_before) × (answer.place ≡ place) × (answer.reason ≡ code_of_why why) × (answer.send ≡ 0)
-    × (answer.outcome ≡ outcome_of (outcome_at before Malformed)) × (status ≡ 2)
+abbrev pub Told : Fed → (piece : List ℕ) → (before after : TillState) → (room_before room_after line_before line_after : List ℕ) → ZvtStep → (status : ℕ) → Type 0
+Told (Whole apdu taken) piece before after room_before room_after line_before line_after answer status =
+    TellsMessage apdu taken before after room_before room_after line_before line_after answer × (status ≡ 0)
+Told More piece before after room_before room_after line_before line_after answer status =
+    (after ≡ before) × (room_after ≡ room_before) × (line_after ≡ line_before) × (answer ≡ silent (length piece) 0 0 (outcome_of None)) × (status ≡ 0)
+Told (Refused place why) piece before after room_before room_after line_before line_after answer status =
+    (after ≡ step before Malformed) × (room_after ≡ room_before) × (line_after ≡ line_before)
+    × (answer ≡ silent 0 place (code_of_why why) (outcome_of (outcome_at before Malformed))) × (status ≡ 2)
+
+-- The status of a feed that failed.
+abbrev pub status_of_failure : FeedError → ℕ
+status_of_failure Stopped = 7
+status_of_failure Memory = 3
+
+-- Bytes are taken for stopped only where bytes were refused before.
+abbrev pub IsFailure : FeedError → End → Type 0
+IsFailure Stopped end = end.stream.stopped ≡ true
+IsFailure Memory end = Unit {0}
 
 -- What a feed of an open handle is: the stream's, and the till's; or nothing, where bytes were refused before or memory was.
-pub data FeedsEnd (before : End) (piece : List ℕ) (after : End) (room_before room_after : List ℕ) (answer : ZvtStep) (status : ℕ) : Type 0 where
-  fed : (fed : Fed) → Feeds before.stream piece fed after.stream → Told fed piece before.till.state after.till.state room_before room_after answer status
-      → FeedsEnd before piece after room_before room_after answer status
-  stopped : before.stream.stopped ≡ true → Keeps before.stream after.stream → after.till ≡ before.till → room_after ≡ room_before → status ≡ 7 → FeedsEnd before piece after room_before room_after answer status
-  no_memory : Keeps before.stream after.stream → after.till ≡ before.till → room_after ≡ room_before → status ≡ 3 → FeedsEnd before piece after room_before room_after answer status
+pub data FeedsEnd (before : End) (piece : List ℕ) (after : End) (room_before room_after line_before line_after : List ℕ) (answer : ZvtStep) (status : ℕ) : Type 0 where
+  fed : (fed : Fed) → Feeds before.stream piece fed after.stream → Told fed piece before.till.state after.till.state room_before room_after line_before line_after answer status
+      → FeedsEnd before piece after room_before room_after line_before line_after answer status
+  failed : (why : FeedError) → IsFailure why before → Keeps before.stream after.stream → after.till ≡ before.till → room_after ≡ room_before → line_after ≡ line_before
+      → answer ≡ nothing → status ≡ status_of_failure why → FeedsEnd before piece after room_before room_after line_before line_after answer status
 
--- A handle is fed.
+-- A handle is fed, and no print line is handed out.
 abbrev pub FeedsHandle : Option End → (piece : List ℕ) → Option End → (room_before room_after : List ℕ) → ZvtStep → (status : ℕ) → Type 0
 FeedsHandle None piece after room_before room_after answer status = (after ≡ None) × (room_after ≡ room_before) × (status ≡ 6)
 FeedsHandle (Some before) piece after room_before room_after answer status =
-    (end : End) × (after ≡ Some end) × FeedsEnd before piece end room_before room_after answer status
+    (end : End) × (after ≡ Some end) × FeedsEnd before piece end room_before room_after [] [] answer status

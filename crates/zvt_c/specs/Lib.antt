@@ -1,6 +1,7 @@
 pub mod Answers
 pub mod Codes
 pub mod Feeding
+pub mod FeedingAll
 pub mod Names
 pub mod Numbers
 pub mod Ordering

@@ -11,6 +11,7 @@ use Rattle.zvt_save.specs.Saved.{cause_code}
 use Rattle.zvt_c.specs.declared.end.End.{End}
 use Rattle.zvt_c.specs.declared.numbers.ZvtOutcome.{ZvtOutcome}
 use Rattle.zvt_c.specs.declared.numbers.ZvtState.{ZvtState}
+use Rattle.zvt_c.specs.declared.numbers.ZvtStep.{ZvtStep}
 use Rattle.zvt_c.specs.declared.numbers.ZvtEntry.{ZvtEntry}
 
 -- A receipt number, and whether there is one.
@@ -38,6 +39,15 @@ ended DayClosed = coded 8 0
 abbrev pub outcome_of : Option Outcome → ZvtOutcome
 outcome_of None = coded 0 0
 outcome_of (Some outcome) = ended outcome
+
+-- What a call came to that has nothing to send.
+abbrev pub silent : (taken place reason : ℕ) → ZvtOutcome → ZvtStep
+silent taken place reason outcome =
+    record { taken = taken; send = 0; place = place; line = 0; reason = reason; message = 0; printed = 0; outcome = outcome }
+
+-- Nothing taken, sent or ended.
+abbrev pub nothing : ZvtStep
+nothing = silent 0 0 0 (outcome_of None)
 
 -- A row of the book.
 abbrev pub row_of : Entry → ZvtEntry

@@ -1,5 +1,5 @@
 -- What an order of a caller makes of a till.
-use Rattle.std.specs.Prelude.{◌≡◌, ◌⊎◌, ℕ, List, Option, Some, None}
+use Rattle.std.specs.Prelude.{◌≡◌, ◌==◌, ◌&&◌, nat_le, ℕ, cond, List, Option, Some, None, is_some, MatchOption}
 use Rattle.zvt_apdu.specs.Briefs.{message_of_brief, PutsMessage}
 use Rattle.zvt_till.specs.declared.orders.Order.{Order}
 use Rattle.zvt_till.specs.declared.orders.Order.TheVariants.{Register, Pay, Reverse, CloseDay, Cancel}
@@ -13,13 +13,14 @@ use Rattle.zvt_till.specs.View.{IsRefusedAs}
 use Rattle.zvt_c.specs.declared.end.End.{End}
 use Rattle.zvt_c.specs.declared.numbers.ZvtStep.{ZvtStep}
 
+-- The payment of so much, where it is an amount that a message can hold.
+abbrev pub payment_of : ℕ → Option Order
+payment_of number = cond (nat_le 1 number && nat_le number 999999999999) (Some (Pay number)) None
+
 -- The order that two numbers name.
-abbrev pub Names : (kind number : ℕ) → Order → Type 0
-Names kind number Register = kind ≡ 1
-Names kind number (Pay amount) = (kind ≡ 2) × (amount ≡ number)
-Names kind number (Reverse entry) = (kind ≡ 3) × (entry ≡ number)
-Names kind number CloseDay = kind ≡ 4
-Names kind number Cancel = kind ≡ 5
+abbrev pub order_named : (kind number : ℕ) → Option Order
+order_named kind number =
+    cond (kind == 1) (Some Register) (cond (kind == 2) (payment_of number) (cond (kind == 3) (Some (Reverse number)) (cond (kind == 4) (Some CloseDay) (cond (kind == 5) (Some Cancel) None))))
 
 -- The status of a refused order.
 abbrev pub status_of : OrderRefusal → ℕ
@@ -41,9 +42,10 @@ pub data OrdersEnd (before : End) (order : Order) (after : End) (room_before roo
   refused : (why : OrderRefusal) → IsRefusedAs (facts_of before.till.state) before.till.spare order why → after ≡ before → room_after ≡ room_before → status ≡ status_of why
       → OrdersEnd before order after room_before room_after answer status
 
--- A handle is given an order by two numbers, which may name none.
+-- A handle is given an order by two numbers. Where they name none, or the handle is closed, nothing changes.
 abbrev pub OrdersHandle : Option End → (kind number : ℕ) → Option End → (room_before room_after : List ℕ) → ZvtStep → (status : ℕ) → Type 0
-OrdersHandle None kind number after room_before room_after answer status = (after ≡ None) × (room_after ≡ room_before) × ((status ≡ 5) ⊎ (status ≡ 6))
+OrdersHandle None kind number after room_before room_after answer status =
+    (after ≡ None) × (room_after ≡ room_before) × (status ≡ cond (is_some (order_named kind number)) 6 5)
 OrdersHandle (Some before) kind number after room_before room_after answer status =
-    ((after ≡ Some before) × (room_after ≡ room_before) × (status ≡ 5))
-    ⊎ ((order : Order) × Names kind number order × (end : End) × (after ≡ Some end) × OrdersEnd before order end room_before room_after answer status)
+    MatchOption (order_named kind number) ((after ≡ Some before) × (room_after ≡ room_before) × (status ≡ 5))
+    (λ order. (end : End) × (after ≡ Some end) × OrdersEnd before order end room_before room_after answer status)

@@ -1,8 +1,8 @@
 -- What is saved of a handle, and what is loaded behind one.
-use Rattle.std.specs.Prelude.{◌≡◌, ◌⊎◌, ℕ, List, length, Option, Some, None, option_map}
+use Rattle.std.specs.Prelude.{◌≡◌, ◌⊎◌, ℕ, List, length, Option, Some, None}
 use Rattle.zvt_save.specs.Saved.{saved}
 use Rattle.zvt_stream.specs.StreamState.{at_start}
-use Rattle.zvt_till.specs.Till.{TillState, step}
+use Rattle.zvt_till.specs.Till.{step}
 use Rattle.zvt_till.specs.declared.happenings.Happening.TheVariants.{Lost}
 use Rattle.zvt_c.specs.declared.answer.ZvtAnswer.{ZvtAnswer}
 use Rattle.zvt_c.specs.declared.end.End.{End}

@@ -4,6 +4,7 @@
 mod answer;
 mod codec;
 mod end;
+mod feeding;
 mod handle;
 mod loose;
 mod names;

@@ -1,7 +1,7 @@
 //! Orders, outcomes and rows of the book in numbers.
-ghost use Rattle.std.specs.Prelude.{◌≡◌, IfSome, None};
-ghost use Rattle.zvt_c.specs.Numbers.{coded, ended, kind_of_running, outcome_of, paid, receipt_of, row_of, unclear_row_of};
-ghost use Rattle.zvt_c.specs.Ordering.{Names, status_of};
+ghost use Rattle.std.specs.Prelude.{◌≡◌, None};
+ghost use Rattle.zvt_c.specs.Numbers.{coded, ended, kind_of_running, nothing, outcome_of, paid, receipt_of, row_of, unclear_row_of};
+ghost use Rattle.zvt_c.specs.Ordering.{order_named, payment_of, status_of};
 
 use zvt_bcd::{Amount, Trace};
 use zvt_save::cause_code;
@@ -32,10 +32,14 @@ pub struct ZvtStep {
     pub send: usize,
     /// Where the terminal's bytes are no message, the first byte after which none can follow.
     pub place: usize,
-    /// And why.
+    /// The size of the text of the print line that was heard, which stands at the front of `line` where it fits.
+    pub line: usize,
+    /// Why the terminal's bytes are no message.
     pub reason: u32,
     /// 1 where a message ended in what was taken.
     pub message: u32,
+    /// 1 where the last of them is a print line.
+    pub printed: u32,
     /// How the running order ended, if it did.
     pub outcome: ZvtOutcome,
 }
@@ -85,13 +89,17 @@ pub fn no_outcome() -> ZvtOutcome
 }
 
 /// Nothing taken, sent or ended.
-pub fn no_step() -> ZvtStep {
+pub fn no_step() -> ZvtStep
+    ensures { result ≡ nothing }
+{
     ZvtStep {
         taken: 0,
         send: 0,
         place: 0,
+        line: 0,
         reason: 0,
         message: 0,
+        printed: 0,
         outcome: no_outcome(),
     }
 }
@@ -207,23 +215,27 @@ pub fn unclear_numbers(row: &(Amount, Cause)) -> ZvtEntry
 }
 
 /// The order of that kind: 1 register, 2 pay so much, 3 take back the payment at this place of the book, counted from
-/// 0, 4 close the day, 5 cancel.
+/// 0, 4 close the day, 5 cancel. Other numbers name none, and no amount that a message can't hold is paid.
 pub fn order_of(kind: u32, number: u64) -> Option<Order>
-    ensures { IfSome result (Names kind number) }
+    ensures { result ≡ order_named kind number }
 {
     match kind {
         1 => Some(Order::Register),
-        2 => match Amount::new(number) {
-            Some(amount) => Some(Order::Pay(amount)),
-            None => None,
-        },
-        3 => match usize::try_from(number) {
-            Ok(entry) => Some(Order::Reverse(entry)),
-            Err(_) => None,
-        },
+        2 => pay(number),
+        3 => Some(Order::Reverse(number as usize)),
         4 => Some(Order::CloseDay),
         5 => Some(Order::Cancel),
         _ => None,
+    }
+}
+
+/// The payment of so much, where it is an amount.
+fn pay(number: u64) -> Option<Order>
+    ensures { result ≡ payment_of number }
+{
+    match Amount::new(number) {
+        Some(amount) => Some(Order::Pay(amount)),
+        None => None,
     }
 }
 

@@ -3,15 +3,12 @@
 //! line brought bytes before that begin no message, 10 to 17 the order is refused.
 ghost use Rattle.std.specs.Prelude.{◌≡◌, ◌≤◌, None, option_map, length, MatchBool, MatchOption, nat_lt, cond, slice_get};
 ghost use Rattle.zvt_till.specs.Till.{step, outcome_at};
-ghost use Rattle.zvt_till.specs.Hearing.{heard_as};
 ghost use Rattle.zvt_apdu.specs.Briefs.{message_of_brief, PutsMessage};
 ghost use Rattle.zvt_stream.specs.StreamState.{at_start};
 ghost use Rattle.zvt_c.specs.States.{state_of, IsNewTill};
-ghost use Rattle.zvt_c.specs.Feeding.{Sends, replied, FeedsEnd, FeedsHandle};
 ghost use Rattle.zvt_c.specs.Numbers.{outcome_of, row_of, unclear_row_of, IsStateOf};
 ghost use Rattle.zvt_c.specs.Ordering.{OrdersEnd, OrdersHandle};
 
-use crate::answer::reason_code;
 use crate::end::End;
 use crate::handle::ZvtTill;
 use crate::numbers::{
@@ -19,11 +16,9 @@ use crate::numbers::{
     running_number, unclear_numbers,
 };
 use std::alloc::Global;
-use zvt_apdu::Apdu;
 use zvt_bcd::{Amount, Currency};
-use zvt_stream::{Fed, FeedError, Stream};
-use zvt_till::hearing::heard;
-use zvt_till::{Cause, Happening, Order, Outcome, Outgoing, Till};
+use zvt_stream::Stream;
+use zvt_till::{Cause, Happening, Order, Outgoing, Till};
 
 /// Makes a till, whose line is down, behind the handle. A till that was behind it is freed. The password and the
 /// configuration byte go into a registration as they are. Where the answer is not 0 nothing changes.
@@ -99,9 +94,10 @@ pub extern "C" fn zvt_till_lost(alloc: Global, till: &mut ZvtTill, answer: &mut 
 }
 
 /// Writes a message at the front of `out`, which has room for it, and says its size.
-fn write_message(outgoing: &Outgoing, out: &mut [u8]) -> usize
+pub(crate) fn write_message(outgoing: &Outgoing, out: &mut [u8]) -> usize
     requires { 32 ≤ length out.old }
-    ensures { PutsMessage (message_of_brief outgoing.now.brief) out.old out.new result }
+    ensures written { PutsMessage (message_of_brief outgoing.now.brief) out.old out.new result }
+    ensures room { result ≤ length out.old }
 {
     let mut buffer = [0; 32];
     let size = outgoing.put(&mut buffer);
@@ -147,92 +143,6 @@ fn give(end: &mut End, order: Order, out: &mut [u8], answer: &mut ZvtStep) -> u3
             0
         }
         Err(why) => refusal_status(why),
-    }
-}
-
-/// Feeds bytes of the terminal, up to the end of one message. The caller feeds the rest of the piece again, as long as
-/// `message` is 1. What is to be sent is written to `out`, which is to have room for 32.
-#[unsafe(no_mangle)]
-pub extern "C" fn zvt_till_feed(
-    alloc: Global,
-    till: &mut ZvtTill,
-    piece: &[u8],
-    out: &mut [u8],
-    answer: &mut ZvtStep,
-) -> u32
-    ensures full { MatchBool (nat_lt (length out.old) 32) ((till.new.shell.held ≡ till.old.shell.held) × (out.new ≡ out.old) × (result ≡ 4))
-        (FeedsHandle till.old.shell.held piece.now till.new.shell.held out.old out.new answer.new result) }
-{
-    *answer = no_step();
-    if out.len() < 32 {
-        return 4;
-    }
-    let Some(mut end) = till.take(alloc) else {
-        return 6;
-    };
-    let status = feed(alloc, &mut end, piece, out, answer);
-    *till = ZvtTill::of(end);
-    status
-}
-
-/// Lets the till hear a message, and writes what it answers. It says how much was written, and how the running order
-/// ended, if it did.
-fn hear(till: &mut Till, apdu: &Apdu, out: &mut [u8]) -> (usize, Option<Outcome>)
-    requires { 32 ≤ length out.old }
-    ensures state { till.new.state ≡ step till.old.state (Happening.Heard (heard_as apdu.now)) }
-    ensures sent { Sends (replied till.old.state apdu.now) out.old out.new result.0 }
-    ensures outcome { result.1 ≡ cond till.old.state.line_up (outcome_at till.old.state (Happening.Heard (heard_as apdu.now))) None }
-{
-    let reply = till.hear(heard(apdu));
-    let size = match &reply.send {
-        Some(outgoing) => write_message(outgoing, out),
-        None => 0,
-    };
-    (size, reply.outcome)
-}
-
-fn feed(alloc: Global, end: &mut End, piece: &[u8], out: &mut [u8], answer: &mut ZvtStep) -> u32
-    requires { 32 ≤ length out.old }
-    ensures { FeedsEnd end.old piece.now end.new out.old out.new answer.new result }
-{
-    match end.stream.feed(alloc, piece) {
-        Ok(Fed::Message { apdu, taken }) => {
-            let (send, outcome) = hear(&mut end.till, &apdu, out);
-            *answer = ZvtStep {
-                taken,
-                send,
-                place: 0,
-                reason: 0,
-                message: 1,
-                outcome: outcome_numbers(outcome),
-            };
-            0
-        }
-        Ok(Fed::More) => {
-            *answer = ZvtStep {
-                taken: piece.len(),
-                send: 0,
-                place: 0,
-                reason: 0,
-                message: 0,
-                outcome: outcome_numbers(None),
-            };
-            0
-        }
-        Ok(Fed::Refused { place, why }) => {
-            let outcome = end.till.malformed();
-            *answer = ZvtStep {
-                taken: 0,
-                send: 0,
-                place,
-                reason: reason_code(why),
-                message: 0,
-                outcome: outcome_numbers(outcome),
-            };
-            2
-        }
-        Err(FeedError::Stopped) => 7,
-        Err(FeedError::Memory) => 3,
     }
 }
 

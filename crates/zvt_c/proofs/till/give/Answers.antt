@@ -4,7 +4,7 @@ use Rattle.zvt_c.specs.Ordering.{sent, refused}
 use Rattle.zvt_c.proofs.till.give.Goals as goal
 
 pub returns-in-Ok : goal.returns-in-Ok
-returns-in-Ok c = sent c.in-Ok.outgoing c.in-Ok.ensures.taken c.in-Ok.ensures.sent c.in-Ok.ensures.runs refl c.write_message-answer.ensures refl
+returns-in-Ok c = sent c.in-Ok.outgoing c.in-Ok.ensures.taken c.in-Ok.ensures.sent c.in-Ok.ensures.runs refl c.write_message-answer.ensures.written refl
 
 pub returns-in-Err : goal.returns-in-Err
 returns-in-Err c =
