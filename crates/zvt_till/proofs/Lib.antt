@@ -24,3 +24,4 @@ pub mod Ordering
 pub mod BooksLemmas
 mod Rows
 mod Room
+mod Once

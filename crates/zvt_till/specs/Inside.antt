@@ -1,6 +1,7 @@
 -- The fields of a till, and what is true of them.
 use Rattle.std.specs.Prelude.{ℕ, cond, ◌-◌, ◌≤◌, min, length, vec_len, vec_capacity}
 use Rattle.zvt_till.specs.Refusals.{most_rows}
+use Rattle.zvt_till.specs.Restoring.{OnceBelow}
 use Rattle.zvt_till.specs.UsedTraces.{has_room, AreTracesOf}
 use Rattle.zvt_till.specs.View.{TillValue, CanEndRunning}
 use Rattle.zvt_till.specs.declared.till.Till.TheInside.{Inside}
@@ -35,3 +36,4 @@ IsSound t =
     × (length t.book.items ≤ most_rows)
     × (length t.unclear.items ≤ most_rows)
     × CanEndRunning t.running (length t.book.items) (length t.unclear.items) (spare_of t)
+    × OnceBelow (length t.book.items) t.book.items

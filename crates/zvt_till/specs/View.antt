@@ -1,10 +1,14 @@
 -- What contracts see of a till.
-use Rattle.std.specs.Prelude.{◌≡◌, ℕ, ◌-◌, ◌<◌, ◌≤◌, Option, Some, None}
+use Rattle.std.specs.Prelude.{◌≡◌, ℕ, ◌-◌, ◌<◌, ◌≤◌, false, List, Option, Some, None}
+use Rattle.zvt_till.specs.declared.entries.Entry.{Entry}
 use Rattle.zvt_till.specs.declared.orders.Order.{Order}
 use Rattle.zvt_till.specs.declared.orders.Order.TheVariants.{Register, Pay, Reverse, CloseDay, Cancel}
 use Rattle.zvt_till.specs.declared.orders.OrderRefusal.{OrderRefusal}
 use Rattle.zvt_till.specs.declared.orders.OrderRefusal.TheVariants.{Memory}
+use Rattle.zvt_till.specs.declared.outcomes.Outcome.{Outcome}
+use Rattle.zvt_till.specs.declared.outcomes.Outcome.TheVariants.{Paid}
 use Rattle.zvt_till.specs.declared.statuses.Running.{Running}
+use Rattle.zvt_till.specs.Outcomes.{trace_used}
 use Rattle.zvt_till.specs.Refusals.{Facts, refusal, most_rows}
 use Rattle.zvt_till.specs.Till.{TillState}
 
@@ -29,6 +33,11 @@ CanEnd (Pay a) booked unclear spare = (0 < spare) × (booked < most_rows) × (un
 CanEnd (Reverse e) booked unclear spare = e < booked
 CanEnd CloseDay booked unclear spare = Unit {0}
 CanEnd Cancel booked unclear spare = Unit {0}
+
+-- the book can take how an order ended: the trace number of a payment is that of no entry
+abbrev pub CanBook : Outcome → List Entry → Type 0
+CanBook (Paid trace receipt) book = trace_used trace book ≡ false
+CanBook _ book = Unit {0}
 
 abbrev pub CanEndRunning : Option Running → ℕ → ℕ → ℕ → Type 0
 CanEndRunning None booked unclear spare = Unit {0}

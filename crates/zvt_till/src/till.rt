@@ -55,7 +55,7 @@ impl Model for Till {
 impl Till {
     ghost use Rattle.zvt_till.specs.Sending.{reply_to};
     ghost use Rattle.zvt_till.specs.Till.{new_till, meet, step, line_down, finish, outcome_at};
-    ghost use Rattle.zvt_till.specs.View.{CanEnd, KeepsRoom, claimed_by};
+    ghost use Rattle.zvt_till.specs.View.{CanEnd, CanBook, KeepsRoom, claimed_by};
     ghost use Rattle.zvt_till.specs.Marks.{total};
     ghost use Rattle.zvt_till.specs.Events.{run_settings};
 
@@ -180,7 +180,8 @@ impl Till {
 
     /// Ends the running order, and writes down what it came to.
     fn finish(&mut self, order: &Order, outcome: &Outcome)
-        requires { CanEnd order.now (length self.old.state.book) (length self.old.state.unclear) self.old.spare }
+        requires ends { CanEnd order.now (length self.old.state.book) (length self.old.state.unclear) self.old.spare }
+        requires books { CanBook outcome.now self.old.state.book }
         ensures state { self.new.state ≡ finish self.old.state order.now outcome.now }
         ensures room { self.old.spare ≤ self.new.spare + claimed_by order.now }
     {

@@ -5,6 +5,7 @@ ghost use Rattle.zvt_till.specs.Restoring.{OnceBelow};
 
 use super::{MOST_ROWS, Till};
 use crate::entries::Entry;
+use crate::happenings::Happening;
 use crate::outcomes::{Cause, Outcome};
 use crate::used_traces::UsedTraces;
 use std::alloc::Global;
@@ -40,6 +41,7 @@ fn traces_of(alloc: Global, book: &[Entry]) -> Result<UsedTraces, RestoreError>
 
 impl Till {
     ghost use Rattle.zvt_till.specs.Restoring.{CanStand, IsUnrestored, at_rest};
+    ghost use Rattle.zvt_till.specs.Till.{step};
 
     /// A till with the settings of this one, whose line is down, with these payments booked and these unclear, and with
     /// this as its last outcome. Err where no till has these rows, or memory was refused.
@@ -72,5 +74,14 @@ impl Till {
             }),
             Err(why) => Err(why),
         }
+    }
+
+    /// Of every till: what the loss of its line leaves are rows that a till can have, so `restored` never finds them
+    /// impossible. It does nothing, and its contract is this law.
+    pub fn can_be_restored(&self)
+        ensures { CanStand (step self.now.state Happening.Lost).book (step self.now.state Happening.Lost).unclear }
+    {
+        // that a field is looked at is what tells the proof what holds of all of them
+        let _ = &self.book;
     }
 }
