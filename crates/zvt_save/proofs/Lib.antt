@@ -1,4 +1,5 @@
 pub mod Bodies
 pub mod Headers
+pub mod Kept
 pub mod Numbers
 pub mod Rows

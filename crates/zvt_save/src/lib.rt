@@ -6,5 +6,5 @@ mod reading;
 mod saving;
 mod sums;
 
-pub use loading::{LoadError, load};
+pub use loading::{LoadError, load, reloaded};
 pub use saving::{cause_code, save};

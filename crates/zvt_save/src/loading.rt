@@ -182,3 +182,14 @@ pub fn load(alloc: Global, bytes: &[u8]) -> Result<Till, LoadError>
         Err(LoadError::Damaged)
     }
 }
+
+/// The till that comes of what this one is saved in, at any moment. Its contract is a law: what was saved of a till can be
+/// loaded, and is that till after its line was lost.
+pub fn reloaded(alloc: Global, till: &Till) -> Result<Till, LoadError>
+    ensures { LeadsTo result (step till.now.state Happening.Lost) }
+{
+    match save(alloc, till) {
+        Ok(bytes) => load(alloc, bytes.as_slice()),
+        Err(_) => Err(LoadError::Memory),
+    }
+}

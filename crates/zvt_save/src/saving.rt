@@ -1,7 +1,8 @@
 //! What a till is saved in.
-ghost use Rattle.std.specs.Prelude.{◌≡◌, ◌++◌, ◌^◌, ◌<◌, ◌≤◌, length, IfOk, OnOk, flat_map};
+ghost use Rattle.std.specs.Prelude.{◌≡◌, ◌++◌, ◌^◌, ◌<◌, ◌≤◌, length, Some, IfOk, OnOk, flat_map};
+ghost use Rattle.std.specs.List.{All};
 ghost use Rattle.zvt_apdu.specs.Briefs.{digits};
-ghost use Rattle.zvt_save.specs.Saved.{cause_code, receipt_bytes, entry_bytes, unclear_bytes, outcome_row, outcome_bytes, body_bytes, counts_bytes, open_rows, saved, settings_bytes, summed};
+ghost use Rattle.zvt_save.specs.Saved.{cause_code, receipt_bytes, entry_bytes, unclear_bytes, outcome_row, outcome_bytes, body_bytes, counts_bytes, open_rows, saved, settings_bytes, summed, IsEntry, IsKept, IsOutcome, IsReceipt, IsUnclear};
 ghost use Rattle.zvt_till.specs.Till.{step};
 
 use crate::sums::sums_of;
@@ -44,7 +45,8 @@ pub fn cause_code(cause: Cause) -> u8
 
 /// Writes a receipt number behind a byte that says whether there is one.
 fn put_receipt(bytes: &mut Vec<u8>, receipt: Option<[u8; 2]>) -> Result<(), AllocError>
-    ensures { OnOk result (bytes.new.items ≡ bytes.old.items ++ receipt_bytes receipt) }
+    ensures bytes { OnOk result (bytes.new.items ≡ bytes.old.items ++ receipt_bytes receipt) }
+    ensures fits { OnOk result (IsReceipt receipt) }
 {
     match receipt {
         None => bytes.extend_from_slice(&[0, 0, 0]),
@@ -57,7 +59,8 @@ fn put_receipt(bytes: &mut Vec<u8>, receipt: Option<[u8; 2]>) -> Result<(), Allo
 
 /// Writes a row of the book.
 fn put_entry(bytes: &mut Vec<u8>, entry: &Entry) -> Result<(), AllocError>
-    ensures { OnOk result (bytes.new.items ≡ bytes.old.items ++ entry_bytes entry.now) }
+    ensures bytes { OnOk result (bytes.new.items ≡ bytes.old.items ++ entry_bytes entry.now) }
+    ensures fits { OnOk result (IsEntry entry.now) }
 {
     put_number(bytes, 6, entry.amount.get())?;
     put_number(bytes, 3, u64::from(entry.trace.get()))?;
@@ -67,7 +70,8 @@ fn put_entry(bytes: &mut Vec<u8>, entry: &Entry) -> Result<(), AllocError>
 
 /// Writes an unclear payment.
 fn put_unclear(bytes: &mut Vec<u8>, amount: Amount, cause: Cause) -> Result<(), AllocError>
-    ensures { OnOk result (bytes.new.items ≡ bytes.old.items ++ unclear_bytes (amount, cause)) }
+    ensures bytes { OnOk result (bytes.new.items ≡ bytes.old.items ++ unclear_bytes (amount, cause)) }
+    ensures fits { OnOk result (IsUnclear (amount, cause)) }
 {
     put_number(bytes, 6, amount.get())?;
     bytes.extend_from_slice(&[cause_code(cause)])
@@ -82,7 +86,8 @@ fn put_outcome_row(
     receipt: Option<[u8; 2]>,
 ) -> Result<(), AllocError>
     requires { trace ≤ 999999 }
-    ensures { OnOk result (bytes.new.items ≡ bytes.old.items ++ outcome_row kind code trace receipt) }
+    ensures bytes { OnOk result (bytes.new.items ≡ bytes.old.items ++ outcome_row kind code trace receipt) }
+    ensures fits { OnOk result (IsReceipt receipt) }
 {
     bytes.extend_from_slice(&[kind, code])?;
     put_number(bytes, 3, u64::from(trace))?;
@@ -91,7 +96,8 @@ fn put_outcome_row(
 
 /// Writes the last outcome, if there is one.
 fn put_outcome(bytes: &mut Vec<u8>, outcome: Option<Outcome>) -> Result<(), AllocError>
-    ensures { OnOk result (bytes.new.items ≡ bytes.old.items ++ outcome_bytes outcome) }
+    ensures bytes { OnOk result (bytes.new.items ≡ bytes.old.items ++ outcome_bytes outcome) }
+    ensures fits { OnOk result (IsOutcome outcome) }
 {
     match &outcome {
         None => put_outcome_row(bytes, 0, 0, 0, None),
@@ -108,7 +114,8 @@ fn put_outcome(bytes: &mut Vec<u8>, outcome: Option<Outcome>) -> Result<(), Allo
 
 /// Writes that a payment was booked.
 fn put_paid(bytes: &mut Vec<u8>, trace: Trace, receipt: Option<[u8; 2]>) -> Result<(), AllocError>
-    ensures { OnOk result (bytes.new.items ≡ bytes.old.items ++ outcome_row 2 0 trace receipt) }
+    ensures bytes { OnOk result (bytes.new.items ≡ bytes.old.items ++ outcome_row 2 0 trace receipt) }
+    ensures fits { OnOk result (IsOutcome (Some (Outcome.Paid trace receipt))) }
 {
     put_outcome_row(bytes, 2, 0, trace.get(), receipt)
 }
@@ -158,7 +165,10 @@ fn put_counts(bytes: &mut Vec<u8>, booked: usize, unclear: usize) -> Result<(), 
 
 /// Writes what the till was made with, and this last outcome.
 fn put_settings(bytes: &mut Vec<u8>, till: &Till, last: Option<Outcome>) -> Result<(), AllocError>
-    ensures { OnOk result (bytes.new.items ≡ bytes.old.items ++ settings_bytes till.now.state.settings last) }
+    ensures bytes { OnOk result (bytes.new.items ≡ bytes.old.items ++ settings_bytes till.now.state.settings last) }
+    ensures outcome { OnOk result (IsOutcome last) }
+    ensures currency { OnOk result (till.now.state.settings.currency ≤ 9999) }
+    ensures password { OnOk result (length till.now.state.settings.password ≡ 3) }
 {
     put_number(bytes, 2, u64::from(till.currency().get()))?;
     put_outcome(bytes, last)?;
@@ -168,7 +178,8 @@ fn put_settings(bytes: &mut Vec<u8>, till: &Till, last: Option<Outcome>) -> Resu
 
 /// Writes the rows of a book.
 fn put_book(bytes: &mut Vec<u8>, book: &[Entry]) -> Result<(), AllocError>
-    ensures { OnOk result (bytes.new.items ≡ bytes.old.items ++ flat_map entry_bytes book.now) }
+    ensures bytes { OnOk result (bytes.new.items ≡ bytes.old.items ++ flat_map entry_bytes book.now) }
+    ensures fit { OnOk result (All IsEntry book.now) }
 {
     'rows: for entry in book {
         put_entry(bytes, entry)?;
@@ -178,7 +189,8 @@ fn put_book(bytes: &mut Vec<u8>, book: &[Entry]) -> Result<(), AllocError>
 
 /// Writes unclear payments.
 fn put_rows(bytes: &mut Vec<u8>, rows: &[(Amount, Cause)]) -> Result<(), AllocError>
-    ensures { OnOk result (bytes.new.items ≡ bytes.old.items ++ flat_map unclear_bytes rows.now) }
+    ensures bytes { OnOk result (bytes.new.items ≡ bytes.old.items ++ flat_map unclear_bytes rows.now) }
+    ensures fit { OnOk result (All IsUnclear rows.now) }
 {
     'rows: for row in rows {
         put_unclear(bytes, row.0, row.1)?;
@@ -188,7 +200,8 @@ fn put_rows(bytes: &mut Vec<u8>, rows: &[(Amount, Cause)]) -> Result<(), AllocEr
 
 /// Writes the row of a payment that is open when the line is lost.
 fn put_open(bytes: &mut Vec<u8>, left: Option<Amount>) -> Result<(), AllocError>
-    ensures { OnOk result (bytes.new.items ≡ bytes.old.items ++ flat_map unclear_bytes (open_rows left)) }
+    ensures bytes { OnOk result (bytes.new.items ≡ bytes.old.items ++ flat_map unclear_bytes (open_rows left)) }
+    ensures fit { OnOk result (All IsUnclear (open_rows left)) }
 {
     match &left {
         None => Ok(()),
@@ -209,8 +222,11 @@ fn rows_left(left: Option<Amount>) -> usize
 
 /// Writes the header and the rows of the till after its line was lost.
 fn put_body(bytes: &mut Vec<u8>, till: &Till) -> Result<(), AllocError>
-    ensures { OnOk result (bytes.new.items ≡ bytes.old.items ++ body_bytes (step till.now.state Happening.Lost)) }
+    ensures bytes { OnOk result (bytes.new.items ≡ bytes.old.items ++ body_bytes (step till.now.state Happening.Lost)) }
+    ensures kept { OnOk result (IsKept (step till.now.state Happening.Lost)) }
 {
+    // by this law the rows are some that a till can have
+    till.can_be_restored();
     let settled = settle(till);
     let unclear = till.unclear().len() + rows_left(settled.left);
     put_counts(bytes, till.book().len(), unclear)?;
@@ -230,9 +246,10 @@ fn put_sums(bytes: &mut Vec<u8>) -> Result<(), AllocError>
 }
 
 /// The bytes that the till is saved in, at any moment: those of the till after its line was lost, so a payment that runs
-/// is unclear in them. The only error is want of memory.
+/// is unclear in them. That state is one that `load` takes. The only error is want of memory.
 pub fn save(alloc: Global, till: &Till) -> Result<Vec<u8>, AllocError>
-    ensures { IfOk result (λ bytes. bytes.items ≡ saved (step till.now.state Happening.Lost)) }
+    ensures bytes { IfOk result (λ bytes. bytes.items ≡ saved (step till.now.state Happening.Lost)) }
+    ensures kept { OnOk result (IsKept (step till.now.state Happening.Lost)) }
 {
     let mut bytes = Vec::new(alloc);
     put_body(&mut bytes, till)?;

@@ -34,14 +34,14 @@ CanEnd (Reverse e) booked unclear spare = e < booked
 CanEnd CloseDay booked unclear spare = Unit {0}
 CanEnd Cancel booked unclear spare = Unit {0}
 
+abbrev pub CanEndRunning : Option Running → ℕ → ℕ → ℕ → Type 0
+CanEndRunning None booked unclear spare = Unit {0}
+CanEndRunning (Some r) booked unclear spare = CanEnd r.order booked unclear spare
+
 -- the book can take how an order ended: the trace number of a payment is that of no entry
 abbrev pub CanBook : Outcome → List Entry → Type 0
 CanBook (Paid trace receipt) book = trace_used trace book ≡ false
 CanBook _ book = Unit {0}
-
-abbrev pub CanEndRunning : Option Running → ℕ → ℕ → ℕ → Type 0
-CanEndRunning None booked unclear spare = Unit {0}
-CanEndRunning (Some r) booked unclear spare = CanEnd r.order booked unclear spare
 
 -- the places that an order may take: a payment one, in the book or among those that are unclear
 abbrev pub claimed_by : Order → ℕ
