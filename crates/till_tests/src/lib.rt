@@ -1,4 +1,4 @@
-//! The tests of the two ends of a line: of the till, and of the simulated terminal.
+//! The tests of the two ends of a line: of the till and what it is saved in, and of the simulated terminal.
 #![tactic(auto)]
 
 #[cfg(test)]
@@ -11,6 +11,8 @@ mod order_runs;
 mod orders;
 #[cfg(test)]
 mod replays;
+#[cfg(test)]
+mod saving;
 #[cfg(test)]
 mod serving;
 #[cfg(test)]
