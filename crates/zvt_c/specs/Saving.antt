@@ -1,8 +1,8 @@
 -- What is saved of a handle, and what is loaded behind one.
-use Rattle.std.specs.Prelude.{◌≡◌, ◌⊎◌, ℕ, List, length, Option, Some, None}
-use Rattle.zvt_save.specs.Saved.{saved}
+use Rattle.std.specs.Prelude.{◌≡◌, ◌⊎◌, ℕ, List, length, Option, Some, None, option_map}
+use Rattle.zvt_save.specs.Saved.{saved, IsKept}
 use Rattle.zvt_stream.specs.StreamState.{at_start}
-use Rattle.zvt_till.specs.Till.{step}
+use Rattle.zvt_till.specs.Till.{TillState, step}
 use Rattle.zvt_till.specs.declared.happenings.Happening.TheVariants.{Lost}
 use Rattle.zvt_c.specs.declared.answer.ZvtAnswer.{ZvtAnswer}
 use Rattle.zvt_c.specs.declared.end.End.{End}
@@ -15,13 +15,18 @@ Written bytes size before after = (size ≡ length bytes) × Writes bytes before
 abbrev pub bare : ℕ → ZvtAnswer
 bare status = record { size = 0; place = 0; reason = 0; status = status }
 
--- The bytes of the till after its line was lost; or nothing, where the handle is closed or memory was refused.
+-- The bytes of the till after its line was lost, which can be loaded; or nothing, where the handle is closed or memory was refused.
 abbrev pub Saves : Option End → (room_before room_after : List ℕ) → ZvtAnswer → Type 0
 Saves None before after answer = (after ≡ before) × (answer ≡ bare 6)
 Saves (Some end) before after answer =
-    ((answer.status ≡ 0) × Written (saved (step end.till.state Lost)) answer.size before after) ⊎ ((after ≡ before) × (answer ≡ bare 3))
+    ((answer.status ≡ 0) × Written (saved (step end.till.state Lost)) answer.size before after × IsKept (step end.till.state Lost)) ⊎ ((after ≡ before) × (answer ≡ bare 3))
 
 -- A till that is saved in these bytes, and a stream at the start of its line.
 abbrev pub Loads : List ℕ → Option End → Type 0
 Loads bytes None = ⊥
 Loads bytes (Some end) = (bytes ≡ saved (step end.till.state Lost)) × (end.stream ≡ at_start)
+
+-- Bytes that were saved of a till are taken for that till, or memory is refused.
+abbrev pub Restores : List ℕ → (after : Option End) → (status : ℕ) → Type 0
+Restores bytes after status =
+    (state : TillState) → IsKept state → bytes ≡ saved state → ((status ≡ 0) × (option_map (λ end. end.till.state) after ≡ Some state)) ⊎ (status ≡ 3)

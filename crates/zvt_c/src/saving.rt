@@ -1,7 +1,7 @@
 //! A till that outlives its process.
 ghost use Rattle.std.specs.Prelude.{◌≡◌, IfSome, IfNone, None, length, MatchOption, ◌≤◌};
-ghost use Rattle.zvt_c.specs.Saving.{Loads, Saves, Written};
-ghost use Rattle.zvt_save.specs.Saved.{saved};
+ghost use Rattle.zvt_c.specs.Saving.{Loads, Restores, Saves, Written};
+ghost use Rattle.zvt_save.specs.Saved.{saved, IsKept};
 ghost use Rattle.zvt_till.specs.Till.{step};
 
 use crate::answer::{ZvtAnswer, bare};
@@ -14,7 +14,7 @@ use zvt_till::{Happening, Till};
 
 /// Writes what a till is saved in where it fits, and answers its size, or None where memory was refused.
 fn write_saved(alloc: Global, till: &Till, room: &mut [u8]) -> Option<usize>
-    ensures some { IfSome result (λ size. Written (saved (step till.now.state Happening.Lost)) size room.old room.new) }
+    ensures some { IfSome result (λ size. Written (saved (step till.now.state Happening.Lost)) size room.old room.new × IsKept (step till.now.state Happening.Lost)) }
     ensures none { IfNone result (room.new ≡ room.old) }
 {
     let Ok(bytes) = save(alloc, till) else {
@@ -60,6 +60,7 @@ pub extern "C" fn zvt_till_save(
 #[unsafe(no_mangle)]
 pub extern "C" fn zvt_till_load(alloc: Global, till: &mut ZvtTill, bytes: &[u8]) -> u32
     ensures made { result ≡ 0 → Loads bytes.now till.new.shell.held }
+    ensures restores { Restores bytes.now till.new.shell.held result }
     ensures unchanged { (result ≡ 0 → ⊥) → till.new.shell.held ≡ till.old.shell.held }
 {
     let loaded = match load(alloc, bytes) {
