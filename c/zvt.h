@@ -107,7 +107,7 @@ typedef struct zvt_entry {
 /* The room that `out` is to have. */
 #define ZVT_ROOM 32
 /* The room for a print line that holds each, in whatever character set the terminal writes. */
-#define ZVT_LINE 65534
+#define ZVT_LINE_ROOM 65534
 
 /* The password is a number of up to six digits, the currency one of ISO 4217 (978); 0xBE is a usual config byte. A till
  * that was there is freed; where the answer is not 0 the handle is as it was. */

@@ -102,7 +102,7 @@ private:
         return entries;
     }
     zvt_till handle{};
-    std::vector<uint8_t> line = std::vector<uint8_t>(ZVT_LINE);
+    std::vector<uint8_t> line = std::vector<uint8_t>(ZVT_LINE_ROOM);
 };
 
 }

@@ -15,7 +15,7 @@ import select
 import socket
 from typing import NamedTuple, Optional
 
-ROOM, LINE = 8 * 32, 65534
+ROOM, LINE_ROOM = 8 * 32, 65534
 
 
 class Order(enum.IntEnum):
@@ -152,7 +152,7 @@ class Till:
             function.argtypes, function.restype = types, c.c_uint32
         self._library.zvt_till_free.restype = self._library.zvt_till_save.restype = None
         self._handle, self._step = _Handle(), _Step()
-        self._out, self._text = c.create_string_buffer(ROOM), c.create_string_buffer(LINE)
+        self._out, self._text = c.create_string_buffer(ROOM), c.create_string_buffer(LINE_ROOM)
         self._keep, self._print_line, self._line = keep, print_line, None
         self._call("new", password, config, currency)
 
@@ -263,7 +263,7 @@ class Till:
         ended = None
         while piece:
             status = self._library.zvt_till_feed_all(
-                c.byref(self._handle), piece, len(piece), self._out, ROOM, self._text, LINE, c.byref(self._step))
+                c.byref(self._handle), piece, len(piece), self._out, ROOM, self._text, LINE_ROOM, c.byref(self._step))
             ended = self._ended() or ended
             if self._step.send:
                 self._send(self._out.raw[:self._step.send])

@@ -6,7 +6,7 @@ use std::ptr::null_mut;
 
 const ROOM: usize = 32;
 /// The room that holds each print line.
-const LINE: usize = 65_534;
+const LINE_ROOM: usize = 65_534;
 
 #[repr(C)]
 struct Handle {
@@ -346,12 +346,12 @@ impl Till {
 
     /// Takes all that the terminal sent, up to bytes that are no message.
     pub fn feed(&mut self, piece: &[u8]) -> Result<Reply, Refused> {
-        let (mut reply, mut line) = (Reply::default(), vec![0; LINE]);
+        let (mut reply, mut line) = (Reply::default(), vec![0; LINE_ROOM]);
         while reply.taken < piece.len() && reply.stop.is_none() {
             let (mut out, mut step) = ([0; 8 * ROOM], Step::default());
             let rest = &piece[reply.taken..];
             let (to, room) = (out.as_mut_ptr(), out.len());
-            match unsafe { zvt_till_feed_all(&mut self.handle, rest.as_ptr(), rest.len(), to, room, line.as_mut_ptr(), LINE, &mut step) } {
+            match unsafe { zvt_till_feed_all(&mut self.handle, rest.as_ptr(), rest.len(), to, room, line.as_mut_ptr(), LINE_ROOM, &mut step) } {
                 REFUSED => reply.stop = Some(Stop::Malformed),
                 NO_MEMORY => reply.stop = Some(Stop::NoMemory),
                 status => checked(status)?,

@@ -90,7 +90,12 @@ fn asked(rt: &HostRuntime) -> Work
         match word.as_str() {
             "replay" => asked.orders = false,
             "orders" => asked.replay = false,
-            "scan" => asked = Work { replay: false, orders: false, scan: true, ..asked },
+            "scan" => asked = Work {
+                replay: false,
+                orders: false,
+                scan: true,
+                ..asked
+            },
             other => {
                 if let Ok(number) = other.parse::<u32>() {
                     asked.payments = number;
@@ -103,11 +108,11 @@ fn asked(rt: &HostRuntime) -> Work
 }
 
 /// How many of so many readings of a short message find it whole.
-fn scanned(alloc: Global, times: u32) -> Result<u32, AllocError> {
-    let mut whole = 0;
+fn scanned(alloc: Global, times: u32) -> Result<u64, AllocError> {
+    let mut whole = 0u64;
     for _ in 0..times {
         if let Scan::Whole((_, 13)) = scan(alloc, &AUTHORISATION)? {
-            whole += 1;
+            whole = whole.saturating_add(1);
         }
     }
     Ok(whole)
