@@ -18,3 +18,4 @@ pub mod JudgedFeeds
 pub mod PassLemmas
 pub mod RunLemmas
 pub mod WholeFirst
+pub mod WholeFields

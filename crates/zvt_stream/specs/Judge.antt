@@ -2,6 +2,7 @@
 use Rattle.std.specs.Prelude.{◌≡◌, ℕ, ◌+◌, ◌<◌, ◌≤◌, suc, zero, Option, Some, None, Result, Ok, Err, List, [], ◌∷◌, ◌++◌, length, take}
 use Rattle.zvt_spelling.specs.declared.why.Why.{Why}
 use Rattle.zvt_spelling.specs.Reading.{Reading, shortest, AreBytes}
+use Rattle.zvt_field.specs.Grammar.{Field, FieldList}
 use Rattle.zvt_apdu.specs.Message.{Message}
 use Rattle.zvt_apdu.specs.Grammar.{Spells}
 use Rattle.zvt_tlv.specs.Judging.{Opener}
@@ -38,6 +39,10 @@ IsJudge judge = (bytes : List ℕ) × StandsFor judge bytes
 
 abbrev pub IsMessageIn : Reading → List ℕ → Type 0
 IsMessageIn r bytes = (message : Message) × Spells r message bytes
+
+-- The bytes are fields.
+abbrev pub HoldsFields : Reading → List ℕ → Type 0
+HoldsFields r bytes = (fields : List Field) × FieldList r fields bytes
 
 abbrev pub IsMessage : List ℕ → Type 0
 IsMessage = IsMessageIn shortest

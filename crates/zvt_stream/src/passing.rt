@@ -1,14 +1,17 @@
 //! Bytes that are judged at once.
 
-ghost use Rattle.std.specs.Prelude.{◌≡◌, ◌<◌, ◌≤◌, List, ℕ, ◌++◌, length, take, IfSome};
+ghost use Rattle.std.specs.Prelude.{◌≡◌, ◌<◌, ◌≤◌, List, [], ℕ, ◌++◌, length, take, true, IfSome};
 ghost use Rattle.zvt_bcd.specs.Digits.{AreDigits};
 ghost use Rattle.zvt_spelling.specs.Reading.{Reading};
 ghost use Rattle.zvt_tlv.specs.Lengths.{reading_of};
-ghost use Rattle.zvt_stream.specs.Judge.{StandsFor, IsMessageIn, Passes, PassesOver};
+ghost use Rattle.zvt_field.specs.Grammar.{IsHead};
+ghost use Rattle.zvt_field.specs.Shapes.{shape_of};
+ghost use Rattle.zvt_stream.specs.Judge.{StandsFor, HoldsFields, IsMessageIn, Passes, PassesOver};
 ghost use Rattle.zvt_stream.specs.Moves.{IsReady};
 
 use crate::moves::{At, Move, judge_field};
 use zvt_apdu::judge_size;
+use zvt_field::{Shape, shape};
 use zvt_tlv::Lengths;
 
 /// What bytes that end nothing lead to, and how many they are.
@@ -19,7 +22,8 @@ pub(crate) struct Passed {
     pub(crate) count: usize,
 }
 
-/// The size of the message that stands first, where none of it was judged, and no fields stand in it.
+/// The size of the message that stands first, where none of it was judged and all of it is there: one without fields, or
+/// one of fields of fixed sizes alone.
 #[inline(always)]
 pub(crate) fn whole_first(at: At, bytes: &[u8]) -> Option<usize>
     ensures few { IfSome result (λ size. (0 < size) × (size ≤ length bytes.now)) }
@@ -38,10 +42,57 @@ pub(crate) fn whole_first(at: At, bytes: &[u8]) -> Option<usize>
     let Ok(layout) = judge_size(*high, *low, size) else {
         return None;
     };
-    if size > 0 && layout.fields {
+    if layout.fields && (layout.free + layout.digits > 0 || !are_fields(&rest[..size])) {
         return None;
     }
     Some(3 + size)
+}
+
+/// Whether the bytes are fields of fixed sizes.
+#[inline(always)]
+fn are_fields(bytes: &[u8]) -> bool
+    ensures { result ≡ true → (r : Reading) → HoldsFields r bytes.now }
+{
+    let mut rest = bytes;
+    'fields: while !rest.is_empty() {
+        let Some(behind) = behind_field(rest) else {
+            return false;
+        };
+        rest = behind;
+    }
+    true
+}
+
+/// What stands behind the first field, where that has a fixed size and all of it is there.
+#[inline(always)]
+fn behind_field(bytes: &[u8]) -> Option<&[u8]>
+    ensures shorter { IfSome result (λ behind. length behind.now < length bytes.now) }
+    ensures fields { IfSome result (λ behind. (r : Reading) → HoldsFields r behind.now → HoldsFields r bytes.now) }
+{
+    let [name, after @ ..] = bytes else {
+        return None;
+    };
+    let (size, digits) = fixed(*name)?;
+    if after.len() < size {
+        return None;
+    }
+    let (content, behind) = after.split_at(size);
+    if digits && digits_first(content) < size {
+        return None;
+    }
+    Some(behind)
+}
+
+/// The size of the content of that name, where it is fixed, and whether that is digits.
+#[inline(always)]
+fn fixed(name: u8) -> Option<(usize, bool)>
+    ensures { IfSome result (λ head. IsHead (shape_of name) head.1 head.0 []) }
+{
+    match shape(name)? {
+        Shape::Fixed(size) => Some((size, false)),
+        Shape::Digits(size) => Some((size, true)),
+        _ => None,
+    }
 }
 
 /// The bytes at the front that end nothing and need no step of their own: none where there is no such byte.
