@@ -1,9 +1,9 @@
 -- Bytes without tests, taken at once.
-use Rattle.std.proofs.Common.{◌≡◌, ◌≢◌, ℕ, ◌+◌, ◌-◌, ◌<◌, ◌≤◌, Bool, true, false, Option, Some, None, IfSome, Ok, List, [], ◌∷◌, ◌++◌, length, take, drop, get_or, length-drop, refl, sym, ◌∙◌, ap, subst, append_assoc, arith, suc}
+use Rattle.std.proofs.Common.{◌≡◌, ◌≢◌, ℕ, ◌+◌, ◌-◌, ◌<◌, ◌≤◌, Bool, true, false, Option, Some, None, IfSome, Ok, List, [], ◌∷◌, ◌++◌, length, take, drop, get_or, refl, sym, ◌∙◌, ap, subst, append_assoc, arith, suc}
 use Rattle.std.proofs.lemmas.List.{append-nil, length-take-le, take-take, take_rest}
 use Rattle.std.proofs.Math.Seq.{take-add}
 use Rattle.zvt_tlv.proofs.Spelling.{from}
-use Rattle.std.proofs.lemmas.List.Elements.{All-head, All-tail}
+use Rattle.std.proofs.lemmas.List.Elements.{All-head, All-tail, All-take}
 use Rattle.zvt_spelling.specs.Reading.{Reading, AreBytes}
 use Rattle.zvt_spelling.specs.declared.why.Why.TheVariants.{NotDigit}
 use Rattle.zvt_spelling.specs.Tests.{check}
@@ -134,29 +134,31 @@ content_all r digits (x ∷ y ∷ s) more left less outer b are some m e behind 
     let next = one_more r (stage.Content digits more) (stage.Content digits (more - 1)) left (left - 1) x outer b t.0 h (content_within r digits more left (depth_of outer) x t.0 t.1 ne outer b refl h.stands) in
     subst (λ (t : List ℕ). Stands r stage.Name less outer t) (append_assoc b (x ∷ []) (y ∷ s)) (content_all r digits (y ∷ s) (more - 1) (left - 1) less outer (b ++ x ∷ []) t.2 (omega (arith, m)) (omega (arith, m)) (omega (arith, e)) behind next)
 
--- a whole field, and another one behind it
-pub field_passed : (r : Reading) (digits : Bool) (more left within name : ℕ) (content : List ℕ) → name < 256 → IsContent digits content → length content ≡ more → 0 < within - more
-    → ((depth : ℕ) → one.Judges r stage.Name left depth name (Ok (Within (stage.Content digits more) within)))
-    → Passes r stage.Name left stage.Name (within - more) (name ∷ content)
-field_passed r digits more left within name content lt are sized behind judged outer b h =
-    let first = one_more r stage.Name (stage.Content digits more) left within name outer b lt h (judged (depth_of outer) outer b refl h.stands) in
-    let room = first.stands.1 in
-    subst (λ (t : List ℕ). Stands r stage.Name (within - more) outer t) (append_assoc b (name ∷ []) content)
-    (content_all r digits content more within (within - more) outer (b ++ name ∷ []) are room.0 (sym sized) (omega (arith, behind, sized)) behind first)
+-- nothing
+pub none_passed : (r : Reading) (at : At) (left : ℕ) → Passes r at left at left []
+none_passed r at left outer b h = subst (λ (t : List ℕ). Stands r at left outer t) (sym (append-nil b)) h
 
--- a field at the front
-first_and_more : (more : ℕ) (bytes : List ℕ) → more < length bytes → take (1 + more) bytes ≡ get_or bytes 0 0 ∷ take more (drop 1 bytes)
-first_and_more more [] le = absurd (omega (arith, le))
-first_and_more more (x ∷ bytes) le =
-    let next : 1 + more ≡ suc more = omega arith in
-    ap (λ (n : ℕ). take n (x ∷ bytes)) next
+-- a whole content, and another field behind it
+pub content_behind : (r : Reading) (digits : Bool) (more left count : ℕ) (bytes : List ℕ) → 0 < more → count ≡ more → count ≤ length bytes → IsContent digits (take count bytes) → 0 < left - more
+    → Passes r (stage.Content digits more) left stage.Name (left - more) (take count bytes)
+content_behind r digits more left count bytes some all within are behind outer b h =
+    let sized = length-take-le count bytes within in
+    content_all r digits (take count bytes) more left (left - more) outer b are some (omega (arith, all, sized)) (omega (arith, behind, all, sized)) behind h
 
-pub field_front : (r : Reading) (digits : Bool) (more left within : ℕ) (bytes : List ℕ) → more < length bytes → ((i : ℕ) → get_or bytes i 0 < 256) → IsContent digits (take more (drop 1 bytes)) → 0 < within - more
+-- a front of what is a content's
+pub content_shorter : (digits : Bool) (count all : ℕ) (bytes : List ℕ) → count ≤ all → IsContent digits (take all bytes) → IsContent digits (take count bytes)
+content_shorter true count all bytes le are = subst AreDigits (take-take count all bytes le) (All-take IsDigitPair count (take all bytes) are)
+content_shorter false count all bytes le are = subst AreBytes (take-take count all bytes le) (take_bytes count (take all bytes) are)
+
+-- a name, and bytes of the content behind it
+pub name_passed : (r : Reading) (digits : Bool) (more left within count less : ℕ) (to : At) (bytes : List ℕ) → 1 ≤ length bytes → ((i : ℕ) → get_or bytes i 0 < 256)
     → ((depth : ℕ) → one.Judges r stage.Name left depth (get_or bytes 0 0) (Ok (Within (stage.Content digits more) within)))
-    → Passes r stage.Name left stage.Name (within - more) (take (1 + more) bytes)
-field_front r digits more left within bytes le are content behind judged =
-    subst (Passes r stage.Name left stage.Name (within - more)) (sym (first_and_more more bytes le))
-    (field_passed r digits more left within (get_or bytes 0 0) (take more (drop 1 bytes)) (are 0) content (length-take-le more (drop 1 bytes) (rw (length-drop 1 bytes) (omega (arith, le)))) behind judged)
+    → Passes r (stage.Content digits more) within to less (take count (drop 1 bytes)) → Passes r stage.Name left to less (take (1 + count) bytes)
+name_passed r digits more left within count less to [] some are judged behind outer b h = absurd (omega (arith, some))
+name_passed r digits more left within count less to (x ∷ bytes) some are judged behind outer b h =
+    let first = one_more r stage.Name (stage.Content digits more) left within x outer b (are 0) h (judged (depth_of outer) outer b refl h.stands) in
+    let next : 1 + count ≡ suc count = omega arith in
+    subst (λ (t : List ℕ). Stands r to less outer t) (append_assoc b (x ∷ []) (take count bytes) ∙ ap (λ (n : ℕ). b ++ take n (x ∷ bytes)) (sym next)) (behind outer (b ++ x ∷ []) first)
 
 -- all of a content is digits, or needs to be none
 pub digits_all : (digits : Bool) (count size more : ℕ) (bytes : List ℕ) → digits ≡ true → size ≡ more → count ≡ more → AreDigits (take count (take size bytes)) → IsContent digits (take more bytes)

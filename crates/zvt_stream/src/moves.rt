@@ -1,6 +1,6 @@
 //! What one byte leads to.
 
-ghost use Rattle.std.specs.Prelude.{◌≡◌, ℕ, ◌+◌, ◌<◌, ◌≤◌, ◌^◌, List, Ok, Err};
+ghost use Rattle.std.specs.Prelude.{◌≡◌, ℕ, ◌+◌, ◌<◌, ◌≤◌, ◌^◌, Bool, List, Ok, Err};
 ghost use Rattle.zvt_spelling.specs.Reading.{Reading};
 ghost use Rattle.zvt_tlv.specs.Lengths.{reading_of};
 ghost use Rattle.zvt_stream.specs.Moves.{BeginsData, IsReady, Judges};
@@ -195,7 +195,8 @@ fn judge_head(free: usize, digits: usize, left: usize, byte: u8) -> Result<Move,
 #[inline(always)]
 pub(crate) fn judge_field(left: usize, byte: u8, lengths: Lengths) -> Result<Move, Why>
     requires { 2 ≤ left }
-    ensures { (depth : ℕ) → Judges (reading_of lengths) At.Name left depth byte result }
+    ensures judged { (depth : ℕ) → Judges (reading_of lengths) At.Name left depth byte result }
+    ensures room { (digits : Bool) (more within : ℕ) → result ≡ Ok (Move.Within (At.Content digits more) within) → (0 < more) × (more ≤ within) }
 {
     let shape = judge_name(left - 1, byte, lengths)?;
     let left = left - 1;

@@ -4,7 +4,7 @@ ghost use Rattle.std.specs.Prelude.{◌≡◌, ◌<◌, ◌≤◌, List, [], ℕ
 ghost use Rattle.zvt_bcd.specs.Digits.{AreDigits};
 ghost use Rattle.zvt_spelling.specs.Reading.{Reading};
 ghost use Rattle.zvt_tlv.specs.Lengths.{reading_of};
-ghost use Rattle.zvt_field.specs.Grammar.{IsHead};
+ghost use Rattle.zvt_field.specs.Grammar.{IsContent, IsHead};
 ghost use Rattle.zvt_field.specs.Shapes.{shape_of};
 ghost use Rattle.zvt_stream.specs.Judge.{StandsFor, HoldsFields, IsMessageIn, Passes, PassesOver};
 ghost use Rattle.zvt_stream.specs.Moves.{IsReady};
@@ -102,9 +102,9 @@ pub(crate) fn pass(at: At, left: usize, bytes: &[u8], lengths: Lengths) -> Optio
 {
     match at {
         At::FirstControl => pass_control(left, bytes),
-        At::Name => pass_fields(left, bytes, lengths),
+        At::Name => Some(pass_fields(left, bytes, lengths)),
         At::Payload => pass_payload(left, bytes.len()),
-        At::Content { digits, more } => pass_content(digits, more, left, bytes),
+        At::Content { digits, more } => Some(pass_from_content(digits, more, left, bytes, lengths)),
         At::Object { more } => pass_object(more, left, bytes.len()),
         _ => None,
     }
@@ -127,25 +127,38 @@ fn pass_control(left: usize, bytes: &[u8]) -> Option<Passed>
     }
 }
 
-/// Whole fields of fixed sizes, each but the last of its level.
-fn pass_fields(left: usize, bytes: &[u8], lengths: Lengths) -> Option<Passed>
+/// Fields of fixed sizes, and the front of one, but the last byte of their level.
+fn pass_fields(left: usize, bytes: &[u8], lengths: Lengths) -> Passed
     requires { 2 ≤ left }
-    ensures { IfSome result (λ passed. (passed.count ≤ length bytes.now) × Passes (reading_of lengths) At.Name left passed.at passed.left (take passed.count bytes.now)) }
+    ensures { (result.count ≤ length bytes.now) × Passes (reading_of lengths) At.Name left result.at result.left (take result.count bytes.now) }
 {
-    let mut passed = pass_field(left, bytes, lengths)?;
-    'fields: while let Some(next) = pass_field(passed.left, &bytes[passed.count..], lengths) {
-        passed.left = next.left;
-        passed.count += next.count;
+    let mut passed = Passed {
+        at: At::Name,
+        left,
+        count: 0,
+    };
+    'fields: while let At::Name = passed.at {
+        let Some(next) = pass_field(passed.left, &bytes[passed.count..], lengths) else {
+            return passed;
+        };
+        passed = Passed {
+            at: next.at,
+            left: next.left,
+            count: passed.count + next.count,
+        };
     }
-    Some(passed)
+    passed
 }
 
-/// The field that stands first, where all of it is there, its size is fixed, and another one follows it in its level.
+/// The name of a field of a fixed size, and its content as far as that can be passed.
+#[inline(always)]
 fn pass_field(left: usize, bytes: &[u8], lengths: Lengths) -> Option<Passed>
     requires { 2 ≤ left }
-    ensures { IfSome result (λ passed. (passed.at ≡ At.Name) × (2 ≤ passed.left) × (0 < passed.count) × (passed.count ≤ length bytes.now) × Passes (reading_of lengths) At.Name left At.Name passed.left (take passed.count bytes.now)) }
+    ensures some { IfSome result (λ passed. (0 < passed.count) × (passed.count ≤ length bytes.now)) }
+    ensures ready { IfSome result (λ passed. IsReady passed.at passed.left) }
+    ensures passes { IfSome result (λ passed. Passes (reading_of lengths) At.Name left passed.at passed.left (take passed.count bytes.now)) }
 {
-    let [name, ..] = bytes else {
+    let [name, behind @ ..] = bytes else {
         return None;
     };
     let Ok(
@@ -157,18 +170,36 @@ fn pass_field(left: usize, bytes: &[u8], lengths: Lengths) -> Option<Passed>
     else {
         return None;
     };
-    let after = within.checked_sub(more)?;
-    if after < 2 || bytes.len() <= more {
-        return None;
-    }
-    if digits && digits_first(&bytes[1..1 + more]) < more {
-        return None;
-    }
+    let content = pass_content(digits, more, within, behind);
     Some(Passed {
-        at: At::Name,
-        left: after,
-        count: 1 + more,
+        at: content.at,
+        left: content.left,
+        count: 1 + content.count,
     })
+}
+
+/// The bytes of a content, and fields behind it.
+fn pass_from_content(
+    digits: bool,
+    more: usize,
+    left: usize,
+    bytes: &[u8],
+    lengths: Lengths,
+) -> Passed
+    requires some { 0 < more }
+    requires room { more ≤ left }
+    ensures { (result.count ≤ length bytes.now) × Passes (reading_of lengths) (At.Content digits more) left result.at result.left (take result.count bytes.now) }
+{
+    let content = pass_content(digits, more, left, bytes);
+    let At::Name = content.at else {
+        return content;
+    };
+    let fields = pass_fields(content.left, &bytes[content.count..], lengths);
+    Passed {
+        at: fields.at,
+        left: fields.left,
+        count: content.count + fields.count,
+    }
 }
 
 fn pass_payload(left: usize, most: usize) -> Option<Passed>
@@ -186,29 +217,46 @@ fn pass_payload(left: usize, most: usize) -> Option<Passed>
     })
 }
 
-/// Bytes of a content but its last one: of digits, those up to the first byte that is none.
-fn pass_content(digits: bool, more: usize, left: usize, bytes: &[u8]) -> Option<Passed>
+/// Bytes of a content, of digits those up to the first byte that is none; the last one where another field follows.
+#[inline(always)]
+fn pass_content(digits: bool, more: usize, left: usize, bytes: &[u8]) -> Passed
     requires some { 0 < more }
     requires room { more ≤ left }
-    ensures { IfSome result (λ passed. (passed.count ≤ length bytes.now) × ((r : Reading) → Passes r (At.Content digits more) left passed.at passed.left (take passed.count bytes.now))) }
+    ensures few { result.count ≤ length bytes.now }
+    ensures ready { IsReady result.at result.left }
+    ensures passes { (r : Reading) → Passes r (At.Content digits more) left result.at result.left (take result.count bytes.now) }
 {
-    let most = (more - 1).min(bytes.len());
-    let count = if digits {
-        digits_first(&bytes[..most])
-    } else {
-        most
-    };
-    if count == 0 {
-        return None;
+    let count = content_first(digits, more, bytes);
+    if count == more && left - more >= 2 {
+        return Passed {
+            at: At::Name,
+            left: left - more,
+            count,
+        };
     }
-    Some(Passed {
+    let count = count.min(more - 1);
+    Passed {
         at: At::Content {
             digits,
             more: more - count,
         },
         left: left - count,
         count,
-    })
+    }
+}
+
+/// How many bytes of such a content stand at the front: of digits, those before the first byte that is none.
+#[inline(always)]
+fn content_first(digits: bool, more: usize, bytes: &[u8]) -> usize
+    ensures few { (result ≤ more) × (result ≤ length bytes.now) }
+    ensures content { IsContent digits (take result bytes.now) }
+{
+    let most = more.min(bytes.len());
+    if digits {
+        digits_first(&bytes[..most])
+    } else {
+        most
+    }
 }
 
 /// How many bytes at the front are two digits each.

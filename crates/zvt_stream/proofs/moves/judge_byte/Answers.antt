@@ -15,7 +15,7 @@ pub returns-in-Head : goal.returns-in-Head
 returns-in-Head c = rw c.in-Head.is (c.judge_head.ensures (reading_of c.args.lengths) c.args.depth)
 
 pub returns-in-Name : goal.returns-in-Name
-returns-in-Name c = rw c.in-Name.is (c.judge_field.ensures c.args.depth)
+returns-in-Name c = rw c.in-Name.is (c.judge_field.ensures.judged c.args.depth)
 
 pub returns-in-Digit : goal.returns-in-Digit
 returns-in-Digit c = rw c.in-Digit.is (c.judge_count.ensures (reading_of c.args.lengths) c.args.depth)

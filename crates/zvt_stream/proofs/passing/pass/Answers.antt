@@ -11,7 +11,7 @@ pub returns-in-Payload : goal.returns-in-Payload
 returns-in-Payload c = rw c.in-Payload.is (front_passes (reading_of c.args.lengths) _ _ _ c.args.bytes.now (are_bytes c.args.bytes.now (λ i. omega (arith, c.type_inv.bytes i))) (passes_over_by (reading_of c.args.lengths) _ _ _ _ c.pass_payload.ensures))
 
 pub returns-in-Content : goal.returns-in-Content
-returns-in-Content c = rw c.in-Content.is (passes_by (reading_of c.args.lengths) _ _ _ _ c.pass_content.ensures)
+returns-in-Content c = rw c.in-Content.is c.pass_from_content.ensures
 
 pub returns-in-Object : goal.returns-in-Object
 returns-in-Object c = rw c.in-Object.is (front_passes (reading_of c.args.lengths) _ _ _ c.args.bytes.now (are_bytes c.args.bytes.now (λ i. omega (arith, c.type_inv.bytes i))) (passes_over_by (reading_of c.args.lengths) _ _ _ _ c.pass_object.ensures))
