@@ -3,7 +3,7 @@ use Rattle.std.proofs.Common.{◌≡◌, ◌≢◌, ◌∙◌, sym, ap, subst, r
 use Rattle.std.specs.Prelude.{IsErr, MatchOption}
 use Rattle.std.proofs.lemmas.Bool.{and_parts, cases_eq, cases_lt, eqb-true}
 use Rattle.std.proofs.lemmas.Bool.Decides.{nat_tests}
-use Rattle.std.proofs.lemmas.List.{drop_more, length-set, take_all, take_more_set}
+use Rattle.std.proofs.lemmas.List.{drop_more, take_all, take_more_set}
 use Rattle.std.proofs.lemmas.Nat.{mul-le}
 use Rattle.hex.specs.Hex.{decode_of, decode_pairs, digit_or_error, hex_digit_value, ◌>>=◌}
 use Rattle.hex.specs.declared.error.FromHexError.{FromHexError}
@@ -207,21 +207,6 @@ read_plain text room count h l fits some dh dl sh sl so =
     let behind : behind_bytes (take (count + 1) (slice_set room count (h * 16 + l))) (spells (without_spaces (drop (n + 1 + 1) text))) ≡ spells (without_spaces text) =
     rw (take_more_set room count (h * 16 + l) fits) (behind_pair (take count room) h l _ ∙ ap (behind_bytes (take count room)) (sym pair) ∙ so) in
     subst (λ (k : ℕ). behind_bytes (take (count + 1) (slice_set room count (h * 16 + l))) (spells (without_spaces (drop k text))) ≡ spells (without_spaces text)) end behind
-
--- two pairs were read that no space stands in
-pub read_four : (text room : List ℕ) (count h l i k : ℕ) → count + 1 < length room → 2 * count + 3 < length text
-    → IsDigit (slice_index text (2 * count)) h → IsDigit (slice_index text (2 * count + 1)) l → h ≤ 15 → l ≤ 15
-    → IsDigit (slice_index text (2 * count + 2)) i → IsDigit (slice_index text (2 * count + 3)) k → i ≤ 15 → k ≤ 15
-    → behind_bytes (take count room) (spells (without_spaces (drop (2 * count) text))) ≡ spells (without_spaces text)
-    → behind_bytes (take (count + 2) (slice_set (slice_set room count (h * 16 + l)) (count + 1) (i * 16 + k))) (spells (without_spaces (drop (2 * (count + 2)) text))) ≡ spells (without_spaces text)
-read_four text room count h l i k fits some dh dl sh sl di dk si sk so =
-    let one = read_plain text room count h l (omega (arith, fits)) (omega (arith, some)) dh dl sh sl so in
-    let next = slice_set room count (h * 16 + l) in
-    let third : 2 * count + 2 ≡ 2 * (count + 1) = omega arith in
-    let fourth : 2 * count + 3 ≡ 2 * (count + 1) + 1 = omega arith in
-    let two = read_plain text next (count + 1) i k (omega (arith, fits, length-set room count (h * 16 + l))) (omega (arith, some)) (subst (λ (n : ℕ). IsDigit (slice_index text n) i) third di) (subst (λ (n : ℕ). IsDigit (slice_index text n) k) fourth dk) si sk one in
-    let end : count + 1 + 1 ≡ count + 2 = omega arith in
-    subst (λ (n : ℕ). behind_bytes (take n (slice_set next (count + 1) (i * 16 + k))) (spells (without_spaces (drop (2 * n) text))) ≡ spells (without_spaces text)) end two
 
 refused : (done text rest : List ℕ) → spells (without_spaces rest) ≡ None
     → behind_bytes done (spells (without_spaces rest)) ≡ spells (without_spaces text) → IsErr (decode_of (without_spaces text))

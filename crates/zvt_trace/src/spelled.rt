@@ -38,7 +38,7 @@ fn read_pairs(text: &[u8], room: &mut [u8]) -> usize
     ensures few { 2 * result ≤ length text.now }
     ensures read { behind_bytes (take result room.new) (spells (without_spaces (drop (2 * result) text.now))) ≡ spells (without_spaces text.now) }
 {
-    let mut count = read_quads(text, room);
+    let mut count = 0;
     while 2 * count + 1 < text.len() {
         let byte = pair(text[2 * count], text[2 * count + 1]);
         if byte > 255 {
@@ -46,28 +46,6 @@ fn read_pairs(text: &[u8], room: &mut [u8]) -> usize
         }
         room[count] = byte as u8;
         count += 1;
-    }
-    count
-}
-
-/// The same, two bytes at a time, while four digits stand there.
-#[inline(always)]
-fn read_quads(text: &[u8], room: &mut [u8]) -> usize
-    requires { length text.now ≤ 2 * length room.old + 1 }
-    ensures few { 2 * result ≤ length text.now }
-    ensures size { length room.new ≡ length room.old }
-    ensures read { behind_bytes (take result room.new) (spells (without_spaces (drop (2 * result) text.now))) ≡ spells (without_spaces text.now) }
-{
-    let mut count = 0;
-    while 2 * count + 3 < text.len() {
-        let first = pair(text[2 * count], text[2 * count + 1]);
-        let second = pair(text[2 * count + 2], text[2 * count + 3]);
-        if first > 255 || second > 255 {
-            return count;
-        }
-        room[count] = first as u8;
-        room[count + 1] = second as u8;
-        count += 2;
     }
     count
 }
