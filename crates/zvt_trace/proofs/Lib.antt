@@ -2,6 +2,7 @@ pub mod EventLemmas
 pub mod InputLemmas
 pub mod LineLemmas
 pub mod PieceLemmas
+pub mod PlainLemmas
 pub mod SidesLemmas
 pub mod SpelledLemmas
 pub mod StartLemmas

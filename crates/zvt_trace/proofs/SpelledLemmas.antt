@@ -1,15 +1,15 @@
 -- Hexadecimal text, pair by pair.
 use Rattle.std.proofs.Common.{◌≡◌, ◌≢◌, ◌∙◌, sym, ap, subst, refl, arith, ℕ, zero, suc, ◌+◌, ◌-◌, ◌*◌, ◌%◌, ◌<◌, Bool, true, false, ◌⊎◌, inl, inr, List, [], ◌∷◌, ◌++◌, length, take, drop, slice_index, slice_set, ◌&&◌, ◌==◌, ◌≤◌, Option, None, Some, Result, Ok, Err, unwrap_or, option_map, append_assoc, append-nil, length-drop}
-use Rattle.std.specs.Prelude.{IsErr, MatchOption}
+use Rattle.std.specs.Prelude.{IsErr, IsSome, MatchOption}
 use Rattle.std.proofs.lemmas.Bool.{and_parts, cases_eq, cases_lt, eqb-true}
 use Rattle.std.proofs.lemmas.Bool.Decides.{nat_tests}
-use Rattle.std.proofs.lemmas.List.{drop_more, take_all, take_more_set}
+use Rattle.std.proofs.lemmas.List.{take_all, take_more, take_more_set}
 use Rattle.std.proofs.lemmas.Nat.{mul-le}
 use Rattle.hex.specs.Hex.{decode_of, decode_pairs, digit_or_error, hex_digit_value, ◌>>=◌}
 use Rattle.hex.specs.declared.error.FromHexError.{FromHexError}
 use Rattle.hex.proofs.HexLemmas.{decode_of-even, decode_of-odd}
 use Rattle.zvt_trace.specs.Meanings.{without_spaces}
-use Rattle.zvt_trace.specs.Spelled.{IsDigit, place, pair_before, spells, behind_bytes}
+use Rattle.zvt_trace.specs.Spelled.{AreHex, IsDigit, place, pair_before, spells, behind_bytes}
 
 -- the bytes of a result
 abbrev pub bytes_in : Result (List ℕ) FromHexError → Option (List ℕ)
@@ -189,24 +189,45 @@ digit_no_space d v h small e = absurd (by d e h)
 kept_one : (x : ℕ) (xs : List ℕ) → x ≢ 32 → without_spaces (x ∷ xs) ≡ x ∷ without_spaces xs
 kept_one x xs other = first_kept (x ∷ xs) (omega arith) other
 
+two_more : (text : List ℕ) (n : ℕ) → n + 1 < length text → take (n + 1 + 1) text ≡ take n text ++ slice_index text n ∷ slice_index text (n + 1) ∷ []
+two_more text n some =
+    take_more text (n + 1) 0 some ∙ ap (λ (t : List ℕ). t ++ slice_index text (n + 1) ∷ []) (take_more text n 0 (omega (arith, some)))
+    ∙ append_assoc (take n text) (slice_index text n ∷ []) (slice_index text (n + 1) ∷ [])
+
+-- the front with one pair more
+pair_more : (text : List ℕ) (count : ℕ) → 2 * count + 1 < length text → take (2 * (count + 1)) text ≡ take (2 * count) text ++ slice_index text (2 * count) ∷ slice_index text (2 * count + 1) ∷ []
+pair_more text count some =
+    let end : 2 * (count + 1) ≡ 2 * count + 1 + 1 = omega arith in
+    ap (λ (k : ℕ). take k text) end ∙ two_more text (2 * count) some
+
 -- a pair was read that no space stands in
-pub read_plain : (text room : List ℕ) (count h l : ℕ) → count < length room → 2 * count + 1 < length text
+pub read_plain : (text room behind : List ℕ) (count h l : ℕ) → count < length room → 2 * count + 1 < length text
     → IsDigit (slice_index text (2 * count)) h → IsDigit (slice_index text (2 * count + 1)) l → h ≤ 15 → l ≤ 15
-    → behind_bytes (take count room) (spells (without_spaces (drop (2 * count) text))) ≡ spells (without_spaces text)
-    → behind_bytes (take (count + 1) (slice_set room count (h * 16 + l))) (spells (without_spaces (drop (2 * (count + 1)) text))) ≡ spells (without_spaces text)
-read_plain text room count h l fits some dh dl sh sl so =
-    let n = 2 * count in
-    let apart : drop n text ≡ slice_index text n ∷ slice_index text (n + 1) ∷ drop (n + 1 + 1) text =
-    drop_more text n 0 (omega (arith, some)) ∙ ap (λ (t : List ℕ). slice_index text n ∷ t) (drop_more text (n + 1) 0 some) in
-    let kept : without_spaces (drop n text) ≡ slice_index text n ∷ slice_index text (n + 1) ∷ without_spaces (drop (n + 1 + 1) text) =
-    ap without_spaces apart ∙ kept_one _ (slice_index text (n + 1) ∷ drop (n + 1 + 1) text) (digit_no_space _ h dh sh)
-    ∙ ap (λ (t : List ℕ). slice_index text n ∷ t) (kept_one _ (drop (n + 1 + 1) text) (digit_no_space _ l dl sl)) in
-    let end : n + 1 + 1 ≡ 2 * (count + 1) = omega arith in
-    let pair : spells (without_spaces (drop n text)) ≡ pair_before (Some h) (Some l) (spells (without_spaces (drop (n + 1 + 1) text))) =
+    → ((more : List ℕ) → behind_bytes (take count room) (spells (without_spaces more)) ≡ spells (without_spaces (take (2 * count) text ++ more)))
+    → behind_bytes (take (count + 1) (slice_set room count (h * 16 + l))) (spells (without_spaces behind)) ≡ spells (without_spaces (take (2 * (count + 1)) text ++ behind))
+read_plain text room behind count h l fits some dh dl sh sl so =
+    let a = slice_index text (2 * count) in
+    let b = slice_index text (2 * count + 1) in
+    let kept : without_spaces (a ∷ b ∷ behind) ≡ a ∷ b ∷ without_spaces behind =
+    kept_one a (b ∷ behind) (digit_no_space a h dh sh) ∙ ap (λ (t : List ℕ). a ∷ t) (kept_one b behind (digit_no_space b l dl sl)) in
+    let pair : spells (without_spaces (a ∷ b ∷ behind)) ≡ pair_before (Some h) (Some l) (spells (without_spaces behind)) =
     ap spells kept ∙ pair_spells _ _ _ ∙ rw (digit_is _ h dh sh, digit_is _ l dl sl) refl in
-    let behind : behind_bytes (take (count + 1) (slice_set room count (h * 16 + l))) (spells (without_spaces (drop (n + 1 + 1) text))) ≡ spells (without_spaces text) =
-    rw (take_more_set room count (h * 16 + l) fits) (behind_pair (take count room) h l _ ∙ ap (behind_bytes (take count room)) (sym pair) ∙ so) in
-    subst (λ (k : ℕ). behind_bytes (take (count + 1) (slice_set room count (h * 16 + l))) (spells (without_spaces (drop k text))) ≡ spells (without_spaces text)) end behind
+    let cut : take (2 * count) text ++ a ∷ b ∷ behind ≡ take (2 * (count + 1)) text ++ behind =
+    sym (ap (λ (t : List ℕ). t ++ behind) (pair_more text count some) ∙ append_assoc (take (2 * count) text) (a ∷ b ∷ []) behind) in
+    rw (take_more_set room count (h * 16 + l) fits) (behind_pair (take count room) h l _ ∙ ap (behind_bytes (take count room)) (sym pair) ∙ so (a ∷ b ∷ behind) ∙ ap (λ (t : List ℕ). spells (without_spaces t)) cut)
+
+is_hex : (d v : ℕ) → IsDigit d v → v ≤ 15 → IsSome (hex_digit_value d)
+is_hex d v h small = rw (digit_is _ v h small) refl
+
+hex_append : (front : List ℕ) (a b : ℕ) → AreHex front → IsSome (hex_digit_value a) → IsSome (hex_digit_value b) → AreHex (front ++ a ∷ b ∷ [])
+hex_append [] a b all is_a is_b = (is_a, (is_b, tt))
+hex_append (x ∷ xs) a b all is_a is_b = (all.0, hex_append xs a b all.1 is_a is_b)
+
+pub hex_more : (text : List ℕ) (count h l : ℕ) → 2 * count + 1 < length text
+    → IsDigit (slice_index text (2 * count)) h → IsDigit (slice_index text (2 * count + 1)) l → h ≤ 15 → l ≤ 15
+    → AreHex (take (2 * count) text) → AreHex (take (2 * (count + 1)) text)
+hex_more text count h l some dh dl sh sl all =
+    rw (pair_more text count some) (hex_append (take (2 * count) text) (slice_index text (2 * count)) (slice_index text (2 * count + 1)) all (is_hex (slice_index text (2 * count)) h dh sh) (is_hex (slice_index text (2 * count + 1)) l dl sl))
 
 refused : (done text rest : List ℕ) → spells (without_spaces rest) ≡ None
     → behind_bytes done (spells (without_spaces rest)) ≡ spells (without_spaces text) → IsErr (decode_of (without_spaces text))

@@ -1,10 +1,13 @@
 -- What one line of a trace means.
-use Rattle.std.specs.Prelude.{ℕ, not, ◌==◌, ◌&&◌, List, [], ◌∷◌, length, if◌then◌else◌, Result, Ok, Err}
+use Rattle.std.specs.Prelude.{⊤, ℕ, not, ◌≡◌, ◌<◌, ◌≤◌, ◌+◌, ◌==◌, ◌&&◌, List, [], ◌∷◌, length, if◌then◌else◌, Result, Ok, Err}
 use Rattle.std.specs.List.{filter}
+use Rattle.std.specs.Str.Lines.{lines}
 use Rattle.hex.specs.Hex.{decode_of}
 use Rattle.hex.specs.declared.error.FromHexError.{FromHexError}
 use Rattle.zvt_trace.specs.declared.fault.What.{What}
 use Rattle.zvt_trace.specs.declared.fault.What.TheVariants.{Form, Hex}
+use Rattle.zvt_trace.specs.declared.line.BadLine.{BadLine}
+use Rattle.zvt_trace.specs.declared.line.BadLine.TheVariants.{Wrong, Memory}
 use Rattle.zvt_trace.specs.declared.line.Line.{Line}
 use Rattle.zvt_trace.specs.declared.line.Line.TheVariants as code
 use Rattle.zvt_trace.specs.declared.direction.Direction.{Direction}
@@ -43,3 +46,18 @@ abbrev pub size_of : Meaning → ℕ
 size_of remark = 0
 size_of (piece from bytes) = length bytes
 size_of lost = 0
+
+-- the sign of a side
+abbrev pub IsSign : ℕ → Direction → Type 0
+IsSign sign FromTill = sign ≡ 62
+IsSign sign FromTerminal = sign ≡ 60
+
+-- what was read of a line: what it means, or why it has no meaning, or nothing where memory is refused
+abbrev pub Reads : List ℕ → Result Line BadLine → Type 0
+Reads line (Ok read) = (meaning_of line ≡ Ok (meant_by read)) × (size_of (meant_by read) ≤ length line)
+Reads line (Err (Wrong what)) = meaning_of line ≡ Err what
+Reads line (Err Memory) = ⊤
+
+-- text begins with a line of which that is so, and the rest stands behind it
+abbrev pub Begins : (text : List ℕ) → (List ℕ → Type 0) → (rest : List ℕ) → Type 0
+Begins text Says rest = (line : List ℕ) × (lines text ≡ line ∷ lines rest) × Says line × (length line + length rest ≤ length text) × (length rest < length text)

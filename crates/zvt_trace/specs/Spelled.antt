@@ -1,10 +1,15 @@
 -- The digits of a text, and the bytes that they spell.
-use Rattle.std.specs.Prelude.{◌≡◌, ℕ, ◌+◌, ◌*◌, ◌<◌, MatchOption, Option, option_map, unwrap_or, Some, None, List, [], ◌∷◌, ◌++◌}
+use Rattle.std.specs.Prelude.{◌≡◌, ⊤, ℕ, ◌+◌, ◌*◌, ◌<◌, IsSome, MatchOption, Option, option_map, unwrap_or, Some, None, List, [], ◌∷◌, ◌++◌}
 use Rattle.hex.specs.Hex.{hex_digit_value}
 
 -- the value of a digit, and above 15 for what is none
 abbrev pub IsDigit : ℕ → ℕ → Type 0
 IsDigit digit value = MatchOption (hex_digit_value digit) (15 < value) (λ is. value ≡ is)
+
+-- each is a digit
+abbrev pub AreHex : List ℕ → Type 0
+AreHex [] = ⊤
+AreHex (digit ∷ rest) = IsSome (hex_digit_value digit) × AreHex rest
 
 -- what a digit adds at a place of that weight, and 256 for what is none
 abbrev pub place : (weight digit : ℕ) → ℕ

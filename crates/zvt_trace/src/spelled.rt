@@ -1,8 +1,8 @@
 //! Bytes that are spelled in hexadecimal text with spaces.
-ghost use Rattle.std.specs.Prelude.{◌≡◌, ◌≢◌, ◌*◌, ◌+◌, ◌≤◌, drop, length, slice_index, take, Ok, IfSome, IsErr, MatchOption};
+ghost use Rattle.std.specs.Prelude.{◌≡◌, ◌≢◌, ◌*◌, ◌+◌, ◌++◌, ◌≤◌, ℕ, List, length, slice_index, take, Ok, IfSome, IsErr, MatchOption};
 ghost use Rattle.hex.specs.Hex.{decode_of};
 ghost use Rattle.zvt_trace.specs.Meanings.{without_spaces};
-ghost use Rattle.zvt_trace.specs.Spelled.{IsDigit, behind_bytes, place, spells};
+ghost use Rattle.zvt_trace.specs.Spelled.{AreHex, IsDigit, behind_bytes, place, spells};
 
 /// Reads the bytes into the front of the room, and answers how many there are. Where the text is none, the room ends
 /// with anything.
@@ -33,10 +33,12 @@ pub(crate) fn read(text: &[u8], room: &mut [u8]) -> Option<usize>
 
 /// Reads the pairs of digits at the front that no space parts: so a line without spaces is read with no test for them.
 #[inline(always)]
-fn read_pairs(text: &[u8], room: &mut [u8]) -> usize
+pub(crate) fn read_pairs(text: &[u8], room: &mut [u8]) -> usize
     requires { length text.now ≤ 2 * length room.old + 1 }
     ensures few { 2 * result ≤ length text.now }
-    ensures read { behind_bytes (take result room.new) (spells (without_spaces (drop (2 * result) text.now))) ≡ spells (without_spaces text.now) }
+    ensures digits { AreHex (take (2 * result) text.now) }
+    ensures read { (behind : List ℕ) → behind_bytes (take result room.new) (spells (without_spaces behind)) ≡ spells (without_spaces (take (2 * result) text.now ++ behind)) }
+    ensures size { length room.new ≡ length room.old }
 {
     let mut count = 0;
     while 2 * count + 1 < text.len() {

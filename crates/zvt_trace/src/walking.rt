@@ -1,15 +1,15 @@
 //! A whole trace, told to a listener.
-ghost use Rattle.std.specs.Prelude.{◌≡◌, ◌≤◌, length, IfOk, OnOk};
+ghost use Rattle.std.specs.Prelude.{◌≡◌, ◌≤◌, ℕ, List, length, IfOk, OnOk};
 ghost use Rattle.std.specs.Str.Lines.{lines};
 ghost use Rattle.zvt_tlv.specs.Lengths.{reading_of};
 ghost use Rattle.zvt_trace.specs.Listening.{AnswersWalk, AnswersWalkBy, FollowBoth, TakeBy, WalksLine};
+ghost use Rattle.zvt_trace.specs.Meanings.{Reads};
 ghost use Rattle.zvt_trace.specs.Trace.{Sides};
 ghost use Rattle.zvt_trace.specs.Written.{limit};
 
 use crate::both_sides::BothSides;
 use crate::fault::{Tally, TraceFault};
-use crate::line::{BadLine, read_line};
-use crate::lines::next_line;
+use crate::line::{BadLine, Line, first_line};
 use crate::listener::{Listener, Scope};
 use std::alloc::Global;
 use zvt_tlv::Lengths;
@@ -50,18 +50,10 @@ pub fn walk_by<D, L: Listener<D>>(
     let mut rest = trace;
     let mut number = 0;
     'lines: while !rest.is_empty() {
-        let (content, after) = next_line(rest);
+        let (read, after) = first_line(&mut buffer, rest);
         number += 1;
         let counted = tell_line(
-            listener,
-            device,
-            alloc,
-            scope,
-            lengths,
-            &mut sides,
-            &mut buffer,
-            number,
-            content,
+            listener, device, alloc, scope, lengths, &mut sides, number, read,
         )?;
         tally.messages += counted.messages;
         tally.bad += counted.bad;
@@ -71,7 +63,7 @@ pub fn walk_by<D, L: Listener<D>>(
     Ok(tally)
 }
 
-/// Tells what the line of that number says, where it can be read.
+/// Tells what the line of that number says, where it could be read.
 #[inline(always)]
 fn tell_line<D, L: Listener<D>>(
     listener: &mut L,
@@ -80,17 +72,16 @@ fn tell_line<D, L: Listener<D>>(
     scope: Scope,
     lengths: Lengths,
     sides: &mut BothSides,
-    buffer: &mut Vec<u8>,
     number: u64,
-    content: &[u8],
+    read: Result<Line<'_>, BadLine>,
 ) -> Result<Tally, TraceFault>
     requires reading { TakeBy (reading_of lengths) sides.old }
     ensures reading { OnOk result (TakeBy (reading_of lengths) sides.new) }
-    ensures tells { (state : Sides) → FollowBoth (reading_of lengths) sides.old state → WalksLine (reading_of lengths) L.hears L.fails scope number content.now state sides.new (listener.old, device.old) (listener.new, device.new) result }
-    ensures few { IfOk result (λ tally. tally.messages ≤ length content.now) }
+    ensures tells { (content : List ℕ) → Reads content read.entry → (state : Sides) → FollowBoth (reading_of lengths) sides.old state → WalksLine (reading_of lengths) L.hears L.fails scope number content state sides.new (listener.old, device.old) (listener.new, device.new) result }
+    ensures few { (content : List ℕ) → Reads content read.entry → IfOk result (λ tally. tally.messages ≤ length content) }
     ensures two { IfOk result (λ tally. tally.bad ≤ 2) }
 {
-    let line = match read_line(buffer, content) {
+    let line = match read {
         Ok(line) => line,
         Err(BadLine::Wrong(what)) => return Err(TraceFault::Trace { line: number, what }),
         Err(BadLine::Memory) => return Err(TraceFault::Memory),

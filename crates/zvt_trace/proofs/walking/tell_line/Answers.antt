@@ -1,13 +1,17 @@
-use Rattle.std.proofs.Common.{inl, refl}
+use Rattle.std.proofs.Common.{Ok, Result, inl, refl, subst}
 use Rattle.std.proofs.lemmas.Result.{err_from_is_err_and}
+use Rattle.zvt_trace.specs.Meanings.{Reads}
+use Rattle.zvt_trace.specs.declared.line.BadLine.{BadLine}
+use Rattle.zvt_trace.specs.declared.line.Line.{Line}
 use Rattle.zvt_trace.proofs.EventLemmas.{fails_here}
 use Rattle.zvt_trace.proofs.WalkedLemmas.{line_failed}
 use Rattle.zvt_trace.proofs.walking.tell_line.Goals as goal
 
 pub returns-in-Err-Memory-clause-tells : goal.returns-in-Err-Memory-clause-tells
-returns-in-Err-Memory-clause-tells g c = λ sides follow. fails_here g.L.Listener.hears g.L.Listener.fails _ _ _ refl (inl refl)
+returns-in-Err-Memory-clause-tells g c = λ content reads sides follow. fails_here g.L.Listener.hears g.L.Listener.fails _ _ _ refl (inl refl)
 
 pub returns-in_err-tell-clause-tells : goal.returns-in_err-tell-clause-tells
-returns-in_err-tell-clause-tells g c = λ sides follow.
+returns-in_err-tell-clause-tells g c = λ content reads sides follow.
     let p = err_from_is_err_and c.from_residual.result c.from_residual.ensures.1 in
-    rw (p.1, p.2) (line_failed g.L.Listener.hears g.L.Listener.fails c.in_err-tell.field-0.0 c.args.scope c.args.number c.args.content.now _ sides c.tell.new.self _ _ c.in-Ok.ensures.ok (c.in_err-tell.ensures.tells sides follow))
+    let said : Reads content (Ok c.in-Ok.line) = subst (λ (read : Result Line BadLine). Reads content read) c.in-Ok.is reads in
+    rw (p.1, p.2) (line_failed g.L.Listener.hears g.L.Listener.fails c.in_err-tell.field-0.0 c.args.scope c.args.number content _ sides c.tell.new.self _ _ said.0 (c.in_err-tell.ensures.tells sides follow))

@@ -16,11 +16,11 @@ pub lines-preserved : goal.lines-preserved
 lines-preserved g c =
     let so = c.lines.invariant.so_far in
     record {
-      so_far = one_walked g.L.Listener.hears g.L.Listener.fails _ _ c.lines.rest.now c.next_line.result.0.now c.next_line.result.1.now c.lines.number c.lines.sides _ c.lines.tally c.in_ok-counted.counted _ _ _ _
-          so c.next_line.ensures.lines (c.in_ok-counted.ensures.tells so.sides so.follow) refl refl;
+      so_far = one_walked g.L.Listener.hears g.L.Listener.fails _ _ c.lines.rest.now c.first_line.ensures.0 c.first_line.result.1.now c.lines.number c.lines.sides _ c.lines.tally c.in_ok-counted.counted _ _ _ _
+          so c.first_line.ensures.1 (c.in_ok-counted.ensures.tells c.first_line.ensures.0 c.first_line.ensures.2 so.sides so.follow) refl refl;
       reading = c.in_ok-counted.ensures.reading;
-      lines = omega arith;
-      messages = omega (arith, c.in_ok-counted.ensures.few);
+      lines = omega (arith, c.first_line.ensures.4);
+      messages = omega (arith, c.in_ok-counted.ensures.few c.first_line.ensures.0 c.first_line.ensures.2, c.first_line.ensures.3);
       bad = omega (arith, c.in_ok-counted.ensures.two);
     }
 
@@ -28,8 +28,8 @@ pub returns-in_err-counted : goal.returns-in_err-counted
 returns-in_err-counted g c =
     let p = err_from_is_err_and c.from_residual.result c.from_residual.ensures.1 in
     let so = c.lines.invariant.so_far in
-    rw (p.1, p.2) (failed g.L.Listener.hears g.L.Listener.fails _ _ c.lines.rest.now c.next_line.result.0.now c.next_line.result.1.now c.lines.number c.lines.sides c.tell_line.new.sides c.lines.tally c.in_err-counted.field-0.0 _ _ _
-    so c.next_line.ensures.lines (c.in_err-counted.ensures.tells so.sides so.follow))
+    rw (p.1, p.2) (failed g.L.Listener.hears g.L.Listener.fails _ _ c.lines.rest.now c.first_line.ensures.0 c.first_line.result.1.now c.lines.number c.lines.sides c.tell_line.new.sides c.lines.tally c.in_err-counted.field-0.0 _ _ _
+    so c.first_line.ensures.1 (c.in_err-counted.ensures.tells c.first_line.ensures.0 c.first_line.ensures.2 so.sides so.follow))
 
 pub returns-in_err-tally : goal.returns-in_err-tally
 returns-in_err-tally g c =
