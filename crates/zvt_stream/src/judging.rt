@@ -165,7 +165,7 @@ impl Judge {
         }
     }
 
-    // Takes a whole message without fields, where none of it was judged: its size.
+    // Takes a whole message without fields, or of fields of fixed sizes alone, where none of it was judged: its size.
     #[inline(always)]
     fn take_whole(&mut self, steps: &mut Steps, bytes: &[u8]) -> Option<usize>
         ensures some { IfSome result (λ size. (held : List ℕ) → StandsFor self.old held → Ran self.old.reading held bytes.now (Run.Ended size) self.new) }
@@ -178,8 +178,8 @@ impl Judge {
         Some(size)
     }
 
-    /// Judges bytes up to the end of a message. A whole message without fields is taken at once, and so are both control
-    /// bytes, and those of a content but its last one.
+    /// Judges bytes up to the end of a message. A whole message without fields, or of fields of fixed sizes alone, is
+    /// taken at once, and so are both control bytes, and fields of fixed sizes but the last byte of all.
     #[inline(always)]
     pub fn run(&mut self, steps: &mut Steps, bytes: &[u8]) -> Run
         ensures judged { (held : List ℕ) → StandsFor self.old held → Ran self.old.reading held bytes.now result self.new }
