@@ -185,6 +185,22 @@ impl Write for Failing {
     }
 }
 
+/// Registers a till over a line on which nothing fails.
+fn register(rt: &impl Abort, alloc: Global, stream: &mut Stream, till: &mut Till) {
+    let mut completed = Over::new([0x80, 0x00, 0x00, 0x06, 0x0F, 0x00].as_slice());
+    let mut sent = Over::new(Vec::new(alloc));
+    let registered = run_order(
+        alloc,
+        &mut completed,
+        &mut sent,
+        stream,
+        till,
+        Order::Register,
+        10,
+    );
+    assert_eq!(rt; registered, Ok(Outcome::Registered));
+}
+
 /// What comes of paying 1234 where the approval comes byte by byte, and that read or that write fails, if there is one: a
 /// payment that was booked, or one that is unclear.
 fn pays_over(
@@ -195,18 +211,7 @@ fn pays_over(
 ) -> (Result<Outcome, RunFault>, Option<Outcome>, usize, usize) {
     let mut stream = Stream::new(alloc);
     let mut till = connected_till(rt, alloc);
-    let mut completed = Over::new([0x80, 0x00, 0x00, 0x06, 0x0F, 0x00].as_slice());
-    let mut sent = Over::new(Vec::new(alloc));
-    let registered = run_order(
-        alloc,
-        &mut completed,
-        &mut sent,
-        &mut stream,
-        &mut till,
-        Order::Register,
-        10,
-    );
-    assert_eq!(rt; registered, Ok(Outcome::Registered));
+    register(rt, alloc, &mut stream, &mut till);
     let mut reader = Over::new(Dripping {
         bytes: &APPROVED,
         reads: 0,

@@ -120,8 +120,11 @@ impl Write for Shared<'_> {
     }
 }
 
-/// A payment most often, else the reversal of the first one or the end of the day.
-fn next_order(chance: &mut Chance) -> Result<Order, Fail> {
+/// First a registration, then a payment most often, else the reversal of the first one or the end of the day.
+fn next_order(chance: &mut Chance, made: u32) -> Result<Order, Fail> {
+    if made == 0 {
+        return Ok(Order::Register);
+    }
     Ok(match chance.next(6) {
         0 => Order::Reverse(0),
         1 => Order::CloseDay,
@@ -151,12 +154,8 @@ fn make_orders(
         given: 0,
         chance: *chance,
     };
-    let mut reader = Recorded::new(
-        alloc,
-        Way::FromTerminal,
-        Over::new(pieces),
-        Over::new(trace),
-    )?;
+    let heard = Over::new(pieces);
+    let mut reader = Recorded::new(alloc, Way::FromTerminal, heard, Over::new(trace))?;
     let sent = Over::new(Vec::new(alloc));
     let mut writer = Recorded::new(alloc, Way::FromTill, sent, Over::new(trace))?;
     let mut stream = Stream::new(alloc);
@@ -165,11 +164,7 @@ fn make_orders(
         for message in next_answers(chance, made)? {
             reader.device.inner.bytes.extend_from_slice(message)?;
         }
-        let order = if made == 0 {
-            Order::Register
-        } else {
-            next_order(chance)?
-        };
+        let order = next_order(chance, made)?;
         let _ = run_order(
             alloc,
             &mut reader,

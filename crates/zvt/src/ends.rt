@@ -127,17 +127,8 @@ pub fn terminal(
         eprintln!(rt; "zvt: '0' is no number of connections: one from 1 to 65535")?;
         return Ok(WORDS);
     }
-    let verdict = match decline {
-        None => Verdict::Approve,
-        Some(word) => match result_code(word) {
-            Some(code) => Verdict::Decline(code),
-            None => {
-                eprintln!(rt;
-                    "zvt: '{word}' is no code to decline with: two hexadecimal digits, not 00, as 6C"
-                )?;
-                return Ok(WORDS);
-            }
-        },
+    let Some(verdict) = verdict(rt, decline)? else {
+        return Ok(WORDS);
     };
     let file = match opened(rt, trace)? {
         Ok(file) => file,
@@ -158,6 +149,21 @@ pub fn terminal(
         &mut tell,
     );
     finish_run(rt, &[], false, answer)
+}
+
+/// What a terminal says of payments: that it declines them with the code that the word names, or approves where there is no
+/// word. A wrong word is said.
+fn verdict(rt: &HostRuntime, decline: Option<&str>) -> io::Result<Option<Verdict>> {
+    let Some(word) = decline else {
+        return Ok(Some(Verdict::Approve));
+    };
+    let Some(code) = result_code(word) else {
+        eprintln!(rt;
+            "zvt: '{word}' is no code to decline with: two hexadecimal digits, not 00, as 6C"
+        )?;
+        return Ok(None);
+    };
+    Ok(Some(Verdict::Decline(code)))
 }
 
 /// The settings that the words name, and the usual ones for those that are not given. A wrong word is said.

@@ -35,6 +35,18 @@ pub fn reason_code(why: Why) -> u32
     }
 }
 
+/// That a whole message of that size stands first.
+pub fn found(size: usize) -> ZvtAnswer
+    ensures { result ≡ record { size = size; place = 0; reason = 0; status = 0 } }
+{
+    ZvtAnswer {
+        size,
+        place: 0,
+        reason: 0,
+        status: 0,
+    }
+}
+
 /// An answer with nothing but its status.
 pub fn bare(status: u32) -> ZvtAnswer
     ensures { result ≡ record { size = 0; place = 0; reason = 0; status = status } }

@@ -4,7 +4,7 @@ ghost use Rattle.zvt_text.specs.Said.{said};
 ghost use Rattle.zvt_c.specs.Answers.{Says};
 ghost use Rattle.zvt_c.specs.Texts.{Texts, Writes};
 
-use crate::answer::{ZvtAnswer, bare, reason_code};
+use crate::answer::{ZvtAnswer, bare, found, reason_code};
 use std::alloc::Global;
 use zvt_apdu::{ApduView, view};
 use zvt_spelling::Scan;
@@ -17,12 +17,7 @@ pub extern "C" fn zvt_scan(alloc: Global, bytes: &[u8], answer: &mut ZvtAnswer)
     ensures { Says bytes.now answer.new }
 {
     *answer = match zvt_apdu::scan(alloc, bytes) {
-        Ok(Scan::Whole((_, size))) => ZvtAnswer {
-            size,
-            place: 0,
-            reason: 0,
-            status: 0,
-        },
+        Ok(Scan::Whole((_, size))) => found(size),
         Ok(Scan::More) => bare(1),
         Ok(Scan::Refused { place, why }) => ZvtAnswer {
             size: 0,
@@ -48,12 +43,7 @@ pub extern "C" fn zvt_text(
     match zvt_apdu::scan(alloc, bytes) {
         Ok(Scan::Whole((_, size))) => match tell(alloc, &view(&bytes[..size]), room) {
             Some(written) => {
-                *answer = ZvtAnswer {
-                    size,
-                    place: 0,
-                    reason: 0,
-                    status: 0,
-                };
+                *answer = found(size);
                 written
             }
             None => {

@@ -22,6 +22,19 @@ pub struct Head {
     pub digits: bool,
 }
 
+impl Head {
+    /// A BMP alone, in front of so many bytes.
+    fn fixed(size: usize, digits: bool) -> Head
+        ensures { (result.start ≡ 1) × (result.size ≡ size) × (result.digits ≡ digits) }
+    {
+        Head {
+            start: 1,
+            size,
+            digits,
+        }
+    }
+}
+
 /// Reads the digits of a length behind a BMP.
 fn scan_count(bytes: &[u8], room: usize, digits: usize, lengths: Lengths) -> Scan<Head>
     requires digits { 1 ≤ digits }
@@ -156,28 +169,12 @@ fn scan_field(
     };
     match judge_name(room - 1, *first, lengths) {
         Err(why) => Ok(Scan::Refused { place: 0, why }),
-        Ok(Shape::Fixed(size)) => scan_content(
-            alloc,
-            bytes,
-            room,
-            Head {
-                start: 1,
-                size,
-                digits: false,
-            },
-            lengths,
-        ),
-        Ok(Shape::Digits(size)) => scan_content(
-            alloc,
-            bytes,
-            room,
-            Head {
-                start: 1,
-                size,
-                digits: true,
-            },
-            lengths,
-        ),
+        Ok(Shape::Fixed(size)) => {
+            scan_content(alloc, bytes, room, Head::fixed(size, false), lengths)
+        }
+        Ok(Shape::Digits(size)) => {
+            scan_content(alloc, bytes, room, Head::fixed(size, true), lengths)
+        }
         Ok(Shape::Ll) => scan_counted(alloc, bytes, room, 2, lengths),
         Ok(Shape::Lll) => scan_counted(alloc, bytes, room, 3, lengths),
         Ok(Shape::Tree) => scan_container(alloc, bytes, room, lengths),

@@ -47,18 +47,14 @@ where
     ensures write { result ≡ Err EndFault.Write → W.failures writer.old < W.failures writer.new }
 {
     let plan = plan(alloc, Ends::Both, steps)?;
+    let plan = plan.as_slice();
+    let usual = TillSettings::usual();
     let (till_end, terminal_end) = both_ends(rt).map_err(EndFault::Net)?;
     match trace {
         None => {
             let till = plain_end(alloc, &till_end, Lengths::Shortest);
             let mut line = both_ends_of(alloc, till, &terminal_end);
-            run_both_ends(
-                alloc,
-                &mut line,
-                &TillSettings::usual(),
-                plan.as_slice(),
-                writer,
-            )
+            run_both_ends(alloc, &mut line, &usual, plan, writer)
         }
         Some(file) => {
             let till = recorded_end(
@@ -70,13 +66,7 @@ where
                 file,
             )?;
             let mut line = both_ends_of(alloc, till, &terminal_end);
-            let answer = run_both_ends(
-                alloc,
-                &mut line,
-                &TillSettings::usual(),
-                plan.as_slice(),
-                writer,
-            );
+            let answer = run_both_ends(alloc, &mut line, &usual, plan, writer);
             by_trace(is_broken(&line.till, file), answer)
         }
     }

@@ -17,5 +17,7 @@ pub mod WholeLemmas
 pub mod JudgedFeeds
 pub mod PassLemmas
 pub mod RunLemmas
+pub mod EndLemmas
+pub mod BegunLemmas
 pub mod WholeFirst
 pub mod WholeFields

@@ -1,5 +1,5 @@
 -- Bytes without tests, taken at once.
-use Rattle.std.proofs.Common.{◌≡◌, ◌≢◌, ℕ, ◌+◌, ◌-◌, ◌<◌, ◌≤◌, Bool, true, false, Option, Some, None, IfSome, Ok, List, [], ◌∷◌, ◌++◌, length, take, drop, get_or, refl, sym, ◌∙◌, ap, subst, append_assoc, arith, suc}
+use Rattle.std.proofs.Common.{◌≡◌, ◌≢◌, ℕ, ◌+◌, ◌-◌, ◌<◌, ◌≤◌, Bool, true, false, Option, Some, None, IfSome, Ok, List, [], ◌∷◌, ◌++◌, length, take, drop, get_or, refl, sym, ◌∙◌, ap, subst, append_assoc, arith, suc, length-drop}
 use Rattle.std.proofs.lemmas.List.{append-nil, length-take-le, take-take, take_rest}
 use Rattle.std.proofs.Math.Seq.{take-add}
 use Rattle.zvt_tlv.proofs.Spelling.{from}
@@ -12,12 +12,13 @@ use Rattle.zvt_bcd.proofs.PairTests.{is_pair_test}
 use Rattle.zvt_field.specs.Grammar.{IsContent}
 use Rattle.zvt_apdu.proofs.DataMoves.{take_bytes}
 use Rattle.zvt_stream.specs.declared.passing.Passed.{Passed}
+use Rattle.zvt_stream.specs.declared.passing.Passed.TheVariants as passed
 use Rattle.zvt_stream.specs.declared.moves.At.{At}
 use Rattle.zvt_stream.specs.declared.moves.At.TheVariants as stage
 use Rattle.zvt_stream.specs.declared.moves.Move.TheVariants.{Within}
 use Rattle.zvt_stream.specs.Standing.{depth_of}
 use Rattle.zvt_stream.specs.Moves as one
-use Rattle.zvt_stream.specs.Judge.{StandsFor, Passes, PassesOver}
+use Rattle.zvt_stream.specs.Judge.{StandsFor, Brings, Passes, PassesOver, Comes, IsMessageIn}
 use Rattle.zvt_stream.proofs.FrameMoves.{payload_within}
 use Rattle.zvt_stream.proofs.FieldMoves as field
 use Rattle.zvt_stream.proofs.FieldMoves.{content_ends, content_within}
@@ -40,7 +41,7 @@ payload_pass r (x ∷ s) left less outer b are some e h =
     subst (λ (t : List ℕ). Stands r stage.Payload less outer t) (append_assoc b (x ∷ []) s) (payload_pass r s (left - 1) less outer (b ++ x ∷ []) are.1 some (omega (arith, e)) more)
 
 -- bytes of a content, each of which passes its test
-tests : (digits : Bool) (x : ℕ) (s : List ℕ) → IsContent digits (x ∷ s) → (x < 256) × field.Passes digits x × IsContent digits s
+pub tests : (digits : Bool) (x : ℕ) (s : List ℕ) → IsContent digits (x ∷ s) → (x < 256) × field.Passes digits x × IsContent digits s
 tests true x s are =
     let pair = All-head IsDigitPair x s are in
     (omega (arith, pair.0), λ l. ap (λ (b : Bool). check b NotDigit None) (is_pair_test x pair), All-tail IsDigitPair x s are)
@@ -67,7 +68,7 @@ object_pass r (x ∷ s) more fewer left less outer b are some m e h =
 
 -- what is left once they are taken
 pub payload_passed : (r : Reading) (left count : ℕ) → 0 < left → count ≤ left - 1 → PassesOver r stage.Payload left stage.Payload (left - count) count
-payload_passed r left count some le outer b s are sized h = payload_pass r s left (left - count) outer b are (omega (arith, le, some)) (omega (arith, le, some, sized)) h
+payload_passed r left count some le s are sized outer b h = payload_pass r s left (left - count) outer b are (omega (arith, le, some)) (omega (arith, le, some, sized)) h
 
 pub digits_front : (digits : Bool) (count most : ℕ) (bytes : List ℕ) → digits ≡ true → count ≤ most → AreDigits (take count (take most bytes)) → IsContent digits (take count bytes)
 digits_front true count most bytes is le are = subst AreDigits (take-take count most bytes le) are
@@ -85,17 +86,13 @@ content_passed r digits more left count bytes some le within are outer b h =
     content_pass r digits (take count bytes) more (more - count) left (left - count) outer b are (omega (arith, le, some)) (omega (arith, le, some, sized)) (omega (arith, le, some, sized, room.1.1)) h
 
 pub object_passed : (r : Reading) (more left count : ℕ) → 0 < more → count ≤ more - 1 → PassesOver r (stage.Object more) left (stage.Object (more - count)) (left - count) count
-object_passed r more left count some le outer b s are sized h =
+object_passed r more left count some le s are sized outer b h =
     let room = h.stands.1 in
     object_pass r s more (more - count) left (left - count) outer b are (omega (arith, le, some)) (omega (arith, le, some, sized)) (omega (arith, le, some, sized, room.1.1)) h
 
 -- of any bytes these at the front
-pub front_passes : (r : Reading) (at : At) (left : ℕ) (found : Option Passed) (bytes : List ℕ) → AreBytes bytes
-    → IfSome found (λ passed. (passed.count ≤ length bytes) × PassesOver r at left passed.at passed.left passed.count)
-    → IfSome found (λ passed. (passed.count ≤ length bytes) × Passes r at left passed.at passed.left (take passed.count bytes))
-front_passes r at left None bytes are told = tt
-front_passes r at left (Some passed) bytes are told =
-    (told.0, λ outer b h. told.1 outer b (take passed.count bytes) (take_bytes passed.count bytes are) (length-take-le passed.count bytes told.0) h)
+pub front_comes : (r : Reading) (at to : At) (left less count : ℕ) (bytes : List ℕ) → AreBytes bytes → count ≤ length bytes → PassesOver r at left to less count → Comes r at left bytes (passed.Open to less count)
+front_comes r at to left less count bytes are le over = (le, over (take count bytes) (take_bytes count bytes are) (length-take-le count bytes le))
 
 -- both control bytes
 pub control_passed : (r : Reading) (left high low : ℕ) → high < 256 → low < 256 → Passes r stage.FirstControl left (stage.FirstSize high low) left (high ∷ low ∷ [])
@@ -151,14 +148,27 @@ content_shorter true count all bytes le are = subst AreDigits (take-take count a
 content_shorter false count all bytes le are = subst AreBytes (take-take count all bytes le) (take_bytes count (take all bytes) are)
 
 -- a name, and bytes of the content behind it
-pub name_passed : (r : Reading) (digits : Bool) (more left within count less : ℕ) (to : At) (bytes : List ℕ) → 1 ≤ length bytes → ((i : ℕ) → get_or bytes i 0 < 256)
+name_brings : (r : Reading) (digits : Bool) (more left within count : ℕ) (bytes : List ℕ) (Then : List ℕ → List ℕ → Type 0) → 1 ≤ length bytes → ((i : ℕ) → get_or bytes i 0 < 256)
     → ((depth : ℕ) → one.Judges r stage.Name left depth (get_or bytes 0 0) (Ok (Within (stage.Content digits more) within)))
-    → Passes r (stage.Content digits more) within to less (take count (drop 1 bytes)) → Passes r stage.Name left to less (take (1 + count) bytes)
-name_passed r digits more left within count less to [] some are judged behind outer b h = absurd (omega (arith, some))
-name_passed r digits more left within count less to (x ∷ bytes) some are judged behind outer b h =
+    → Brings r (stage.Content digits more) within (take count (drop 1 bytes)) Then → Brings r stage.Name left (take (1 + count) bytes) Then
+name_brings r digits more left within count [] Then some are judged behind outer b h = absurd (omega (arith, some))
+name_brings r digits more left within count (x ∷ bytes) Then some are judged behind outer b h =
     let first = one_more r stage.Name (stage.Content digits more) left within x outer b (are 0) h (judged (depth_of outer) outer b refl h.stands) in
     let next : 1 + count ≡ suc count = omega arith in
-    subst (λ (t : List ℕ). Stands r to less outer t) (append_assoc b (x ∷ []) (take count bytes) ∙ ap (λ (n : ℕ). b ++ take n (x ∷ bytes)) (sym next)) (behind outer (b ++ x ∷ []) first)
+    subst (Then outer) (append_assoc b (x ∷ []) (take count bytes) ∙ ap (λ (n : ℕ). b ++ take n (x ∷ bytes)) (sym next)) (behind outer (b ++ x ∷ []) first)
+
+-- what comes of more bytes
+abbrev pub later : ℕ → Passed → Passed
+later n (passed.Open to less count) = passed.Open to less (n + count)
+later n (passed.Ended count) = passed.Ended (n + count)
+
+pub name_comes : (r : Reading) (digits : Bool) (more left within : ℕ) (bytes : List ℕ) (found : Passed) → 1 ≤ length bytes → ((i : ℕ) → get_or bytes i 0 < 256)
+    → ((depth : ℕ) → one.Judges r stage.Name left depth (get_or bytes 0 0) (Ok (Within (stage.Content digits more) within)))
+    → Comes r (stage.Content digits more) within (drop 1 bytes) found → Comes r stage.Name left bytes (later 1 found)
+name_comes r digits more left within bytes (passed.Open to less count) some are judged h =
+    (omega (arith, some, h.0, length-drop 1 bytes), name_brings r digits more left within count bytes (λ outer. Stands r to less outer) some are judged h.1)
+name_comes r digits more left within bytes (passed.Ended count) some are judged h =
+    (omega arith, omega (arith, some, h.1, length-drop 1 bytes), name_brings r digits more left within count bytes (λ outer. IsMessageIn r) some are judged h.2)
 
 -- all of a content is digits, or needs to be none
 pub digits_all : (digits : Bool) (count size more : ℕ) (bytes : List ℕ) → digits ≡ true → size ≡ more → count ≡ more → AreDigits (take count (take size bytes)) → IsContent digits (take more bytes)
@@ -170,24 +180,14 @@ bytes_behind digits more [] is are = bytes_front digits more [] is are
 bytes_behind digits more (x ∷ bytes) is are = bytes_front digits more bytes is are.1
 
 -- one front after another
-pub passes_more : (r : Reading) (at middle to : At) (left less fewer n m : ℕ) (bytes : List ℕ) → Passes r at left middle less (take n bytes) → Passes r middle less to fewer (take m (from n bytes)) → Passes r at left to fewer (take (n + m) bytes)
-passes_more r at middle to left less fewer n m bytes first second outer b h =
+brings_more : (r : Reading) (at middle : At) (left less n m : ℕ) (bytes : List ℕ) (Then : List ℕ → List ℕ → Type 0) → Passes r at left middle less (take n bytes) → Brings r middle less (take m (from n bytes)) Then → Brings r at left (take (n + m) bytes) Then
+brings_more r at middle left less n m bytes Then first second outer b h =
     let q = second outer (b ++ take n bytes) (first outer b h) in
     let joined : take n bytes ++ take m (from n bytes) ≡ take (n + m) bytes = ap (λ (s : List ℕ). take n bytes ++ take m s) (take_rest bytes n) ∙ sym (take-add n m bytes) in
-    subst (λ (t : List ℕ). Stands r to fewer outer t) (append_assoc b (take n bytes) (take m (from n bytes)) ∙ ap (λ (s : List ℕ). b ++ s) joined) q
+    subst (Then outer) (append_assoc b (take n bytes) (take m (from n bytes)) ∙ ap (λ (s : List ℕ). b ++ s) joined) q
 
-pub named : (r : Reading) (left less : ℕ) (at : At) (bytes : List ℕ) → at ≡ stage.Name → Passes r stage.Name left stage.Name less bytes → Passes r stage.Name left at less bytes
-named r left less at bytes is h = subst (λ (to : At). Passes r stage.Name left to less bytes) (sym is) h
-
--- what passes in both readings
-pub passes_by : (r : Reading) (at : At) (left : ℕ) (found : Option Passed) (bytes : List ℕ)
-    → IfSome found (λ passed. (passed.count ≤ length bytes) × ((s : Reading) → Passes s at left passed.at passed.left (take passed.count bytes)))
-    → IfSome found (λ passed. (passed.count ≤ length bytes) × Passes r at left passed.at passed.left (take passed.count bytes))
-passes_by r at left None bytes told = tt
-passes_by r at left (Some passed) bytes told = (told.0, told.1 r)
-
-pub passes_over_by : (r : Reading) (at : At) (left : ℕ) (found : Option Passed) (most : ℕ)
-    → IfSome found (λ passed. (passed.count ≤ most) × ((s : Reading) → PassesOver s at left passed.at passed.left passed.count))
-    → IfSome found (λ passed. (passed.count ≤ most) × PassesOver r at left passed.at passed.left passed.count)
-passes_over_by r at left None most told = tt
-passes_over_by r at left (Some passed) most told = (told.0, told.1 r)
+pub comes_more : (r : Reading) (at middle : At) (left less n : ℕ) (bytes : List ℕ) (found : Passed) → n ≤ length bytes → Passes r at left middle less (take n bytes) → Comes r middle less (from n bytes) found → Comes r at left bytes (later n found)
+comes_more r at middle left less n bytes (passed.Open to fewer count) le first h =
+    (omega (arith, le, h.0, ap length (take_rest bytes n), length-drop n bytes), brings_more r at middle left less n count bytes (λ outer. Stands r to fewer outer) first h.1)
+comes_more r at middle left less n bytes (passed.Ended count) le first h =
+    (omega (arith, h.0), omega (arith, le, h.1, ap length (take_rest bytes n), length-drop n bytes), brings_more r at middle left less n count bytes (λ outer. IsMessageIn r) first h.2)

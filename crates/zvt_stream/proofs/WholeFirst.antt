@@ -14,26 +14,10 @@ use Rattle.zvt_stream.specs.Judge.{StandsFor, IsMessageIn}
 use Rattle.zvt_stream.proofs.FrameMoves.{data_none, data_payload, payload_ends, payload_within, size_short}
 use Rattle.zvt_stream.proofs.JudgeLemmas.{passes, whole}
 use Rattle.zvt_stream.proofs.PassLemmas.{control_passed, one_more}
+use Rattle.zvt_stream.proofs.EndLemmas.{last, payload_all}
 
 abbrev Stands : (r : Reading) → At → (left : ℕ) → (outer b : List ℕ) → Type 0
 Stands r at left outer b = StandsFor (record { reading = r; at = at; left = left; outer = outer }) b
-
--- a byte that fills the message
-last : (r : Reading) (at : At) (left x : ℕ) (outer b : List ℕ) → outer ≡ [] → x < 256 → Stands r at left outer b → one.Moves r at left outer b x (Ok (Ends 0)) → IsMessageIn r (b ++ x ∷ [])
-last r at left x outer b none lt s q =
-    let full : Between r 0 [] (b ++ x ∷ []) = subst (λ (o : List ℕ). Between r 0 o (b ++ x ∷ [])) none q.1 in
-    whole r (b ++ x ∷ []) (passes r at left x outer b lt s.unfinished.alive s.stands q.0) full.1
-
--- all bytes of the data
-payload_all : (r : Reading) (inside : List ℕ) (left : ℕ) (outer b : List ℕ) → outer ≡ [] → AreBytes inside → left ≡ length inside → 0 < left → Stands r stage.Payload left outer b → IsMessageIn r (b ++ inside)
-payload_all r [] left outer b none are e some s = absurd (omega (arith, e, some))
-payload_all r (x ∷ []) left outer b none are e some s =
-    let single : left ≡ 1 = omega (arith, e) in
-    last r stage.Payload left x outer b none are.0 s (payload_ends r left (depth_of outer) x single outer b refl s.stands)
-payload_all r (x ∷ y ∷ inside) left outer b none are e some s =
-    let ne : left ≢ 1 = λ single. omega (arith, single, e) in
-    let next = one_more r stage.Payload stage.Payload left (left - 1) x outer b are.0 s (payload_within r left (depth_of outer) x ne outer b refl s.stands) in
-    subst (IsMessageIn r) (append_assoc b (x ∷ []) (y ∷ inside)) (payload_all r (y ∷ inside) (left - 1) outer (b ++ x ∷ []) none are.1 (omega (arith, e)) (omega (arith, e)) next)
 
 module _ (r : Reading) (high low n : ℕ) (l : Layout) (is : l ≡ layout_of high low n) (fills : can_fill (layout_of high low n) n ≡ true) (short : n < 255) where
   behind_size : (left : ℕ) (outer b inside : List ℕ) → (n ≡ 0) ⊎ (l.fields ≡ false) → length inside ≡ n → AreBytes inside → Stands r (stage.FirstSize high low) left outer b → IsMessageIn r (b ++ n ∷ inside)

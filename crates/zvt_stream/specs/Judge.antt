@@ -16,6 +16,11 @@ use Rattle.zvt_stream.specs.declared.judging.Judged.TheVariants.{Open, Ended}
 use Rattle.zvt_stream.specs.declared.judging.Run.{Run}
 use Rattle.zvt_stream.specs.declared.judging.Run.TheVariants as run
 use Rattle.zvt_stream.specs.declared.judging.Goes.{Goes}
+use Rattle.zvt_stream.specs.declared.passing.Passed.{Passed}
+use Rattle.zvt_stream.specs.declared.passing.Passed.TheVariants as passed
+use Rattle.zvt_stream.specs.declared.passing.Begun.{Begun}
+use Rattle.zvt_stream.specs.declared.passing.Begun.TheVariants as begun
+use Rattle.zvt_stream.specs.Moves.{IsReady}
 
 -- The reading of lengths, the part of the next byte, the bytes to come of the innermost level, and those to come behind
 -- the open item of each level around it, the innermost first.
@@ -101,20 +106,47 @@ abbrev pub Judges : Reading → At → (left : ℕ) → (old new bytes : List �
 Judges r at left old new bytes byte (Ok settled) = (fault r (role_of at left (depth_of old)) byte ≡ None) × Settles r new (bytes ++ byte ∷ []) settled
 Judges r at left old new bytes byte (Err why) = fault r (role_of at left (depth_of old)) byte ≡ Some why
 
--- Any so many bytes lead from one part of a message to another, in the same level.
-abbrev pub PassesOver : Reading → At → (left : ℕ) → (to : At) → (less count : ℕ) → Type 0
-PassesOver r at left to less count =
-    (outer bytes more : List ℕ) → AreBytes more → length more ≡ count →
-    StandsFor (record { reading = r; at = at; left = left; outer = outer }) bytes → StandsFor (record { reading = r; at = to; left = less; outer = outer }) (bytes ++ more)
+-- Behind all bytes that leave this part open, these lead to what `Then` says of the levels and of all the bytes.
+abbrev pub Brings : Reading → At → (left : ℕ) → (more : List ℕ) → (Then : (outer : List ℕ) → (bytes : List ℕ) → Type 0) → Type 0
+Brings r at left more Then =
+    (outer bytes : List ℕ) → StandsFor (record { reading = r; at = at; left = left; outer = outer }) bytes → Then outer (bytes ++ more)
 
--- These bytes do.
+-- They lead to this part, in the same level.
 abbrev pub Passes : Reading → At → (left : ℕ) → (to : At) → (less : ℕ) → (more : List ℕ) → Type 0
-Passes r at left to less more =
-    (outer bytes : List ℕ) → StandsFor (record { reading = r; at = at; left = left; outer = outer }) bytes → StandsFor (record { reading = r; at = to; left = less; outer = outer }) (bytes ++ more)
+Passes r at left to less more = Brings r at left more (λ outer. StandsFor (record { reading = r; at = to; left = less; outer = outer }))
 
--- The judge has taken this front of more bytes, and no message ends in it.
-abbrev pub Skips : (old new : JudgeState) → (more : List ℕ) → Type 0
-Skips old new more = (new.reading ≡ old.reading) × ((bytes : List ℕ) → StandsFor old bytes → StandsFor new (bytes ++ more))
+-- They end the message.
+abbrev pub Completes : Reading → At → (left : ℕ) → (more : List ℕ) → Type 0
+Completes r at left more = Brings r at left more (λ outer. IsMessageIn r)
+
+-- Any so many bytes lead there.
+abbrev pub PassesOver : Reading → At → (left : ℕ) → (to : At) → (less count : ℕ) → Type 0
+PassesOver r at left to less count = (more : List ℕ) → AreBytes more → length more ≡ count → Passes r at left to less more
+
+-- What a front of more bytes comes to.
+abbrev pub Comes : Reading → At → (left : ℕ) → (more : List ℕ) → Passed → Type 0
+Comes r at left more (passed.Open to less count) = (count ≤ length more) × Passes r at left to less (take count more)
+Comes r at left more (passed.Ended count) = (0 < count) × (count ≤ length more) × Completes r at left (take count more)
+
+abbrev pub count_of : Passed → ℕ
+count_of (passed.Open to less count) = count
+count_of (passed.Ended count) = count
+
+-- The numbers that the part behind that front needs.
+abbrev pub IsReadyBehind : Passed → Type 0
+IsReadyBehind (passed.Open to less count) = IsReady to less
+IsReadyBehind (passed.Ended count) = Unit {0}
+
+-- How a message begins: with all of it, or with its control bytes and its length, in front of so many bytes of fields.
+abbrev pub Begins : (first : At) → (more : List ℕ) → Begun → Type 0
+Begins first more (begun.Whole size) = (0 < size) × (size ≤ length more) × ((r : Reading) (left : ℕ) → Completes r first left (take size more))
+Begins first more (begun.Fields room) =
+    (3 ≤ length more) × ((r : Reading) (left : ℕ) → Brings r first left (take 3 more) (λ outer. StandsFor (record { reading = r; at = at.Name; left = room; outer = 0 ∷ outer })))
+
+-- What the judge that has taken bytes at once is behind them.
+abbrev pub Skips : (old : JudgeState) → (more : List ℕ) → Judged → (new : JudgeState) → Type 0
+Skips old more Open new = (new.reading ≡ old.reading) × ((bytes : List ℕ) → StandsFor old bytes → StandsFor new (bytes ++ more))
+Skips old more Ended new = (new ≡ start old.reading) × ((bytes : List ℕ) → StandsFor old bytes → IsMessageIn old.reading (bytes ++ more))
 
 -- A judge stands where the bytes that it stands for do by the grammar: at the part that their next byte plays, within as
 -- many levels as it counts.

@@ -209,9 +209,16 @@ pub fn pump<R: Source, W: Sink, M: Machine>(
     let Err(fault) = run_turns(alloc, reader, writer, stream, machine, until, turns) else {
         return Ok(());
     };
+    tell(machine, fault);
+    Err(fault)
+}
+
+// Tells a machine of a fault of its line.
+fn tell<M: Machine>(machine: &mut M, fault: LineFault)
+    ensures { Told M.loses M.malforms fault machine.old machine.new }
+{
     match fault {
         LineFault::Malformed { .. } | LineFault::Stopped => machine.malformed(),
         _ => machine.lost(),
     }
-    Err(fault)
 }

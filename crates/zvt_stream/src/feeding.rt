@@ -53,6 +53,16 @@ pub enum FeedError {
     Memory,
 }
 
+impl From<AllocError> for FeedError {
+    ghost use Rattle.zvt_stream.specs.declared.feeding.FeedError.TheVariants.{Memory};
+
+    ghost from_gives = { λ _ error. error ≡ Memory };
+
+    fn from(_refused: AllocError) -> FeedError {
+        FeedError::Memory
+    }
+}
+
 /// The stream ended within a message, of which it had `have` bytes.
 #[derive(Clone, Copy, Debug, Drop, PartialEq, Eq)]
 pub struct Truncated {
@@ -199,34 +209,25 @@ impl Stream {
         ensures err { OnErr result (Keeps self.old self.new) }
         ensures lent { self.new.lent ≡ None }
         ensures room { self.old.room ≤ self.new.room }
-        ensures count { MatchResult result (λ fed. steps.new.judged.count ≡ steps.old.judged.count + taken_by self.old piece.now fed)
-            (λ _. steps.new.judged.count ≤ steps.old.judged.count + length piece.now) }
+        ensures count { MatchResult result (λ fed. steps.new.judged.count ≡ steps.old.judged.count + taken_by self.old piece.now fed) (λ _. steps.new.judged.count ≤ steps.old.judged.count + length piece.now) }
     {
         self.give_up();
         if self.stopped {
             return Err(FeedError::Stopped);
         }
+        let lengths = self.judge.lengths();
         let mut judge = self.judge.again();
         match judge.run(steps, piece) {
-            Run::Open => match self.held.add_all(piece) {
-                Ok(()) => {
-                    self.judge = judge;
-                    Ok(Fed::More)
-                }
-                Err(_) => Err(FeedError::Memory),
-            },
-            Run::Ended { taken } => match message(
-                alloc,
-                &mut self.held,
-                &piece[..taken],
-                self.judge.lengths(),
-            ) {
-                Some(apdu) => {
-                    self.judge = judge;
-                    Ok(Fed::Message { apdu, taken })
-                }
-                None => Err(FeedError::Memory),
-            },
+            Run::Open => {
+                self.held.add_all(piece)?;
+                self.judge = judge;
+                Ok(Fed::More)
+            }
+            Run::Ended { taken } => {
+                let apdu = message(alloc, &mut self.held, &piece[..taken], lengths)?;
+                self.judge = judge;
+                Ok(Fed::Message { apdu, taken })
+            }
             Run::Refused { at, why } => {
                 let place = self.held.len() + at;
                 self.held.cut(0);
@@ -341,41 +342,44 @@ impl Stream {
     }
 }
 
-/// The message that what is held and these bytes behind it are, or none where memory is refused. Nothing is held then.
-fn message(alloc: Global, held: &mut Held, last: &[u8], lengths: Lengths) -> Option<Apdu>
+/// The message that what is held and these bytes behind it are: nothing is held then. Where memory is refused nothing changes.
+fn message(
+    alloc: Global,
+    held: &mut Held,
+    last: &[u8],
+    lengths: Lengths,
+) -> Result<Apdu, AllocError>
     requires { IsMessageIn (reading_of lengths) (held.old.bytes ++ last.now) }
-    ensures some { IfSome result (λ apdu. Spells (reading_of lengths) apdu (held.old.bytes ++ last.now) × (held.new.bytes ≡ [])) }
-    ensures none { IfNone result (held.new.bytes ≡ held.old.bytes) }
+    ensures ok { IfOk result (λ apdu. Spells (reading_of lengths) apdu (held.old.bytes ++ last.now) × (held.new.bytes ≡ [])) }
+    ensures err { OnErr result (held.new.bytes ≡ held.old.bytes) }
     ensures room { held.old.room ≤ held.new.room }
 {
     let before = held.len();
     if before == 0 {
         return whole(alloc, last, lengths);
     }
-    if held.add_all(last).is_err() {
-        return None;
-    }
+    held.add_all(last)?;
     match whole(alloc, held.spelled(), lengths) {
-        Some(apdu) => {
+        Ok(apdu) => {
             held.cut(0);
-            Some(apdu)
+            Ok(apdu)
         }
-        None => {
+        Err(refused) => {
             held.cut(before);
-            None
+            Err(refused)
         }
     }
 }
 
-/// The message that the bytes are, or none where memory is refused.
-fn whole(alloc: Global, bytes: &[u8], lengths: Lengths) -> Option<Apdu>
+/// The message that the bytes are.
+fn whole(alloc: Global, bytes: &[u8], lengths: Lengths) -> Result<Apdu, AllocError>
     requires { IsMessageIn (reading_of lengths) bytes.now }
-    ensures { IfSome result (λ apdu. Spells (reading_of lengths) apdu bytes.now) }
+    ensures { IfOk result (λ apdu. Spells (reading_of lengths) apdu bytes.now) }
 {
     match scan_message(alloc, bytes, lengths) {
-        Ok(Scan::Whole((apdu, _))) => Some(apdu),
+        Ok(Scan::Whole((apdu, _))) => Ok(apdu),
         Ok(Scan::More) => unreachable!(),
         Ok(Scan::Refused { .. }) => unreachable!(),
-        Err(_) => None,
+        Err(refused) => Err(refused),
     }
 }

@@ -7,7 +7,7 @@ ghost use Rattle.zvt_stream.specs.Standing.{Where, Between};
 ghost use Rattle.zvt_stream.specs.Judge.{start, StandsFor, HasLevelsIn, Stepped, Ran, taken_by, Closes, Settles, Judges, Skips};
 
 use crate::moves::{At, Move, judge_byte};
-use crate::passing::{pass, whole_first};
+use crate::passing::{Begun, Passed, begin, pass};
 use crate::steps::Steps;
 use arrayvec::ArrayVec;
 use std::marker::Model;
@@ -148,57 +148,69 @@ impl Judge {
         }
     }
 
-    // Takes the bytes at the front that end nothing and need no step of their own: how many they are.
-    fn skip(&mut self, steps: &mut Steps, bytes: &[u8]) -> usize
-        ensures few { result ≤ length bytes.now }
-        ensures judged { Skips self.old self.new (take result bytes.now) }
-        ensures count { steps.new.judged.count ≡ steps.old.judged.count + result }
+    // Takes the bytes at the front that need no step of their own: what they leave, and how many they are.
+    #[inline(always)]
+    fn skip(&mut self, steps: &mut Steps, bytes: &[u8]) -> (Judged, usize)
+        ensures few { result.1 ≤ length bytes.now }
+        ensures some { result.0 ≡ Judged.Ended → 0 < result.1 }
+        ensures judged { Skips self.old (take result.1 bytes.now) result.0 self.new }
+        ensures count { steps.new.judged.count ≡ steps.old.judged.count + result.1 }
     {
         match pass(self.at, self.left, bytes, self.lengths) {
-            Some(passed) => {
-                self.at = passed.at;
-                self.left = passed.left;
-                steps.raise(passed.count);
-                passed.count
+            Some(Passed::Open { at, left, count }) => {
+                self.at = at;
+                self.left = left;
+                steps.raise(count);
+                (Judged::Open, count)
             }
-            None => 0,
+            Some(Passed::Ended { count }) => {
+                *self = Judge::of(self.lengths);
+                steps.raise(count);
+                (Judged::Ended, count)
+            }
+            None => (Judged::Open, 0),
         }
     }
 
-    // Takes a whole message without fields, or of fields of fixed sizes alone, where none of it was judged: its size.
-    #[inline(always)]
-    fn take_whole(&mut self, steps: &mut Steps, bytes: &[u8]) -> Option<usize>
-        ensures some { IfSome result (λ size. (held : List ℕ) → StandsFor self.old held → Ran self.old.reading held bytes.now (Run.Ended size) self.new) }
-        ensures count { IfSome result (λ size. steps.new.judged.count ≡ steps.old.judged.count + size) }
-        ensures none { IfNone result ((self.new ≡ self.old) × (steps.new.judged.count ≡ steps.old.judged.count)) }
-    {
-        let size = whole_first(self.at, bytes)?;
-        steps.raise(size);
-        *self = Judge::of(self.lengths);
-        Some(size)
-    }
-
-    /// Judges bytes up to the end of a message. A whole message without fields, or of fields of fixed sizes alone, is
-    /// taken at once, and so are both control bytes, and fields of fixed sizes but the last byte of all.
+    /// Judges bytes up to the end of a message. Taken at once are a whole message without fields, or of fields of fixed
+    /// sizes alone; else the control bytes with a length of one byte in front of fields, fields of fixed sizes, and data
+    /// without fields.
     #[inline(always)]
     pub fn run(&mut self, steps: &mut Steps, bytes: &[u8]) -> Run
         ensures judged { (held : List ℕ) → StandsFor self.old held → Ran self.old.reading held bytes.now result self.new }
         ensures count { steps.new.judged.count ≡ steps.old.judged.count + taken_by bytes.now result }
     {
-        match self.take_whole(steps, bytes) {
-            Some(taken) => Run::Ended { taken },
-            None => self.run_through(steps, bytes),
+        match begin(self.at, bytes) {
+            Some(Begun::Whole { size }) => {
+                steps.raise(size);
+                *self = Judge::of(self.lengths);
+                Run::Ended { taken: size }
+            }
+            Some(Begun::Fields { room }) => {
+                steps.raise(3);
+                self.at = At::Name;
+                self.left = room;
+                self.outer.push(0);
+                self.run_from(steps, bytes, 3)
+            }
+            None => self.run_from(steps, bytes, 0),
         }
     }
 
-    // Judges bytes, some of them one by one.
-    fn run_through(&mut self, steps: &mut Steps, bytes: &[u8]) -> Run
-        ensures judged { (held : List ℕ) → StandsFor self.old held → Ran self.old.reading held bytes.now result self.new }
-        ensures count { steps.new.judged.count ≡ steps.old.judged.count + taken_by bytes.now result }
+    // Judges the bytes behind the first `from`, some of them one by one.
+    fn run_from(&mut self, steps: &mut Steps, bytes: &[u8], from: usize) -> Run
+        requires { from ≤ length bytes.now }
+        ensures judged { (held : List ℕ) → StandsFor self.old (held ++ take from bytes.now) → Ran self.old.reading held bytes.now result self.new }
+        ensures count { steps.new.judged.count + from ≡ steps.old.judged.count + taken_by bytes.now result }
     {
-        let mut taken = 0;
+        let mut taken = from;
         while taken < bytes.len() {
-            taken += self.skip(steps, &bytes[taken..]);
+            let (skipped, count) = self.skip(steps, &bytes[taken..]);
+            taken += count;
+            match skipped {
+                Judged::Open => {}
+                Judged::Ended => return Run::Ended { taken },
+            }
             if taken == bytes.len() {
                 return Run::Open;
             }

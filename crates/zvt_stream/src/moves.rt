@@ -72,14 +72,7 @@ pub(crate) fn judge_byte(
             left,
         }),
         At::FirstSize { high, low } => judge_first_size(high, low, left, byte),
-        At::LowSize { high, low } => Ok(Move::Within {
-            at: At::HighSize {
-                high,
-                low,
-                size_low: byte,
-            },
-            left,
-        }),
+        At::LowSize { high, low } => judge_low_size(high, low, left, byte),
         At::HighSize {
             high,
             low,
@@ -107,6 +100,19 @@ fn judge_first_size(high: u8, low: u8, left: usize, byte: u8) -> Result<Move, Wh
         });
     }
     begin_data(high, low, usize::from(byte))
+}
+
+fn judge_low_size(high: u8, low: u8, left: usize, byte: u8) -> Result<Move, Why>
+    ensures { (r : Reading) (depth : ℕ) → Judges r (At.LowSize high low) left depth byte result }
+{
+    Ok(Move::Within {
+        at: At::HighSize {
+            high,
+            low,
+            size_low: byte,
+        },
+        left,
+    })
 }
 
 fn judge_high_size(high: u8, low: u8, size_low: u8, byte: u8, lengths: Lengths) -> Result<Move, Why>

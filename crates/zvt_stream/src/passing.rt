@@ -1,12 +1,12 @@
 //! Bytes that are judged at once.
 
-ghost use Rattle.std.specs.Prelude.{◌≡◌, ◌<◌, ◌≤◌, List, [], ℕ, ◌++◌, length, take, true, IfSome};
+ghost use Rattle.std.specs.Prelude.{◌≡◌, ◌<◌, ◌≤◌, [], ℕ, length, take, true, IfSome};
 ghost use Rattle.zvt_bcd.specs.Digits.{AreDigits};
 ghost use Rattle.zvt_spelling.specs.Reading.{Reading};
 ghost use Rattle.zvt_tlv.specs.Lengths.{reading_of};
 ghost use Rattle.zvt_field.specs.Grammar.{IsContent, IsHead};
 ghost use Rattle.zvt_field.specs.Shapes.{shape_of};
-ghost use Rattle.zvt_stream.specs.Judge.{StandsFor, HoldsFields, IsMessageIn, Passes, PassesOver};
+ghost use Rattle.zvt_stream.specs.Judge.{Begins, Comes, HoldsFields, IsReadyBehind, Passes, count_of};
 ghost use Rattle.zvt_stream.specs.Moves.{IsReady};
 
 use crate::moves::{At, Move, judge_field};
@@ -14,20 +14,28 @@ use zvt_apdu::judge_size;
 use zvt_field::{Shape, shape};
 use zvt_tlv::Lengths;
 
-/// What bytes that end nothing lead to, and how many they are.
+/// What a front of bytes comes to.
 #[derive(Clone, Copy)]
-pub(crate) struct Passed {
-    pub(crate) at: At,
-    pub(crate) left: usize,
-    pub(crate) count: usize,
+pub(crate) enum Passed {
+    /// Behind the first `count` the message goes on there, in the same level.
+    Open { at: At, left: usize, count: usize },
+    /// The first `count` end the message.
+    Ended { count: usize },
 }
 
-/// The size of the message that stands first, where none of it was judged and all of it is there: one without fields, or
-/// one of fields of fixed sizes alone.
+/// How a message begins.
+#[derive(Clone, Copy)]
+pub(crate) enum Begun {
+    /// All of it is there, without fields or with fields of fixed sizes alone.
+    Whole { size: usize },
+    /// Its control bytes and a length of one byte are there, in front of so many bytes of fields.
+    Fields { room: usize },
+}
+
+/// How the message begins of which no byte was judged, where its length is there.
 #[inline(always)]
-pub(crate) fn whole_first(at: At, bytes: &[u8]) -> Option<usize>
-    ensures few { IfSome result (λ size. (0 < size) × (size ≤ length bytes.now)) }
-    ensures whole { IfSome result (λ size. (r : Reading) (left : ℕ) (outer held : List ℕ) → StandsFor (record { reading = r; at = at; left = left; outer = outer }) held → IsMessageIn r (held ++ take size bytes.now)) }
+pub(crate) fn begin(at: At, bytes: &[u8]) -> Option<Begun>
+    ensures { IfSome result (Begins at bytes.now) }
 {
     let At::FirstControl = at else {
         return None;
@@ -36,16 +44,22 @@ pub(crate) fn whole_first(at: At, bytes: &[u8]) -> Option<usize>
         return None;
     };
     let size = usize::from(*size);
-    if size == 0xFF || rest.len() < size {
+    if size == 0xFF {
         return None;
     }
     let Ok(layout) = judge_size(*high, *low, size) else {
         return None;
     };
-    if layout.fields && (layout.free + layout.digits > 0 || !are_fields(&rest[..size])) {
+    if layout.fields && layout.free + layout.digits > 0 {
         return None;
     }
-    Some(3 + size)
+    if rest.len() >= size && (!layout.fields || are_fields(&rest[..size])) {
+        return Some(Begun::Whole { size: 3 + size });
+    }
+    if layout.fields && size > 0 {
+        return Some(Begun::Fields { room: size });
+    }
+    None
 }
 
 /// Whether the bytes are fields of fixed sizes.
@@ -95,27 +109,28 @@ fn fixed(name: u8) -> Option<(usize, bool)>
     }
 }
 
-/// The bytes at the front that end nothing and need no step of their own: none where there is no such byte.
+/// What the bytes at the front come to that need no step of their own: none where there is no such byte.
+#[inline(always)]
 pub(crate) fn pass(at: At, left: usize, bytes: &[u8], lengths: Lengths) -> Option<Passed>
     requires { IsReady at left }
-    ensures { IfSome result (λ passed. (passed.count ≤ length bytes.now) × Passes (reading_of lengths) at left passed.at passed.left (take passed.count bytes.now)) }
+    ensures { IfSome result (Comes (reading_of lengths) at left bytes.now) }
 {
     match at {
         At::FirstControl => pass_control(left, bytes),
-        At::Name => Some(pass_fields(left, bytes, lengths)),
-        At::Payload => pass_payload(left, bytes.len()),
+        At::Name => Some(pass_fields(left, 0, bytes, lengths)),
+        At::Payload => Some(pass_payload(left, bytes)),
         At::Content { digits, more } => Some(pass_from_content(digits, more, left, bytes, lengths)),
-        At::Object { more } => pass_object(more, left, bytes.len()),
+        At::Object { more } => Some(pass_object(more, left, bytes)),
         _ => None,
     }
 }
 
 /// Both control bytes, where they stand there.
 fn pass_control(left: usize, bytes: &[u8]) -> Option<Passed>
-    ensures { IfSome result (λ passed. (passed.count ≤ length bytes.now) × ((r : Reading) → Passes r At.FirstControl left passed.at passed.left (take passed.count bytes.now))) }
+    ensures { (r : Reading) → IfSome result (Comes r At.FirstControl left bytes.now) }
 {
     match bytes {
-        [high, low, ..] => Some(Passed {
+        [high, low, ..] => Some(Passed::Open {
             at: At::FirstSize {
                 high: *high,
                 low: *low,
@@ -127,36 +142,52 @@ fn pass_control(left: usize, bytes: &[u8]) -> Option<Passed>
     }
 }
 
-/// Fields of fixed sizes, and the front of one, but the last byte of their level.
-fn pass_fields(left: usize, bytes: &[u8], lengths: Lengths) -> Passed
-    requires { 2 ≤ left }
-    ensures { (result.count ≤ length bytes.now) × Passes (reading_of lengths) At.Name left result.at result.left (take result.count bytes.now) }
+/// Fields of fixed sizes, and the front of one, behind the first `from` bytes.
+fn pass_fields(left: usize, from: usize, bytes: &[u8], lengths: Lengths) -> Passed
+    requires some { 2 ≤ left }
+    requires within { from ≤ length bytes.now }
+    ensures { (at : At) (before : ℕ) → Passes (reading_of lengths) at before At.Name left (take from bytes.now) → Comes (reading_of lengths) at before bytes.now result }
 {
-    let mut passed = Passed {
-        at: At::Name,
-        left,
-        count: 0,
-    };
-    'fields: while let At::Name = passed.at {
-        let Some(next) = pass_field(passed.left, &bytes[passed.count..], lengths) else {
-            return passed;
-        };
-        passed = Passed {
-            at: next.at,
-            left: next.left,
-            count: passed.count + next.count,
-        };
+    let mut left = left;
+    let mut count = from;
+    'fields: loop {
+        match pass_field(left, &bytes[count..], lengths) {
+            None => return Passed::Open {
+                at: At::Name,
+                left,
+                count,
+            },
+            Some(Passed::Open {
+                at: At::Name,
+                left: behind,
+                count: more,
+            }) => {
+                left = behind;
+                count += more;
+            }
+            Some(Passed::Open {
+                at,
+                left,
+                count: more,
+            }) => return Passed::Open {
+                at,
+                left,
+                count: count + more,
+            },
+            Some(Passed::Ended { count: more }) => return Passed::Ended {
+                count: count + more,
+            },
+        }
     }
-    passed
 }
 
-/// The name of a field of a fixed size, and its content as far as that can be passed.
+/// The name of a field of a fixed size, and its content as far as that is there.
 #[inline(always)]
 fn pass_field(left: usize, bytes: &[u8], lengths: Lengths) -> Option<Passed>
     requires { 2 ≤ left }
-    ensures some { IfSome result (λ passed. (0 < passed.count) × (passed.count ≤ length bytes.now)) }
-    ensures ready { IfSome result (λ passed. IsReady passed.at passed.left) }
-    ensures passes { IfSome result (λ passed. Passes (reading_of lengths) At.Name left passed.at passed.left (take passed.count bytes.now)) }
+    ensures some { IfSome result (λ passed. 0 < count_of passed) }
+    ensures ready { IfSome result IsReadyBehind }
+    ensures passes { IfSome result (Comes (reading_of lengths) At.Name left bytes.now) }
 {
     let [name, behind @ ..] = bytes else {
         return None;
@@ -170,11 +201,13 @@ fn pass_field(left: usize, bytes: &[u8], lengths: Lengths) -> Option<Passed>
     else {
         return None;
     };
-    let content = pass_content(digits, more, within, behind);
-    Some(Passed {
-        at: content.at,
-        left: content.left,
-        count: 1 + content.count,
+    Some(match pass_content(digits, more, within, behind) {
+        Passed::Open { at, left, count } => Passed::Open {
+            at,
+            left,
+            count: 1 + count,
+        },
+        Passed::Ended { count } => Passed::Ended { count: 1 + count },
     })
 }
 
@@ -188,54 +221,59 @@ fn pass_from_content(
 ) -> Passed
     requires some { 0 < more }
     requires room { more ≤ left }
-    ensures { (result.count ≤ length bytes.now) × Passes (reading_of lengths) (At.Content digits more) left result.at result.left (take result.count bytes.now) }
+    ensures { Comes (reading_of lengths) (At.Content digits more) left bytes.now result }
 {
     let content = pass_content(digits, more, left, bytes);
-    let At::Name = content.at else {
+    let Passed::Open {
+        at: At::Name,
+        left,
+        count,
+    } = content
+    else {
         return content;
     };
-    let fields = pass_fields(content.left, &bytes[content.count..], lengths);
-    Passed {
-        at: fields.at,
-        left: fields.left,
-        count: content.count + fields.count,
-    }
+    pass_fields(left, count, bytes, lengths)
 }
 
-fn pass_payload(left: usize, most: usize) -> Option<Passed>
+/// The bytes of data without fields.
+fn pass_payload(left: usize, bytes: &[u8]) -> Passed
     requires { 0 < left }
-    ensures { IfSome result (λ passed. (passed.count ≤ most) × ((r : Reading) → PassesOver r At.Payload left passed.at passed.left passed.count)) }
+    ensures { (r : Reading) → Comes r At.Payload left bytes.now result }
 {
-    let count = (left - 1).min(most);
-    if count == 0 {
-        return None;
+    if left <= bytes.len() {
+        return Passed::Ended { count: left };
     }
-    Some(Passed {
+    Passed::Open {
         at: At::Payload,
-        left: left - count,
-        count,
-    })
+        left: left - bytes.len(),
+        count: bytes.len(),
+    }
 }
 
-/// Bytes of a content, of digits those up to the first byte that is none; the last one where another field follows.
+/// Bytes of a content, of digits those up to the first byte that is none; the last one where another field follows, or
+/// nothing.
 #[inline(always)]
 fn pass_content(digits: bool, more: usize, left: usize, bytes: &[u8]) -> Passed
     requires some { 0 < more }
     requires room { more ≤ left }
-    ensures few { result.count ≤ length bytes.now }
-    ensures ready { IsReady result.at result.left }
-    ensures passes { (r : Reading) → Passes r (At.Content digits more) left result.at result.left (take result.count bytes.now) }
+    ensures ready { IsReadyBehind result }
+    ensures passes { (r : Reading) → Comes r (At.Content digits more) left bytes.now result }
 {
     let count = content_first(digits, more, bytes);
-    if count == more && left - more >= 2 {
-        return Passed {
-            at: At::Name,
-            left: left - more,
-            count,
-        };
+    if count == more {
+        if left == more {
+            return Passed::Ended { count };
+        }
+        if left - more >= 2 {
+            return Passed::Open {
+                at: At::Name,
+                left: left - more,
+                count,
+            };
+        }
     }
     let count = count.min(more - 1);
-    Passed {
+    Passed::Open {
         at: At::Content {
             digits,
             more: more - count,
@@ -274,18 +312,16 @@ fn digits_first(bytes: &[u8]) -> usize
     count
 }
 
-fn pass_object(more: usize, left: usize, most: usize) -> Option<Passed>
+/// The bytes of an object's content, but the last.
+fn pass_object(more: usize, left: usize, bytes: &[u8]) -> Passed
     requires some { 0 < more }
     requires room { more ≤ left }
-    ensures { IfSome result (λ passed. (passed.count ≤ most) × ((r : Reading) → PassesOver r (At.Object more) left passed.at passed.left passed.count)) }
+    ensures { (r : Reading) → Comes r (At.Object more) left bytes.now result }
 {
-    let count = (more - 1).min(most);
-    if count == 0 {
-        return None;
-    }
-    Some(Passed {
+    let count = (more - 1).min(bytes.len());
+    Passed::Open {
         at: At::Object { more: more - count },
         left: left - count,
         count,
-    })
+    }
 }

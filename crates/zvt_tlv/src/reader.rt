@@ -183,13 +183,10 @@ fn scan_object(
     let size = head.size + head.content;
     if head.constructed {
         return match scan_objects(alloc, content, head.content, depth + 1, lengths)? {
-            Scan::Whole(objects) => Ok(Scan::Whole((
-                Tlv {
-                    tag,
-                    body: Body::Cons(objects),
-                },
-                size,
-            ))),
+            Scan::Whole(objects) => {
+                let body = Body::Cons(objects);
+                Ok(Scan::Whole((Tlv { tag, body }, size)))
+            }
             Scan::More => Ok(Scan::More),
             Scan::Refused { place, why } => Ok(Scan::Refused {
                 place: head.size + place,
@@ -200,12 +197,6 @@ fn scan_object(
     if content.len() < head.content {
         return Ok(Scan::More);
     }
-    let bytes = Vec::from_slice(alloc, &content[..head.content])?;
-    Ok(Scan::Whole((
-        Tlv {
-            tag,
-            body: Body::Prim(bytes),
-        },
-        size,
-    )))
+    let body = Body::Prim(Vec::from_slice(alloc, &content[..head.content])?);
+    Ok(Scan::Whole((Tlv { tag, body }, size)))
 }

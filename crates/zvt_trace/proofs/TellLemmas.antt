@@ -1,12 +1,11 @@
 -- What a piece tells, one message after another.
-use Rattle.std.proofs.Common.{◌≡◌, ℕ, ◌+◌, ◌-◌, ◌<◌, ◌≤◌, Bool, true, false, subst, List, [], ◌∷◌, ◌++◌, length, take, drop, slice_index, refl, sym, ◌∙◌, ap, arith, append_assoc, append-nil, length-append}
-use Rattle.std.proofs.lemmas.List.{take-append-drop, map-append, get_or-append_right}
+use Rattle.std.proofs.Common.{◌≡◌, ℕ, ◌+◌, ◌<◌, Bool, true, false, subst, List, [], ◌∷◌, ◌++◌, length, take, drop, refl, sym, ◌∙◌, ap, arith, append_assoc, append-nil, length-append}
+use Rattle.std.proofs.lemmas.List.{take-append-drop, map-append}
 use Rattle.std.proofs.lemmas.Bool.{false≢true}
 use Rattle.zvt_spelling.proofs.CutLemmas.{spelled_more, spelled_push}
 use Rattle.zvt_spelling.specs.Beginnings.{NoneWhole}
 use Rattle.zvt_spelling.specs.Cuts.{Cut, Spelled}
 use Rattle.zvt_spelling.specs.Reading.{Reading}
-use Rattle.zvt_spelling.specs.declared.why.Why.{Why}
 use Rattle.zvt_apdu.specs.Grammar.{Spells}
 use Rattle.zvt_apdu.specs.Message.{Message}
 use Rattle.zvt_stream.proofs.Beginnings.{nothing_in}
@@ -28,7 +27,6 @@ use Rattle.zvt_trace.specs.declared.listener.Failure.{Failure}
 use Rattle.zvt_trace.specs.declared.listener.Failure.TheVariants.{Memory}
 use Rattle.zvt_trace.specs.declared.tell.Hearing.{Hearing}
 use Rattle.zvt_trace.specs.declared.told.Head.{Head}
-use Rattle.zvt_trace.specs.declared.told.Head.TheVariants.{Empty}
 use Rattle.zvt_trace.proofs.EventLemmas.{bad_append, fails_here, fails_next, front_whole, hears_append, hears_one, hears_push, messages_append, messages_of, none_bad}
 use Rattle.zvt_trace.proofs.PieceLemmas.{EndsAs, arrived, behind, nothing_left}
 
@@ -47,17 +45,15 @@ pub record Fed (r : Reading) (bytes rest : List ℕ) (start state : StreamState)
   pub done : List ℕ
   pub cut : bytes ≡ done ++ rest
   pub spelled : Spelled (Spells r) (start.held ++ done) messages state.held
-  pub unfinished : UnfinishedIn r state.held
   pub counted : count ≡ length messages
   pub same : state.stopped ≡ start.stopped
 
-pub none_fed : {r : Reading} (bytes : List ℕ) (start : StreamState) → UnfinishedIn r start.held → Fed r bytes bytes start start 0
-none_fed bytes start unfinished = record {
+pub none_fed : {r : Reading} (bytes : List ℕ) (start : StreamState) → Fed r bytes bytes start start 0
+none_fed bytes start = record {
   messages = [];
   done = [];
   cut = refl;
   spelled = append-nil start.held;
-  unfinished = unfinished;
   counted = refl;
   same = refl;
 }
@@ -75,7 +71,6 @@ one_fed {r = r} bytes rest after start state next count taken m fed going spells
       done = whole;
       cut = fed.cut ∙ ap (λ (r : List ℕ). fed.done ++ r) (sym (take-append-drop taken rest)) ∙ sym (append_assoc fed.done some (drop taken rest)) ∙ ap (λ (r : List ℕ). whole ++ r) (sym is_after);
       spelled = subst (λ (h : List ℕ). Spelled (Spells r) (start.held ++ whole) (fed.messages ++ m ∷ []) h) (sym is_next.0) moved;
-      unfinished = subst (UnfinishedIn r) (sym is_next.0) (nothing_in r);
       counted = omega (arith, fed.counted, length-append fed.messages (m ∷ []));
       same = is_next.1 ∙ sym going ∙ fed.same;
     }
@@ -101,9 +96,9 @@ tells_all line from before bytes rest start state count ending fed none ended fo
 
 -- what the messages so far tell is a front of it
 pub begins : {r : Reading} (line : ℕ) (from : Direction) (side : Side) (bytes rest : List ℕ) (start state : StreamState) (count : ℕ) → (fed : Fed r bytes rest start state count) → state.stopped ≡ false
-    → Follows r start side → PieceBegins r line from side bytes (messages_told line from fed.messages)
-begins line from stopped bytes rest start state count fed going follows = absurd (false≢true (sym going ∙ fed.same ∙ follows.1))
-begins line from (running before) bytes rest start state count fed going follows = record {
+    → UnfinishedIn r state.held → Follows r start side → PieceBegins r line from side bytes (messages_told line from fed.messages)
+begins line from stopped bytes rest start state count fed going unfinished follows = absurd (false≢true (sym going ∙ fed.same ∙ follows.1))
+begins line from (running before) bytes rest start state count fed going unfinished follows = record {
   first = fed.done;
   more = rest;
   after = running (before ++ fed.done);
@@ -112,7 +107,7 @@ begins line from (running before) bytes rest start state count fed going follows
     messages = fed.messages;
     rest = state.held;
     ending = begun;
-    arrives = arrived before fed.done state.held start fed.messages begun follows fed.spelled fed.unfinished.none_whole fed.unfinished.alive;
+    arrives = arrived before fed.done state.held start fed.messages begun follows fed.spelled unfinished.none_whole unfinished.alive;
     is_all = sym (append-nil (messages_told line from fed.messages));
     is_after = refl;
   });
@@ -123,48 +118,42 @@ told_push line from messages m = map-append (λ (n : Message). on line (message 
 
 -- ---- and what was heard of them
 
-pub record SoFar {S : Type 0} (r : Reading) (hears : Hears S) (line : ℕ) (from : Direction) (bytes rest : List ℕ) (start state : StreamState) (head : Head) (held : ℕ) (old now : S) (count : ℕ) : Type 0 where
+pub record SoFar {S : Type 0} (r : Reading) (hears : Hears S) (line : ℕ) (from : Direction) (bytes rest : List ℕ) (start state : StreamState) (old now : S) (count : ℕ) : Type 0 where
   pub fed : Fed r bytes rest start state count
   pub heard : HearsAll hears old (messages_told line from fed.messages) now
-  pub is_head : head ≡ head_of state.held
-  pub is_held : held ≡ length state.held
   pub fresh : state.stopped ≡ true → (state ≡ start) × (now ≡ old) × (count ≡ 0)
 
-pub none_yet : {S : Type 0} {r : Reading} (hears : Hears S) (line : ℕ) (from : Direction) (bytes first : List ℕ) (start : StreamState) (head : Head) (held : ℕ) (old : S)
-    → head ≡ head_of first → first ≡ take 2 start.held → held ≡ length start.held → UnfinishedIn r start.held → SoFar r hears line from bytes bytes start start head held old old 0
+pub none_yet : {S : Type 0} {r : Reading} (hears : Hears S) (line : ℕ) (from : Direction) (bytes : List ℕ) (start : StreamState) (old : S)
+    → SoFar r hears line from bytes bytes start start old old 0
 unfolding none_fed
-none_yet hears line from bytes first start head held old is_head is_first is_held unfinished = record {
-  fed = none_fed bytes start unfinished;
+none_yet hears line from bytes start old = record {
+  fed = none_fed bytes start;
   heard = refl;
-  is_head = is_head ∙ ap head_of is_first ∙ head_take start.held;
-  is_held = is_held;
   fresh = λ e. (refl, refl, refl);
 }
 
-pub one_more : {S : Type 0} {r : Reading} (hears : Hears S) (line : ℕ) (from : Direction) (bytes rest after : List ℕ) (start state next : StreamState) (head : Head) (held : ℕ) (old now new : S) (count taken : ℕ) (m : Message)
-    → SoFar r hears line from bytes rest start state head held old now count → state.stopped ≡ false
+pub one_more : {S : Type 0} {r : Reading} (hears : Hears S) (line : ℕ) (from : Direction) (bytes rest after : List ℕ) (start state next : StreamState) (old now new : S) (count taken : ℕ) (m : Message)
+    → SoFar r hears line from bytes rest start state old now count → state.stopped ≡ false
     → Spells r m (state.held ++ take taken rest) → Holds [] next → after ≡ drop taken rest → hears now (on line (message from m)) new
-    → SoFar r hears line from bytes after start next Empty 0 old new (count + 1)
+    → SoFar r hears line from bytes after start next old new (count + 1)
 unfolding one_fed
-one_more hears line from bytes rest after start state next head held old now new count taken m so going spells is_next is_after heard = record {
+one_more hears line from bytes rest after start state next old now new count taken m so going spells is_next is_after heard = record {
   fed = one_fed bytes rest after start state next count taken m so.fed going spells is_next is_after;
   heard = subst (λ (events : List At). HearsAll hears old events new) (sym (told_push line from so.fed.messages m)) (hears_push hears (messages_told line from so.fed.messages) (on line (message from m)) old now new so.heard heard);
-  is_head = sym (ap head_of is_next.0);
-  is_held = sym (ap length is_next.0);
   fresh = λ e. absurd (false≢true (sym is_next.1 ∙ e));
 }
 
 -- ---- the piece ends
 
-pub ends : {S : Type 0} {r : Reading} (hears : Hears S) (line : ℕ) (from : Direction) (side : Side) (bytes rest : List ℕ) (start state next : StreamState) (head : Head) (held : ℕ) (old now new : S) (count : ℕ) (ending : Ending) (hearing : Hearing)
-    → SoFar r hears line from bytes rest start state head held old now count → state.stopped ≡ false → NoneWhole (Spells r) (state.held ++ rest)
+pub ends : {S : Type 0} {r : Reading} (hears : Hears S) (line : ℕ) (from : Direction) (side : Side) (bytes rest : List ℕ) (start state next : StreamState) (old now new : S) (count : ℕ) (ending : Ending) (hearing : Hearing)
+    → SoFar r hears line from bytes rest start state old now count → state.stopped ≡ false → NoneWhole (Spells r) (state.held ++ rest)
     → EndsIn r (state.held ++ rest) ending → EndsAs next (state.held ++ rest) ending → HearsAll hears now (ending_told line from (state.held ++ rest) ending) new
     → hearing.tally.messages ≡ count → hearing.tally.bad ≡ bad_in (ending_told line from (state.held ++ rest) ending) → hearing.stopped ≡ is_stopped (side_after [] ending)
     → Follows r start side → HearsPiece r hears line from side bytes next hearing old new
 unfolding tells_all
-ends hears line from stopped bytes rest start state next head held old now new count ending hearing so going none ended is_end last messages bad over follows =
+ends hears line from stopped bytes rest start state next old now new count ending hearing so going none ended is_end last messages bad over follows =
     absurd (false≢true (sym going ∙ so.fed.same ∙ follows.1))
-ends hears line from (running before) bytes rest start state next head held old now new count ending hearing so going none ended is_end last messages bad over follows =
+ends hears line from (running before) bytes rest start state next old now new count ending hearing so going none ended is_end last messages bad over follows =
     let told = tells_all line from before bytes rest start state count ending so.fed none ended follows in
     let first = messages_told line from so.fed.messages in
     let second = ending_told line from (state.held ++ rest) ending in
@@ -190,21 +179,21 @@ ends hears line from (running before) bytes rest start state next head held old 
     same_end (refused place why) = refl
 
 -- nothing of the piece is left behind a message
-pub ends_whole : {S : Type 0} {r : Reading} (hears : Hears S) (line : ℕ) (from : Direction) (side : Side) (bytes rest : List ℕ) (start state : StreamState) (head : Head) (held : ℕ) (old now : S) (count : ℕ) (hearing : Hearing)
-    → SoFar r hears line from bytes rest start state head held old now count → Holds [] state → length rest ≡ 0
+pub ends_whole : {S : Type 0} {r : Reading} (hears : Hears S) (line : ℕ) (from : Direction) (side : Side) (bytes rest : List ℕ) (start state : StreamState) (old now : S) (count : ℕ) (hearing : Hearing)
+    → SoFar r hears line from bytes rest start state old now count → Holds [] state → length rest ≡ 0
     → hearing.tally.messages ≡ count → hearing.tally.bad ≡ 0 → hearing.stopped ≡ false → Follows r start side → HearsPiece r hears line from side bytes state hearing old now
-ends_whole {r = r} hears line from side bytes rest start state head held old now count hearing so holds none messages bad over follows =
+ends_whole {r = r} hears line from side bytes rest start state old now count hearing so holds none messages bad over follows =
     let nothing = nothing_left state.held rest holds.0 none in
-    ends hears line from side bytes rest start state state head held old now now count begun hearing so holds.1 (subst (NoneWhole (Spells r)) (sym nothing) (nothing_in r).none_whole)
+    ends hears line from side bytes rest start state state old now now count begun hearing so holds.1 (subst (NoneWhole (Spells r)) (sym nothing) (nothing_in r).none_whole)
     (subst (λ (b : List ℕ). EndsIn r b begun) (sym nothing) (nothing_in r).alive) (holds.0 ∙ sym nothing, holds.1) refl messages bad over follows
 
 -- a piece behind a refusal
-pub stays : {S : Type 0} {r : Reading} (hears : Hears S) (line : ℕ) (from : Direction) (side : Side) (bytes rest : List ℕ) (start state next : StreamState) (head : Head) (held : ℕ) (old now new : S) (count : ℕ) (hearing : Hearing)
-    → SoFar r hears line from bytes rest start state head held old now count → state.stopped ≡ true → Keeps state next → hears now (on line (unread from)) new
+pub stays : {S : Type 0} {r : Reading} (hears : Hears S) (line : ℕ) (from : Direction) (side : Side) (bytes rest : List ℕ) (start state next : StreamState) (old now new : S) (count : ℕ) (hearing : Hearing)
+    → SoFar r hears line from bytes rest start state old now count → state.stopped ≡ true → Keeps state next → hears now (on line (unread from)) new
     → hearing.tally.messages ≡ count → hearing.tally.bad ≡ 0 → hearing.stopped ≡ true → Follows r start side → HearsPiece r hears line from side bytes next hearing old new
-stays hears line from (running before) bytes rest start state next head held old now new count hearing so still kept heard messages bad over follows =
+stays hears line from (running before) bytes rest start state next old now new count hearing so still kept heard messages bad over follows =
     absurd (false≢true (sym follows.0 ∙ sym so.fed.same ∙ still))
-stays {S = S} hears line from stopped bytes rest start state next head held old now new count hearing so still kept heard messages bad over follows = record {
+stays {S = S} hears line from stopped bytes rest start state next old now new count hearing so still kept heard messages bad over follows = record {
   events = on line (unread from) ∷ [];
   after = stopped;
   tells = (refl, refl);
@@ -216,43 +205,43 @@ stays {S = S} hears line from stopped bytes rest start state next head held old 
 
 -- ---- the listener, or memory, fails
 
-pub fails_message : {S : Type 0} {r : Reading} (hears : Hears S) (fails : Fails S) (why : Failure) (line : ℕ) (from : Direction) (side : Side) (bytes rest : List ℕ) (start state next : StreamState) (head : Head) (held : ℕ) (old now new : S) (count taken : ℕ) (m : Message)
-    → SoFar r hears line from bytes rest start state head held old now count → state.stopped ≡ false
+pub fails_message : {S : Type 0} {r : Reading} (hears : Hears S) (fails : Fails S) (why : Failure) (line : ℕ) (from : Direction) (side : Side) (bytes rest : List ℕ) (start state next : StreamState) (old now new : S) (count taken : ℕ) (m : Message)
+    → SoFar r hears line from bytes rest start state old now count → state.stopped ≡ false
     → Spells r m (state.held ++ take taken rest) → Holds [] next → fails now (on line (message from m)) why new → Follows r start side
     → FailsIn hears fails why (PieceBegins r line from side bytes) old new
 unfolding one_fed
-fails_message {r = r} hears fails why line from side bytes rest start state next head held old now new count taken m so going spells is_next failed follows =
+fails_message {r = r} hears fails why line from side bytes rest start state next old now new count taken m so going spells is_next failed follows =
     let more = one_fed bytes rest (drop taken rest) start state next count taken m so.fed going spells is_next refl in
     fails_next hears fails why (messages_told line from so.fed.messages) (on line (message from m)) old now new so.heard
-    (subst (PieceBegins r line from side bytes) (told_push line from so.fed.messages m) (begins line from side bytes (drop taken rest) start next (count + 1) more is_next.1 follows)) failed
+    (subst (PieceBegins r line from side bytes) (told_push line from so.fed.messages m) (begins line from side bytes (drop taken rest) start next (count + 1) more is_next.1 (subst (UnfinishedIn r) (sym is_next.0) (nothing_in r)) follows)) failed
 
-pub fails_refused : {S : Type 0} {r : Reading} (hears : Hears S) (fails : Fails S) (why : Failure) (line : ℕ) (from : Direction) (side : Side) (bytes rest : List ℕ) (start state : StreamState) (head : Head) (held : ℕ) (old now new : S) (count : ℕ) (ending : Ending) (event : At)
-    → SoFar r hears line from bytes rest start state head held old now count → state.stopped ≡ false → NoneWhole (Spells r) (state.held ++ rest)
+pub fails_refused : {S : Type 0} {r : Reading} (hears : Hears S) (fails : Fails S) (why : Failure) (line : ℕ) (from : Direction) (side : Side) (bytes rest : List ℕ) (start state : StreamState) (old now new : S) (count : ℕ) (ending : Ending) (event : At)
+    → SoFar r hears line from bytes rest start state old now count → state.stopped ≡ false → NoneWhole (Spells r) (state.held ++ rest)
     → EndsIn r (state.held ++ rest) ending → ending_told line from (state.held ++ rest) ending ≡ event ∷ [] → fails now event why new → Follows r start side
     → FailsIn hears fails why (PieceBegins r line from side bytes) old new
-fails_refused hears fails why line from stopped bytes rest start state head held old now new count ending event so going none ended is_event failed follows =
+fails_refused hears fails why line from stopped bytes rest start state old now new count ending event so going none ended is_event failed follows =
     absurd (false≢true (sym going ∙ so.fed.same ∙ follows.1))
-fails_refused {r = r} hears fails why line from (running before) bytes rest start state head held old now new count ending event so going none ended is_event failed follows =
+fails_refused {r = r} hears fails why line from (running before) bytes rest start state old now new count ending event so going none ended is_event failed follows =
     let told = tells_all line from before bytes rest start state count ending so.fed none ended follows in
     let first = messages_told line from so.fed.messages in
     let all = subst (λ (events : List At). Tells r line from before bytes (first ++ events) (side_after (before ++ bytes) ending)) is_event told in
     fails_next hears fails why first event old now new so.heard
     (record { first = bytes; more = []; after = side_after (before ++ bytes) ending; cut = sym (append-nil bytes); tells = front_whole (first ++ event ∷ []) all }) failed
 
-pub fails_unread : {S : Type 0} {r : Reading} (hears : Hears S) (fails : Fails S) (why : Failure) (line : ℕ) (from : Direction) (side : Side) (bytes rest : List ℕ) (start state : StreamState) (head : Head) (held : ℕ) (old now new : S) (count : ℕ)
-    → SoFar r hears line from bytes rest start state head held old now count → state.stopped ≡ true → fails now (on line (unread from)) why new → Follows r start side
+pub fails_unread : {S : Type 0} {r : Reading} (hears : Hears S) (fails : Fails S) (why : Failure) (line : ℕ) (from : Direction) (side : Side) (bytes rest : List ℕ) (start state : StreamState) (old now new : S) (count : ℕ)
+    → SoFar r hears line from bytes rest start state old now count → state.stopped ≡ true → fails now (on line (unread from)) why new → Follows r start side
     → FailsIn hears fails why (PieceBegins r line from side bytes) old new
-fails_unread hears fails why line from (running before) bytes rest start state head held old now new count so still failed follows =
+fails_unread hears fails why line from (running before) bytes rest start state old now new count so still failed follows =
     absurd (false≢true (sym follows.0 ∙ sym so.fed.same ∙ still))
-fails_unread {S = S} hears fails why line from stopped bytes rest start state head held old now new count so still failed follows =
+fails_unread {S = S} hears fails why line from stopped bytes rest start state old now new count so still failed follows =
     fails_next hears fails why [] (on line (unread from)) old now new (so.fresh still).1
     (record { first = bytes; more = []; after = stopped; cut = sym (append-nil bytes); tells = front_whole (on line (unread from) ∷ []) (refl, refl) }) failed
 
-pub fails_memory : {S : Type 0} {r : Reading} (hears : Hears S) (fails : Fails S) (line : ℕ) (from : Direction) (side : Side) (bytes rest : List ℕ) (start state : StreamState) (head : Head) (held : ℕ) (old now : S) (count : ℕ)
-    → SoFar r hears line from bytes rest start state head held old now count → state.stopped ≡ false → Follows r start side
+pub fails_memory : {S : Type 0} {r : Reading} (hears : Hears S) (fails : Fails S) (line : ℕ) (from : Direction) (side : Side) (bytes rest : List ℕ) (start state : StreamState) (old now : S) (count : ℕ)
+    → SoFar r hears line from bytes rest start state old now count → state.stopped ≡ false → UnfinishedIn r state.held → Follows r start side
     → FailsIn hears fails Memory (PieceBegins r line from side bytes) old now
-fails_memory hears fails line from side bytes rest start state head held old now count so going follows =
-    fails_here hears fails (messages_told line from so.fed.messages) old now so.heard (begins line from side bytes rest start state count so.fed going follows)
+fails_memory hears fails line from side bytes rest start state old now count so going unfinished follows =
+    fails_here hears fails (messages_told line from so.fed.messages) old now so.heard (begins line from side bytes rest start state count so.fed going unfinished follows)
 
 -- a stream that wants memory had not stopped
 pub not_stopped : {stopped : Bool} (answer : Result FedView FeedError) (fault : FeedError) → answer ≡ Err fault → fault ≡ fault_of.Memory → (stopped ≡ true → IsErrOf answer fault_of.Stopped) → stopped ≡ false
@@ -264,13 +253,6 @@ not_stopped {stopped = true} answer fault is memory refuses = absurd (differ (sy
 
     differ : fault_of.Memory ≡ fault_of.Stopped → ⊥
     differ e = cc
-
--- what was refused, as it is told
-pub is_refused : (line : ℕ) (from : Direction) (held rest : List ℕ) (head : Head) (have byte place : ℕ) (why : Why) → have ≡ length held → head ≡ head_of (held ++ rest) → have ≤ place → byte ≡ slice_index rest (place - have)
-    → ending_told line from (held ++ rest) (refused place why) ≡ on line (told.refused from head byte place why) ∷ []
-is_refused line from held rest head have byte place why is_have is_head past is_byte =
-    let same : slice_index (held ++ rest) place ≡ byte = get_or-append_right held rest have place 0 (sym is_have) past ∙ sym is_byte in
-    rw (is_head, same) refl
 
 -- ---- the end of a side
 

@@ -1,9 +1,10 @@
 //! Tells a listener what one side of the line sends.
-ghost use Rattle.std.specs.Prelude.{◌≡◌, ◌≤◌, length, false, true, Some, IfOk, OnOk, MatchResult};
+ghost use Rattle.std.specs.Prelude.{◌≡◌, ◌<◌, ◌≤◌, ◌+◌, ◌++◌, List, ℕ, length, slice_index, false, true, Some, IfOk, OnOk, MatchResult};
 ghost use Rattle.zvt_spelling.specs.Reading.{Reading};
 ghost use Rattle.zvt_tlv.specs.Lengths.{reading_of};
 ghost use Rattle.zvt_apdu.specs.Message.{Message};
-ghost use Rattle.zvt_trace.specs.Told.{on};
+ghost use Rattle.zvt_stream.specs.Apdus.{UnfinishedIn};
+ghost use Rattle.zvt_trace.specs.Told.{head_of, on};
 ghost use Rattle.zvt_trace.specs.Told as told;
 ghost use Rattle.zvt_trace.specs.Trace.{Side};
 ghost use Rattle.zvt_trace.specs.Telling.{SideEnds};
@@ -15,6 +16,7 @@ use crate::fault::Tally;
 use crate::listener::{Failure, Listener, Scope};
 use crate::told::{Head, Told};
 use zvt_apdu::view;
+use zvt_spelling::Why;
 use zvt_stream::{FedView, FeedError, Stream, Truncated};
 use zvt_tlv::Lengths;
 
@@ -76,7 +78,56 @@ fn tell_message<D, L: Listener<D>>(
     listener.hear(device, line, &told)
 }
 
-/// Tells what a piece brings: the messages that end in it, and whether its stream is refused.
+/// What a side has begun of a message: its control bytes, as far as they have come, and how many bytes are held.
+#[derive(Clone, Copy)]
+struct Beginning {
+    head: Head,
+    held: usize,
+}
+
+impl Beginning {
+    /// What the side of that stream has begun.
+    #[inline(always)]
+    fn of(stream: &Stream) -> Beginning
+        ensures head { result.head ≡ head_of stream.now.held }
+        ensures held { result.held ≡ length stream.now.held }
+        ensures unfinished { UnfinishedIn stream.now.reading stream.now.held }
+    {
+        Beginning {
+            head: Head::of(stream.beginning()),
+            held: stream.held(),
+        }
+    }
+}
+
+/// Tells that what a side has begun is refused at that place, with these bytes behind it.
+fn tell_refused<D, L: Listener<D>>(
+    listener: &mut L,
+    device: &mut D,
+    line: u64,
+    from: Direction,
+    begun: Beginning,
+    bytes: &[u8],
+    place: usize,
+    why: Why,
+) -> Result<(), Failure>
+    requires begun { begun.held ≤ place }
+    requires within { place < begun.held + length bytes.now }
+    ensures { (held : List ℕ) → begun.head ≡ head_of held → begun.held ≡ length held → MatchResult result
+        (λ _. L.hears (listener.old, device.old) (on line (told.refused from (head_of (held ++ bytes.now)) (slice_index (held ++ bytes.now) place) place why)) (listener.new, device.new))
+        (λ failure. L.fails (listener.old, device.old) (on line (told.refused from (head_of (held ++ bytes.now)) (slice_index (held ++ bytes.now) place) place why)) failure (listener.new, device.new)) }
+{
+    let told = Told::Refused {
+        from,
+        head: begun.head.before(bytes),
+        byte: bytes[place - begun.held],
+        place,
+        why,
+    };
+    listener.hear(device, line, &told)
+}
+
+/// Tells what a piece brings: the messages that end in it, with which most pieces end, and whether its stream is refused.
 #[inline(always)]
 pub(crate) fn tell_piece<D, L: Listener<D>>(
     listener: &mut L,
@@ -90,37 +141,24 @@ pub(crate) fn tell_piece<D, L: Listener<D>>(
     requires reading { stream.old.reading ≡ reading_of lengths }
     ensures reading { OnOk result (stream.new.reading ≡ reading_of lengths) }
     ensures tells { (side : Side) → Follows (reading_of lengths) stream.old side → TellsPiece (reading_of lengths) L.hears L.fails line from side bytes.now stream.new (listener.old, device.old) (listener.new, device.new) result }
-    ensures few { IfOk result (λ hearing. hearing.tally.messages ≤ length bytes.now) }
-    ensures one { IfOk result (λ hearing. hearing.tally.bad ≤ 1) }
+    ensures few { IfOk result (λ hearing. (hearing.tally.messages ≤ length bytes.now) × (hearing.tally.bad ≤ 1)) }
 {
     let mut messages = 0;
-    let mut head = Head::of(stream.beginning());
-    let mut held = stream.held();
     let mut rest = bytes;
     'messages: loop {
+        let begun = Beginning::of(stream);
         match stream.feed_view(rest) {
             Ok(FedView::Message { taken }) => {
                 tell_message(listener, device, line, from, lengths, stream)?;
                 messages += 1;
-                let (_, after) = rest.split_at(taken);
-                // Most pieces end with a message.
-                if after.is_empty() {
+                rest = rest.split_at(taken).1;
+                if rest.is_empty() {
                     return Ok(going(messages));
                 }
-                head = Head::Empty;
-                held = 0;
-                rest = after;
             }
             Ok(FedView::More) => return Ok(going(messages)),
             Ok(FedView::Refused { place, why }) => {
-                let told = Told::Refused {
-                    from,
-                    head: head.before(rest),
-                    byte: rest[place - held],
-                    place,
-                    why,
-                };
-                listener.hear(device, line, &told)?;
+                tell_refused(listener, device, line, from, begun, rest, place, why)?;
                 return Ok(stopped(messages, 1));
             }
             Err(FeedError::Stopped) => {

@@ -10,7 +10,7 @@ use Rattle.zvt_c.proofs.codec.zvt_scan.Goals.{in-Ok-Whole, in-Ok-More, in-Ok-Ref
 
 pub returns : goal.returns
 returns c = elim c.match-scan.branch [
-  | in-Ok-Whole w ↦ scanned (Whole (w.in-Ok-Whole.field-0-0-0, w.in-Ok-Whole.size)) (subst (λ (s : Scan (Message × ℕ)). apdu.Answers shortest c.args.bytes.now s) w.in-Ok-Whole.field-0-is w.in-Ok-Whole.ensures) w.answer-is
+  | in-Ok-Whole w ↦ scanned (Whole (w.in-Ok-Whole.field-0-0-0, w.in-Ok-Whole.size)) (subst (λ (s : Scan (Message × ℕ)). apdu.Answers shortest c.args.bytes.now s) w.in-Ok-Whole.field-0-is w.in-Ok-Whole.ensures) (w.answer-is ∙ w.found.ensures)
   | in-Ok-More w ↦ scanned More (subst (λ (s : Scan (Message × ℕ)). apdu.Answers shortest c.args.bytes.now s) w.in-Ok-More.field-0-is w.in-Ok-More.ensures) (w.answer-is ∙ w.bare.ensures)
   | in-Ok-Refused w ↦ scanned (Refused w.in-Ok-Refused.place w.in-Ok-Refused.why) (subst (λ (s : Scan (Message × ℕ)). apdu.Answers shortest c.args.bytes.now s) w.in-Ok-Refused.field-0-is w.in-Ok-Refused.ensures) (w.answer-is ∙ ap (λ (n : ℕ). record { size = 0; place = w.in-Ok-Refused.place; reason = n; status = 2 }) w.reason_code.ensures)
   | in-Err w ↦ refused_memory (w.answer-is ∙ w.bare-in-Err.ensures)

@@ -26,7 +26,7 @@ returns-in-Some c =
     let m = c.in-Ok-Whole.field-0-0-0 in
     let found = subst (λ (s : Scan (Message × ℕ)). apdu.Answers shortest c.args.bytes.now s) c.in-Ok-Whole.field-0-is c.in-Ok-Whole.ensures in
     let shown : c.view.result ≡ m = c.view.ensures m (message_loosened m _ found.spelled) in
-    told m c.in-Ok-Whole.size found refl
+    told m c.in-Ok-Whole.size found c.found.ensures
     (c.in-Some.ensures.some.0 ∙ ap (λ (v : Message). length (said v)) shown)
     (subst (λ (v : Message). Writes (said v) c.args.room.now c.tell.new.room) shown c.in-Some.ensures.some.1)
 

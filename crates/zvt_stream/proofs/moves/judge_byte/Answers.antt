@@ -5,6 +5,9 @@ use Rattle.zvt_stream.proofs.moves.judge_byte.Goals as goal
 pub returns-in-FirstSize : goal.returns-in-FirstSize
 returns-in-FirstSize c = rw c.in-FirstSize.is (c.judge_first_size.ensures (reading_of c.args.lengths) c.args.depth)
 
+pub returns-in-LowSize : goal.returns-in-LowSize
+returns-in-LowSize c = rw c.in-LowSize.is (c.judge_low_size.ensures (reading_of c.args.lengths) c.args.depth)
+
 pub returns-in-HighSize : goal.returns-in-HighSize
 returns-in-HighSize c = rw c.in-HighSize.is (c.judge_high_size.ensures c.args.left c.args.depth)
 

@@ -1,18 +1,31 @@
 use Rattle.std.proofs.Common.{ap, arith, length, length-drop}
 use Rattle.std.proofs.lemmas.List.{take_rest}
 use Rattle.zvt_tlv.specs.Lengths.{reading_of}
-use Rattle.zvt_stream.proofs.PassLemmas.{passes_more}
+use Rattle.zvt_stream.specs.declared.moves.At.TheVariants.{Name}
+use Rattle.zvt_stream.specs.declared.passing.Passed.TheVariants as passed
+use Rattle.zvt_stream.proofs.PassLemmas.{comes_more}
 use Rattle.zvt_stream.proofs.passing.pass_fields.Goals as goal
 
 pub fields-preserved : goal.fields-preserved
 fields-preserved c =
+    let into = c.in-Some-Open-Name-default-default in
     let so = c.fields.invariant in
-    let p = c.in-Some.ensures in
-    let bytes = c.args.bytes.now in
-    let sized = ap length (take_rest bytes c.fields.passed.count) in
-    let before = rw c.in-Name.is at so.passes in
+    let told = rw (into.field-0-is, into.field-0-0-is) at into.ensures in
+    let found = passed.Open Name into.behind into.more in
     record {
-      ready = p.ready;
-      within = omega (arith, so.within, p.some.1, sized, length-drop c.fields.passed.count bytes);
-      passes = passes_more (reading_of c.args.lengths) _ _ _ c.args.left c.fields.passed.left c.in-Some.next.left c.fields.passed.count c.in-Some.next.count bytes before p.passes;
+      some = told.ready;
+      within = omega (arith, so.within, told.passes.0, ap length (take_rest c.args.bytes.now c.fields.count), length-drop c.fields.count c.args.bytes.now);
+      passes = λ at before h. (comes_more (reading_of c.args.lengths) at Name before c.fields.left c.fields.count c.args.bytes.now found so.within (so.passes at before h) told.passes).1;
     }
+
+pub returns-in-Some-Open : goal.returns-in-Some-Open
+returns-in-Some-Open c at before h =
+    let into = c.in-Some-Open in
+    let so = c.fields.invariant in
+    comes_more (reading_of c.args.lengths) at Name before c.fields.left c.fields.count c.args.bytes.now (passed.Open into.at into.left into.more) so.within (so.passes at before h) (rw into.field-0-is at into.ensures.passes)
+
+pub returns-in-Some-Ended : goal.returns-in-Some-Ended
+returns-in-Some-Ended c at before h =
+    let into = c.in-Some-Ended in
+    let so = c.fields.invariant in
+    comes_more (reading_of c.args.lengths) at Name before c.fields.left c.fields.count c.args.bytes.now (passed.Ended into.more) so.within (so.passes at before h) (rw into.field-0-is at into.ensures.passes)

@@ -29,7 +29,7 @@ scan_object-returns-then-content-head t c =
 
 pub scan_object-returns : goal.scan_object-returns
 scan_object-returns t c =
-    bytes_whole (reading_of c.args.lengths) c.args.depth c.args.room c.args.bytes.now c.in-Whole.head c.of-tag.result c.in_ok-bytes.bytes c.in-Whole.ensures c.if-head.false c.of-tag.ensures c.if-content-head.false c.in_ok-bytes.ensures.items (λ i. omega (arith, c.type_inv.bytes i))
+    bytes_whole (reading_of c.args.lengths) c.args.depth c.args.room c.args.bytes.now c.in-Whole.head c.of-tag.result c.in_ok-from_slice.field-0 c.in-Whole.ensures c.if-head.false c.of-tag.ensures c.if-content-head.false c.in_ok-from_slice.ensures.items (λ i. omega (arith, c.type_inv.bytes i))
 
 pub scan_objects-loop-taken-preserved : goal.scan_objects-loop-taken-preserved
 scan_objects-loop-taken-preserved t c =
@@ -48,9 +48,9 @@ scan_object-returns-in_err-objects t c =
     MatchResult-from_err c.from_residual.result _ _ c.from_residual.ensures.0
     (λ e. inside_takes (reading_of c.args.lengths) c.args.depth c.args.room c.args.bytes.now c.in-Whole.head c.requires.some c.in-Whole.ensures c.if-head.true)
 
-pub scan_object-returns-in_err-bytes : goal.scan_object-returns-in_err-bytes
-scan_object-returns-in_err-bytes t c =
-    MatchResult-from_err c.from_residual-in_err-bytes.result _ _ c.from_residual-in_err-bytes.ensures.0
+pub scan_object-returns-in_err-from_slice : goal.scan_object-returns-in_err-from_slice
+scan_object-returns-in_err-from_slice t c =
+    MatchResult-from_err c.from_residual-in_err-from_slice.result _ _ c.from_residual-in_err-from_slice.ensures.0
     (λ e. bytes_take (reading_of c.args.lengths) c.args.depth c.args.room c.args.bytes.now c.in-Whole.head c.requires.some c.in-Whole.ensures c.if-content-head.false)
 
 pub scan_objects-returns-in_err-object : goal.scan_objects-returns-in_err-object

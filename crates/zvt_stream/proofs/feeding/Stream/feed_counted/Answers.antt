@@ -10,13 +10,13 @@ pub message-requires : goal.message-requires
 message-requires c =
     let i = idle _ _ _ _ _ _ c.args.self.now c.give_up.new.self c.self.view_is c.give_up.ensures.keeps c.self.invariant in
     let told = ran_in c.args.self.now.reading c.again-judge.result c.self.inside.held.bytes c.args.piece.now (Ended c.in-Ended.taken) c.run.new.self (ap (λ (j : JudgeState). j.reading) c.again-judge.ensures ∙ i.alike) (c.in-Ended.ensures.judged c.self.inside.held.bytes (subst (λ (j : JudgeState). StandsFor j c.self.inside.held.bytes) (sym c.again-judge.ensures) i.stands)) in
-    subst (λ (r : Reading). IsMessageIn r (c.self.inside.held.bytes ++ take c.in-Ended.taken c.args.piece.now)) (sym (c.lengths.ensures ∙ i.alike)) told.2
+    subst (λ (r : Reading). IsMessageIn r (c.self.inside.held.bytes ++ take c.in-Ended.taken c.args.piece.now)) (sym (c.lengths-lengths.ensures ∙ i.alike)) told.2
 
-pub invariant_of-self-in-Some : goal.invariant_of-self-in-Some
-invariant_of-self-in-Some c =
+pub invariant_of-self-in-Ended : goal.invariant_of-self-in-Ended
+invariant_of-self-in-Ended c =
     let i = idle _ _ _ _ _ _ c.args.self.now c.give_up.new.self c.self.view_is c.give_up.ensures.keeps c.self.invariant in
     let told = ran_in c.args.self.now.reading c.again-judge.result c.self.inside.held.bytes c.args.piece.now (Ended c.in-Ended.taken) c.run.new.self (ap (λ (j : JudgeState). j.reading) c.again-judge.ensures ∙ i.alike) (c.in-Ended.ensures.judged c.self.inside.held.bytes (subst (λ (j : JudgeState). StandsFor j c.self.inside.held.bytes) (sym c.again-judge.ensures) i.stands)) in
-    emptied _ _ _ _ _ i.idle told.3 (c.in-Some.ensures.some.1)
+    emptied _ _ _ _ _ i.idle told.3 (c.in_ok-apdu-in-Ended.ensures.ok.1)
 
 pub overflow_add-place : goal.overflow_add-place
 overflow_add-place c =
