@@ -25,7 +25,7 @@ pub struct Head {
 impl Head {
     /// A BMP alone, in front of so many bytes.
     fn fixed(size: usize, digits: bool) -> Head
-        ensures { (result.start ≡ 1) × (result.size ≡ size) × (result.digits ≡ digits) }
+        ensures { result ≡ record { start = 1; size = size; digits = digits } }
     {
         Head {
             start: 1,

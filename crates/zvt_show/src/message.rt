@@ -36,6 +36,7 @@ pub(crate) fn write(
 }
 
 /// Its direction and what it says.
+#[inline(always)]
 fn show(text: &mut Text, from: Direction, apdu: &ApduView<'_>) -> Result<(), AllocError>
     ensures { OnOk result (text.new ≡ text.old ++ shown from apdu.now) }
 {
@@ -55,6 +56,7 @@ fn begin(text: &mut Text, from: Direction) -> Result<(), AllocError>
 }
 
 /// Its direction and the bytes of its strict spelling.
+#[inline(always)]
 fn join(
     text: &mut Text,
     alloc: Global,
@@ -73,6 +75,7 @@ fn join(
 }
 
 /// Its direction and the bytes of its strict spelling, which is made.
+#[inline(never)]
 fn normal_line(
     text: &mut Text,
     alloc: Global,
@@ -87,6 +90,7 @@ fn normal_line(
 }
 
 /// A direction and bytes.
+#[inline(always)]
 fn line(text: &mut Text, from: Direction, bytes: &[u8]) -> Result<(), AllocError>
     ensures { OnOk result (text.new ≡ text.old ++ joined from bytes.now) }
 {

@@ -1,16 +1,16 @@
--- Fields that begin behind control bytes and a length of one byte.
-use Rattle.std.proofs.Common.{◌≡◌, ◌≢◌, ℕ, ◌+◌, ◌<◌, ◌≤◌, true, Ok, List, [], ◌∷◌, ◌++◌, length, take, get_or, refl, sym, ◌∙◌, ap, subst, append_assoc, arith}
+-- Fields, or data without fields, that begin behind control bytes and a length of one byte.
+use Rattle.std.proofs.Common.{◌≡◌, ◌≢◌, ℕ, ◌+◌, ◌<◌, ◌≤◌, true, false, Ok, List, [], ◌∷◌, ◌++◌, length, take, get_or, refl, ap, subst, append_assoc, arith}
 use Rattle.zvt_spelling.specs.Reading.{Reading, AreBytes}
 use Rattle.zvt_apdu.specs.declared.frame.Layout.{Layout}
 use Rattle.zvt_apdu.specs.Judging.{layout_of, can_fill}
 use Rattle.zvt_stream.specs.declared.moves.At.{At}
 use Rattle.zvt_stream.specs.declared.moves.At.TheVariants as stage
-use Rattle.zvt_stream.specs.declared.moves.Move.TheVariants.{Opens}
-use Rattle.zvt_stream.specs.Standing.{Between, depth_of}
-use Rattle.zvt_stream.specs.Judge.{StandsFor, Brings}
-use Rattle.zvt_stream.proofs.FrameMoves.{data_fields, size_short}
+use Rattle.zvt_stream.specs.declared.moves.Move.TheVariants.{Opens, Within}
+use Rattle.zvt_stream.specs.Standing.{depth_of}
+use Rattle.zvt_stream.specs.Judge.{StandsFor, Brings, Passes}
+use Rattle.zvt_stream.proofs.FrameMoves.{data_fields, data_payload, size_short}
 use Rattle.zvt_stream.proofs.JudgeLemmas.{goes_on_fields, passes, unfinished}
-use Rattle.zvt_stream.proofs.PassLemmas.{control_passed}
+use Rattle.zvt_stream.proofs.PassLemmas.{control_passed, one_more}
 
 abbrev Stands : (r : Reading) → At → (left : ℕ) → (outer b : List ℕ) → Type 0
 Stands r at left outer b = StandsFor (record { reading = r; at = at; left = left; outer = outer }) b
@@ -36,3 +36,16 @@ fields_behind r (h ∷ w ∷ []) n l there are is ne some told has alone left ou
 fields_behind r (h ∷ w ∷ m ∷ rest) n l there are is ne some told has alone left outer b s =
     subst (λ (k : ℕ). Stands r stage.Name n (0 ∷ outer) (b ++ h ∷ w ∷ k ∷ [])) is
     (behind_control r h w n l told.0 told.1 some (omega (arith, is, ne, are.1.1.0)) has alone left outer b are.0 are.1.0 s)
+
+-- the data without fields of the message that stands first in a piece
+pub payload_behind : (r : Reading) (bytes : List ℕ) (n : ℕ) (l : Layout) → 3 ≤ length bytes → AreBytes bytes → n ≡ get_or bytes 2 0 → n ≢ 255 → n ≢ 0
+    → (l ≡ layout_of (get_or bytes 0 0) (get_or bytes 1 0) n) × (can_fill (layout_of (get_or bytes 0 0) (get_or bytes 1 0) n) n ≡ true) → l.fields ≡ false
+    → (left : ℕ) → Passes r stage.FirstControl left stage.Payload n (take 3 bytes)
+payload_behind r [] n l there are is ne some told none left outer b s = absurd (omega (arith, there))
+payload_behind r (h ∷ []) n l there are is ne some told none left outer b s = absurd (omega (arith, there))
+payload_behind r (h ∷ w ∷ []) n l there are is ne some told none left outer b s = absurd (omega (arith, there))
+payload_behind r (h ∷ w ∷ m ∷ rest) n l there are is ne some told none left outer b s =
+    let begun = control_passed r left h w are.0 are.1.0 outer b s in
+    let next = one_more r (stage.FirstSize h w) stage.Payload left n n outer (b ++ h ∷ w ∷ []) (omega (arith, is, are.1.1.0)) begun
+    (size_short r h w left (depth_of outer) n n (Ok (Within stage.Payload n)) refl (omega (arith, is, are.1.1.0)) ne (data_payload r h w n l told.0 told.1 some none) outer (b ++ h ∷ w ∷ []) refl begun.stands) in
+    subst (λ (k : ℕ). Stands r stage.Payload n outer (b ++ h ∷ w ∷ k ∷ [])) is (subst (Stands r stage.Payload n outer) (append_assoc b (h ∷ w ∷ []) (n ∷ [])) next)

@@ -1,5 +1,5 @@
 -- The last bytes of a message, taken at once.
-use Rattle.std.proofs.Common.{◌≡◌, ◌≢◌, ℕ, ◌+◌, ◌-◌, ◌<◌, ◌≤◌, Bool, Ok, List, [], ◌∷◌, ◌++◌, length, take, refl, ap, subst, append_assoc, arith}
+use Rattle.std.proofs.Common.{◌≡◌, ◌≢◌, ℕ, ◌-◌, ◌<◌, ◌≤◌, Bool, Ok, List, [], ◌∷◌, ◌++◌, length, take, refl, subst, append_assoc, arith}
 use Rattle.std.proofs.lemmas.List.{length-take-le}
 use Rattle.zvt_spelling.specs.Reading.{Reading, AreBytes}
 use Rattle.zvt_field.specs.Grammar.{IsContent}

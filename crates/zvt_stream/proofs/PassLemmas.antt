@@ -1,5 +1,5 @@
 -- Bytes without tests, taken at once.
-use Rattle.std.proofs.Common.{◌≡◌, ◌≢◌, ℕ, ◌+◌, ◌-◌, ◌<◌, ◌≤◌, Bool, true, false, Option, Some, None, IfSome, Ok, List, [], ◌∷◌, ◌++◌, length, take, drop, get_or, refl, sym, ◌∙◌, ap, subst, append_assoc, arith, suc, length-drop}
+use Rattle.std.proofs.Common.{◌≡◌, ◌≢◌, ℕ, ◌+◌, ◌-◌, ◌<◌, ◌≤◌, Bool, true, false, None, Ok, List, [], ◌∷◌, ◌++◌, length, take, drop, get_or, refl, sym, ◌∙◌, ap, subst, append_assoc, arith, suc, length-drop}
 use Rattle.std.proofs.lemmas.List.{append-nil, length-take-le, take-take, take_rest}
 use Rattle.std.proofs.Math.Seq.{take-add}
 use Rattle.zvt_tlv.proofs.Spelling.{from}

@@ -1,5 +1,5 @@
 -- A whole message without fields, taken at once.
-use Rattle.std.proofs.Common.{◌≡◌, ◌≢◌, ℕ, ◌+◌, ◌-◌, ◌<◌, ◌≤◌, ◌⊎◌, inl, inr, suc, false, true, Ok, List, [], ◌∷◌, ◌++◌, length, take, get_or, refl, sym, ◌∙◌, ap, subst, append_assoc, arith}
+use Rattle.std.proofs.Common.{◌≡◌, ◌≢◌, ℕ, ◌+◌, ◌<◌, ◌≤◌, ◌⊎◌, inl, inr, suc, false, true, Ok, List, [], ◌∷◌, ◌++◌, length, take, get_or, refl, sym, ◌∙◌, ap, subst, append_assoc, arith}
 use Rattle.std.proofs.lemmas.List.{length-take-le}
 use Rattle.zvt_spelling.specs.Reading.{Reading, AreBytes}
 use Rattle.zvt_apdu.specs.declared.frame.Layout.{Layout}
@@ -8,11 +8,9 @@ use Rattle.zvt_apdu.proofs.DataMoves.{take_bytes}
 use Rattle.zvt_stream.specs.declared.moves.At.{At}
 use Rattle.zvt_stream.specs.declared.moves.At.TheVariants as stage
 use Rattle.zvt_stream.specs.declared.moves.Move.TheVariants.{Within, Ends}
-use Rattle.zvt_stream.specs.Standing.{Between, depth_of}
-use Rattle.zvt_stream.specs.Moves as one
+use Rattle.zvt_stream.specs.Standing.{depth_of}
 use Rattle.zvt_stream.specs.Judge.{StandsFor, IsMessageIn}
-use Rattle.zvt_stream.proofs.FrameMoves.{data_none, data_payload, payload_ends, payload_within, size_short}
-use Rattle.zvt_stream.proofs.JudgeLemmas.{passes, whole}
+use Rattle.zvt_stream.proofs.FrameMoves.{data_none, data_payload, size_short}
 use Rattle.zvt_stream.proofs.PassLemmas.{control_passed, one_more}
 use Rattle.zvt_stream.proofs.EndLemmas.{last, payload_all}
 

@@ -173,8 +173,8 @@ impl Judge {
     }
 
     /// Judges bytes up to the end of a message. Taken at once are a whole message without fields, or of fields of fixed
-    /// sizes alone; else the control bytes with a length of one byte in front of fields, fields of fixed sizes, and data
-    /// without fields.
+    /// sizes alone; else the control bytes with a length of one byte in front of fields or of data without fields, fields
+    /// of fixed sizes, and data without fields.
     #[inline(always)]
     pub fn run(&mut self, steps: &mut Steps, bytes: &[u8]) -> Run
         ensures judged { (held : List ℕ) → StandsFor self.old held → Ran self.old.reading held bytes.now result self.new }
@@ -191,6 +191,12 @@ impl Judge {
                 self.at = At::Name;
                 self.left = room;
                 self.outer.push(0);
+                self.run_from(steps, bytes, 3)
+            }
+            Some(Begun::Payload { left }) => {
+                steps.raise(3);
+                self.at = At::Payload;
+                self.left = left;
                 self.run_from(steps, bytes, 3)
             }
             None => self.run_from(steps, bytes, 0),

@@ -30,6 +30,8 @@ pub(crate) enum Begun {
     Whole { size: usize },
     /// Its control bytes and a length of one byte are there, in front of so many bytes of fields.
     Fields { room: usize },
+    /// The same in front of so many bytes without fields.
+    Payload { left: usize },
 }
 
 /// How the message begins of which no byte was judged, where its length is there.
@@ -56,10 +58,14 @@ pub(crate) fn begin(at: At, bytes: &[u8]) -> Option<Begun>
     if rest.len() >= size && (!layout.fields || are_fields(&rest[..size])) {
         return Some(Begun::Whole { size: 3 + size });
     }
-    if layout.fields && size > 0 {
-        return Some(Begun::Fields { room: size });
+    if size == 0 {
+        return None;
     }
-    None
+    Some(if layout.fields {
+        Begun::Fields { room: size }
+    } else {
+        Begun::Payload { left: size }
+    })
 }
 
 /// Whether the bytes are fields of fixed sizes.
@@ -143,39 +149,38 @@ fn pass_control(left: usize, bytes: &[u8]) -> Option<Passed>
 }
 
 /// Fields of fixed sizes, and the front of one, behind the first `from` bytes.
+#[inline(always)]
 fn pass_fields(left: usize, from: usize, bytes: &[u8], lengths: Lengths) -> Passed
     requires some { 2 ≤ left }
     requires within { from ≤ length bytes.now }
     ensures { (at : At) (before : ℕ) → Passes (reading_of lengths) at before At.Name left (take from bytes.now) → Comes (reading_of lengths) at before bytes.now result }
 {
     let mut left = left;
-    let mut count = from;
+    let mut taken = from;
     'fields: loop {
-        match pass_field(left, &bytes[count..], lengths) {
+        match pass_field(left, &bytes[taken..], lengths) {
             None => return Passed::Open {
                 at: At::Name,
                 left,
-                count,
+                count: taken,
             },
-            Some(Passed::Open {
-                at: At::Name,
-                left: behind,
-                count: more,
-            }) => {
+            Some(
+                Passed::Open {
+                    at: At::Name,
+                    left: behind,
+                    count,
+                },
+            ) => {
                 left = behind;
-                count += more;
+                taken += count;
             }
-            Some(Passed::Open {
+            Some(Passed::Open { at, left, count }) => return Passed::Open {
                 at,
                 left,
-                count: more,
-            }) => return Passed::Open {
-                at,
-                left,
-                count: count + more,
+                count: taken + count,
             },
-            Some(Passed::Ended { count: more }) => return Passed::Ended {
-                count: count + more,
+            Some(Passed::Ended { count }) => return Passed::Ended {
+                count: taken + count,
             },
         }
     }
@@ -212,6 +217,7 @@ fn pass_field(left: usize, bytes: &[u8], lengths: Lengths) -> Option<Passed>
 }
 
 /// The bytes of a content, and fields behind it.
+#[inline(always)]
 fn pass_from_content(
     digits: bool,
     more: usize,

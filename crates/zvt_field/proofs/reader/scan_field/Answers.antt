@@ -14,13 +14,13 @@ returns-in-Err c =
 
 pub scan_content-requires-clause-begun : goal.scan_content-requires-clause-begun
 scan_content-requires-clause-begun c =
-    in_head (reading_of c.args.lengths) c.args.room c.in-Ok-Fixed.size _ c.args.bytes.now c.in-Some.first.now _ (Fixed c.in-Ok-Fixed.size) c.requires.some c.requires.filled
-    (starts c.args.bytes.now c.in-Some.first.now c.in-Some.ensures.value (λ i. omega (arith, c.type_inv.bytes i))) c.in-Ok-Fixed.ensures c.in-Ok-Fixed.field-0-is c.fixed.ensures
+    rw c.fixed.ensures (in_head (reading_of c.args.lengths) c.args.room c.in-Ok-Fixed.size _ c.args.bytes.now c.in-Some.first.now _ (Fixed c.in-Ok-Fixed.size) c.requires.some c.requires.filled
+    (starts c.args.bytes.now c.in-Some.first.now c.in-Some.ensures.value (λ i. omega (arith, c.type_inv.bytes i))) c.in-Ok-Fixed.ensures c.in-Ok-Fixed.field-0-is (refl, refl, refl))
 
 pub scan_content-requires-in-Ok-Digits-clause-begun : goal.scan_content-requires-in-Ok-Digits-clause-begun
 scan_content-requires-in-Ok-Digits-clause-begun c =
-    in_head (reading_of c.args.lengths) c.args.room c.in-Ok-Digits.size _ c.args.bytes.now c.in-Some.first.now _ (Digits c.in-Ok-Digits.size) c.requires.some c.requires.filled
-    (starts c.args.bytes.now c.in-Some.first.now c.in-Some.ensures.value (λ i. omega (arith, c.type_inv.bytes i))) c.in-Ok-Digits.ensures c.in-Ok-Digits.field-0-is c.fixed-in-Ok-Digits.ensures
+    rw c.fixed-in-Ok-Digits.ensures (in_head (reading_of c.args.lengths) c.args.room c.in-Ok-Digits.size _ c.args.bytes.now c.in-Some.first.now _ (Digits c.in-Ok-Digits.size) c.requires.some c.requires.filled
+    (starts c.args.bytes.now c.in-Some.first.now c.in-Some.ensures.value (λ i. omega (arith, c.type_inv.bytes i))) c.in-Ok-Digits.ensures c.in-Ok-Digits.field-0-is (refl, refl, refl))
 
 pub scan_counted-requires-clause-begun : goal.scan_counted-requires-clause-begun
 scan_counted-requires-clause-begun c =

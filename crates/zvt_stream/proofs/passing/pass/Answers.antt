@@ -1,5 +1,4 @@
 use Rattle.zvt_tlv.specs.Lengths.{reading_of}
-use Rattle.zvt_stream.specs.Judge.{Passes}
 use Rattle.zvt_stream.specs.declared.moves.At.TheVariants.{Name}
 use Rattle.zvt_stream.proofs.PassLemmas.{none_passed}
 use Rattle.zvt_stream.proofs.passing.pass.Goals as goal

@@ -1,4 +1,4 @@
-use Rattle.std.proofs.Common.{List, ℕ, ◌-◌, drop, length, length-drop, take, arith, ap, subst}
+use Rattle.std.proofs.Common.{List, ℕ, arith, subst}
 use Rattle.std.proofs.lemmas.List.{take_rest}
 use Rattle.zvt_spelling.specs.Reading.{shortest}
 use Rattle.zvt_tlv.specs.Lengths.{reading_of}

@@ -8,9 +8,9 @@ use Rattle.zvt_stream.proofs.passing.pass_fields.Given as goal
 abbrev pub invariant-fields : goal.invariant-fields
 invariant-fields l = record {
   some : 2 ≤ l.left;
-  within : l.count ≤ length l.bytes;
-  passes : (at : At) (before : ℕ) → Passes (reading_of l.lengths) at before Name l.fn.left (take l.fn.from l.bytes) → Passes (reading_of l.lengths) at before Name l.left (take l.count l.bytes);
+  within : l.taken ≤ length l.bytes;
+  passes : (at : At) (before : ℕ) → Passes (reading_of l.lengths) at before Name l.fn.left (take l.fn.from l.bytes) → Passes (reading_of l.lengths) at before Name l.left (take l.taken l.bytes);
 }
 
 abbrev pub decreases-fields : goal.decreases-fields
-decreases-fields l = length l.bytes - l.count
+decreases-fields l = length l.bytes - l.taken

@@ -1,4 +1,4 @@
-use Rattle.std.proofs.Common.{◌≡◌, [], ◌∷◌, ◌++◌, List, ℕ, length, reverse, take, arith, ap, sym, subst, ◌∙◌}
+use Rattle.std.proofs.Common.{◌≡◌, ◌∷◌, ◌++◌, List, ℕ, length, reverse, take, arith, ap, sym, subst, ◌∙◌}
 use Rattle.std.proofs.lemmas.List.{append-nil, length-reverse}
 use Rattle.zvt_spelling.specs.Reading.{Reading}
 use Rattle.zvt_tlv.specs.Lengths.{reading_of}
@@ -19,9 +19,10 @@ invariant_of-self-in-Some-Fields c =
     let told = rw c.in-Some-Fields.field-0-is at c.in-Some-Fields.ensures in
     let items = c.self.inside.outer.items in
     let r = reading_of c.self.inside.lengths in
-    let s = told.1 r c.self.inside.left (reverse items) c.self.invariant.0 c.self.invariant.1 in
-    (c.self.invariant.0 ++ take 3 c.args.bytes.now,
-    subst (λ (o : List ℕ). StandsFor (record { reading = r; at = Name; left = c.in-Some-Fields.room; outer = o }) (c.self.invariant.0 ++ take 3 c.args.bytes.now)) (sym (ap reverse c.push.ensures.items ∙ pushed items 0)) s)
+    let s = told.1 r c.self.inside.left (reverse items) c.self.invariant.0 c.self.invariant.1 in (
+      c.self.invariant.0 ++ take 3 c.args.bytes.now,
+      subst (λ (o : List ℕ). StandsFor (record { reading = r; at = Name; left = c.in-Some-Fields.room; outer = o }) (c.self.invariant.0 ++ take 3 c.args.bytes.now)) (sym (ap reverse c.push.ensures.items ∙ pushed items 0)) s,
+    )
 
 pub returns-in-Some-Fields-clause-judged : goal.returns-in-Some-Fields-clause-judged
 returns-in-Some-Fields-clause-judged c held h =
@@ -43,3 +44,15 @@ returns-in-Some-Whole-clause-judged c held h =
 
 pub returns-in-None-clause-judged : goal.returns-in-None-clause-judged
 returns-in-None-clause-judged c held h = c.run_from-in-None.ensures.judged held (subst (StandsFor c.args.self.now) (sym (append-nil held)) h)
+
+pub invariant_of-self-in-Some-Payload : goal.invariant_of-self-in-Some-Payload
+invariant_of-self-in-Some-Payload c =
+    let told = rw c.in-Some-Payload.field-0-is at c.in-Some-Payload.ensures in
+    (c.self.invariant.0 ++ take 3 c.args.bytes.now, told.1 (reading_of c.self.inside.lengths) c.self.inside.left (reverse c.self.inside.outer.items) c.self.invariant.0 c.self.invariant.1)
+
+pub returns-in-Some-Payload-clause-judged : goal.returns-in-Some-Payload-clause-judged
+returns-in-Some-Payload-clause-judged c held h =
+    let told = rw c.in-Some-Payload.field-0-is at c.in-Some-Payload.ensures in
+    let r = reading_of c.self.inside.lengths in
+    let begun = told.1 r c.self.inside.left (reverse c.self.inside.outer.items) held (subst (λ (v : JudgeState). StandsFor v held) (sym c.self.view_is) h) in
+    subst (λ (k : Reading). Ran k held c.args.bytes.now c.run_from-in-Some-Payload.result c.run_from-in-Some-Payload.new.self) (ap (λ (v : JudgeState). v.reading) c.self.view_is) (c.run_from-in-Some-Payload.ensures.judged held begun)

@@ -1,7 +1,6 @@
 use Rattle.std.proofs.Common.{◌++◌, take, refl, reverse, sym, ◌∙◌, ap, subst}
 use Rattle.std.proofs.lemmas.List.{append-nil}
 use Rattle.zvt_spelling.specs.Reading.{Reading}
-use Rattle.zvt_tlv.specs.Lengths.{reading_of}
 use Rattle.zvt_stream.specs.Judge.{JudgeState, IsMessageIn, StandsFor, start}
 use Rattle.zvt_stream.proofs.judging.Judge.skip.Goals as goal
 
