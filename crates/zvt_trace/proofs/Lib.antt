@@ -1,3 +1,4 @@
+pub mod BehindLemmas
 pub mod EventLemmas
 pub mod InputLemmas
 pub mod LineLemmas

@@ -7,12 +7,12 @@ use Rattle.std.proofs.lemmas.Bool.Decides.{nat_tests}
 use Rattle.std.proofs.lemmas.List.{length-take, length-take-le, take-append-drop, take-take, take_all}
 use Rattle.std.proofs.Math.Seq.{take-append_seam, drop-append-add}
 use Rattle.hex.specs.Hex.{decode_of, hex_digit_value}
-use Rattle.zvt_trace.specs.Meanings.{Begins, IsSign, meaning_of, piece, without_spaces}
+use Rattle.zvt_trace.specs.Meanings.{Begins, IsSign, SpellsBytes, bytes_of, meaning_of, piece, without_spaces}
 use Rattle.zvt_trace.specs.Spelled.{AreHex, behind_bytes, spells}
 use Rattle.zvt_trace.specs.declared.direction.Direction.{Direction}
 use Rattle.zvt_trace.specs.declared.direction.Direction.TheVariants.{FromTill, FromTerminal}
 use Rattle.zvt_trace.proofs.LineLemmas.{lines-first, newline}
-use Rattle.zvt_trace.proofs.SpelledLemmas.{reads_all}
+use Rattle.zvt_trace.proofs.SpelledLemmas.{no_bytes_of, no_text, reads_all}
 
 -- what stands behind so many
 abbrev pub behind_first : ℕ → List ℕ → List ℕ
@@ -114,3 +114,10 @@ plain_read (sign ∷ blank ∷ after) room m count from some space is fits all s
     let begins = plain_begins sign from text (take m text) room (behind_first 1 rest) count is (take-take (2 * count) m text few.0) cut all so few.1 in
     let same : sign ∷ 32 ∷ text ≡ sign ∷ blank ∷ after = ap (λ (t : List ℕ). sign ∷ 32 ∷ t) whole ∙ ap (λ (k : ℕ). sign ∷ k ∷ after) (sym space) in
     subst (λ (t : List ℕ). Begins t (λ line. (meaning_of line ≡ Ok (piece from (take count room))) × (count ≤ length line)) (behind_first 1 rest)) same begins
+
+-- a piece in the usual form leaves no text
+pub plain_line : (rest after room : List ℕ) (count : ℕ) (from : Direction) → count ≤ length room → Begins rest (λ line. (meaning_of line ≡ Ok (piece from (take count room))) × (count ≤ length line)) after
+    → Begins rest (λ line. (meaning_of line ≡ Ok (piece from (take count room ++ bytes_of []))) × (length (take count room ++ bytes_of []) ≤ length line) × SpellsBytes []) after
+plain_line rest after room count from few (line, cut, says, size, shorter) =
+    let all : take count room ++ bytes_of [] ≡ take count room = ap (λ (b : List ℕ). take count room ++ b) no_bytes_of ∙ append-nil (take count room) in
+    (line, cut, (says.0 ∙ ap (λ (b : List ℕ). Ok (piece from b)) (sym all), rw all (omega (arith, says.1, length-take-le count room few)), no_text), size, shorter)

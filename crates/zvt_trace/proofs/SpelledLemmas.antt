@@ -1,15 +1,18 @@
 -- Hexadecimal text, pair by pair.
-use Rattle.std.proofs.Common.{◌≡◌, ◌≢◌, ◌∙◌, sym, ap, subst, refl, arith, ℕ, zero, suc, ◌+◌, ◌-◌, ◌*◌, ◌%◌, ◌<◌, Bool, true, false, ◌⊎◌, inl, inr, List, [], ◌∷◌, ◌++◌, length, take, drop, slice_index, slice_set, ◌&&◌, ◌==◌, ◌≤◌, Option, None, Some, Result, Ok, Err, unwrap_or, option_map, append_assoc, append-nil, length-drop}
-use Rattle.std.specs.Prelude.{IsErr, IsSome, MatchOption}
+use Rattle.std.proofs.Common.{◌≡◌, ◌≢◌, ◌∙◌, sym, ap, subst, refl, arith, ℕ, zero, suc, ◌+◌, ◌-◌, ◌*◌, ◌%◌, ◌<◌, Bool, true, false, ◌⊎◌, inl, inr, List, [], ◌∷◌, ◌++◌, length, take, drop, slice_index, slice_set, ◌&&◌, ◌==◌, ◌≤◌, Option, None, Some, Result, Ok, Err, unwrap_or, option_map, append_assoc, append-nil, length-append, length-drop}
+use Rattle.std.specs.Char.{IsAsciiHexdigit, IsNotAsciiHexdigit}
+use Rattle.std.specs.Prelude.{IsErr, IsSome, MatchBool, MatchOption}
 use Rattle.std.proofs.lemmas.Bool.{and_parts, cases_eq, cases_lt, eqb-true}
 use Rattle.std.proofs.lemmas.Bool.Decides.{nat_tests}
-use Rattle.std.proofs.lemmas.List.{take_all, take_more, take_more_set}
+use Rattle.std.proofs.lemmas.List.{length-take, take_all, take_more, take_more_set}
 use Rattle.std.proofs.lemmas.Nat.{mul-le}
 use Rattle.hex.specs.Hex.{decode_of, decode_pairs, digit_or_error, hex_digit_value, ◌>>=◌}
 use Rattle.hex.specs.declared.error.FromHexError.{FromHexError}
 use Rattle.hex.proofs.HexLemmas.{decode_of-even, decode_of-odd}
-use Rattle.zvt_trace.specs.Meanings.{without_spaces}
+use Rattle.zvt_trace.specs.Meanings.{SpellsBytes, bytes_of, piece, piece_of, without_spaces}
 use Rattle.zvt_trace.specs.Spelled.{AreHex, IsDigit, place, pair_before, spells, behind_bytes}
+use Rattle.zvt_trace.specs.declared.direction.Direction.{Direction}
+use Rattle.zvt_trace.specs.declared.fault.What.TheVariants.{Hex}
 
 -- the bytes of a result
 abbrev pub bytes_in : Result (List ℕ) FromHexError → Option (List ℕ)
@@ -219,9 +222,18 @@ read_plain text room behind count h l fits some dh dl sh sl so =
 is_hex : (d v : ℕ) → IsDigit d v → v ≤ 15 → IsSome (hex_digit_value d)
 is_hex d v h small = rw (digit_is _ v h small) refl
 
+pub hex_digit : (digit : ℕ) (is : Bool) → is ≡ true → MatchBool is (IsAsciiHexdigit digit) (IsNotAsciiHexdigit digit) → IsSome (hex_digit_value digit)
+hex_digit digit false e ranges = absurd (cc e)
+hex_digit digit true e (inl (inl range)) = grind (arith, range.0, range.1)
+hex_digit digit true e (inl (inr range)) = grind (arith, range.0, range.1)
+hex_digit digit true e (inr range) = grind (arith, range.0, range.1)
+
+pub hex_push : (front : List ℕ) (digit : ℕ) → AreHex front → IsSome (hex_digit_value digit) → AreHex (front ++ digit ∷ [])
+hex_push [] digit all is = (is, tt)
+hex_push (x ∷ xs) digit all is = (all.0, hex_push xs digit all.1 is)
+
 hex_append : (front : List ℕ) (a b : ℕ) → AreHex front → IsSome (hex_digit_value a) → IsSome (hex_digit_value b) → AreHex (front ++ a ∷ b ∷ [])
-hex_append [] a b all is_a is_b = (is_a, (is_b, tt))
-hex_append (x ∷ xs) a b all is_a is_b = (all.0, hex_append xs a b all.1 is_a is_b)
+hex_append front a b all is_a is_b = subst AreHex (append_assoc front (a ∷ []) (b ∷ [])) (hex_push (front ++ a ∷ []) b (hex_push front a all is_a) is_b)
 
 pub hex_more : (text : List ℕ) (count h l : ℕ) → 2 * count + 1 < length text
     → IsDigit (slice_index text (2 * count)) h → IsDigit (slice_index text (2 * count + 1)) l → h ≤ 15 → l ≤ 15
@@ -229,9 +241,10 @@ pub hex_more : (text : List ℕ) (count h l : ℕ) → 2 * count + 1 < length te
 hex_more text count h l some dh dl sh sl all =
     rw (pair_more text count some) (hex_append (take (2 * count) text) (slice_index text (2 * count)) (slice_index text (2 * count + 1)) all (is_hex (slice_index text (2 * count)) h dh sh) (is_hex (slice_index text (2 * count + 1)) l dl sl))
 
-refused : (done text rest : List ℕ) → spells (without_spaces rest) ≡ None
-    → behind_bytes done (spells (without_spaces rest)) ≡ spells (without_spaces text) → IsErr (decode_of (without_spaces text))
-refused done text rest none so = none_in _ (spells-decode (without_spaces text) ∙ sym so ∙ rw none refl)
+-- what refuses the text behind some bytes refuses all
+pub refused : (done text rest : List ℕ) → spells (without_spaces rest) ≡ None
+    → behind_bytes done (spells (without_spaces rest)) ≡ spells (without_spaces text) → spells (without_spaces text) ≡ None
+refused done text rest none so = sym so ∙ rw none refl
 
 no_low : (h : Option ℕ) (rest : Option (List ℕ)) → pair_before h None rest ≡ None
 no_low None rest = refl
@@ -240,7 +253,7 @@ no_low (Some h) rest = refl
 -- a pair is none of digits
 pub refuses_pair : (done text rest low : List ℕ) (h l : ℕ) → 1 ≤ length rest → slice_index rest 0 ≢ 32 → without_spaces low ≡ without_spaces (drop 1 rest)
     → 1 ≤ length low → slice_index low 0 ≢ 32 → IsDigit (slice_index rest 0) h → IsDigit (slice_index low 0) l → (15 < h) ⊎ (h ≤ 15 × 15 < l)
-    → behind_bytes done (spells (without_spaces rest)) ≡ spells (without_spaces text) → IsErr (decode_of (without_spaces text))
+    → behind_bytes done (spells (without_spaces rest)) ≡ spells (without_spaces text) → spells (without_spaces text) ≡ None
 refuses_pair done text rest low h l some other same some_low other_low dh dl big so =
     let two = two_kept rest low (drop 1 low) some other same some_low other_low refl in
     let pair = ap spells two ∙ pair_spells _ _ _ in
@@ -262,7 +275,7 @@ no_bytes (x ∷ xs) none = absurd (omega arith)
 
 -- a digit stands alone
 pub refuses_one : (done text rest low : List ℕ) → 1 ≤ length rest → slice_index rest 0 ≢ 32 → without_spaces low ≡ without_spaces (drop 1 rest) → length low < 1
-    → behind_bytes done (spells (without_spaces rest)) ≡ spells (without_spaces text) → IsErr (decode_of (without_spaces text))
+    → behind_bytes done (spells (without_spaces rest)) ≡ spells (without_spaces text) → spells (without_spaces text) ≡ None
 refuses_one done text rest low some other same none so =
     let one = ap spells (first_kept rest some other) ∙ one_spells _ _ (rw same at (no_bytes low none)) in
     refused done text rest one so
@@ -273,6 +286,105 @@ pub reads_all : (done text rest : List ℕ) → length rest < 1
 unfolding spells
 reads_all done text [] none so = some_in _ _ (spells-decode (without_spaces text) ∙ sym so ∙ ap (λ b. Some b) (append-nil done))
 reads_all done text (x ∷ rest) none so = absurd (omega arith)
+
+-- bytes were read, and the text behind them spells others
+reads_more : (done text rest : List ℕ) → behind_bytes done (spells (without_spaces rest)) ≡ spells (without_spaces text) → SpellsBytes rest → spells (without_spaces text) ≡ Some (done ++ bytes_of rest)
+reads_more done text rest so spelled = by (spells (without_spaces rest)) refl spelled
+  where
+    by : (o : Option (List ℕ)) → spells (without_spaces rest) ≡ o → IsSome o → spells (without_spaces text) ≡ Some (done ++ unwrap_or o [])
+    by None e some = absurd (cc some)
+    by (Some bytes) e some = sym so ∙ ap (behind_bytes done) e
+
+-- so they are a piece
+pub piece_read : (from : Direction) (done text rest : List ℕ) → behind_bytes done (spells (without_spaces rest)) ≡ spells (without_spaces text) → SpellsBytes rest → piece_of from (decode_of (without_spaces text)) ≡ Ok (piece from (done ++ bytes_of rest))
+piece_read from done text rest so spelled = rw (some_in _ _ (spells-decode (without_spaces text) ∙ reads_more done text rest so spelled)) refl
+
+pub no_piece : (from : Direction) (text : List ℕ) → spells (without_spaces text) ≡ None → piece_of from (decode_of (without_spaces text)) ≡ Err Hex
+no_piece from text none = by (decode_of (without_spaces text)) (none_in _ (spells-decode (without_spaces text) ∙ none))
+  where
+    by : (r : Result (List ℕ) FromHexError) → IsErr r → piece_of from r ≡ Err Hex
+    by (Ok b) e = cc e
+    by (Err x) e = refl
+
+-- what stands behind the bytes of a text that spells some
+pub goes_on : (done text rest : List ℕ) → behind_bytes done (spells (without_spaces rest)) ≡ spells (without_spaces text) → SpellsBytes text → (bytes_of text ≡ done ++ bytes_of rest) × SpellsBytes rest
+goes_on done text rest so spelled = by (spells (without_spaces rest)) (spells (without_spaces text)) so spelled
+  where
+    by : (o p : Option (List ℕ)) → behind_bytes done o ≡ p → IsSome p → (unwrap_or p [] ≡ done ++ unwrap_or o []) × IsSome o
+    by None None e some = absurd (cc some)
+    by None (Some bytes) e some = absurd (cc e)
+    by (Some bytes) p e some = (ap (λ (b : Option (List ℕ)). unwrap_or b []) (sym e), refl)
+
+-- ---- how many bytes there are
+
+kept_few : (text : List ℕ) → length (without_spaces text) ≤ length text
+kept_few [] = omega arith
+kept_few (x ∷ xs) = by (x == 32) refl (kept_few xs)
+  where
+    by : (space : Bool) → (x == 32) ≡ space → length (without_spaces xs) ≤ length xs → length (without_spaces (x ∷ xs)) ≤ length (x ∷ xs)
+    by true e few = rw e (omega (arith, few))
+    by false e few = rw e (omega (arith, few))
+
+spelled_few : (digits : List ℕ) → length (unwrap_or (spells digits) []) ≤ length digits
+unfolding spells
+spelled_few [] = omega arith
+spelled_few (digit ∷ []) = omega arith
+spelled_few (high ∷ low ∷ rest) = by (hex_digit_value high) (hex_digit_value low) (spells rest) (spelled_few rest)
+  where
+    by : (h l : Option ℕ) (o : Option (List ℕ)) → length (unwrap_or o []) ≤ length rest → length (unwrap_or (pair_before h l o) []) ≤ length (high ∷ low ∷ rest)
+    by None l o few = omega arith
+    by (Some h) None o few = omega arith
+    by (Some h) (Some l) None few = omega arith
+    by (Some h) (Some l) (Some bytes) few = omega (arith, few)
+
+pub bytes_few : (text : List ℕ) → length (bytes_of text) ≤ length text
+bytes_few text = let kept = kept_few text in let few = spelled_few (without_spaces text) in omega (arith, kept, few)
+
+pub piece_few : (text rest room : List ℕ) (count : ℕ) → 2 * count + length rest ≤ length text → length (take count room ++ bytes_of rest) ≤ length text
+piece_few text rest room count few =
+    let front = length-take count room in
+    let behind = bytes_few rest in
+    omega (arith, few, front, behind, length-append (take count room) (bytes_of rest))
+
+-- ---- digits without spaces
+
+hex_kept : (text : List ℕ) → AreHex text → without_spaces text ≡ text
+hex_kept [] all = refl
+hex_kept (x ∷ xs) all =
+    let other : x ≢ 32 = λ e. absurd (cc (subst (λ (d : ℕ). IsSome (hex_digit_value d)) e all.0)) in
+    kept_one x xs other ∙ ap (λ (t : List ℕ). x ∷ t) (hex_kept xs all.1)
+
+hex_spell : (digits : List ℕ) → AreHex digits → length digits % 2 ≡ 0 → IsSome (spells digits)
+unfolding spells
+hex_spell [] all even = refl
+hex_spell (digit ∷ []) all even = absurd (omega (arith, even))
+hex_spell (high ∷ low ∷ rest) all even = by (hex_digit_value high) (hex_digit_value low) (spells rest) all.0 all.1.0 (hex_spell rest all.1.1 (omega (arith, even)))
+  where
+    by : (h l : Option ℕ) (o : Option (List ℕ)) → IsSome h → IsSome l → IsSome o → IsSome (pair_before h l o)
+    by None l o is_h is_l is = absurd (cc is_h)
+    by (Some h) None o is_h is_l is = absurd (cc is_l)
+    by (Some h) (Some l) None is_h is_l is = absurd (cc is)
+    by (Some h) (Some l) (Some bytes) is_h is_l is = refl
+
+pub pairs_spell : (text : List ℕ) → AreHex text → length text % 2 ≡ 0 → SpellsBytes text
+pairs_spell text all even = rw (hex_kept text all) (hex_spell text all even)
+
+pub odd_spells : (text : List ℕ) → AreHex text → length text % 2 ≢ 0 → spells (without_spaces text) ≡ None
+odd_spells text all odd = rw (hex_kept text all) (spells-odd text (omega (arith, odd)))
+
+-- ---- no text
+
+pub no_text : SpellsBytes []
+unfolding spells
+no_text = refl
+
+pub no_text_left : (text : List ℕ) → length text ≡ 0 → SpellsBytes text
+no_text_left [] none = no_text
+no_text_left (x ∷ text) none = absurd (omega (arith, none))
+
+pub no_bytes_of : bytes_of [] ≡ []
+unfolding spells
+no_bytes_of = refl
 
 -- nothing was read yet
 pub reads_none : (o : Option (List ℕ)) → behind_bytes [] o ≡ o

@@ -1,13 +1,12 @@
 -- What one line of a trace means.
-use Rattle.std.specs.Prelude.{⊤, ℕ, not, ◌≡◌, ◌<◌, ◌≤◌, ◌+◌, ◌==◌, ◌&&◌, List, [], ◌∷◌, length, if◌then◌else◌, Result, Ok, Err}
+use Rattle.std.specs.Prelude.{⊤, ℕ, not, ◌≡◌, ◌<◌, ◌≤◌, ◌+◌, ◌==◌, ◌&&◌, List, [], ◌∷◌, ◌++◌, length, if◌then◌else◌, IsSome, Result, Ok, Err, unwrap_or}
 use Rattle.std.specs.List.{filter}
 use Rattle.std.specs.Str.Lines.{lines}
 use Rattle.hex.specs.Hex.{decode_of}
 use Rattle.hex.specs.declared.error.FromHexError.{FromHexError}
+use Rattle.zvt_trace.specs.Spelled.{spells}
 use Rattle.zvt_trace.specs.declared.fault.What.{What}
 use Rattle.zvt_trace.specs.declared.fault.What.TheVariants.{Form, Hex}
-use Rattle.zvt_trace.specs.declared.line.BadLine.{BadLine}
-use Rattle.zvt_trace.specs.declared.line.BadLine.TheVariants.{Wrong, Memory}
 use Rattle.zvt_trace.specs.declared.line.Line.{Line}
 use Rattle.zvt_trace.specs.declared.line.Line.TheVariants as code
 use Rattle.zvt_trace.specs.declared.direction.Direction.{Direction}
@@ -35,10 +34,18 @@ meaning_of (first ∷ rest) =
     else if first == 33 && length rest == 0 then Ok lost
     else Err Form
 
+-- the text spells bytes
+abbrev pub SpellsBytes : List ℕ → Type 0
+SpellsBytes text = IsSome (spells (without_spaces text))
+
+-- those bytes, and none where it spells none
+abbrev pub bytes_of : List ℕ → List ℕ
+bytes_of text = unwrap_or (spells (without_spaces text)) []
+
 -- the meaning that a line of the code stands for
 abbrev pub meant_by : Line → Meaning
 meant_by code.Remark = remark
-meant_by (code.Piece from bytes) = piece from bytes.now
+meant_by (code.Piece from bytes behind) = piece from (bytes.now ++ bytes_of behind.now)
 meant_by code.Lost = lost
 
 -- how many bytes it brings
@@ -52,11 +59,16 @@ abbrev pub IsSign : ℕ → Direction → Type 0
 IsSign sign FromTill = sign ≡ 62
 IsSign sign FromTerminal = sign ≡ 60
 
--- what was read of a line: what it means, or why it has no meaning, or nothing where memory is refused
-abbrev pub Reads : List ℕ → Result Line BadLine → Type 0
-Reads line (Ok read) = (meaning_of line ≡ Ok (meant_by read)) × (size_of (meant_by read) ≤ length line)
-Reads line (Err (Wrong what)) = meaning_of line ≡ Err what
-Reads line (Err Memory) = ⊤
+-- what a piece leaves to be read spells bytes
+abbrev pub GoesOn : Line → Type 0
+GoesOn code.Remark = ⊤
+GoesOn (code.Piece from bytes behind) = SpellsBytes behind.now
+GoesOn code.Lost = ⊤
+
+-- what was read of a line: what it means, or why it has no meaning
+abbrev pub Reads : List ℕ → Result Line What → Type 0
+Reads line (Ok read) = (meaning_of line ≡ Ok (meant_by read)) × (size_of (meant_by read) ≤ length line) × GoesOn read
+Reads line (Err what) = meaning_of line ≡ Err what
 
 -- text begins with a line of which that is so, and the rest stands behind it
 abbrev pub Begins : (text : List ℕ) → (List ℕ → Type 0) → (rest : List ℕ) → Type 0

@@ -1,8 +1,8 @@
 //! Both sides of the line between a till and its terminal.
-ghost use Rattle.std.specs.Prelude.{◌≡◌, ◌≤◌, length, IfOk, OnOk};
+ghost use Rattle.std.specs.Prelude.{◌≡◌, ◌≤◌, ◌++◌, length, IfOk, OnOk};
 ghost use Rattle.zvt_spelling.specs.Reading.{Reading};
 ghost use Rattle.zvt_tlv.specs.Lengths.{reading_of};
-ghost use Rattle.zvt_trace.specs.Meanings.{meant_by, piece, size_of};
+ghost use Rattle.zvt_trace.specs.Meanings.{GoesOn, SpellsBytes, bytes_of, meant_by, piece, size_of};
 ghost use Rattle.zvt_trace.specs.Trace.{Sides, new_line};
 ghost use Rattle.zvt_trace.specs.Telling.{LineEnds};
 ghost use Rattle.zvt_trace.specs.Listening.{FollowBoth, TakeBy, TellsEnd, TellsLine};
@@ -48,9 +48,10 @@ impl BothSides {
         scope: Scope,
         lengths: Lengths,
         number: u64,
-        line: &Line<'_>,
+        line: &Line<'_, '_>,
     ) -> Result<Tally, Failure>
         requires reading { TakeBy (reading_of lengths) self.old }
+        requires goes_on { GoesOn line.now }
         ensures reading { OnOk result (TakeBy (reading_of lengths) self.new) }
         ensures tells { (sides : Sides) → FollowBoth (reading_of lengths) self.old sides → TellsLine (reading_of lengths) L.hears L.fails scope number (meant_by line.now) sides self.new (listener.old, device.old) (listener.new, device.new) result }
         ensures few { IfOk result (λ tally. tally.messages ≤ size_of (meant_by line.now)) }
@@ -58,9 +59,13 @@ impl BothSides {
     {
         match line {
             Line::Remark => Ok(Tally::none()),
-            Line::Piece { from, bytes } => {
-                self.tell_piece(listener, device, scope, lengths, number, *from, bytes)
-            }
+            Line::Piece {
+                from,
+                bytes,
+                behind,
+            } => self.tell_piece(
+                listener, device, scope, lengths, number, *from, bytes, behind,
+            ),
             Line::Lost => {
                 let bad = self.tell_end(listener, device, number)?;
                 listener.hear(device, number, &Told::Lost)?;
@@ -70,7 +75,7 @@ impl BothSides {
         }
     }
 
-    /// Tells what a piece of that side brings.
+    /// Tells what a piece of that side brings, of which some bytes are read and the text behind them spells the others.
     #[inline(always)]
     fn tell_piece<D, L: Listener<D>>(
         &mut self,
@@ -81,11 +86,13 @@ impl BothSides {
         number: u64,
         from: Direction,
         bytes: &[u8],
+        behind: &[u8],
     ) -> Result<Tally, Failure>
         requires reading { TakeBy (reading_of lengths) self.old }
+        requires spelled { SpellsBytes behind.now }
         ensures reading { OnOk result (TakeBy (reading_of lengths) self.new) }
-        ensures tells { (sides : Sides) → FollowBoth (reading_of lengths) self.old sides → TellsLine (reading_of lengths) L.hears L.fails scope number (piece from bytes.now) sides self.new (listener.old, device.old) (listener.new, device.new) result }
-        ensures few { IfOk result (λ tally. tally.messages ≤ length bytes.now) }
+        ensures tells { (sides : Sides) → FollowBoth (reading_of lengths) self.old sides → TellsLine (reading_of lengths) L.hears L.fails scope number (piece from (bytes.now ++ bytes_of behind.now)) sides self.new (listener.old, device.old) (listener.new, device.new) result }
+        ensures few { IfOk result (λ tally. tally.messages ≤ length (bytes.now ++ bytes_of behind.now)) }
         ensures two { IfOk result (λ tally. tally.bad ≤ 2) }
     {
         if self.deaf {
@@ -96,12 +103,12 @@ impl BothSides {
         let hearing = match from {
             Direction::FromTill => {
                 tell_beside(
-                    listener, device, scope, number, from, lengths, till, terminal, bytes,
+                    listener, device, scope, number, from, lengths, till, terminal, bytes, behind,
                 )?
             }
             Direction::FromTerminal => {
                 tell_beside(
-                    listener, device, scope, number, from, lengths, terminal, till, bytes,
+                    listener, device, scope, number, from, lengths, terminal, till, bytes, behind,
                 )?
             }
         };

@@ -1,56 +1,50 @@
 //! One line of a trace.
 ghost use Rattle.std.specs.Prelude.{◌≡◌, ◌<◌, ◌≤◌, length, take, IfOk, IfSome, Ok, Err};
 ghost use Rattle.hex.specs.Hex.{decode_of};
-ghost use Rattle.zvt_trace.specs.Meanings.{Begins, IsSign, Reads, meaning_of, meant_by, piece, piece_of, size_of, without_spaces};
+ghost use Rattle.zvt_trace.specs.Meanings.{Begins, GoesOn, IsSign, Reads, meaning_of, meant_by, piece, piece_of, size_of, without_spaces};
 ghost use Rattle.zvt_trace.specs.declared.fault.What.{What};
 
 use crate::direction::Direction;
 use crate::fault::What;
 use crate::lines::next_line;
 use crate::spelled;
-use std::alloc::AllocError;
+
+/// How many bytes of a piece are read at once.
+pub(crate) const CHUNK: usize = 4_096;
 
 /// What a line of a trace means.
 #[derive(Drop)]
-pub(crate) enum Line<'a> {
+pub(crate) enum Line<'a, 't> {
     /// Nothing.
     Remark,
-    /// So many bytes were sent.
-    Piece { from: Direction, bytes: &'a [u8] },
+    /// Bytes were sent: those that are read, and those that the text behind them spells, which is empty but in a long
+    /// line.
+    Piece {
+        from: Direction,
+        bytes: &'a [u8],
+        behind: &'t [u8],
+    },
     /// The line between till and terminal was lost.
     Lost,
 }
 
-/// Why a line has no meaning.
-#[derive(Clone, Copy, Debug, PartialEq, Eq)]
-pub(crate) enum BadLine {
-    Wrong(What),
-    Memory,
-}
-
-impl From<AllocError> for BadLine {
-    ghost use Rattle.zvt_trace.specs.declared.line.BadLine.TheVariants.{Memory};
-
-    ghost from_gives = { λ _ bad. bad ≡ Memory };
-
-    fn from(_refused: AllocError) -> BadLine {
-        BadLine::Memory
-    }
-}
-
-/// Reads the first line, and answers what follows it too.
+/// Reads the first line, and answers what follows it too. Of a piece, as many bytes are read as the buffer takes.
 #[inline(always)]
 pub(crate) fn first_line<'a, 't>(
-    buffer: &'a mut Vec<u8>,
+    buffer: &'a mut [u8],
     rest: &'t [u8],
-) -> (Result<Line<'a>, BadLine>, &'t [u8])
+) -> (Result<Line<'a, 't>, What>, &'t [u8])
     requires { 0 < length rest.now }
     ensures { Begins rest.now (λ line. Reads line result.0) result.1.now }
 {
-    match plain_piece(buffer.as_mut_slice(), rest) {
+    match plain_piece(buffer, rest) {
         Some(Plain { from, count, after }) => {
-            let bytes = &buffer[..count];
-            (Ok(Line::Piece { from, bytes }), after)
+            let line = Line::Piece {
+                from,
+                bytes: &buffer[..count],
+                behind: &[],
+            };
+            (Ok(line), after)
         }
         None => {
             let (line, after) = next_line(rest);
@@ -97,42 +91,41 @@ fn direction(sign: u8) -> Option<Direction>
     }
 }
 
-/// Reads a line, which has lost its line feed. The bytes of a piece stand in the buffer.
+/// Reads a line, which has lost its line feed.
 #[inline(always)]
-fn read_line<'a>(buffer: &'a mut Vec<u8>, line: &[u8]) -> Result<Line<'a>, BadLine>
-    ensures ok { IfOk result (λ read. meaning_of line.now ≡ Ok (meant_by read)) }
-    ensures wrong { (what : What) → result ≡ Err (BadLine.Wrong what) → meaning_of line.now ≡ Err what }
-    ensures few { IfOk result (λ read. size_of (meant_by read) ≤ length line.now) }
+fn read_line<'a, 't>(buffer: &'a mut [u8], line: &'t [u8]) -> Result<Line<'a, 't>, What>
+    ensures { Reads line.now result }
 {
     match line {
         [] | [b'#', ..] => Ok(Line::Remark),
         [b'>', text @ ..] => read_piece(buffer, Direction::FromTill, text),
         [b'<', text @ ..] => read_piece(buffer, Direction::FromTerminal, text),
         [b'!'] => Ok(Line::Lost),
-        _ => Err(BadLine::Wrong(What::Form)),
+        _ => Err(What::Form),
     }
 }
 
-/// Reads the bytes that are spelled in hexadecimal text into the buffer, which grows where it is too small for them.
+/// Reads bytes that are spelled in hexadecimal text, as many as the buffer takes.
 #[inline(always)]
-fn read_piece<'a>(
-    buffer: &'a mut Vec<u8>,
+fn read_piece<'a, 't>(
+    buffer: &'a mut [u8],
     from: Direction,
-    text: &[u8],
-) -> Result<Line<'a>, BadLine>
+    text: &'t [u8],
+) -> Result<Line<'a, 't>, What>
     ensures ok { IfOk result (λ read. piece_of from (decode_of (without_spaces text.now)) ≡ Ok (meant_by read)) }
-    ensures wrong { (what : What) → result ≡ Err (BadLine.Wrong what) → piece_of from (decode_of (without_spaces text.now)) ≡ Err what }
+    ensures wrong { (what : What) → result ≡ Err what → piece_of from (decode_of (without_spaces text.now)) ≡ Err what }
     ensures few { IfOk result (λ read. size_of (meant_by read) ≤ length text.now) }
+    ensures on { IfOk result GoesOn }
 {
-    let most = text.len() / 2;
-    if buffer.len() < most {
-        buffer.resize(most, 0)?;
+    let Some((count, behind)) = spelled::read(text, buffer) else {
+        return Err(What::Hex);
+    };
+    if !spelled::is_spelled(behind) {
+        return Err(What::Hex);
     }
-    match spelled::read(text, buffer.as_mut_slice()) {
-        Some(count) => Ok(Line::Piece {
-            from,
-            bytes: &buffer[..count],
-        }),
-        None => Err(BadLine::Wrong(What::Hex)),
-    }
+    Ok(Line::Piece {
+        from,
+        bytes: &buffer[..count],
+        behind,
+    })
 }

@@ -1,21 +1,25 @@
 //! Bytes that are spelled in hexadecimal text with spaces.
-ghost use Rattle.std.specs.Prelude.{◌≡◌, ◌≢◌, ◌*◌, ◌+◌, ◌++◌, ◌≤◌, ℕ, List, length, slice_index, take, Ok, IfSome, IsErr, MatchOption};
-ghost use Rattle.hex.specs.Hex.{decode_of};
-ghost use Rattle.zvt_trace.specs.Meanings.{without_spaces};
+ghost use Rattle.std.specs.Prelude.{◌≡◌, ◌≢◌, ◌*◌, ◌+◌, ◌++◌, ◌<◌, ◌≤◌, ℕ, List, length, slice_index, take, false, true, IfSome, MatchOption, None};
+ghost use Rattle.zvt_trace.specs.Meanings.{SpellsBytes, without_spaces};
 ghost use Rattle.zvt_trace.specs.Spelled.{AreHex, IsDigit, behind_bytes, place, spells};
 
-/// Reads the bytes into the front of the room, and answers how many there are. Where the text is none, the room ends
-/// with anything.
+/// Reads bytes into the front of the room, until it is full or the text ends: how many, and the text behind them. Where
+/// no bytes are spelled so far, the room ends with anything.
 #[inline(always)]
-pub(crate) fn read(text: &[u8], room: &mut [u8]) -> Option<usize>
-    requires { length text.now ≤ 2 * length room.old + 1 }
-    ensures read { MatchOption result (IsErr (decode_of (without_spaces text.now))) (λ count. decode_of (without_spaces text.now) ≡ Ok (take count room.new)) }
-    ensures few { IfSome result (λ count. 2 * count ≤ length text.now) }
+pub(crate) fn read<'t>(text: &'t [u8], room: &mut [u8]) -> Option<(usize, &'t [u8])>
+    ensures read { MatchOption result (spells (without_spaces text.now) ≡ None) (λ read. behind_bytes (take read.0 room.new) (spells (without_spaces read.1.now)) ≡ spells (without_spaces text.now)) }
+    ensures few { IfSome result (λ read. (read.0 ≤ length room.new) × (2 * read.0 + length read.1.now ≤ length text.now)) }
+    ensures full { IfSome result (λ read. 0 < length read.1.now → read.0 ≡ length room.old) }
+    ensures size { length room.new ≡ length room.old }
 {
     let front = skip_spaces(text);
-    let mut count = read_pairs(front, room);
+    let near = &front[..front.len().min(2 * room.len())];
+    let mut count = read_pairs(near, room);
     let mut rest = skip_spaces(&front[2 * count..]);
-    'pairs: while let [high, after @ ..] = rest {
+    'pairs: while count < room.len() {
+        let [high, after @ ..] = rest else {
+            return Some((count, rest));
+        };
         let [low, after @ ..] = skip_spaces(after) else {
             return None;
         };
@@ -28,7 +32,37 @@ pub(crate) fn read(text: &[u8], room: &mut [u8]) -> Option<usize>
         count += 1;
         rest = skip_spaces(after);
     }
-    Some(count)
+    Some((count, rest))
+}
+
+/// Whether the text spells bytes.
+pub(crate) fn is_spelled(text: &[u8]) -> bool
+    ensures yes { result ≡ true → SpellsBytes text.now }
+    ensures no { result ≡ false → spells (without_spaces text.now) ≡ None }
+{
+    if are_digits(text) {
+        return text.len() % 2 == 0;
+    }
+    let mut buffer = [0; 64];
+    let mut rest = text;
+    'text: while !rest.is_empty() {
+        let Some((_, behind)) = read(rest, &mut buffer) else {
+            return false;
+        };
+        rest = behind;
+    }
+    true
+}
+
+/// Whether the text is digits alone. No byte ends the search, so that the compiler can look at many at once.
+fn are_digits(text: &[u8]) -> bool
+    ensures { result ≡ true → AreHex text.now }
+{
+    let mut all = true;
+    for byte in text {
+        all &= byte.is_ascii_hexdigit();
+    }
+    all
 }
 
 /// Reads the pairs of digits at the front that no space parts: so a line without spaces is read with no test for them.

@@ -6,6 +6,7 @@ ghost use Rattle.zvt_apdu.specs.Message.{Message};
 ghost use Rattle.zvt_stream.specs.Apdus.{UnfinishedIn};
 ghost use Rattle.zvt_trace.specs.Told.{head_of, on};
 ghost use Rattle.zvt_trace.specs.Told as told;
+ghost use Rattle.zvt_trace.specs.Meanings.{SpellsBytes, bytes_of};
 ghost use Rattle.zvt_trace.specs.Trace.{Side};
 ghost use Rattle.zvt_trace.specs.Telling.{SideEnds};
 ghost use Rattle.zvt_trace.specs.Listening.{TellsEnd, TellsPiece, TellsThere};
@@ -13,7 +14,9 @@ ghost use Rattle.zvt_trace.specs.Written.{Follows};
 
 use crate::direction::Direction;
 use crate::fault::Tally;
+use crate::line::CHUNK;
 use crate::listener::{Failure, Listener, Scope};
+use crate::spelled;
 use crate::told::{Head, Told};
 use zvt_apdu::view;
 use zvt_spelling::Why;
@@ -46,6 +49,20 @@ fn stopped(messages: u64, bad: u64) -> Hearing
     Hearing {
         tally: Tally { messages, bad },
         stopped: true,
+    }
+}
+
+/// The same behind so many messages.
+fn behind_messages(messages: u64, later: Hearing) -> Hearing
+    requires { messages + later.tally.messages < 18446744073709551616 }
+    ensures { (result.tally.messages ≡ messages + later.tally.messages) × (result.tally.bad ≡ later.tally.bad) × (result.stopped ≡ later.stopped) }
+{
+    Hearing {
+        tally: Tally {
+            messages: messages + later.tally.messages,
+            bad: later.tally.bad,
+        },
+        stopped: later.stopped,
     }
 }
 
@@ -142,6 +159,7 @@ pub(crate) fn tell_piece<D, L: Listener<D>>(
     ensures reading { OnOk result (stream.new.reading ≡ reading_of lengths) }
     ensures tells { (side : Side) → Follows (reading_of lengths) stream.old side → TellsPiece (reading_of lengths) L.hears L.fails line from side bytes.now stream.new (listener.old, device.old) (listener.new, device.new) result }
     ensures few { IfOk result (λ hearing. (hearing.tally.messages ≤ length bytes.now) × (hearing.tally.bad ≤ 1)) }
+    ensures none { IfOk result (λ hearing. hearing.stopped ≡ false → hearing.tally.bad ≡ 0) }
 {
     let mut messages = 0;
     let mut rest = bytes;
@@ -170,6 +188,63 @@ pub(crate) fn tell_piece<D, L: Listener<D>>(
     }
 }
 
+/// Tells what a piece brings whose bytes behind the first are text.
+#[inline(always)]
+fn tell_whole_piece<D, L: Listener<D>>(
+    listener: &mut L,
+    device: &mut D,
+    line: u64,
+    from: Direction,
+    lengths: Lengths,
+    stream: &mut Stream,
+    bytes: &[u8],
+    behind: &[u8],
+) -> Result<Hearing, Failure>
+    requires reading { stream.old.reading ≡ reading_of lengths }
+    requires spelled { SpellsBytes behind.now }
+    ensures reading { OnOk result (stream.new.reading ≡ reading_of lengths) }
+    ensures tells { (side : Side) → Follows (reading_of lengths) stream.old side → TellsPiece (reading_of lengths) L.hears L.fails line from side (bytes.now ++ bytes_of behind.now) stream.new (listener.old, device.old) (listener.new, device.new) result }
+    ensures few { IfOk result (λ hearing. (hearing.tally.messages ≤ length (bytes.now ++ bytes_of behind.now)) × (hearing.tally.bad ≤ 1)) }
+{
+    if behind.is_empty() {
+        tell_piece(listener, device, line, from, lengths, stream, bytes)
+    } else {
+        tell_long_piece(listener, device, line, from, lengths, stream, bytes, behind)
+    }
+}
+
+/// The same of a long piece: its text is read as it is told, so that it takes no memory.
+fn tell_long_piece<D, L: Listener<D>>(
+    listener: &mut L,
+    device: &mut D,
+    line: u64,
+    from: Direction,
+    lengths: Lengths,
+    stream: &mut Stream,
+    bytes: &[u8],
+    behind: &[u8],
+) -> Result<Hearing, Failure>
+    requires reading { stream.old.reading ≡ reading_of lengths }
+    requires spelled { SpellsBytes behind.now }
+    ensures reading { OnOk result (stream.new.reading ≡ reading_of lengths) }
+    ensures tells { (side : Side) → Follows (reading_of lengths) stream.old side → TellsPiece (reading_of lengths) L.hears L.fails line from side (bytes.now ++ bytes_of behind.now) stream.new (listener.old, device.old) (listener.new, device.new) result }
+    ensures few { IfOk result (λ hearing. (hearing.tally.messages ≤ length (bytes.now ++ bytes_of behind.now)) × (hearing.tally.bad ≤ 1)) }
+{
+    let mut hearing = tell_piece(listener, device, line, from, lengths, stream, bytes)?;
+    let mut buffer = [0; CHUNK];
+    let mut rest = behind;
+    'chunks: while !hearing.stopped && !rest.is_empty() {
+        let Some((count, after)) = spelled::read(rest, &mut buffer) else {
+            unreachable!()
+        };
+        let chunk = &buffer[..count];
+        let later = tell_piece(listener, device, line, from, lengths, stream, chunk)?;
+        hearing = behind_messages(hearing.tally.messages, later);
+        rest = after;
+    }
+    Ok(hearing)
+}
+
 /// Tells what a piece of a side brings, and what a refusal cuts off of the other side.
 #[inline(always)]
 pub(crate) fn tell_beside<D, L: Listener<D>>(
@@ -182,14 +257,16 @@ pub(crate) fn tell_beside<D, L: Listener<D>>(
     stream: &mut Stream,
     other: &Stream,
     bytes: &[u8],
+    behind: &[u8],
 ) -> Result<Hearing, Failure>
     requires reading { stream.old.reading ≡ reading_of lengths }
+    requires spelled { SpellsBytes behind.now }
     ensures reading { OnOk result (stream.new.reading ≡ reading_of lengths) }
-    ensures tells { (side beside : Side) → Follows (reading_of lengths) stream.old side → Follows (reading_of lengths) other.now beside → TellsThere (reading_of lengths) L.hears L.fails scope line from side beside bytes.now stream.new other.now (listener.old, device.old) (listener.new, device.new) result }
-    ensures few { IfOk result (λ hearing. hearing.tally.messages ≤ length bytes.now) }
+    ensures tells { (side beside : Side) → Follows (reading_of lengths) stream.old side → Follows (reading_of lengths) other.now beside → TellsThere (reading_of lengths) L.hears L.fails scope line from side beside (bytes.now ++ bytes_of behind.now) stream.new other.now (listener.old, device.old) (listener.new, device.new) result }
+    ensures few { IfOk result (λ hearing. hearing.tally.messages ≤ length (bytes.now ++ bytes_of behind.now)) }
     ensures two { IfOk result (λ hearing. hearing.tally.bad ≤ 2) }
 {
-    let hearing = tell_piece(listener, device, line, from, lengths, stream, bytes)?;
+    let hearing = tell_whole_piece(listener, device, line, from, lengths, stream, bytes, behind)?;
     let Tally { messages, bad } = hearing.tally;
     if scope == Scope::WholeLine && hearing.stopped {
         let cut_off = tell_cut_off(listener, device, line, from.other(), other)?;

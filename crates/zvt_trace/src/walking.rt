@@ -8,8 +8,8 @@ ghost use Rattle.zvt_trace.specs.Trace.{Sides};
 ghost use Rattle.zvt_trace.specs.Written.{limit};
 
 use crate::both_sides::BothSides;
-use crate::fault::{Tally, TraceFault};
-use crate::line::{BadLine, Line, first_line};
+use crate::fault::{Tally, TraceFault, What};
+use crate::line::{CHUNK, Line, first_line};
 use crate::listener::{Listener, Scope};
 use std::alloc::Global;
 use zvt_tlv::Lengths;
@@ -46,7 +46,7 @@ pub fn walk_by<D, L: Listener<D>>(
 {
     let mut tally = Tally::none();
     let mut sides = BothSides::new(alloc, lengths);
-    let mut buffer = Vec::new(alloc);
+    let mut buffer = [0; CHUNK];
     let mut rest = trace;
     let mut number = 0;
     'lines: while !rest.is_empty() {
@@ -73,9 +73,10 @@ fn tell_line<D, L: Listener<D>>(
     lengths: Lengths,
     sides: &mut BothSides,
     number: u64,
-    read: Result<Line<'_>, BadLine>,
+    read: Result<Line<'_, '_>, What>,
 ) -> Result<Tally, TraceFault>
     requires reading { TakeBy (reading_of lengths) sides.old }
+    requires read { (content : List ℕ) × Reads content read }
     ensures reading { OnOk result (TakeBy (reading_of lengths) sides.new) }
     ensures tells { (content : List ℕ) → Reads content read.entry → (state : Sides) → FollowBoth (reading_of lengths) sides.old state → WalksLine (reading_of lengths) L.hears L.fails scope number content state sides.new (listener.old, device.old) (listener.new, device.new) result }
     ensures few { (content : List ℕ) → Reads content read.entry → IfOk result (λ tally. tally.messages ≤ length content) }
@@ -83,8 +84,7 @@ fn tell_line<D, L: Listener<D>>(
 {
     let line = match read {
         Ok(line) => line,
-        Err(BadLine::Wrong(what)) => return Err(TraceFault::Trace { line: number, what }),
-        Err(BadLine::Memory) => return Err(TraceFault::Memory),
+        Err(what) => return Err(TraceFault::Trace { line: number, what }),
     };
     Ok(sides.tell(listener, device, alloc, scope, lengths, number, &line)?)
 }

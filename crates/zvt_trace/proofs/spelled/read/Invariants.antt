@@ -7,6 +7,8 @@ abbrev pub invariant-pairs : goal.invariant-pairs
 invariant-pairs l = record {
   so_far : behind_bytes (take l.count l.room) (spells (without_spaces l.rest)) ≡ spells (without_spaces l.text);
   none : slice_index l.rest 0 ≢ 32;
+  within : l.count ≤ length l.room;
+  size : length l.room ≡ length l.initial.room;
   few : 2 * l.count + length l.rest ≤ length l.text;
 }
 

@@ -43,3 +43,6 @@ returns g c =
     let so = c.lines.invariant.so_far in
     let none : length c.lines.rest.now ≡ 0 = search rules in
     closed g.L.Listener.hears g.L.Listener.fails _ _ c.lines.rest.now _ c.lines.sides c.lines.tally _ _ _ _ _ none so (c.in_ok-tally.ensures.tells _ so.sides so.follow) refl refl
+
+pub tell_line-requires-clause-read : goal.tell_line-requires-clause-read
+tell_line-requires-clause-read g c = (c.first_line.ensures.0, c.first_line.ensures.2)
