@@ -10,15 +10,11 @@ mod digits;
 #[cfg(test)]
 mod engine;
 #[cfg(test)]
-mod feeding;
-#[cfg(test)]
 mod fields;
 #[cfg(test)]
 mod forests;
 #[cfg(test)]
 mod judging;
-#[cfg(test)]
-mod lending;
 #[cfg(test)]
 mod message_fields;
 #[cfg(test)]
@@ -31,5 +27,7 @@ mod objects;
 mod owned;
 #[cfg(test)]
 mod padded;
+#[cfg(test)]
+mod pieces;
 #[cfg(test)]
 mod rescan;

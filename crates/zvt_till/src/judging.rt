@@ -5,10 +5,11 @@ ghost use Rattle.zvt_till.specs.Books.{books};
 ghost use Rattle.zvt_till.specs.Outcomes.{note_if};
 ghost use Rattle.zvt_till.specs.Judging.{books_value, written, paying, opened, IsJudged, KnowsTraces};
 
-use crate::happenings::{Happening, Sent, ends};
+use crate::happenings::{Happening, Sent, ends, is_positive};
+use crate::messages::Heard;
 use crate::orders::Order;
 use crate::outcomes::{Cause, Outcome, outcome_by};
-use crate::statuses::{Running, Statuses, demand_of, listened};
+use crate::statuses::{Charge, Demand, Statuses, note};
 use crate::used_traces::UsedTraces;
 use std::alloc::{AllocError, Global};
 use zvt_bcd::{Amount, Currency, Trace};
@@ -78,18 +79,21 @@ impl OpenPayment {
         ensures positive { result.positive ≡ (self.now.positive || is_positive happening.now) }
         ensures statuses { result.statuses ≡ note_if (paying self.now.currency self.now.amount) self.now.statuses (status_of happening.now) }
     {
-        let running = Running {
-            order: Order::Pay(self.amount),
-            positive: self.positive,
-            statuses: self.statuses,
+        let statuses = match happening {
+            Happening::Heard(Heard::Status(status)) => {
+                let charge = Charge {
+                    amount: self.amount,
+                    currency: self.currency,
+                };
+                note(&Some(Demand::Payment(charge)), self.statuses, status)
+            }
+            _ => self.statuses,
         };
-        let demand = demand_of(self.currency, &[], &running.order);
-        let next = listened(&demand, &running, happening);
         OpenPayment {
             amount: self.amount,
             currency: self.currency,
-            positive: next.positive,
-            statuses: next.statuses,
+            positive: self.positive || is_positive(happening),
+            statuses,
         }
     }
 }

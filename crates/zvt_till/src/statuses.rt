@@ -147,7 +147,7 @@ fn note_class(so_far: Statuses, class: Class, receipt: Option<[u8; 2]>) -> Statu
 }
 
 /// What the statuses say together with one more.
-fn note(demand: &Option<Demand>, so_far: Statuses, status: &StatusFacts) -> Statuses
+pub(crate) fn note(demand: &Option<Demand>, so_far: Statuses, status: &StatusFacts) -> Statuses
     ensures { result ≡ note demand.now so_far status.now }
 {
     match demand {

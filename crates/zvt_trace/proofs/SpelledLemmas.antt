@@ -1,16 +1,15 @@
 -- Hexadecimal text, pair by pair.
-use Rattle.std.proofs.Common.{◌≡◌, ◌≢◌, ◌∙◌, sym, ap, subst, refl, arith, ℕ, zero, suc, ◌+◌, ◌-◌, ◌*◌, ◌%◌, ◌<◌, Bool, true, false, ◌⊎◌, inl, inr, List, [], ◌∷◌, ◌++◌, length, take, drop, slice_index, slice_set, ◌&&◌, ◌==◌, ◌≤◌, Option, None, Some, Result, Ok, Err, unwrap_or, option_map, append_assoc, append-nil, length-append, length-drop}
+use Rattle.std.proofs.Common.{◌≡◌, ◌≢◌, ◌∙◌, sym, ap, subst, refl, arith, ℕ, zero, suc, ◌+◌, ◌-◌, ◌*◌, ◌%◌, ◌<◌, Bool, true, false, ◌⊎◌, inl, inr, List, [], ◌∷◌, ◌++◌, length, take, drop, slice_index, slice_set, ◌&&◌, ◌==◌, ◌≤◌, Option, None, Some, Result, Ok, Err, unwrap_or, append_assoc, append-nil, length-append, length-drop}
 use Rattle.std.specs.Char.{IsAsciiHexdigit, IsNotAsciiHexdigit}
 use Rattle.std.specs.Prelude.{IsErr, IsSome, MatchBool, MatchOption}
 use Rattle.std.proofs.lemmas.Bool.{and_parts, cases_eq, cases_lt, eqb-true}
 use Rattle.std.proofs.lemmas.Bool.Decides.{nat_tests}
 use Rattle.std.proofs.lemmas.List.{length-take, take_all, take_more, take_more_set}
-use Rattle.std.proofs.lemmas.Nat.{mul-le}
 use Rattle.hex.specs.Hex.{decode_of, decode_pairs, digit_or_error, hex_digit_value, ◌>>=◌}
 use Rattle.hex.specs.declared.error.FromHexError.{FromHexError}
 use Rattle.hex.proofs.HexLemmas.{decode_of-even, decode_of-odd}
 use Rattle.zvt_trace.specs.Meanings.{SpellsBytes, bytes_of, piece, piece_of, without_spaces}
-use Rattle.zvt_trace.specs.Spelled.{AreHex, IsDigit, place, pair_before, spells, behind_bytes}
+use Rattle.zvt_trace.specs.Spelled.{AreHex, IsDigit, pair_before, spells, behind_bytes, worth}
 use Rattle.zvt_trace.specs.declared.direction.Direction.{Direction}
 use Rattle.zvt_trace.specs.declared.fault.What.TheVariants.{Hex}
 
@@ -79,41 +78,41 @@ no_digit d v h big = by (hex_digit_value d) refl h
         let small : w < 16 = grind arith in
         absurd (omega (arith, h))
 
--- whether the table has what each digit below n adds
-abbrev pub tells_below : ℕ → List ℕ → ℕ → Bool
-tells_below weight table zero = true
-tells_below weight table (suc n) = slice_index table n == place weight n && tells_below weight table n
+-- whether the table has the value of each digit below n
+abbrev pub tells_below : List ℕ → ℕ → Bool
+tells_below table zero = true
+tells_below table (suc n) = slice_index table n == worth n && tells_below table n
 
-tells_at : (weight : ℕ) (table : List ℕ) (n k : ℕ) → tells_below weight table n ≡ true → k < n → slice_index table k ≡ place weight k
-tells_at weight table zero k all lt = absurd (omega arith)
-tells_at weight table (suc n) k all lt =
-    let parts = and_parts (slice_index table n == place weight n) (tells_below weight table n) all in
+tells_at : (table : List ℕ) (n k : ℕ) → tells_below table n ≡ true → k < n → slice_index table k ≡ worth k
+tells_at table zero k all lt = absurd (omega arith)
+tells_at table (suc n) k all lt =
+    let parts = and_parts (slice_index table n == worth n) (tells_below table n) all in
     elim (cases_lt k n) [
-      | inl below ↦ tells_at weight table n k parts.1 below
+      | inl below ↦ tells_at table n k parts.1 below
       | inr top ↦
           let e : k ≡ n = omega arith in
           rw e (eqb-true _ _ parts.0)
     ]
 
-pub place_in : (weight : ℕ) (table : List ℕ) (digit : ℕ) → digit < 256 → tells_below weight table 256 ≡ true → slice_index table digit ≡ place weight digit
-place_in weight table digit lt all = tells_at weight table 256 digit all lt
+pub worth_in : (table : List ℕ) (digit : ℕ) → digit < 256 → tells_below table 256 ≡ true → slice_index table digit ≡ worth digit
+worth_in table digit lt all = tells_at table 256 digit all lt
 
 digit_small : (d w : ℕ) → hex_digit_value d ≡ Some w → w ≤ 15
 digit_small d w e = grind arith
 
-place_small : (weight d : ℕ) (o : Option ℕ) → hex_digit_value d ≡ o → weight ≤ 16 → unwrap_or (option_map (λ (v : ℕ). weight * v) o) 256 ≤ 256
-place_small weight d None e few = omega arith
-place_small weight d (Some w) e few = let most = mul-le weight w 16 15 few (digit_small d w e) in omega (arith, most)
+worth_small : (d : ℕ) (o : Option ℕ) → hex_digit_value d ≡ o → unwrap_or o 256 ≤ 256
+worth_small d None e = omega arith
+worth_small d (Some w) e = omega (arith, digit_small d w e)
 
-told : (o : Option ℕ) (v : ℕ) → v ≡ unwrap_or (option_map (λ (w : ℕ). 1 * w) o) 256 → MatchOption o (15 < v) (λ is. v ≡ is)
+told : (o : Option ℕ) (v : ℕ) → v ≡ unwrap_or o 256 → MatchOption o (15 < v) (λ is. v ≡ is)
 told None v e = omega (arith, e)
-told (Some w) v e = omega (arith, e)
+told (Some w) v e = e
 
-pub digit_in : (table : List ℕ) (digit : ℕ) → digit < 256 → tells_below 1 table 256 ≡ true → IsDigit digit (slice_index table digit)
-digit_in table digit lt all = told _ _ (place_in 1 table digit lt all)
+pub digit_in : (table : List ℕ) (digit : ℕ) → digit < 256 → tells_below table 256 ≡ true → IsDigit digit (slice_index table digit)
+digit_in table digit lt all = told _ _ (worth_in table digit lt all)
 
-pub few_at : (weight digit : ℕ) → weight ≤ 16 → place weight digit ≤ 256
-few_at weight digit few = place_small weight digit (hex_digit_value digit) refl few
+pub few_worth : (digit : ℕ) → worth digit ≤ 256
+few_worth digit = worth_small digit (hex_digit_value digit) refl
 
 -- two digits that add up to a byte
 pub record AreDigits (a b sum : ℕ) : Type 0 where
@@ -125,11 +124,10 @@ pub record AreDigits (a b sum : ℕ) : Type 0 where
   pub low_small : low ≤ 15
   pub is_sum : sum ≡ high * 16 + low
 
-pub are_digits : (a b : ℕ) → place 16 a + place 1 b ≤ 255 → AreDigits a b (place 16 a + place 1 b)
+pub are_digits : (a b : ℕ) → worth a * 16 + worth b ≤ 255 → AreDigits a b (worth a * 16 + worth b)
 are_digits a b few = by (hex_digit_value a) (hex_digit_value b) refl refl few
   where
-    by : (o p : Option ℕ) → hex_digit_value a ≡ o → hex_digit_value b ≡ p → unwrap_or (option_map (λ (v : ℕ). 16 * v) o) 256 + unwrap_or (option_map (λ (v : ℕ). 1 * v) p) 256 ≤ 255
-        → AreDigits a b (place 16 a + place 1 b)
+    by : (o p : Option ℕ) → hex_digit_value a ≡ o → hex_digit_value b ≡ p → unwrap_or o 256 * 16 + unwrap_or p 256 ≤ 255 → AreDigits a b (worth a * 16 + worth b)
     by None p e f few = absurd (omega (arith, few))
     by (Some h) None e f few = absurd (omega (arith, few))
     by (Some h) (Some l) e f few = record {
@@ -139,7 +137,7 @@ are_digits a b few = by (hex_digit_value a) (hex_digit_value b) refl refl few
       is_low = rw f refl;
       high_small = digit_small a h e;
       low_small = digit_small b l f;
-      is_sum = rw (e, f) (omega arith);
+      is_sum = rw (e, f) refl;
     }
 
 -- ---- the steps of the loop

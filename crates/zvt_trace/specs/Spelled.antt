@@ -1,5 +1,5 @@
 -- The digits of a text, and the bytes that they spell.
-use Rattle.std.specs.Prelude.{◌≡◌, ⊤, ℕ, ◌+◌, ◌*◌, ◌<◌, IsSome, MatchOption, Option, option_map, unwrap_or, Some, None, List, [], ◌∷◌, ◌++◌}
+use Rattle.std.specs.Prelude.{◌≡◌, ⊤, ℕ, ◌+◌, ◌*◌, ◌<◌, IsSome, MatchOption, Option, unwrap_or, Some, None, List, [], ◌∷◌, ◌++◌}
 use Rattle.hex.specs.Hex.{hex_digit_value}
 
 -- the value of a digit, and above 15 for what is none
@@ -11,9 +11,9 @@ abbrev pub AreHex : List ℕ → Type 0
 AreHex [] = ⊤
 AreHex (digit ∷ rest) = IsSome (hex_digit_value digit) × AreHex rest
 
--- what a digit adds at a place of that weight, and 256 for what is none
-abbrev pub place : (weight digit : ℕ) → ℕ
-place weight digit = unwrap_or (option_map (λ is. weight * is) (hex_digit_value digit)) 256
+-- the value of a digit, and 256 for what is none
+abbrev pub worth : (digit : ℕ) → ℕ
+worth digit = unwrap_or (hex_digit_value digit) 256
 
 -- a byte of two digits, before the bytes that follow
 abbrev pub pair_before : Option ℕ → Option ℕ → Option (List ℕ) → Option (List ℕ)

@@ -1,7 +1,7 @@
 //! Bytes that are spelled in hexadecimal text with spaces.
 ghost use Rattle.std.specs.Prelude.{◌≡◌, ◌≢◌, ◌*◌, ◌+◌, ◌++◌, ◌<◌, ◌≤◌, ℕ, List, length, slice_index, take, false, true, IfSome, MatchOption, None};
 ghost use Rattle.zvt_trace.specs.Meanings.{SpellsBytes, without_spaces};
-ghost use Rattle.zvt_trace.specs.Spelled.{AreHex, IsDigit, behind_bytes, place, spells};
+ghost use Rattle.zvt_trace.specs.Spelled.{AreHex, IsDigit, behind_bytes, spells, worth};
 
 /// Reads bytes into the front of the room, until it is full or the text ends: how many, and the text behind them. Where
 /// no bytes are spelled so far, the room ends with anything.
@@ -102,22 +102,22 @@ fn skip_spaces(text: &[u8]) -> &[u8]
 
 /// The byte of two digits, and for what are none a number above 255: so both are tested at once.
 #[inline(always)]
-fn pair(high: u8, low: u8) -> u16
-    ensures { result ≡ place 16 high + place 1 low }
+fn pair(high: u8, low: u8) -> u32
+    ensures { result ≡ worth high * 16 + worth low }
 {
-    HIGH_VALUES[high as usize] + VALUES[low as usize]
+    VALUES[high as usize] * 16 + VALUES[low as usize]
 }
 
 /// The value of a digit, and for what is none a number above 15.
 #[inline(always)]
-fn value(digit: u8) -> u16
+fn value(digit: u8) -> u32
     ensures { IsDigit digit result }
 {
     VALUES[digit as usize]
 }
 
 /// The value of each digit, and 256 for what is none.
-static VALUES: [u16; 256] = [
+static VALUES: [u32; 256] = [
     256, 256, 256, 256, 256, 256, 256, 256, 256, 256, 256, 256, 256, 256, 256, 256, 256, 256, 256,
     256, 256, 256, 256, 256, 256, 256, 256, 256, 256, 256, 256, 256, 256, 256, 256, 256, 256, 256,
     256, 256, 256, 256, 256, 256, 256, 256, 256, 256, 0, 1, 2, 3, 4, 5, 6, 7, 8, 9, 256, 256, 256,
@@ -132,22 +132,4 @@ static VALUES: [u16; 256] = [
     256, 256, 256, 256, 256, 256, 256, 256, 256, 256, 256, 256, 256, 256, 256, 256, 256, 256, 256,
     256, 256, 256, 256, 256, 256, 256, 256, 256, 256, 256, 256, 256, 256, 256, 256, 256, 256, 256,
     256, 256, 256,
-];
-
-/// The value of each digit before another one, and 256 for what is none.
-static HIGH_VALUES: [u16; 256] = [
-    256, 256, 256, 256, 256, 256, 256, 256, 256, 256, 256, 256, 256, 256, 256, 256, 256, 256, 256,
-    256, 256, 256, 256, 256, 256, 256, 256, 256, 256, 256, 256, 256, 256, 256, 256, 256, 256, 256,
-    256, 256, 256, 256, 256, 256, 256, 256, 256, 256, 0, 16, 32, 48, 64, 80, 96, 112, 128, 144,
-    256, 256, 256, 256, 256, 256, 256, 160, 176, 192, 208, 224, 240, 256, 256, 256, 256, 256, 256,
-    256, 256, 256, 256, 256, 256, 256, 256, 256, 256, 256, 256, 256, 256, 256, 256, 256, 256, 256,
-    256, 160, 176, 192, 208, 224, 240, 256, 256, 256, 256, 256, 256, 256, 256, 256, 256, 256, 256,
-    256, 256, 256, 256, 256, 256, 256, 256, 256, 256, 256, 256, 256, 256, 256, 256, 256, 256, 256,
-    256, 256, 256, 256, 256, 256, 256, 256, 256, 256, 256, 256, 256, 256, 256, 256, 256, 256, 256,
-    256, 256, 256, 256, 256, 256, 256, 256, 256, 256, 256, 256, 256, 256, 256, 256, 256, 256, 256,
-    256, 256, 256, 256, 256, 256, 256, 256, 256, 256, 256, 256, 256, 256, 256, 256, 256, 256, 256,
-    256, 256, 256, 256, 256, 256, 256, 256, 256, 256, 256, 256, 256, 256, 256, 256, 256, 256, 256,
-    256, 256, 256, 256, 256, 256, 256, 256, 256, 256, 256, 256, 256, 256, 256, 256, 256, 256, 256,
-    256, 256, 256, 256, 256, 256, 256, 256, 256, 256, 256, 256, 256, 256, 256, 256, 256, 256, 256,
-    256, 256, 256, 256, 256, 256, 256, 256,
 ];

@@ -1,13 +1,9 @@
-//! Runs a till over so many payments and prints its book: bench/payments measures its time. Under `replay` the till is
-//! run over the events of its line, under `orders` each payment is an order that runs to its end over memory; else both.
-//! Under `scan` it reads a short message a hundred times as often: bench/scan compares that with the library for C.
-#![tactic(auto)]
+//! Payments over memory, which `bench/payments` times, and readings of a short message, which `bench/scan` counts.
 
 ghost use Rattle.std.specs.Prelude.{◌≤◌};
 
 use std::alloc::{AllocError, Global};
-use std::process::ExitCode;
-use std::{env, io};
+use std::io;
 use zvt_apdu::scan;
 use zvt_bcd::{Amount, put};
 use zvt_io::Over;
@@ -32,79 +28,38 @@ const AUTHORISATION: [u8; 13] = [
     0x06, 0x01, 0x0A, 0x04, 0x00, 0x00, 0x00, 0x00, 0x12, 0x34, 0x49, 0x09, 0x78,
 ];
 
-/// What the command line asks for.
+/// A way to spend time in the libraries.
 #[derive(Clone, Copy)]
-struct Work {
-    payments: u32,
-    replay: bool,
-    orders: bool,
-    scan: bool,
+pub enum Work {
+    /// The till is run over the events of its line.
+    Replay,
+    /// Each payment is an order that runs to its end over memory.
+    Orders,
+    /// A short message is read, a hundred times as often.
+    Scan,
 }
 
-fn main(rt: HostRuntime) -> ExitCode {
-    match run(&rt) {
-        Ok(()) => ExitCode::from(0),
-        Err(_) => ExitCode::from(4),
-    }
-}
-
-fn run(rt: &HostRuntime) -> io::Result<()> {
-    let asked = asked(rt);
-    let payments = asked.payments;
-    if asked.replay {
-        let Ok((entries, total)) = replayed(rt.alloc(), payments) else {
-            return eprintln!(rt; "replay_bench: too little memory");
-        };
-        println!(rt; "{payments} payments replayed: {entries} booked, {total} in all")?;
-    }
-    if asked.orders {
-        let Ok((entries, total)) = ordered(rt.alloc(), payments) else {
-            return eprintln!(rt; "replay_bench: an order did not come to its end");
-        };
-        println!(rt; "{payments} payments ordered: {entries} booked, {total} in all")?;
-    }
-    if asked.scan {
-        let Ok(whole) = scanned(rt.alloc(), 100 * payments) else {
-            return eprintln!(rt; "replay_bench: too little memory");
-        };
-        println!(rt; "{whole} messages scanned")?;
-    }
-    Ok(())
-}
-
-/// How many payments, 100 where the command line names no number, and 10,000 at most; and which ways, both where it
-/// names none.
-fn asked(rt: &HostRuntime) -> Work
-    ensures { result.payments ≤ 10000 }
-{
-    let mut asked = Work {
-        payments: 100,
-        replay: true,
-        orders: true,
-        scan: false,
-    };
-    let Ok(words) = env::args(rt) else {
-        return asked;
-    };
-    for word in words {
-        match word.as_str() {
-            "replay" => asked.orders = false,
-            "orders" => asked.replay = false,
-            "scan" => asked = Work {
-                replay: false,
-                orders: false,
-                scan: true,
-                ..asked
-            },
-            other => {
-                if let Ok(number) = other.parse::<u32>() {
-                    asked.payments = number;
-                }
+/// Does the work so many times, 10,000 at most, and prints what came of it.
+pub fn run(rt: &HostRuntime, work: Work, times: u32) -> io::Result<()> {
+    let times = times.min(MOST);
+    match work {
+        Work::Replay => match replayed(rt.alloc(), times) {
+            Ok((entries, total)) => {
+                println!(rt; "{times} payments replayed: {entries} booked, {total} in all")
             }
-        }
+            Err(AllocError) => eprintln!(rt; "library_runs: too little memory"),
+        },
+        Work::Orders => match ordered(rt.alloc(), times) {
+            Ok((entries, total)) => {
+                println!(rt; "{times} payments ordered: {entries} booked, {total} in all")
+            }
+            Err(_) => eprintln!(rt; "library_runs: an order did not come to its end"),
+        },
+        Work::Scan => match scanned(rt.alloc(), 100 * times) {
+            Ok(whole) => println!(rt; "{whole} messages scanned"),
+            Err(AllocError) => eprintln!(rt; "library_runs: too little memory"),
+        },
     }
-    asked.payments = asked.payments.min(MOST);
-    asked
 }
 
 /// How many of so many readings of a short message find it whole.

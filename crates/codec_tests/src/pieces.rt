@@ -1,0 +1,155 @@
+//! Messages out of pieces, worked by hand: built by `feed`, and lent by `feed_view`.
+
+use std::alloc::{AllocError, Global};
+use std::process::Abort;
+use std::test::Fail;
+use zvt_apdu::Kind;
+use zvt_spelling::Why;
+use zvt_stream::{Fed, FedView, FeedError, Held, LONGEST, Stream, Truncated};
+
+const STATUS: [u8; 19] = [
+    0x04, 0x0F, 0x10, 0x27, 0x00, 0x04, 0x00, 0x00, 0x00, 0x00, 0x12, 0x34, 0x0B, 0x00, 0x00, 0x17,
+    0x87, 0x00, 0x05,
+];
+
+const ACK: [u8; 3] = [0x80, 0x00, 0x00];
+
+/// What a feed answers.
+type Answer = Result<FedView, FeedError>;
+
+const MORE: Answer = Ok(FedView::More);
+
+/// A message ended after so many bytes of the piece.
+fn ended(taken: usize) -> Answer {
+    Ok(FedView::Message { taken })
+}
+
+/// What `feed` answers, its message left aside.
+fn built(alloc: Global, stream: &mut Stream, piece: &[u8]) -> Answer {
+    match stream.feed(alloc, piece) {
+        Ok(Fed::Message { taken, .. }) => ended(taken),
+        Ok(Fed::More) => MORE,
+        Ok(Fed::Refused { place, why }) => Ok(FedView::Refused { place, why }),
+        Err(error) => Err(error),
+    }
+}
+
+// Says nothing of what it answers: beside that each step of a caller's proof is dear.
+fn viewed(stream: &mut Stream, piece: &[u8]) -> Answer {
+    stream.feed_view(piece)
+}
+
+/// The kind and the bytes of the message that is lent.
+fn lent(stream: &Stream) -> Option<(Kind, &[u8])> {
+    match stream.lent() {
+        Some(apdu) => Some((apdu.kind(), apdu.bytes())),
+        None => None,
+    }
+}
+
+/// How many bytes a stream holds, and whether it may end there.
+fn left(stream: &Stream) -> (usize, Result<(), Truncated>) {
+    (stream.held(), stream.finish())
+}
+
+/// Pieces that are fed one after another, what is answered to each, and how many bytes are held then.
+type Row<'a> = (&'a [u8], Answer, usize);
+
+/// A stream that builds its messages answers so, and one that lends them.
+fn answers(rt: &impl Abort, alloc: Global, rows: &[Row]) {
+    let mut stream = Stream::new(alloc);
+    let mut lending = Stream::new(alloc);
+    for &(piece, answer, have) in rows {
+        assert_eq!(rt; built(alloc, &mut stream, piece), answer);
+        assert_eq!(rt; viewed(&mut lending, piece), answer);
+        let end = if have == 0 {
+            Ok(())
+        } else {
+            Err(Truncated { have })
+        };
+        assert_eq!(rt; left(&stream), (have, end));
+        assert_eq!(rt; left(&lending), (have, end));
+    }
+}
+
+#[test]
+fn messages_end_anywhere_in_pieces(rt: HostRuntime) {
+    let twice = [STATUS, STATUS];
+    let line = twice.as_flattened();
+    let rows: [Row; 4] = [
+        (&[], MORE, 0),
+        (&line[..10], MORE, 10),
+        (&line[10..], ended(9), 0),
+        (&line[19..], ended(19), 0),
+    ];
+    answers(&rt, rt.alloc(), &rows);
+}
+
+#[test]
+fn refused_at_the_fatal_byte(rt: HostRuntime) {
+    let refused = Ok(FedView::Refused {
+        place: 3,
+        why: Why::DoesNotFit,
+    });
+    let rows: [Row; 4] = [
+        (&ACK, ended(3), 0),
+        (&[0x06, 0x0F, 0x03], MORE, 3),
+        (&[0x06], refused, 0),
+        (&ACK, Err(FeedError::Stopped), 0),
+    ];
+    answers(&rt, rt.alloc(), &rows);
+}
+
+#[test]
+fn a_message_is_lent_at_any_cut(rt: HostRuntime) {
+    for cut in 1..19 {
+        let (first, last) = STATUS.split_at(cut);
+        let mut stream = Stream::new(rt.alloc());
+        assert_eq!(rt; viewed(&mut stream, first), MORE);
+        assert_eq!(rt; lent(&stream), None);
+        assert_eq!(rt; viewed(&mut stream, last), ended(19 - cut));
+        assert_eq!(rt; lent(&stream), Some((Kind::Status, STATUS.as_slice())));
+        assert_eq!(rt; viewed(&mut stream, &[]), MORE);
+        assert_eq!(rt; lent(&stream), None);
+    }
+}
+
+/// The longest line to print, and 1,460 bytes behind it.
+fn longest(alloc: Global) -> Result<Vec<u8>, AllocError> {
+    let mut line = Vec::new(alloc);
+    line.extend_from_slice(&[0x06, 0xD1, 0xFF, 0xFF, 0xFF])?;
+    line.resize(67_000, 0x20)?;
+    Ok(line)
+}
+
+#[test]
+fn the_longest_message(rt: HostRuntime) -> Result<(), Fail> {
+    let alloc = rt.alloc();
+    let line = longest(alloc)?;
+    let mut stream = Stream::new(alloc);
+    let mut reserved = Stream::reserved(alloc)?;
+    for cut in [3, 65_539] {
+        assert!(rt; cut <= line.len());
+        let (first, second) = line.split_at(cut);
+        assert_eq!(rt; built(alloc, &mut stream, first), MORE);
+        assert_eq!(rt; viewed(&mut reserved, first), MORE);
+        assert_eq!(rt; built(alloc, &mut stream, second), ended(LONGEST - cut));
+        assert_eq!(rt; viewed(&mut reserved, second), ended(LONGEST - cut));
+        assert!(rt;
+            lent(&reserved).is_some_and(|(kind, bytes)| kind == Kind::PrintLine
+                && bytes.len() == LONGEST)
+        );
+    }
+    Ok(())
+}
+
+#[test]
+fn held_bytes(rt: HostRuntime) -> Result<(), Fail> {
+    let mut held = Held::reserved(rt.alloc())?;
+    held.make_room(LONGEST)?;
+    held.add(0x04)?;
+    held.add_all(&STATUS[1..])?;
+    held.cut(2);
+    assert_eq!(rt; held.len(), 2);
+    Ok(())
+}
