@@ -158,8 +158,7 @@ pub(crate) fn tell_piece<D, L: Listener<D>>(
     requires reading { stream.old.reading ≡ reading_of lengths }
     ensures reading { OnOk result (stream.new.reading ≡ reading_of lengths) }
     ensures tells { (side : Side) → Follows (reading_of lengths) stream.old side → TellsPiece (reading_of lengths) L.hears L.fails line from side bytes.now stream.new (listener.old, device.old) (listener.new, device.new) result }
-    ensures few { IfOk result (λ hearing. (hearing.tally.messages ≤ length bytes.now) × (hearing.tally.bad ≤ 1)) }
-    ensures none { IfOk result (λ hearing. hearing.stopped ≡ false → hearing.tally.bad ≡ 0) }
+    ensures few { IfOk result (λ hearing. (hearing.tally.messages ≤ length bytes.now) × (hearing.tally.bad ≤ 1) × (hearing.stopped ≡ false → hearing.tally.bad ≡ 0)) }
 {
     let mut messages = 0;
     let mut rest = bytes;

@@ -18,7 +18,7 @@ chunks-init g c = record {
   reading = c.in_ok-hearing.ensures.reading;
   few = omega (arith, c.in_ok-hearing.ensures.few.0, length-append c.args.bytes.now (bytes_of c.args.behind.now));
   one = c.in_ok-hearing.ensures.few.1;
-  none = c.in_ok-hearing.ensures.none;
+  none = c.in_ok-hearing.ensures.few.2;
 }
 
 pub returns-in_err-later-clause-tells : goal.returns-in_err-later-clause-tells
@@ -47,7 +47,7 @@ chunks-preserved g c =
       reading = c.in_ok-later.ensures.reading;
       few = omega (arith, sum.0, c.chunks.invariant.few, c.in_ok-later.ensures.few.0, ap length on.0, length-append chunk (bytes_of c.in-Some.after.now));
       one = omega (arith, sum.1, c.in_ok-later.ensures.few.1);
-      none = λ going. sum.1 ∙ c.in_ok-later.ensures.none (sym sum.2 ∙ going);
+      none = λ going. sum.1 ∙ c.in_ok-later.ensures.few.2 (sym sum.2 ∙ going);
     }
 
 pub returns-else-not-is_empty-clause-tells : goal.returns-else-not-is_empty-clause-tells
