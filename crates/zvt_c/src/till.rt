@@ -16,6 +16,7 @@ use crate::numbers::{
     running_number, unclear_numbers,
 };
 use std::alloc::Global;
+use zvt_apdu::BRIEF_ROOM;
 use zvt_bcd::{Amount, Currency};
 use zvt_stream::Stream;
 use zvt_till::{Cause, Happening, Order, Outgoing, Till};
@@ -99,7 +100,7 @@ pub(crate) fn write_message(outgoing: &Outgoing, out: &mut [u8]) -> usize
     ensures written { PutsMessage (message_of_brief outgoing.now.brief) out.old out.new result }
     ensures room { result ≤ length out.old }
 {
-    let mut buffer = [0; 32];
+    let mut buffer = [0; BRIEF_ROOM];
     let size = outgoing.put(&mut buffer);
     out[..size].copy_from_slice(&buffer[..size]);
     size
