@@ -1,11 +1,11 @@
-//! Messages out of pieces, worked by hand: built by `feed`, and lent by `feed_view`.
+//! Messages out of pieces, worked by hand: built by `feed`, lent by `feed_view`, and left in the piece by `feed_in_place`.
 
 use std::alloc::{AllocError, Global};
 use std::process::Abort;
 use std::test::Fail;
 use zvt_apdu::Kind;
 use zvt_spelling::Why;
-use zvt_stream::{Fed, FedView, FeedError, Held, LONGEST, Stream, Truncated};
+use zvt_stream::{Fed, FedInPlace, FedView, FeedError, Held, LONGEST, Stream, Truncated};
 
 const STATUS: [u8; 19] = [
     0x04, 0x0F, 0x10, 0x27, 0x00, 0x04, 0x00, 0x00, 0x00, 0x00, 0x12, 0x34, 0x0B, 0x00, 0x00, 0x17,
@@ -39,6 +39,24 @@ fn viewed(stream: &mut Stream, piece: &[u8]) -> Answer {
     stream.feed_view(piece)
 }
 
+/// What `feed_in_place` answers, wherever its message lies.
+fn placed(stream: &mut Stream, piece: &[u8]) -> Answer {
+    match stream.feed_in_place(piece) {
+        Ok(FedInPlace::Message { taken, .. }) => ended(taken),
+        Ok(FedInPlace::More) => MORE,
+        Ok(FedInPlace::Refused { place, why }) => Ok(FedView::Refused { place, why }),
+        Err(error) => Err(error),
+    }
+}
+
+/// Whether the message that ended in the piece is lent.
+fn is_lent(stream: &mut Stream, piece: &[u8]) -> Option<bool> {
+    match stream.feed_in_place(piece) {
+        Ok(FedInPlace::Message { is_lent, .. }) => Some(is_lent),
+        _ => None,
+    }
+}
+
 /// The kind and the bytes of the message that is lent.
 fn lent(stream: &Stream) -> Option<(Kind, &[u8])> {
     match stream.lent() {
@@ -55,13 +73,15 @@ fn left(stream: &Stream) -> (usize, Result<(), Truncated>) {
 /// Pieces that are fed one after another, what is answered to each, and how many bytes are held then.
 type Row<'a> = (&'a [u8], Answer, usize);
 
-/// A stream that builds its messages answers so, and one that lends them.
+/// A stream that builds its messages answers so, one that lends them, and one that leaves them where they lie.
 fn answers(rt: &impl Abort, alloc: Global, rows: &[Row]) {
     let mut stream = Stream::new(alloc);
     let mut lending = Stream::new(alloc);
+    let mut leaving = Stream::new(alloc);
     for &(piece, answer, have) in rows {
         assert_eq!(rt; built(alloc, &mut stream, piece), answer);
         assert_eq!(rt; viewed(&mut lending, piece), answer);
+        assert_eq!(rt; placed(&mut leaving, piece), answer);
         let end = if have == 0 {
             Ok(())
         } else {
@@ -69,6 +89,7 @@ fn answers(rt: &impl Abort, alloc: Global, rows: &[Row]) {
         };
         assert_eq!(rt; left(&stream), (have, end));
         assert_eq!(rt; left(&lending), (have, end));
+        assert_eq!(rt; left(&leaving), (have, end));
     }
 }
 
@@ -112,6 +133,17 @@ fn a_message_is_lent_at_any_cut(rt: HostRuntime) {
         assert_eq!(rt; viewed(&mut stream, &[]), MORE);
         assert_eq!(rt; lent(&stream), None);
     }
+}
+
+#[test]
+fn a_whole_message_stays_in_its_piece(rt: HostRuntime) {
+    let mut stream = Stream::new(rt.alloc());
+    assert_eq!(rt; is_lent(&mut stream, &STATUS), Some(false));
+    assert_eq!(rt; lent(&stream), None);
+    assert_eq!(rt; is_lent(&mut stream, &STATUS[..10]), None);
+    assert_eq!(rt; is_lent(&mut stream, &STATUS[10..]), Some(true));
+    assert_eq!(rt; lent(&stream), Some((Kind::Status, STATUS.as_slice())));
+    assert_eq!(rt; is_lent(&mut stream, &ACK), Some(false));
 }
 
 /// The longest line to print, and 1,460 bytes behind it.

@@ -140,7 +140,7 @@ IsReadyBehind (passed.Ended count) = Unit {0}
 -- How a message begins: with all of it, or with its control bytes and its length, in front of so many bytes of fields or
 -- without fields.
 abbrev pub Begins : (first : At) → (more : List ℕ) → Begun → Type 0
-Begins first more (begun.Whole size) = (0 < size) × (size ≤ length more) × ((r : Reading) (left : ℕ) → Completes r first left (take size more))
+Begins first more (begun.Whole size) = (first ≡ at.FirstControl) × (0 < size) × (size ≤ length more) × ((r : Reading) (left : ℕ) → Completes r first left (take size more))
 Begins first more (begun.Fields room) =
     (3 ≤ length more) × ((r : Reading) (left : ℕ) → Brings r first left (take 3 more) (λ outer. StandsFor (record { reading = r; at = at.Name; left = room; outer = 0 ∷ outer })))
 Begins first more (begun.Payload size) = (3 ≤ length more) × ((r : Reading) (left : ℕ) → Passes r first left at.Payload size (take 3 more))

@@ -12,6 +12,7 @@ ghost use Rattle.zvt_stream.specs.Feeds.{Feeds, Lends, taken_by, taken_in_view};
 ghost use Rattle.zvt_stream.specs.Judge.{HasLevelsIn, IsMessageIn};
 
 use crate::judging::{Judge, Run};
+use crate::in_place::FedInPlace;
 use crate::keeping::Held;
 use crate::steps::Steps;
 use std::alloc::{AllocError, Global};
@@ -73,10 +74,10 @@ pub struct Truncated {
 /// that is lent.
 #[derive(Drop)]
 pub struct Stream {
-    held: Held,
-    judge: Judge,
-    stopped: bool,
-    lends: bool,
+    pub(crate) held: Held,
+    pub(crate) judge: Judge,
+    pub(crate) stopped: bool,
+    pub(crate) lends: bool,
     ghost spelled: { LentBytes lends held.bytes } by { lent_once lends held.bytes },
 }
 
@@ -168,7 +169,7 @@ impl Stream {
     }
 
     // Gives up the message that is lent.
-    fn give_up(&mut self)
+    pub(crate) fn give_up(&mut self)
         ensures keeps { Keeps self.old self.new }
         ensures room { self.new.room ≡ self.old.room }
     {
@@ -269,29 +270,10 @@ impl Stream {
         ensures count { MatchResult result (λ fed. steps.new.judged.count ≡ steps.old.judged.count + taken_in_view self.old piece.now fed)
             (λ _. steps.new.judged.count ≡ steps.old.judged.count) }
     {
-        self.give_up();
-        if self.stopped {
-            return Err(FeedError::Stopped);
-        }
-        if self.held.make_room(piece.len()).is_err() {
-            return Err(FeedError::Memory);
-        }
-        match self.judge.run(steps, piece) {
-            Run::Open => {
-                let _ = self.held.add_all(piece);
-                Ok(FedView::More)
-            }
-            Run::Ended { taken } => {
-                let _ = self.held.add_all(&piece[..taken]);
-                self.lends = true;
-                Ok(FedView::Message { taken })
-            }
-            Run::Refused { at, why } => {
-                let place = self.held.len() + at;
-                self.held.cut(0);
-                self.stopped = true;
-                Ok(FedView::Refused { place, why })
-            }
+        match self.take(steps, piece, false)? {
+            FedInPlace::Message { taken, .. } => Ok(FedView::Message { taken }),
+            FedInPlace::More => Ok(FedView::More),
+            FedInPlace::Refused { place, why } => Ok(FedView::Refused { place, why }),
         }
     }
 

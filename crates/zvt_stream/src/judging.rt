@@ -4,7 +4,7 @@ ghost use Rattle.std.specs.Prelude.{◌≡◌, ℕ, ◌+◌, ◌-◌, ◌<◌, �
 ghost use Rattle.zvt_spelling.specs.Reading.{Reading, padded, shortest};
 ghost use Rattle.zvt_tlv.specs.Lengths.{reading_of};
 ghost use Rattle.zvt_stream.specs.Standing.{Where, Between};
-ghost use Rattle.zvt_stream.specs.Judge.{start, StandsFor, HasLevelsIn, Stepped, Ran, taken_by, Closes, Settles, Judges, Skips};
+ghost use Rattle.zvt_stream.specs.Judge.{start, StandsFor, Begins, HasLevelsIn, Stepped, Ran, taken_by, Closes, Settles, Judges, Skips};
 
 use crate::moves::{At, Move, judge_byte};
 use crate::passing::{Begun, Passed, begin, pass};
@@ -172,6 +172,14 @@ impl Judge {
         }
     }
 
+    /// How the message begins of which no byte was judged, where its length is there.
+    #[inline(always)]
+    pub(crate) fn begin(&self, bytes: &[u8]) -> Option<Begun>
+        ensures { IfSome result (Begins self.now.at bytes.now) }
+    {
+        begin(self.at, bytes)
+    }
+
     /// Judges bytes up to the end of a message. Taken at once are a whole message without fields, or of fields of fixed
     /// sizes alone; else the control bytes with a length of one byte in front of fields or of data without fields, fields
     /// of fixed sizes, and data without fields.
@@ -180,10 +188,22 @@ impl Judge {
         ensures judged { (held : List ℕ) → StandsFor self.old held → Ran self.old.reading held bytes.now result self.new }
         ensures count { steps.new.judged.count ≡ steps.old.judged.count + taken_by bytes.now result }
     {
-        match begin(self.at, bytes) {
+        let begun = self.begin(bytes);
+        self.run_begun(steps, begun, bytes)
+    }
+
+    /// The same of a message that begins so.
+    #[inline(always)]
+    pub(crate) fn run_begun(&mut self, steps: &mut Steps, begun: Option<Begun>, bytes: &[u8]) -> Run
+        requires { IfSome begun (Begins self.old.at bytes.now) }
+        ensures judged { (held : List ℕ) → StandsFor self.old held → Ran self.old.reading held bytes.now result self.new }
+        ensures count { steps.new.judged.count ≡ steps.old.judged.count + taken_by bytes.now result }
+    {
+        let lengths = self.lengths;
+        match begun {
             Some(Begun::Whole { size }) => {
                 steps.raise(size);
-                *self = Judge::of(self.lengths);
+                *self = Judge::of(lengths);
                 Run::Ended { taken: size }
             }
             Some(Begun::Fields { room }) => {

@@ -9,19 +9,26 @@ use std::marker::Model;
 /// How many bytes the longest message has.
 pub const LONGEST: usize = 65_540;
 
+/// The room of the first bytes.
+const FIRST_ROOM: usize = 64;
+
 /// The bytes of an unfinished message. They are lent only where they have become a whole one, but for the first two.
 #[derive(Drop)]
 pub struct Held {
-    bytes: Vec<u8>,
+    /// The bytes, and room behind them.
+    room: Vec<u8>,
+    size: usize,
 }
 
 impl Model for Held {
-    ghost use Rattle.std.specs.Prelude.{vec_capacity};
+    ghost use Rattle.std.specs.Prelude.{◌≤◌, length, take};
     ghost use Rattle.zvt_stream.specs.Lending.{HeldState};
 
     ghost Value = { HeldState };
 
-    ghost view = { λ h. record { bytes = h.bytes.items; room = vec_capacity h.bytes } };
+    ghost view = { λ h. record { bytes = take h.size h.room.items; room = length h.room.items } };
+
+    ghost invariant = { λ h. h.size ≤ length h.room.items };
 }
 
 impl Held {
@@ -30,7 +37,8 @@ impl Held {
         ensures { result ≡ record { bytes = []; room = 0 } }
     {
         Held {
-            bytes: Vec::new(alloc),
+            room: Vec::new(alloc),
+            size: 0,
         }
     }
 
@@ -38,13 +46,14 @@ impl Held {
     pub fn reserved(alloc: Global) -> Result<Held, AllocError>
         ensures { IfOk result (λ held. held ≡ record { bytes = []; room = 65540 }) }
     {
-        Ok(Held {
-            bytes: Vec::with_capacity(alloc, LONGEST)?,
-        })
+        let mut room = Vec::new(alloc);
+        room.resize(LONGEST, 0)?;
+        Ok(Held { room, size: 0 })
     }
 
     /// Sees to it that there is room for so many bytes more, or for the rest of the longest message. Where memory is
     /// refused nothing changes.
+    #[inline(always)]
     pub fn make_room(&mut self, more: usize) -> Result<(), AllocError>
         requires { length self.old.bytes ≤ 65540 }
         ensures bytes { self.new.bytes ≡ self.old.bytes }
@@ -53,7 +62,11 @@ impl Held {
         ensures err { OnErr result (self.new ≡ self.old) }
         ensures full { OnErr result (self.old.room < min (length self.old.bytes + more) 65540) }
     {
-        self.bytes.reserve(more.min(LONGEST - self.bytes.len()))
+        let least = self.size + more.min(LONGEST - self.size);
+        if least <= self.room.len() {
+            return Ok(());
+        }
+        grow(&mut self.room, least)
     }
 
     /// Appends a byte. Where memory is refused nothing changes.
@@ -63,10 +76,7 @@ impl Held {
         ensures room { self.old.room ≤ self.new.room }
         ensures frugal { length self.old.bytes < self.old.room → IsOk result }
     {
-        match self.bytes.push(byte) {
-            Ok(()) => Ok(()),
-            Err(_) => Err(AllocError),
-        }
+        self.add_all(&[byte])
     }
 
     /// Appends bytes. Where memory is refused nothing changes.
@@ -76,39 +86,69 @@ impl Held {
         ensures room { self.old.room ≤ self.new.room }
         ensures frugal { length self.old.bytes + length bytes.now ≤ self.old.room → IsOk result }
     {
-        self.bytes.extend_from_slice(bytes)
+        let Some(least) = self.size.checked_add(bytes.len()) else {
+            return Err(AllocError);
+        };
+        if least > self.room.len() {
+            grow(&mut self.room, least)?;
+        }
+        self.put(bytes);
+        Ok(())
+    }
+
+    /// Appends bytes for which there is room.
+    #[inline(always)]
+    pub fn put(&mut self, bytes: &[u8])
+        requires { length self.old.bytes + length bytes.now ≤ self.old.room }
+        ensures { self.new ≡ record { bytes = self.old.bytes ++ bytes.now; room = self.old.room } }
+    {
+        let at = self.size;
+        let end = at + bytes.len();
+        self.room[at..end].copy_from_slice(bytes);
+        self.size = end;
     }
 
     /// Keeps the first `count` bytes, and the room.
+    #[inline(always)]
     pub fn cut(&mut self, count: usize)
         requires { count ≤ length self.old.bytes }
         ensures { self.new ≡ record { bytes = take count self.old.bytes; room = self.old.room } }
     {
-        self.bytes.truncate(count);
+        self.size = count;
     }
 
     /// How many bytes there are.
+    #[inline(always)]
     pub fn len(&self) -> usize
         ensures { result ≡ length self.now.bytes }
     {
-        self.bytes.len()
+        self.size
     }
 
     /// The first two bytes, or those that there are.
+    #[inline(always)]
     pub fn beginning(&self) -> &[u8]
         ensures { result.now ≡ take 2 self.now.bytes }
     {
-        match self.bytes.as_slice() {
-            [_, _, ..] => &self.bytes[..2],
-            few => few,
-        }
+        &self.room[..self.size.min(2)]
     }
 
     /// The bytes of a whole message.
+    #[inline(always)]
     pub fn spelled(&self) -> &[u8]
         requires { MessageBytes self.now.bytes }
         ensures { result.now ≡ self.now.bytes }
     {
-        &self.bytes
+        &self.room[..self.size]
     }
+}
+
+/// Makes so much room at least, and twice as much as there was.
+#[cold]
+fn grow(room: &mut Vec<u8>, least: usize) -> Result<(), AllocError>
+    requires { length room.old.items < least }
+    ensures ok { OnOk result ((least ≤ length room.new.items) × (take (length room.old.items) room.new.items ≡ room.old.items)) }
+    ensures err { OnErr result (room.new.items ≡ room.old.items) }
+{
+    room.resize(least.max(FIRST_ROOM).max(room.len().saturating_mul(2)), 0)
 }

@@ -3,6 +3,7 @@
 
 mod engine;
 mod feeding;
+mod in_place;
 mod judging;
 mod keeping;
 pub mod laws;
@@ -13,6 +14,7 @@ mod steps;
 
 pub use engine::{pump, send};
 pub use feeding::{Fed, FedView, FeedError, Stream, Truncated};
+pub use in_place::FedInPlace;
 pub use judging::{Judge, Judged, Run};
 pub use keeping::{Held, LONGEST};
 pub use line::{Answers, LineFault, Machine, Until};

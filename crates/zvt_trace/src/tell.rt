@@ -1,8 +1,9 @@
 //! Tells a listener what one side of the line sends.
-ghost use Rattle.std.specs.Prelude.{◌≡◌, ◌<◌, ◌≤◌, ◌+◌, ◌++◌, List, ℕ, length, slice_index, false, true, Some, IfOk, OnOk, MatchResult};
+ghost use Rattle.std.specs.Prelude.{◌≡◌, ◌<◌, ◌≤◌, ◌+◌, ◌++◌, List, ℕ, length, slice_index, take, false, true, Some, IfOk, OnOk, MatchResult};
 ghost use Rattle.zvt_spelling.specs.Reading.{Reading};
 ghost use Rattle.zvt_tlv.specs.Lengths.{reading_of};
 ghost use Rattle.zvt_apdu.specs.Message.{Message};
+ghost use Rattle.zvt_apdu.specs.Grammar.{Spells};
 ghost use Rattle.zvt_stream.specs.Apdus.{UnfinishedIn};
 ghost use Rattle.zvt_trace.specs.Told.{head_of, on};
 ghost use Rattle.zvt_trace.specs.Told as told;
@@ -20,7 +21,7 @@ use crate::spelled;
 use crate::told::{Head, Told};
 use zvt_apdu::view;
 use zvt_spelling::Why;
-use zvt_stream::{FedView, FeedError, Stream, Truncated};
+use zvt_stream::{FedInPlace, FeedError, Stream, Truncated};
 use zvt_tlv::Lengths;
 
 /// What a piece brought: the tally, and whether nothing more is read.
@@ -66,7 +67,24 @@ fn behind_messages(messages: u64, later: Hearing) -> Hearing
     }
 }
 
-/// Tells the message that the stream lends.
+/// The bytes of the message that a piece ended: those that the stream lends, or the front of the piece.
+#[inline(always)]
+fn ended<'a>(stream: &'a Stream, piece: &'a [u8], taken: usize, is_lent: bool) -> &'a [u8]
+    requires within { taken ≤ length piece.now }
+    requires lent { is_lent ≡ true → (message : Message) × (stream.now.lent ≡ Some message) }
+    ensures lent { is_lent ≡ true → (message : Message) → stream.now.lent ≡ Some message → Spells stream.now.reading message result.now }
+    ensures here { is_lent ≡ false → result.now ≡ take taken piece.now }
+{
+    if !is_lent {
+        return &piece[..taken];
+    }
+    let Some(bytes) = stream.lent_bytes() else {
+        unreachable!()
+    };
+    bytes
+}
+
+/// Tells the message of those bytes.
 #[inline(always)]
 fn tell_message<D, L: Listener<D>>(
     listener: &mut L,
@@ -74,17 +92,13 @@ fn tell_message<D, L: Listener<D>>(
     line: u64,
     from: Direction,
     lengths: Lengths,
-    stream: &Stream,
+    bytes: &[u8],
 ) -> Result<(), Failure>
-    requires lent { (message : Message) × (stream.now.lent ≡ Some message) }
-    requires reading { stream.now.reading ≡ reading_of lengths }
-    ensures { (message : Message) → stream.now.lent ≡ Some message → MatchResult result
+    requires { (message : Message) × Spells (reading_of lengths) message bytes.now }
+    ensures { (message : Message) → Spells (reading_of lengths) message bytes.now → MatchResult result
         (λ _. L.hears (listener.old, device.old) (on line (told.message from message)) (listener.new, device.new))
         (λ failure. L.fails (listener.old, device.old) (on line (told.message from message)) failure (listener.new, device.new)) }
 {
-    let Some(bytes) = stream.lent_bytes() else {
-        unreachable!()
-    };
     let apdu = view(bytes);
     let told = Told::Message {
         from,
@@ -164,17 +178,18 @@ pub(crate) fn tell_piece<D, L: Listener<D>>(
     let mut rest = bytes;
     'messages: loop {
         let begun = Beginning::of(stream);
-        match stream.feed_view(rest) {
-            Ok(FedView::Message { taken }) => {
-                tell_message(listener, device, line, from, lengths, stream)?;
+        match stream.feed_in_place(rest) {
+            Ok(FedInPlace::Message { taken, is_lent }) => {
+                let message = ended(stream, rest, taken, is_lent);
+                tell_message(listener, device, line, from, lengths, message)?;
                 messages += 1;
                 rest = rest.split_at(taken).1;
                 if rest.is_empty() {
                     return Ok(going(messages));
                 }
             }
-            Ok(FedView::More) => return Ok(going(messages)),
-            Ok(FedView::Refused { place, why }) => {
+            Ok(FedInPlace::More) => return Ok(going(messages)),
+            Ok(FedInPlace::Refused { place, why }) => {
                 tell_refused(listener, device, line, from, begun, rest, place, why)?;
                 return Ok(stopped(messages, 1));
             }

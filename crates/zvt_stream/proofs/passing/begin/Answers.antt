@@ -1,4 +1,4 @@
-use Rattle.std.proofs.Common.{◌≡◌, ◌≤◌, ◌+◌, ◌-◌, List, ℕ, drop, length, length-drop, take, inr, arith, subst, sym, ◌∙◌, ap}
+use Rattle.std.proofs.Common.{refl, ◌≡◌, ◌≤◌, ◌+◌, ◌-◌, List, ℕ, drop, length, length-drop, take, inr, arith, subst, sym, ◌∙◌, ap}
 use Rattle.std.proofs.lemmas.List.{take_rest}
 use Rattle.std.proofs.lemmas.Bool.{false≢true}
 use Rattle.zvt_apdu.proofs.DataMoves.{are_bytes}
@@ -18,6 +18,7 @@ returns-then-are_fields c =
     let within : 3 + n ≤ length bytes = omega (arith, ap length rest, length-drop 3 bytes, c.if-rest-size.true, c.in-len3-up.len_at_least) in
     let are = are_bytes bytes (λ i. omega (arith, c.type_inv.bytes i)) in
     rw c.in-FirstControl.is (
+      refl,
       omega arith,
       within,
       elim c.else-layout.branch [
