@@ -5,7 +5,7 @@ use std::process::Abort;
 use std::test::Fail;
 use zvt_apdu::Kind;
 use zvt_spelling::Why;
-use zvt_stream::{Fed, FedInPlace, FedView, FeedError, Held, LONGEST, Stream, Truncated};
+use zvt_stream::{Fed, FedView, FeedError, Held, LONGEST, Stream, Truncated};
 
 const STATUS: [u8; 19] = [
     0x04, 0x0F, 0x10, 0x27, 0x00, 0x04, 0x00, 0x00, 0x00, 0x00, 0x12, 0x34, 0x0B, 0x00, 0x00, 0x17,
@@ -39,22 +39,9 @@ fn viewed(stream: &mut Stream, piece: &[u8]) -> Answer {
     stream.feed_view(piece)
 }
 
-/// What `feed_in_place` answers, wherever its message lies.
+// As silent as the one before.
 fn placed(stream: &mut Stream, piece: &[u8]) -> Answer {
-    match stream.feed_in_place(piece) {
-        Ok(FedInPlace::Message { taken, .. }) => ended(taken),
-        Ok(FedInPlace::More) => MORE,
-        Ok(FedInPlace::Refused { place, why }) => Ok(FedView::Refused { place, why }),
-        Err(error) => Err(error),
-    }
-}
-
-/// Whether the message that ended in the piece is lent.
-fn is_lent(stream: &mut Stream, piece: &[u8]) -> Option<bool> {
-    match stream.feed_in_place(piece) {
-        Ok(FedInPlace::Message { is_lent, .. }) => Some(is_lent),
-        _ => None,
-    }
+    stream.feed_in_place(piece)
 }
 
 /// The kind and the bytes of the message that is lent.
@@ -135,15 +122,23 @@ fn a_message_is_lent_at_any_cut(rt: HostRuntime) {
     }
 }
 
+/// The bytes of the message that ends in the piece.
+fn found<'a>(stream: &'a mut Stream, piece: &'a [u8]) -> Option<&'a [u8]> {
+    match stream.feed_in_place(piece) {
+        Ok(FedView::Message { taken }) => Some(stream.ended(piece, taken)),
+        _ => None,
+    }
+}
+
 #[test]
 fn a_whole_message_stays_in_its_piece(rt: HostRuntime) {
     let mut stream = Stream::new(rt.alloc());
-    assert_eq!(rt; is_lent(&mut stream, &STATUS), Some(false));
+    assert_eq!(rt; found(&mut stream, &STATUS), Some(STATUS.as_slice()));
     assert_eq!(rt; lent(&stream), None);
-    assert_eq!(rt; is_lent(&mut stream, &STATUS[..10]), None);
-    assert_eq!(rt; is_lent(&mut stream, &STATUS[10..]), Some(true));
+    assert_eq!(rt; found(&mut stream, &STATUS[..10]), None);
+    assert_eq!(rt; found(&mut stream, &STATUS[10..]), Some(STATUS.as_slice()));
     assert_eq!(rt; lent(&stream), Some((Kind::Status, STATUS.as_slice())));
-    assert_eq!(rt; is_lent(&mut stream, &ACK), Some(false));
+    assert_eq!(rt; found(&mut stream, &ACK), Some(ACK.as_slice()));
 }
 
 /// The longest line to print, and 1,460 bytes behind it.

@@ -1,5 +1,5 @@
 -- What a feed answers.
-use Rattle.std.specs.Prelude.{◌≡◌, ℕ, Bool, true, false, suc, ◌-◌, ◌<◌, ◌≤◌, Some, None, List, [], ◌++◌, length, take}
+use Rattle.std.specs.Prelude.{◌≡◌, ◌⊎◌, ℕ, Bool, true, suc, ◌-◌, ◌<◌, ◌≤◌, Some, None, List, [], ◌++◌, length, take}
 use Rattle.zvt_apdu.specs.Message as message
 use Rattle.zvt_apdu.specs.Grammar.{Spells}
 use Rattle.zvt_stream.specs.Apdus.{UnfinishedIn, IsRefusedIn}
@@ -8,8 +8,6 @@ use Rattle.zvt_stream.specs.declared.feeding.Fed.{Fed}
 use Rattle.zvt_stream.specs.declared.feeding.Fed.TheVariants.{Message, More, Refused}
 use Rattle.zvt_stream.specs.declared.feeding.FedView.{FedView}
 use Rattle.zvt_stream.specs.declared.feeding.FedView.TheVariants as view
-use Rattle.zvt_stream.specs.declared.in_place.FedInPlace.{FedInPlace}
-use Rattle.zvt_stream.specs.declared.in_place.FedInPlace.TheVariants as place
 
 -- From old, the piece gives this answer and leads to new.
 abbrev pub Feeds : StreamState → List ℕ → Fed → StreamState → Type 0
@@ -35,21 +33,8 @@ taken_in_view old piece (view.Message taken) = taken
 taken_in_view old piece view.More = length piece
 taken_in_view old piece (view.Refused place why) = suc place - length old.held
 
--- The same, where a message that lies in the piece alone may be left there.
-abbrev pub LeavesInPlace : StreamState → List ℕ → FedInPlace → StreamState → Type 0
-LeavesInPlace old piece (place.Message taken true) new = Lends old piece (view.Message taken) new
-LeavesInPlace old piece (place.Message taken false) new = (apdu : message.Message) × Feeds old piece (Message apdu taken) new × Spells old.reading apdu (take taken piece) × (new.lent ≡ None)
-LeavesInPlace old piece place.More new = Lends old piece view.More new
-LeavesInPlace old piece (place.Refused at why) new = Lends old piece (view.Refused at why) new
-
--- No message is left in the piece.
-abbrev pub LeavesNone : FedInPlace → Type 0
-LeavesNone (place.Message taken is_lent) = is_lent ≡ true
-LeavesNone place.More = Unit {0}
-LeavesNone (place.Refused at why) = Unit {0}
-
--- How many bytes of the piece are taken then.
-abbrev pub taken_in_place : StreamState → List ℕ → FedInPlace → ℕ
-taken_in_place old piece (place.Message taken is_lent) = taken
-taken_in_place old piece place.More = length piece
-taken_in_place old piece (place.Refused at why) = suc at - length old.held
+-- The same, where a message that lies in the piece alone may stay there, lent by nobody.
+abbrev pub Leaves : (stays : Bool) → StreamState → List ℕ → FedView → StreamState → Type 0
+Leaves stays old piece (view.Message taken) new = (apdu : message.Message) × Feeds old piece (Message apdu taken) new × ((new.lent ≡ Some apdu) ⊎ ((stays ≡ true) × (new.lent ≡ None) × Spells old.reading apdu (take taken piece)))
+Leaves stays old piece view.More new = Lends old piece view.More new
+Leaves stays old piece (view.Refused place why) new = Lends old piece (view.Refused place why) new

@@ -12,7 +12,6 @@ ghost use Rattle.zvt_stream.specs.Feeds.{Feeds, Lends, taken_by, taken_in_view};
 ghost use Rattle.zvt_stream.specs.Judge.{HasLevelsIn, IsMessageIn};
 
 use crate::judging::{Judge, Run};
-use crate::in_place::FedInPlace;
 use crate::keeping::Held;
 use crate::steps::Steps;
 use std::alloc::{AllocError, Global};
@@ -270,11 +269,7 @@ impl Stream {
         ensures count { MatchResult result (λ fed. steps.new.judged.count ≡ steps.old.judged.count + taken_in_view self.old piece.now fed)
             (λ _. steps.new.judged.count ≡ steps.old.judged.count) }
     {
-        match self.take(steps, piece, false)? {
-            FedInPlace::Message { taken, .. } => Ok(FedView::Message { taken }),
-            FedInPlace::More => Ok(FedView::More),
-            FedInPlace::Refused { place, why } => Ok(FedView::Refused { place, why }),
-        }
+        self.take(steps, piece, false)
     }
 
     /// Whether the stream may end here: Err where bytes of an unfinished message are held. After a refusal it is Ok.

@@ -14,7 +14,6 @@ mod steps;
 
 pub use engine::{pump, send};
 pub use feeding::{Fed, FedView, FeedError, Stream, Truncated};
-pub use in_place::FedInPlace;
 pub use judging::{Judge, Judged, Run};
 pub use keeping::{Held, LONGEST};
 pub use line::{Answers, LineFault, Machine, Until};

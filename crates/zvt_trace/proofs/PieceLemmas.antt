@@ -1,5 +1,5 @@
 -- What a piece brings, and what a feed of it answers.
-use Rattle.std.proofs.Common.{◌≡◌, ℕ, Bool, true, false, subst, List, [], ◌∷◌, ◌++◌, ◌≤◌, length, take, refl, sym, ◌∙◌, arith, append-nil}
+use Rattle.std.proofs.Common.{◌≡◌, ℕ, Bool, true, false, subst, List, [], ◌∷◌, ◌++◌, ◌⊎◌, inl, inr, length, take, refl, sym, ◌∙◌, arith, append-nil}
 use Rattle.zvt_spelling.proofs.CutLemmas.{spelled_append, spelled_more}
 use Rattle.zvt_spelling.specs.Beginnings.{NoneWhole}
 use Rattle.zvt_spelling.specs.Cuts.{Cut, Spelled}
@@ -10,13 +10,13 @@ use Rattle.zvt_spelling.specs.declared.why.Why.{Why}
 use Rattle.zvt_apdu.proofs.ViewLemmas.{message_loosened}
 use Rattle.zvt_stream.specs.Apdus.{UnfinishedIn, IsRefusedIn}
 use Rattle.zvt_stream.specs.StreamState.{StreamState, Holds, HasRefused}
-use Rattle.zvt_stream.specs.Feeds.{Feeds, LeavesInPlace}
+use Rattle.zvt_stream.specs.Feeds.{Feeds, Leaves}
 use Rattle.zvt_stream.specs.declared.feeding.Fed.TheVariants as whole
-use Rattle.zvt_stream.specs.declared.in_place.FedInPlace.{FedInPlace}
-use Rattle.zvt_stream.specs.declared.in_place.FedInPlace.TheVariants as place
+use Rattle.zvt_stream.specs.declared.feeding.FedView.{FedView}
+use Rattle.zvt_stream.specs.declared.feeding.FedView.TheVariants as view
 use Rattle.zvt_stream.specs.declared.feeding.FeedError.{FeedError}
 use Rattle.zvt_stream.specs.declared.feeding.FeedError.TheVariants.{Stopped}
-use Rattle.std.specs.Prelude.{Result, Ok, Err, Option, Some, IfSome, IsSome}
+use Rattle.std.specs.Prelude.{Result, Ok, Err, Option, None, Some, IfSome}
 use Rattle.std.specs.Result.{IsErrOf}
 use Rattle.zvt_trace.specs.Trace.{Arrives, Ending, EndsIn, begun, running, refused, side_after}
 use Rattle.zvt_trace.specs.Written.{Follows}
@@ -56,7 +56,7 @@ behind before bytes rest next messages (refused place why) arrives is = is
 -- ---- what a feed answered
 
 -- a stream that answered had not stopped
-pub going : (stopped : Bool) (answer : Result FedInPlace FeedError) (fed : FedInPlace) → answer ≡ Ok fed → (stopped ≡ true → IsErrOf answer Stopped) → stopped ≡ false
+pub going : (stopped : Bool) (answer : Result FedView FeedError) (fed : FedView) → answer ≡ Ok fed → (stopped ≡ true → IsErrOf answer Stopped) → stopped ≡ false
 going false answer fed is refuses = refl
 going true answer fed is refuses = absurd (ok_is_no_err (sym is ∙ refuses refl))
   where
@@ -64,28 +64,22 @@ going true answer fed is refuses = absurd (ok_is_no_err (sym is ∙ refuses refl
     ok_is_no_err e = cc
 
 -- its answer as it was matched
-pub fed_as : (old new : StreamState) (piece : List ℕ) (answer fed : FedInPlace) → answer ≡ fed → LeavesInPlace old piece answer new → LeavesInPlace old piece fed new
-fed_as old new piece answer fed is feeds = subst (λ (f : FedInPlace). LeavesInPlace old piece f new) is feeds
+pub fed_as : (old new : StreamState) (piece : List ℕ) (answer fed : FedView) → answer ≡ fed → Leaves true old piece answer new → Leaves true old piece fed new
+fed_as old new piece answer fed is feeds = subst (λ (f : FedView). Leaves true old piece f new) is feeds
 
--- the message that ended in a piece, and its bytes, lent or not
+-- the message that ended in a piece, and its bytes, lent or there
 pub record Found (old new : StreamState) (piece : List ℕ) (taken : ℕ) (bytes : List ℕ) : Type 0 where
   pub message : Message
   pub feeds : Feeds old piece (whole.Message message taken) new
   pub spells : Spells old.reading message bytes
 
-pub found : (old new : StreamState) (piece : List ℕ) (taken : ℕ) (is_lent : Bool) (bytes : List ℕ) → LeavesInPlace old piece (place.Message taken is_lent) new
-    → (is_lent ≡ true → (m : Message) → new.lent ≡ Some m → Spells new.reading m bytes) → (is_lent ≡ false → bytes ≡ take taken piece) → Found old new piece taken bytes
-found old new piece taken true bytes leaves lent here = record { message = leaves.0; feeds = leaves.1; spells = subst (λ (x : Reading). Spells x leaves.0 bytes) leaves.1.4 (lent refl leaves.0 leaves.2) }
-found old new piece taken false bytes leaves lent here = record { message = leaves.0; feeds = leaves.1; spells = subst (Spells old.reading leaves.0) (sym (here refl)) leaves.2 }
-
--- what is known of it before its bytes are
-pub found_within : (old new : StreamState) (piece : List ℕ) (taken : ℕ) (is_lent : Bool) → LeavesInPlace old piece (place.Message taken is_lent) new → taken ≤ length piece
-found_within old new piece taken true leaves = leaves.1.1
-found_within old new piece taken false leaves = leaves.1.1
-
-pub found_lent : (old new : StreamState) (piece : List ℕ) (taken : ℕ) (is_lent : Bool) → LeavesInPlace old piece (place.Message taken is_lent) new → is_lent ≡ true → (m : Message) × (new.lent ≡ Some m)
-found_lent old new piece taken true leaves is = (leaves.0, leaves.2)
-found_lent old new piece taken false leaves is = absurd (cc (is))
+pub found : (old new : StreamState) (piece : List ℕ) (taken : ℕ) (bytes : List ℕ) → Leaves true old piece (view.Message taken) new
+    → IfSome new.lent (λ m. Spells new.reading m bytes) → (new.lent ≡ None → bytes ≡ take taken piece) → Found old new piece taken bytes
+found old new piece taken bytes leaves lent here = record { message = leaves.0; feeds = leaves.1; spells = by leaves.2 }
+  where
+    by : (new.lent ≡ Some leaves.0) ⊎ ((true ≡ true) × (new.lent ≡ None) × Spells old.reading leaves.0 (take taken piece)) → Spells old.reading leaves.0 bytes
+    by (inl is) = subst (λ (r : Reading). Spells r leaves.0 bytes) leaves.1.4 (subst (λ (l : Option Message). IfSome l (λ m. Spells new.reading m bytes)) is lent)
+    by (inr stays) = subst (Spells old.reading leaves.0) (sym (here stays.1)) stays.2
 
 -- what a stream of some reading says is said by that reading
 pub spells_by : (k r : Reading) (m : Message) (bytes : List ℕ) → k ≡ r → Spells k m bytes → Spells r m bytes
@@ -97,14 +91,7 @@ unfinished_by k r bytes e = subst (λ (x : Reading). UnfinishedIn x bytes) e
 pub refused_by : (k r : Reading) (bytes : List ℕ) (place : ℕ) (why : Why) → k ≡ r → IsRefusedIn k bytes place why → IsRefusedIn r bytes place why
 refused_by k r bytes place why e = subst (λ (x : Reading). IsRefusedIn x bytes place why) e
 
--- the bytes that are lent are a spelling of the message that is
-pub lent_spelling : {A : Type 0} (k r : Reading) → k ≡ r → (now : A → List ℕ) (shown : Option A) (bytes : A) (lent : Option Message) (m : Message) → lent ≡ Some m
-    → IfSome lent (λ n. IfSome shown (λ b. Spells k n (now b)) × IsSome shown) → shown ≡ Some bytes → Spells r m (now bytes)
-lent_spelling k r same now shown bytes lent m is told found =
-    let here = subst (λ l. IfSome l (λ n. IfSome shown (λ b. Spells k n (now b)) × IsSome shown)) is told in
-    spells_by k r m (now bytes) same (subst (λ s. IfSome s (λ b. Spells k m (now b))) found here.0)
-
--- and a padded spelling of it, as each spelling is
+-- what a reading spells the padded one spells
 pub loosened : (r : Reading) (m : Message) (bytes : List ℕ) → Spells r m bytes → Spells padded m bytes
 loosened shortest m bytes spells = message_loosened m bytes spells
 loosened padded m bytes spells = spells

@@ -13,7 +13,7 @@ use Rattle.zvt_stream.specs.Apdus.{UnfinishedIn}
 use Rattle.zvt_stream.specs.StreamState.{StreamState, Holds, Keeps}
 use Rattle.std.specs.Prelude.{Result, Err}
 use Rattle.std.specs.Result.{IsErrOf}
-use Rattle.zvt_stream.specs.declared.in_place.FedInPlace.{FedInPlace}
+use Rattle.zvt_stream.specs.declared.feeding.FedView.{FedView}
 use Rattle.zvt_stream.specs.declared.feeding.FeedError.{FeedError}
 use Rattle.zvt_stream.specs.declared.feeding.FeedError.TheVariants as fault_of
 use Rattle.zvt_trace.specs.Listening.{Fails, FailsIn, Hears, HearsAll, HearsEnd, HearsPiece, PieceBegins, is_stopped}
@@ -244,11 +244,11 @@ fails_memory hears fails line from side bytes rest start state old now count so 
     fails_here hears fails (messages_told line from so.fed.messages) old now so.heard (begins line from side bytes rest start state count so.fed going unfinished follows)
 
 -- a stream that wants memory had not stopped
-pub not_stopped : {stopped : Bool} (answer : Result FedInPlace FeedError) (fault : FeedError) → answer ≡ Err fault → fault ≡ fault_of.Memory → (stopped ≡ true → IsErrOf answer fault_of.Stopped) → stopped ≡ false
+pub not_stopped : {stopped : Bool} (answer : Result FedView FeedError) (fault : FeedError) → answer ≡ Err fault → fault ≡ fault_of.Memory → (stopped ≡ true → IsErrOf answer fault_of.Stopped) → stopped ≡ false
 not_stopped {stopped = false} answer fault is memory refuses = refl
 not_stopped {stopped = true} answer fault is memory refuses = absurd (differ (sym memory ∙ same (sym is ∙ refuses refl)))
   where
-    same : {a b : FeedError} → (let l : Result FedInPlace FeedError = Err a in l) ≡ Err b → a ≡ b
+    same : {a b : FeedError} → (let l : Result FedView FeedError = Err a in l) ≡ Err b → a ≡ b
     same e = cc (e)
 
     differ : fault_of.Memory ≡ fault_of.Stopped → ⊥

@@ -1,5 +1,5 @@
 //! Tells a listener what one side of the line sends.
-ghost use Rattle.std.specs.Prelude.{◌≡◌, ◌<◌, ◌≤◌, ◌+◌, ◌++◌, List, ℕ, length, slice_index, take, false, true, Some, IfOk, OnOk, MatchResult};
+ghost use Rattle.std.specs.Prelude.{◌≡◌, ◌<◌, ◌≤◌, ◌+◌, ◌++◌, List, ℕ, length, slice_index, false, true, Some, IfOk, OnOk, MatchResult};
 ghost use Rattle.zvt_spelling.specs.Reading.{Reading};
 ghost use Rattle.zvt_tlv.specs.Lengths.{reading_of};
 ghost use Rattle.zvt_apdu.specs.Message.{Message};
@@ -21,7 +21,7 @@ use crate::spelled;
 use crate::told::{Head, Told};
 use zvt_apdu::view;
 use zvt_spelling::Why;
-use zvt_stream::{FedInPlace, FeedError, Stream, Truncated};
+use zvt_stream::{FedView, FeedError, Stream, Truncated};
 use zvt_tlv::Lengths;
 
 /// What a piece brought: the tally, and whether nothing more is read.
@@ -65,23 +65,6 @@ fn behind_messages(messages: u64, later: Hearing) -> Hearing
         },
         stopped: later.stopped,
     }
-}
-
-/// The bytes of the message that a piece ended: those that the stream lends, or the front of the piece.
-#[inline(always)]
-fn ended<'a>(stream: &'a Stream, piece: &'a [u8], taken: usize, is_lent: bool) -> &'a [u8]
-    requires within { taken ≤ length piece.now }
-    requires lent { is_lent ≡ true → (message : Message) × (stream.now.lent ≡ Some message) }
-    ensures lent { is_lent ≡ true → (message : Message) → stream.now.lent ≡ Some message → Spells stream.now.reading message result.now }
-    ensures here { is_lent ≡ false → result.now ≡ take taken piece.now }
-{
-    if !is_lent {
-        return &piece[..taken];
-    }
-    let Some(bytes) = stream.lent_bytes() else {
-        unreachable!()
-    };
-    bytes
 }
 
 /// Tells the message of those bytes.
@@ -179,17 +162,23 @@ pub(crate) fn tell_piece<D, L: Listener<D>>(
     'messages: loop {
         let begun = Beginning::of(stream);
         match stream.feed_in_place(rest) {
-            Ok(FedInPlace::Message { taken, is_lent }) => {
-                let message = ended(stream, rest, taken, is_lent);
-                tell_message(listener, device, line, from, lengths, message)?;
+            Ok(FedView::Message { taken }) => {
+                tell_message(
+                    listener,
+                    device,
+                    line,
+                    from,
+                    lengths,
+                    stream.ended(rest, taken),
+                )?;
                 messages += 1;
                 rest = rest.split_at(taken).1;
                 if rest.is_empty() {
                     return Ok(going(messages));
                 }
             }
-            Ok(FedInPlace::More) => return Ok(going(messages)),
-            Ok(FedInPlace::Refused { place, why }) => {
+            Ok(FedView::More) => return Ok(going(messages)),
+            Ok(FedView::Refused { place, why }) => {
                 tell_refused(listener, device, line, from, begun, rest, place, why)?;
                 return Ok(stopped(messages, 1));
             }

@@ -1,4 +1,4 @@
-use Rattle.std.proofs.Common.{None, ◌≤◌, ℕ, ◌+◌, ◌++◌, List, arith, take, length, sym, ◌∙◌, ap, subst, length-append}
+use Rattle.std.proofs.Common.{inl, None, ◌≤◌, ℕ, ◌+◌, ◌++◌, List, arith, take, length, sym, ◌∙◌, ap, subst, length-append}
 use Rattle.std.proofs.lemmas.List.{length-take-le}
 use Rattle.zvt_stream.specs.Judge.{IsMessageIn, StandsFor}
 use Rattle.zvt_stream.proofs.Beginnings.{bounds_in, few_in}
@@ -15,7 +15,7 @@ pub put-requires : goal.put-requires
 put-requires c =
     let i = idle _ _ _ _ _ _ c.args.self.now c.give_up.new.self c.self.view_is c.give_up.ensures.keeps c.self.invariant in
     let told = rw c.in-Open.is at (ran_in c.args.self.now.reading c.self.inside.judge c.self.inside.held.bytes c.args.piece.now c.run_begun.result c.run_begun.new.self i.alike (c.run_begun.ensures.judged c.self.inside.held.bytes i.stands)) in
-    let made = went_well c.make_room.result c.is_err.result _ c.is_err.ensures.value c.if-is_err.false c.make_room.ensures.ok in
+    let made = c.in_ok-make_room.ensures.ok in
     let few : length c.self.inside.held.bytes + length c.args.piece.now ≤ 65540 = omega (arith, few_in _ _ told.0.unfinished, length-append c.self.inside.held.bytes c.args.piece.now) in
     let room = room_for _ _ _ (length c.args.piece.now) made (omega arith) few in
     omega (arith, room, ap length c.make_room.ensures.bytes)
@@ -24,7 +24,7 @@ pub put-requires-in-Ended : goal.put-requires-in-Ended
 put-requires-in-Ended c =
     let i = idle _ _ _ _ _ _ c.args.self.now c.give_up.new.self c.self.view_is c.give_up.ensures.keeps c.self.invariant in
     let told = rw c.in-Ended.is at (ran_in c.args.self.now.reading c.self.inside.judge c.self.inside.held.bytes c.args.piece.now c.run_begun.result c.run_begun.new.self i.alike (c.run_begun.ensures.judged c.self.inside.held.bytes i.stands)) in
-    let made = went_well c.make_room.result c.is_err.result _ c.is_err.ensures.value c.if-is_err.false c.make_room.ensures.ok in
+    let made = c.in_ok-make_room.ensures.ok in
     let few : length c.self.inside.held.bytes + c.in-Ended.taken ≤ 65540 = omega (arith, (bounds_in _ told.2.0 _ told.2.1).1, length-append c.self.inside.held.bytes (take c.in-Ended.taken c.args.piece.now), length-take-le c.in-Ended.taken c.args.piece.now told.1) in
     let room = room_for _ _ _ c.in-Ended.taken made told.1 few in
     omega (arith, room, ap length c.make_room.ensures.bytes, length-take-le c.in-Ended.taken c.args.piece.now told.1)
@@ -65,7 +65,8 @@ returns-in-Ended-clause-fed c =
     let told = rw c.in-Ended.is at (ran_in c.args.self.now.reading c.self.inside.judge c.self.inside.held.bytes c.args.piece.now c.run_begun.result c.run_begun.new.self i.alike (c.run_begun.ensures.judged c.self.inside.held.bytes i.stands)) in
     let after = ap (λ h. h.bytes) c.put-in-Ended.ensures in
     let whole = after ∙ ap (λ (b : List ℕ). b ++ take c.in-Ended.taken c.args.piece.now) c.make_room.ensures.bytes in
-    lends_message _ _ _ _ c.self-in-Ended-1.given.0 0 c.in-Ended.taken _ _ _ _ i told whole c.if-self.false
+    let lends = lends_message _ _ _ _ c.self-in-Ended-1.given.0 0 c.in-Ended.taken _ _ _ _ i told whole c.if-self.false in
+    (lends.0, lends.1, inl lends.2)
 
 pub overflow_add-place : goal.overflow_add-place
 overflow_add-place c =
