@@ -1,10 +1,11 @@
 //! Messages that stay in the piece in which they lie.
 
-ghost use Rattle.std.specs.Prelude.{◌≡◌, ◌+◌, ◌≤◌, None, true, length, take, IfOk, IfSome, OnErr, MatchResult};
+ghost use Rattle.std.specs.Prelude.{◌≡◌, ◌+◌, ◌≤◌, true, length, IfOk, OnErr, MatchResult};
 ghost use Rattle.std.specs.Result.{IsErrOf};
 ghost use Rattle.zvt_apdu.specs.Grammar.{Spells};
+ghost use Rattle.zvt_apdu.specs.Message.{Message};
 ghost use Rattle.zvt_stream.specs.StreamState.{Keeps, IsReserved};
-ghost use Rattle.zvt_stream.specs.Feeds.{Leaves, taken_in_view};
+ghost use Rattle.zvt_stream.specs.Feeds.{Leaves, Lies, taken_in_view};
 
 use crate::feeding::{FedView, FeedError, Stream};
 use crate::judging::Run;
@@ -35,8 +36,7 @@ impl Stream {
     #[inline(always)]
     pub fn ended<'a>(&'a self, piece: &'a [u8], taken: usize) -> &'a [u8]
         requires { taken ≤ length piece.now }
-        ensures lent { IfSome self.now.lent (λ m. Spells self.now.reading m result.now) }
-        ensures here { self.now.lent ≡ None → result.now ≡ take taken piece.now }
+        ensures { (message : Message) → Lies self.now piece.now taken message → Spells self.now.reading message result.now }
     {
         match self.lent_bytes() {
             Some(bytes) => bytes,

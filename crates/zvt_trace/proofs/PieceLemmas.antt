@@ -1,5 +1,5 @@
 -- What a piece brings, and what a feed of it answers.
-use Rattle.std.proofs.Common.{◌≡◌, ℕ, Bool, true, false, subst, List, [], ◌∷◌, ◌++◌, ◌⊎◌, inl, inr, length, take, refl, sym, ◌∙◌, arith, append-nil}
+use Rattle.std.proofs.Common.{◌≡◌, ℕ, Bool, true, false, subst, List, [], ◌∷◌, ◌++◌, length, refl, sym, ◌∙◌, arith, append-nil}
 use Rattle.zvt_spelling.proofs.CutLemmas.{spelled_append, spelled_more}
 use Rattle.zvt_spelling.specs.Beginnings.{NoneWhole}
 use Rattle.zvt_spelling.specs.Cuts.{Cut, Spelled}
@@ -10,13 +10,11 @@ use Rattle.zvt_spelling.specs.declared.why.Why.{Why}
 use Rattle.zvt_apdu.proofs.ViewLemmas.{message_loosened}
 use Rattle.zvt_stream.specs.Apdus.{UnfinishedIn, IsRefusedIn}
 use Rattle.zvt_stream.specs.StreamState.{StreamState, Holds, HasRefused}
-use Rattle.zvt_stream.specs.Feeds.{Feeds, Leaves}
-use Rattle.zvt_stream.specs.declared.feeding.Fed.TheVariants as whole
+use Rattle.zvt_stream.specs.Feeds.{Leaves}
 use Rattle.zvt_stream.specs.declared.feeding.FedView.{FedView}
-use Rattle.zvt_stream.specs.declared.feeding.FedView.TheVariants as view
 use Rattle.zvt_stream.specs.declared.feeding.FeedError.{FeedError}
 use Rattle.zvt_stream.specs.declared.feeding.FeedError.TheVariants.{Stopped}
-use Rattle.std.specs.Prelude.{Result, Ok, Err, Option, None, Some, IfSome}
+use Rattle.std.specs.Prelude.{Result, Ok, Err}
 use Rattle.std.specs.Result.{IsErrOf}
 use Rattle.zvt_trace.specs.Trace.{Arrives, Ending, EndsIn, begun, running, refused, side_after}
 use Rattle.zvt_trace.specs.Written.{Follows}
@@ -66,20 +64,6 @@ going true answer fed is refuses = absurd (ok_is_no_err (sym is ∙ refuses refl
 -- its answer as it was matched
 pub fed_as : (old new : StreamState) (piece : List ℕ) (answer fed : FedView) → answer ≡ fed → Leaves true old piece answer new → Leaves true old piece fed new
 fed_as old new piece answer fed is feeds = subst (λ (f : FedView). Leaves true old piece f new) is feeds
-
--- the message that ended in a piece, and its bytes, lent or there
-pub record Found (old new : StreamState) (piece : List ℕ) (taken : ℕ) (bytes : List ℕ) : Type 0 where
-  pub message : Message
-  pub feeds : Feeds old piece (whole.Message message taken) new
-  pub spells : Spells old.reading message bytes
-
-pub found : (old new : StreamState) (piece : List ℕ) (taken : ℕ) (bytes : List ℕ) → Leaves true old piece (view.Message taken) new
-    → IfSome new.lent (λ m. Spells new.reading m bytes) → (new.lent ≡ None → bytes ≡ take taken piece) → Found old new piece taken bytes
-found old new piece taken bytes leaves lent here = record { message = leaves.0; feeds = leaves.1; spells = by leaves.2 }
-  where
-    by : (new.lent ≡ Some leaves.0) ⊎ ((true ≡ true) × (new.lent ≡ None) × Spells old.reading leaves.0 (take taken piece)) → Spells old.reading leaves.0 bytes
-    by (inl is) = subst (λ (r : Reading). Spells r leaves.0 bytes) leaves.1.4 (subst (λ (l : Option Message). IfSome l (λ m. Spells new.reading m bytes)) is lent)
-    by (inr stays) = subst (Spells old.reading leaves.0) (sym (here stays.1)) stays.2
 
 -- what a stream of some reading says is said by that reading
 pub spells_by : (k r : Reading) (m : Message) (bytes : List ℕ) → k ≡ r → Spells k m bytes → Spells r m bytes

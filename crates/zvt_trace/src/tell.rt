@@ -3,8 +3,8 @@ ghost use Rattle.std.specs.Prelude.{◌≡◌, ◌<◌, ◌≤◌, ◌+◌, ◌+
 ghost use Rattle.zvt_spelling.specs.Reading.{Reading};
 ghost use Rattle.zvt_tlv.specs.Lengths.{reading_of};
 ghost use Rattle.zvt_apdu.specs.Message.{Message};
-ghost use Rattle.zvt_apdu.specs.Grammar.{Spells};
 ghost use Rattle.zvt_stream.specs.Apdus.{UnfinishedIn};
+ghost use Rattle.zvt_stream.specs.Feeds.{Lies};
 ghost use Rattle.zvt_trace.specs.Told.{head_of, on};
 ghost use Rattle.zvt_trace.specs.Told as told;
 ghost use Rattle.zvt_trace.specs.Meanings.{SpellsBytes, bytes_of};
@@ -67,7 +67,7 @@ fn behind_messages(messages: u64, later: Hearing) -> Hearing
     }
 }
 
-/// Tells the message of those bytes.
+/// Tells the message that ended in the piece.
 #[inline(always)]
 fn tell_message<D, L: Listener<D>>(
     listener: &mut L,
@@ -75,13 +75,18 @@ fn tell_message<D, L: Listener<D>>(
     line: u64,
     from: Direction,
     lengths: Lengths,
-    bytes: &[u8],
+    stream: &Stream,
+    piece: &[u8],
+    taken: usize,
 ) -> Result<(), Failure>
-    requires { (message : Message) × Spells (reading_of lengths) message bytes.now }
-    ensures { (message : Message) → Spells (reading_of lengths) message bytes.now → MatchResult result
+    requires within { taken ≤ length piece.now }
+    requires lies { (message : Message) × Lies stream.now piece.now taken message }
+    requires reading { stream.now.reading ≡ reading_of lengths }
+    ensures { (message : Message) → Lies stream.now piece.now taken message → MatchResult result
         (λ _. L.hears (listener.old, device.old) (on line (told.message from message)) (listener.new, device.new))
         (λ failure. L.fails (listener.old, device.old) (on line (told.message from message)) failure (listener.new, device.new)) }
 {
+    let bytes = stream.ended(piece, taken);
     let apdu = view(bytes);
     let told = Told::Message {
         from,
@@ -163,14 +168,7 @@ pub(crate) fn tell_piece<D, L: Listener<D>>(
         let begun = Beginning::of(stream);
         match stream.feed_in_place(rest) {
             Ok(FedView::Message { taken }) => {
-                tell_message(
-                    listener,
-                    device,
-                    line,
-                    from,
-                    lengths,
-                    stream.ended(rest, taken),
-                )?;
+                tell_message(listener, device, line, from, lengths, stream, rest, taken)?;
                 messages += 1;
                 rest = rest.split_at(taken).1;
                 if rest.is_empty() {

@@ -2,7 +2,7 @@ use Rattle.std.proofs.Common.{◌∙◌, Err, ap, arith, refl, rules}
 use Rattle.std.proofs.lemmas.Result.{err_from_is_err_and}
 use Rattle.zvt_trace.specs.Trace.{begun, refused}
 use Rattle.zvt_trace.proofs.EventLemmas.{hears_told}
-use Rattle.zvt_trace.proofs.PieceLemmas.{fed_as, found, going, refused_by, spells_by, unfinished_by}
+use Rattle.zvt_trace.proofs.PieceLemmas.{fed_as, going, refused_by, spells_by, unfinished_by}
 use Rattle.zvt_trace.proofs.TellLemmas.{ends, ends_whole, fails_memory, fails_message, fails_refused, fails_unread, none_yet, not_stopped, one_more, stays}
 use Rattle.zvt_stream.specs.declared.feeding.FedView.TheVariants as fed
 use Rattle.zvt_trace.proofs.tell.tell_piece.Goals as goal
@@ -14,43 +14,44 @@ messages-init g c = record {
   few = omega arith;
 }
 
-pub ended-requires : goal.ended-requires
-ended-requires g c =
-    let leaves = fed_as c.messages.stream c.feed_in_place.new.self c.messages.rest.now c.in-Ok-Message.field-0 (fed.Message c.in-Ok-Message.taken) c.in-Ok-Message.field-0-is c.in-Ok-Message.ensures.fed in
-    leaves.1.1
+pub tell_message-requires-clause-within : goal.tell_message-requires-clause-within
+tell_message-requires-clause-within g c =
+    let it = fed_as c.messages.stream c.feed_in_place.new.self c.messages.rest.now c.in-Ok-Message.field-0 (fed.Message c.in-Ok-Message.taken) c.in-Ok-Message.field-0-is c.in-Ok-Message.ensures.fed in
+    it.1.1
 
-pub tell_message-requires : goal.tell_message-requires
-tell_message-requires g c =
-    let leaves = fed_as c.messages.stream c.feed_in_place.new.self c.messages.rest.now c.in-Ok-Message.field-0 (fed.Message c.in-Ok-Message.taken) c.in-Ok-Message.field-0-is c.in-Ok-Message.ensures.fed in
-    let it = found c.messages.stream c.feed_in_place.new.self c.messages.rest.now c.in-Ok-Message.taken c.ended.result.now leaves c.ended.ensures.lent c.ended.ensures.here in
-    (it.message, spells_by _ _ it.message _ c.messages.invariant.reading it.spells)
+pub tell_message-requires-clause-lies : goal.tell_message-requires-clause-lies
+tell_message-requires-clause-lies g c =
+    let it = fed_as c.messages.stream c.feed_in_place.new.self c.messages.rest.now c.in-Ok-Message.field-0 (fed.Message c.in-Ok-Message.taken) c.in-Ok-Message.field-0-is c.in-Ok-Message.ensures.fed in
+    (it.0, it.2)
+
+pub tell_message-requires-clause-reading : goal.tell_message-requires-clause-reading
+tell_message-requires-clause-reading g c =
+    let it = fed_as c.messages.stream c.feed_in_place.new.self c.messages.rest.now c.in-Ok-Message.field-0 (fed.Message c.in-Ok-Message.taken) c.in-Ok-Message.field-0-is c.in-Ok-Message.ensures.fed in
+    it.1.4 ∙ c.messages.invariant.reading
 
 pub returns-in_err-tell_message-in-Ok-Message-clause-tells :
     goal.returns-in_err-tell_message-in-Ok-Message-clause-tells
 returns-in_err-tell_message-in-Ok-Message-clause-tells g c = λ side follows.
     let p = err_from_is_err_and c.from_residual.result c.from_residual.ensures.1 in
-    let leaves = fed_as c.messages.stream c.feed_in_place.new.self c.messages.rest.now c.in-Ok-Message.field-0 (fed.Message c.in-Ok-Message.taken) c.in-Ok-Message.field-0-is c.in-Ok-Message.ensures.fed in
-    let it = found c.messages.stream c.feed_in_place.new.self c.messages.rest.now c.in-Ok-Message.taken c.ended.result.now leaves c.ended.ensures.lent c.ended.ensures.here in
-    rw (p.1, p.2) (fails_message g.L.Listener.hears g.L.Listener.fails _ _ _ side _ c.messages.rest.now _ c.messages.stream c.feed_in_place.new.self _ _ _ _ c.in-Ok-Message.taken it.message c.messages.invariant.so_far
-    (going _ _ _ c.in-Ok-Message.is c.feed_in_place.ensures.stopped) (spells_by _ _ it.message _ c.messages.invariant.reading it.feeds.2) it.feeds.3 (c.in_err-tell_message-in-Ok-Message.ensures it.message (spells_by _ _ it.message _ c.messages.invariant.reading it.spells)) follows)
+    let it = fed_as c.messages.stream c.feed_in_place.new.self c.messages.rest.now c.in-Ok-Message.field-0 (fed.Message c.in-Ok-Message.taken) c.in-Ok-Message.field-0-is c.in-Ok-Message.ensures.fed in
+    rw (p.1, p.2) (fails_message g.L.Listener.hears g.L.Listener.fails _ _ _ side _ c.messages.rest.now _ c.messages.stream c.feed_in_place.new.self _ _ _ _ c.in-Ok-Message.taken it.0 c.messages.invariant.so_far
+    (going _ _ _ c.in-Ok-Message.is c.feed_in_place.ensures.stopped) (spells_by _ _ it.0 _ c.messages.invariant.reading it.1.2) it.1.3 (c.in_err-tell_message-in-Ok-Message.ensures it.0 it.2) follows)
 
 pub returns-then-is_empty-clause-tells : goal.returns-then-is_empty-clause-tells
 returns-then-is_empty-clause-tells g c = λ side follows.
-    let leaves = fed_as c.messages.stream c.feed_in_place.new.self c.messages.rest.now c.in-Ok-Message.field-0 (fed.Message c.in-Ok-Message.taken) c.in-Ok-Message.field-0-is c.in-Ok-Message.ensures.fed in
-    let it = found c.messages.stream c.feed_in_place.new.self c.messages.rest.now c.in-Ok-Message.taken c.ended.result.now leaves c.ended.ensures.lent c.ended.ensures.here in
-    let so_far = one_more g.L.Listener.hears _ _ _ c.messages.rest.now _ _ c.messages.stream c.feed_in_place.new.self _ _ _ _ c.in-Ok-Message.taken it.message c.messages.invariant.so_far
-    (going _ _ _ c.in-Ok-Message.is c.feed_in_place.ensures.stopped) (spells_by _ _ it.message _ c.messages.invariant.reading it.feeds.2) it.feeds.3 c.split_at.ensures.back (c.in_ok-tell_message-in-Ok-Message.ensures it.message (spells_by _ _ it.message _ c.messages.invariant.reading it.spells)) in
-    ends_whole g.L.Listener.hears _ _ side _ c.split_at.result.1.now _ c.feed_in_place.new.self _ _ _ c.going.result so_far it.feeds.3 (search rules) c.going.ensures.0 c.going.ensures.1 c.going.ensures.2 follows
+    let it = fed_as c.messages.stream c.feed_in_place.new.self c.messages.rest.now c.in-Ok-Message.field-0 (fed.Message c.in-Ok-Message.taken) c.in-Ok-Message.field-0-is c.in-Ok-Message.ensures.fed in
+    let so_far = one_more g.L.Listener.hears _ _ _ c.messages.rest.now _ _ c.messages.stream c.feed_in_place.new.self _ _ _ _ c.in-Ok-Message.taken it.0 c.messages.invariant.so_far
+    (going _ _ _ c.in-Ok-Message.is c.feed_in_place.ensures.stopped) (spells_by _ _ it.0 _ c.messages.invariant.reading it.1.2) it.1.3 c.split_at.ensures.back (c.in_ok-tell_message-in-Ok-Message.ensures it.0 it.2) in
+    ends_whole g.L.Listener.hears _ _ side _ c.split_at.result.1.now _ c.feed_in_place.new.self _ _ _ c.going.result so_far it.1.3 (search rules) c.going.ensures.0 c.going.ensures.1 c.going.ensures.2 follows
 
 pub messages-preserved : goal.messages-preserved
 messages-preserved g c =
-    let leaves = fed_as c.messages.stream c.feed_in_place.new.self c.messages.rest.now c.in-Ok-Message.field-0 (fed.Message c.in-Ok-Message.taken) c.in-Ok-Message.field-0-is c.in-Ok-Message.ensures.fed in
-    let it = found c.messages.stream c.feed_in_place.new.self c.messages.rest.now c.in-Ok-Message.taken c.ended.result.now leaves c.ended.ensures.lent c.ended.ensures.here in
+    let it = fed_as c.messages.stream c.feed_in_place.new.self c.messages.rest.now c.in-Ok-Message.field-0 (fed.Message c.in-Ok-Message.taken) c.in-Ok-Message.field-0-is c.in-Ok-Message.ensures.fed in
     record {
-      so_far = one_more g.L.Listener.hears _ _ _ c.messages.rest.now _ _ c.messages.stream c.feed_in_place.new.self _ _ _ _ c.in-Ok-Message.taken it.message c.messages.invariant.so_far
-          (going _ _ _ c.in-Ok-Message.is c.feed_in_place.ensures.stopped) (spells_by _ _ it.message _ c.messages.invariant.reading it.feeds.2) it.feeds.3 c.split_at.ensures.back (c.in_ok-tell_message-in-Ok-Message.ensures it.message (spells_by _ _ it.message _ c.messages.invariant.reading it.spells));
-      reading = it.feeds.4 ∙ c.messages.invariant.reading;
-      few = omega (arith, it.feeds.0, it.feeds.1, c.split_at.ensures.back_len);
+      so_far = one_more g.L.Listener.hears _ _ _ c.messages.rest.now _ _ c.messages.stream c.feed_in_place.new.self _ _ _ _ c.in-Ok-Message.taken it.0 c.messages.invariant.so_far
+          (going _ _ _ c.in-Ok-Message.is c.feed_in_place.ensures.stopped) (spells_by _ _ it.0 _ c.messages.invariant.reading it.1.2) it.1.3 c.split_at.ensures.back (c.in_ok-tell_message-in-Ok-Message.ensures it.0 it.2);
+      reading = it.1.4 ∙ c.messages.invariant.reading;
+      few = omega (arith, it.1.0, it.1.1, c.split_at.ensures.back_len);
     }
 
 pub returns-in-Ok-More-clause-tells : goal.returns-in-Ok-More-clause-tells
@@ -107,9 +108,8 @@ returns-in-Err-Memory-clause-tells g c = λ side follows.
 
 pub returns-then-is_empty-clause-reading : goal.returns-then-is_empty-clause-reading
 returns-then-is_empty-clause-reading g c =
-    let leaves = fed_as c.messages.stream c.feed_in_place.new.self c.messages.rest.now c.in-Ok-Message.field-0 (fed.Message c.in-Ok-Message.taken) c.in-Ok-Message.field-0-is c.in-Ok-Message.ensures.fed in
-    let it = found c.messages.stream c.feed_in_place.new.self c.messages.rest.now c.in-Ok-Message.taken c.ended.result.now leaves c.ended.ensures.lent c.ended.ensures.here in
-    it.feeds.4 ∙ c.messages.invariant.reading
+    let it = fed_as c.messages.stream c.feed_in_place.new.self c.messages.rest.now c.in-Ok-Message.field-0 (fed.Message c.in-Ok-Message.taken) c.in-Ok-Message.field-0-is c.in-Ok-Message.ensures.fed in
+    it.1.4 ∙ c.messages.invariant.reading
 
 pub returns-in-Ok-More-clause-reading : goal.returns-in-Ok-More-clause-reading
 returns-in-Ok-More-clause-reading g c =

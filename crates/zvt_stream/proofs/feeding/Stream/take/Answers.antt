@@ -66,7 +66,7 @@ returns-in-Ended-clause-fed c =
     let after = ap (λ h. h.bytes) c.put-in-Ended.ensures in
     let whole = after ∙ ap (λ (b : List ℕ). b ++ take c.in-Ended.taken c.args.piece.now) c.make_room.ensures.bytes in
     let lends = lends_message _ _ _ _ c.self-in-Ended-1.given.0 0 c.in-Ended.taken _ _ _ _ i told whole c.if-self.false in
-    (lends.0, lends.1, inl lends.2)
+    (lends.0, lends.1, inl lends.2, λ lent. lends.2)
 
 pub overflow_add-place : goal.overflow_add-place
 overflow_add-place c =
