@@ -5,6 +5,7 @@ ghost use Rattle.zvt_apdu.specs.Grammar.{Spells};
 ghost use Rattle.zvt_trace.specs.Lines.{direction_text};
 ghost use Rattle.zvt_show.specs.Text.{joined, receipt, shown};
 ghost use Rattle.zvt_show.specs.Written.{AddsMessage};
+ghost use Rattle.zvt_text.specs.Whole.{Adds};
 ghost use Rattle.zvt_show.specs.declared.style.Style.TheVariants.{Join};
 
 use crate::style::Style;
@@ -38,20 +39,19 @@ pub(crate) fn write(
 /// Its direction and what it says.
 #[inline(always)]
 fn show(text: &mut Text, from: Direction, apdu: &ApduView<'_>) -> Result<(), AllocError>
-    ensures { OnOk result (text.new ≡ text.old ++ shown from apdu.now) }
+    ensures { Adds result text.old text.new (shown from apdu.now) }
 {
-    begin(text, from)?;
-    zvt_text::message(text, apdu)
+    zvt_text::message(text, front(from), apdu)
 }
 
-/// Its direction, and a space.
+/// A direction, and a space.
 #[inline(always)]
-fn begin(text: &mut Text, from: Direction) -> Result<(), AllocError>
-    ensures { OnOk result (text.new ≡ text.old ++ direction_text from ++ 32 ∷ []) }
+fn front(from: Direction) -> &'static [u8]
+    ensures { result.now ≡ direction_text from ++ 32 ∷ [] }
 {
     match from {
-        Direction::FromTill => text.word(b"> "),
-        Direction::FromTerminal => text.word(b"< "),
+        Direction::FromTill => b"> ",
+        Direction::FromTerminal => b"< ",
     }
 }
 
@@ -94,9 +94,7 @@ fn normal_line(
 fn line(text: &mut Text, from: Direction, bytes: &[u8]) -> Result<(), AllocError>
     ensures { OnOk result (text.new ≡ text.old ++ joined from bytes.now) }
 {
-    begin(text, from)?;
-    zvt_text::hexadecimal(text, bytes)?;
-    text.push(b'\n')
+    zvt_text::line(text, front(from), bytes)
 }
 
 /// The text of a print line of the terminal.
@@ -107,10 +105,7 @@ fn receipt(text: &mut Text, from: Direction, apdu: &ApduView<'_>) -> Result<(), 
         return Ok(());
     }
     match apdu.text() {
-        Some(line) => {
-            zvt_text::escaped(text, line)?;
-            text.push(b'\n')
-        }
+        Some(line) => zvt_text::escaped_line(text, line),
         None => Ok(()),
     }
 }

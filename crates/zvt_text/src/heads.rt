@@ -1,32 +1,34 @@
 //! The heads of messages.
-ghost use Rattle.std.specs.Prelude.{◌≡◌, ◌++◌, OnOk};
+ghost use Rattle.std.specs.Prelude.{◌≡◌, ◌≤◌, length};
 ghost use Rattle.zvt_text.specs.Said.{detail_text, head_text, kind_name};
+ghost use Rattle.zvt_text.specs.Whole.{Puts};
 
 use crate::details::{byte_part, config, control, currency, data, outcome, printed};
-use crate::text::Text;
-use std::alloc::AllocError;
+use crate::room::{Full, word};
 use zvt_apdu::{ApduView, Kind};
 
 /// The name of a message's kind, and what it says behind it.
-pub(crate) fn head(text: &mut Text, message: &ApduView<'_>) -> Result<(), AllocError>
-    ensures { OnOk result (text.new ≡ text.old ++ head_text message.now) }
+pub(crate) fn head(room: &mut [u8], at: usize, message: &ApduView<'_>) -> Result<usize, Full>
+    requires { at ≤ length room.old }
+    ensures { Puts result at room.old room.new (head_text message.now) }
 {
-    kind_word(text, message.kind())?;
-    detail(text, message)
+    let at = kind_word(room, at, message.kind())?;
+    detail(room, at, message)
 }
 
 /// The name of a kind: those that come most in a word each.
 #[inline(always)]
-fn kind_word(text: &mut Text, kind: Kind) -> Result<(), AllocError>
-    ensures { OnOk result (text.new ≡ text.old ++ kind_name kind) }
+fn kind_word(room: &mut [u8], at: usize, kind: Kind) -> Result<usize, Full>
+    requires { at ≤ length room.old }
+    ensures { Puts result at room.old room.new (kind_name kind) }
 {
     match kind {
-        Kind::Ack => text.word(b"Ack"),
-        Kind::Authorisation => text.word(b"Authorisation"),
-        Kind::Status => text.word(b"Status"),
-        Kind::PrintLine => text.word(b"PrintLine"),
-        Kind::Completion => text.word(b"Completion"),
-        _ => text.word(kind_name(kind).as_bytes()),
+        Kind::Ack => word(room, at, b"Ack"),
+        Kind::Authorisation => word(room, at, b"Authorisation"),
+        Kind::Status => word(room, at, b"Status"),
+        Kind::PrintLine => word(room, at, b"PrintLine"),
+        Kind::Completion => word(room, at, b"Completion"),
+        _ => word(room, at, kind_name(kind).as_bytes()),
     }
 }
 
@@ -53,35 +55,36 @@ pub fn kind_name(kind: Kind) -> &'static str
 }
 
 /// What the head says behind the name.
-fn detail(text: &mut Text, message: &ApduView<'_>) -> Result<(), AllocError>
-    ensures { OnOk result (text.new ≡ text.old ++ detail_text message.now) }
+fn detail(room: &mut [u8], at: usize, message: &ApduView<'_>) -> Result<usize, Full>
+    requires { at ≤ length room.old }
+    ensures { Puts result at room.old room.new (detail_text message.now) }
 {
     match message.kind() {
-        Kind::Ack => data(text, message.payload()),
+        Kind::Ack => data(room, at, message.payload()),
         Kind::Nack => {
-            byte_part(text, message.code())?;
-            data(text, message.payload())
+            let at = byte_part(room, at, message.code())?;
+            data(room, at, message.payload())
         }
         Kind::Registration => {
-            config(text, message.config())?;
-            currency(text, message.currency())
+            let at = config(room, at, message.config())?;
+            currency(room, at, message.currency())
         }
         Kind::Intermediate => {
-            byte_part(text, message.status())?;
-            data(text, message.payload())
+            let at = byte_part(room, at, message.status())?;
+            data(room, at, message.payload())
         }
         Kind::PrintLine => {
-            byte_part(text, message.attribute())?;
-            printed(text, message.text())
+            let at = byte_part(room, at, message.attribute())?;
+            printed(room, at, message.text())
         }
         Kind::Abort => {
-            outcome(text, message.code())?;
-            data(text, message.payload())
+            let at = outcome(room, at, message.code())?;
+            data(room, at, message.payload())
         }
         Kind::Other => {
-            control(text, message.control())?;
-            data(text, message.payload())
+            let at = control(room, at, message.control())?;
+            data(room, at, message.payload())
         }
-        _ => Ok(()),
+        _ => Ok(at),
     }
 }

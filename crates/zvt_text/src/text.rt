@@ -1,9 +1,8 @@
 //! Bytes of text, written one behind another.
-ghost use Rattle.std.specs.Prelude.{◌≡◌, ◌+◌, ◌≤◌, [], ◌∷◌, ◌++◌, length, replicate, take, IfOk, OnErr, OnOk};
-ghost use Rattle.hex.specs.Hex.{encode_upper};
-ghost use Rattle.zvt_text.specs.Whole.{Adds};
+ghost use Rattle.std.specs.Prelude.{◌≡◌, ℕ, ◌+◌, ◌≤◌, List, [], ◌∷◌, length, take, IfOk, OnErr, OnOk};
+ghost use Rattle.zvt_text.specs.Whole.{Adds, Puts};
 
-use crate::bytes::{CHUNK, write_digits};
+use crate::room::Full;
 use itoa::{Buffer, Integer};
 use std::alloc::{AllocError, Global};
 use std::marker::Model;
@@ -105,23 +104,6 @@ impl Text {
         Ok(())
     }
 
-    /// Writes bytes in hexadecimal.
-    #[inline(always)]
-    pub(crate) fn hexadecimal(&mut self, bytes: &[u8]) -> Result<(), AllocError>
-        requires { length bytes.now ≤ CHUNK }
-        ensures { Adds result self.old self.new (encode_upper bytes.now) }
-    {
-        let at = self.size;
-        let more = 2 * bytes.len();
-        if self.room.len() - at < more {
-            grow(&mut self.room, more)?;
-        }
-        let end = at + more;
-        write_digits(bytes, &mut self.room[at..end]);
-        self.size = end;
-        Ok(())
-    }
-
     /// Writes a number in decimal digits.
     pub fn number<I: Integer>(&mut self, number: I) -> Result<(), AllocError>
         ensures { Adds result self.old self.new (I.text number) }
@@ -129,15 +111,39 @@ impl Text {
         self.word(Buffer::new().format(number).as_bytes())
     }
 
-    /// Writes a character so many times. Where memory is refused, some of them stand.
-    pub(crate) fn repeat(&mut self, character: u8, count: usize) -> Result<(), AllocError>
-        ensures { OnOk result (self.new ≡ self.old ++ replicate count character) }
+    /// Writes what is said.
+    #[inline(always)]
+    pub(crate) fn add<S: Says>(&mut self, what: &S) -> Result<(), AllocError>
+        ensures { Adds result self.old self.new (S.said what.now) }
     {
-        for _ in 0..count {
-            self.push(character)?;
+        'tries: loop {
+            if let Ok(end) = put_behind(&mut self.room, self.size, what) {
+                self.size = end;
+                return Ok(());
+            }
+            grow(&mut self.room, 1)?;
         }
-        Ok(())
     }
+}
+
+/// What can be written whole.
+pub(crate) trait Says {
+    ghost said: { Self → List ℕ };
+
+    /// Writes it where the room begins, and answers its size.
+    fn put(&self, room: &mut [u8]) -> Result<usize, Full>
+        ensures { Puts result 0 room.old room.new (said self.now) };
+}
+
+/// Writes what is said behind what stands in the room, and answers where it ends.
+#[inline(always)]
+fn put_behind<S: Says>(room: &mut [u8], size: usize, what: &S) -> Result<usize, Full>
+    requires { size ≤ length room.old }
+    ensures puts { Puts result size room.old room.new (S.said what.now) }
+    ensures keeps { take size room.new ≡ take size room.old }
+{
+    let end = what.put(&mut room[size..])?;
+    Ok(size + end)
 }
 
 /// Adds room for so many bytes at least, and for as many as there are.
