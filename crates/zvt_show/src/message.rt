@@ -1,5 +1,5 @@
 //! The text of a message.
-ghost use Rattle.std.specs.Prelude.{◌≡◌, ◌++◌, ◌∷◌, [], OnOk};
+ghost use Rattle.std.specs.Prelude.{◌≡◌, ◌++◌, ◌∷◌, [], OnErr, OnOk};
 ghost use Rattle.zvt_tlv.specs.Lengths.{reading_of};
 ghost use Rattle.zvt_apdu.specs.Grammar.{Spells};
 ghost use Rattle.zvt_trace.specs.Lines.{direction_text};
@@ -27,7 +27,8 @@ pub(crate) fn write(
     lengths: Lengths,
 ) -> Result<(), AllocError>
     requires { Spells (reading_of lengths) apdu.now bytes.now }
-    ensures { OnOk result (AddsMessage style from apdu.now text.old text.new) }
+    ensures adds { OnOk result (AddsMessage style from apdu.now text.old text.new) }
+    ensures keeps { OnErr result (text.new ≡ text.old) }
 {
     match style {
         Style::Show => show(text, from, apdu),
@@ -66,7 +67,8 @@ fn join(
     lengths: Lengths,
 ) -> Result<(), AllocError>
     requires { Spells (reading_of lengths) apdu.now bytes.now }
-    ensures { OnOk result (AddsMessage Join from apdu.now text.old text.new) }
+    ensures adds { OnOk result (AddsMessage Join from apdu.now text.old text.new) }
+    ensures keeps { OnErr result (text.new ≡ text.old) }
 {
     match lengths {
         Lengths::Shortest => line(text, from, bytes),
@@ -82,7 +84,8 @@ fn normal_line(
     from: Direction,
     apdu: &ApduView<'_>,
 ) -> Result<(), AllocError>
-    ensures { OnOk result (AddsMessage Join from apdu.now text.old text.new) }
+    ensures adds { OnOk result (AddsMessage Join from apdu.now text.old text.new) }
+    ensures keeps { OnErr result (text.new ≡ text.old) }
 {
     let message = owned(alloc, apdu)?;
     let bytes = encode(alloc, &message)?;
@@ -92,14 +95,14 @@ fn normal_line(
 /// A direction and bytes.
 #[inline(always)]
 fn line(text: &mut Text, from: Direction, bytes: &[u8]) -> Result<(), AllocError>
-    ensures { OnOk result (text.new ≡ text.old ++ joined from bytes.now) }
+    ensures { Adds result text.old text.new (joined from bytes.now) }
 {
     zvt_text::line(text, front(from), bytes)
 }
 
 /// The text of a print line of the terminal.
 fn receipt(text: &mut Text, from: Direction, apdu: &ApduView<'_>) -> Result<(), AllocError>
-    ensures { OnOk result (text.new ≡ text.old ++ receipt from apdu.now) }
+    ensures { Adds result text.old text.new (receipt from apdu.now) }
 {
     if from == Direction::FromTill {
         return Ok(());

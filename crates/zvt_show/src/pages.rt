@@ -1,5 +1,5 @@
 //! Text that goes out in blocks.
-ghost use Rattle.std.specs.Prelude.{[], ◌≡◌, ◌≤◌, ◌<◌, ◌⊎◌, Err, IfErr, OnErr, OnOk};
+ghost use Rattle.std.specs.Prelude.{[], ◌≡◌, IfErr, OnErr, OnOk};
 ghost use Rattle.std.specs.Io.KnownBytes.{Appends, Keeps};
 ghost use Rattle.zvt_io.specs.Devices.{CountsFailure};
 ghost use Rattle.zvt_trace.specs.Written.{AppendsFront};
@@ -46,15 +46,20 @@ impl<W: Sink> Listener<W> for Pages {
 
     #[inline(always)]
     fn hear(&mut self, device: &mut W, _line: u64, told: &Told<'_>) -> Result<(), Failure> {
-        make_room(&mut self.block, device)?;
+        flush_full(&mut self.block, device)?;
         event::write(&mut self.block, self.alloc, self.style, told)?;
         Ok(())
     }
 }
 
-/// Writes a full block.
+/// Writes a full block, before the text of the next event joins it.
 #[inline(always)]
-fn make_room<W: Sink>(block: &mut Text, writer: &mut W) -> Result<(), Failure>
+fn flush_full<W: Sink>(block: &mut Text, writer: &mut W) -> Result<(), Failure>
+    ensures same { OnOk result (Keeps (behind (W.written writer.old) block.old) (behind (W.written writer.new) block.new)) }
+    ensures fault { IfErr result (λ failure. failure ≡ Failure.Write) }
+    ensures failures { CountsFailure (W.failures writer.old) (W.failures writer.new) result }
+    ensures short { OnErr result (IsShortOf (behind (W.written writer.old) block.old) (behind (W.written writer.new) block.new)) }
+    ensures extends { Extends (W.written writer.old) (W.written writer.new) }
 {
     if block.size() < BLOCK {
         return Ok(());
