@@ -4,7 +4,7 @@ ghost use Rattle.zvt_text.specs.Whole.{Puts};
 ghost use Rattle.zvt_text.specs.Bytes.{escaped, escaped_text, hex_of, hex_or_dash, is_plain, quoted};
 
 use crate::digits::digits;
-use crate::room::{Full, hexadecimal, push, word};
+use crate::room::{Full, fixed, hexadecimal, push, word};
 
 /// One byte in hexadecimal.
 #[inline(always)]
@@ -74,7 +74,7 @@ fn escape(room: &mut [u8], at: usize, character: u8) -> Result<usize, Full>
     if is_plain(character) {
         return push(room, at, character);
     }
-    let at = word(room, at, b"\\x")?;
+    let at = fixed(room, at, *b"\\x")?;
     byte(room, at, character)
 }
 

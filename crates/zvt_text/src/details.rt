@@ -7,7 +7,7 @@ ghost use Rattle.zvt_text.specs.Whole.{Puts};
 
 use crate::bytes::{byte, quote};
 use crate::results::put_result;
-use crate::room::{Full, hexadecimal, push, word};
+use crate::room::{Full, fixed, hexadecimal, push};
 use zvt_bcd::Currency;
 
 /// The payload, if there is any.
@@ -29,7 +29,7 @@ fn payload_data(room: &mut [u8], at: usize, payload: &[u8]) -> Result<usize, Ful
     if payload.is_empty() {
         return Ok(at);
     }
-    let at = word(room, at, b" data ")?;
+    let at = fixed(room, at, *b" data ")?;
     hexadecimal(room, at, payload)
 }
 
@@ -87,7 +87,7 @@ pub(crate) fn config(room: &mut [u8], at: usize, config: Option<u8>) -> Result<u
     let Some(config) = config else {
         return Ok(at);
     };
-    let at = word(room, at, b" config ")?;
+    let at = fixed(room, at, *b" config ")?;
     byte(room, at, config)
 }
 
@@ -99,7 +99,7 @@ pub(crate) fn currency(room: &mut [u8], at: usize, currency: Option<Currency>) -
     let Some(currency) = currency else {
         return Ok(at);
     };
-    let at = word(room, at, b" currency ")?;
+    let at = fixed(room, at, *b" currency ")?;
     four(room, at, currency.get())
 }
 

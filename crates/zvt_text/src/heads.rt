@@ -4,7 +4,7 @@ ghost use Rattle.zvt_text.specs.Said.{detail_text, head_text, kind_name};
 ghost use Rattle.zvt_text.specs.Whole.{Puts};
 
 use crate::details::{byte_part, config, control, currency, data, outcome, printed};
-use crate::room::{Full, word};
+use crate::room::{Full, fixed, word};
 use zvt_apdu::{ApduView, Kind};
 
 /// The name of a message's kind, and what it says behind it.
@@ -23,11 +23,11 @@ fn kind_word(room: &mut [u8], at: usize, kind: Kind) -> Result<usize, Full>
     ensures { Puts result at room.old room.new (kind_name kind) }
 {
     match kind {
-        Kind::Ack => word(room, at, b"Ack"),
-        Kind::Authorisation => word(room, at, b"Authorisation"),
-        Kind::Status => word(room, at, b"Status"),
-        Kind::PrintLine => word(room, at, b"PrintLine"),
-        Kind::Completion => word(room, at, b"Completion"),
+        Kind::Ack => fixed(room, at, *b"Ack"),
+        Kind::Authorisation => fixed(room, at, *b"Authorisation"),
+        Kind::Status => fixed(room, at, *b"Status"),
+        Kind::PrintLine => fixed(room, at, *b"PrintLine"),
+        Kind::Completion => fixed(room, at, *b"Completion"),
         _ => word(room, at, kind_name(kind).as_bytes()),
     }
 }

@@ -4,7 +4,7 @@ ghost use Rattle.zvt_text.specs.Numbers.{numbers_text, trace_text};
 ghost use Rattle.zvt_text.specs.Whole.{Puts};
 
 use crate::bytes::bytes_or_dash;
-use crate::room::{Full, push, repeat, word};
+use crate::room::{Full, fixed, push, repeat, word};
 use itoa::Buffer;
 use zvt_bcd::Trace;
 
@@ -18,7 +18,7 @@ pub(crate) fn put_numbers(
     ensures { Puts result at room.old room.new (numbers_text trace receipt) }
 {
     let at = trace_number(room, at, trace)?;
-    let at = word(room, at, b" receipt ")?;
+    let at = fixed(room, at, *b" receipt ")?;
     match receipt {
         Some(number) => bytes_or_dash(room, at, number.as_slice()),
         None => push(room, at, b'-'),
@@ -32,7 +32,7 @@ fn trace_number(room: &mut [u8], at: usize, trace: Trace) -> Result<usize, Full>
 {
     let mut buffer = Buffer::new();
     let digits = buffer.format(trace.get());
-    let at = word(room, at, b"trace ")?;
+    let at = fixed(room, at, *b"trace ")?;
     let at = repeat(room, at, b'0', 6usize.saturating_sub(digits.len()))?;
     word(room, at, digits.as_bytes())
 }

@@ -7,7 +7,7 @@ ghost use Rattle.zvt_text.specs.Whole.{Puts};
 
 use crate::bytes::byte;
 use crate::objects::object_lines;
-use crate::room::{Full, push, word};
+use crate::room::{Full, fixed, push, word};
 use crate::values::value;
 use zvt_field::{FieldView, FieldsView, name};
 
@@ -63,31 +63,31 @@ fn named_low(room: &mut [u8], at: usize, bmp: u8) -> Result<usize, Full>
     ensures { Puts result at room.old room.new (named_text bmp) }
 {
     match bmp {
-        0x01 => word(room, at, b"  01 time-out"),
-        0x02 => word(room, at, b"  02 max-status"),
-        0x03 => word(room, at, b"  03 service"),
-        0x04 => word(room, at, b"  04 amount"),
-        0x05 => word(room, at, b"  05 pump"),
-        0x06 => word(room, at, b"  06 container"),
-        0x0B => word(room, at, b"  0B trace"),
-        0x0C => word(room, at, b"  0C time"),
-        0x0D => word(room, at, b"  0D date"),
-        0x0E => word(room, at, b"  0E expiry"),
-        0x17 => word(room, at, b"  17 sequence"),
-        0x19 => word(room, at, b"  19 payment-type"),
-        0x22 => word(room, at, b"  22 pan"),
-        0x23 => word(room, at, b"  23 track2"),
-        0x24 => word(room, at, b"  24 track3"),
-        0x27 => word(room, at, b"  27 result"),
-        0x29 => word(room, at, b"  29 terminal"),
-        0x2A => word(room, at, b"  2A contract"),
-        0x2D => word(room, at, b"  2D track1"),
-        0x2E => word(room, at, b"  2E chip-data"),
-        0x37 => word(room, at, b"  37 original-trace"),
-        0x3A => word(room, at, b"  3A verification"),
-        0x3B => word(room, at, b"  3B attribute"),
-        0x3C => word(room, at, b"  3C text"),
-        0x3D => word(room, at, b"  3D password"),
+        0x01 => fixed(room, at, *b"  01 time-out"),
+        0x02 => fixed(room, at, *b"  02 max-status"),
+        0x03 => fixed(room, at, *b"  03 service"),
+        0x04 => fixed(room, at, *b"  04 amount"),
+        0x05 => fixed(room, at, *b"  05 pump"),
+        0x06 => fixed(room, at, *b"  06 container"),
+        0x0B => fixed(room, at, *b"  0B trace"),
+        0x0C => fixed(room, at, *b"  0C time"),
+        0x0D => fixed(room, at, *b"  0D date"),
+        0x0E => fixed(room, at, *b"  0E expiry"),
+        0x17 => fixed(room, at, *b"  17 sequence"),
+        0x19 => fixed(room, at, *b"  19 payment-type"),
+        0x22 => fixed(room, at, *b"  22 pan"),
+        0x23 => fixed(room, at, *b"  23 track2"),
+        0x24 => fixed(room, at, *b"  24 track3"),
+        0x27 => fixed(room, at, *b"  27 result"),
+        0x29 => fixed(room, at, *b"  29 terminal"),
+        0x2A => fixed(room, at, *b"  2A contract"),
+        0x2D => fixed(room, at, *b"  2D track1"),
+        0x2E => fixed(room, at, *b"  2E chip-data"),
+        0x37 => fixed(room, at, *b"  37 original-trace"),
+        0x3A => fixed(room, at, *b"  3A verification"),
+        0x3B => fixed(room, at, *b"  3B attribute"),
+        0x3C => fixed(room, at, *b"  3C text"),
+        0x3D => fixed(room, at, *b"  3D password"),
         _ => unlisted(room, at, bmp),
     }
 }
@@ -100,20 +100,20 @@ fn named_high(room: &mut [u8], at: usize, bmp: u8) -> Result<usize, Full>
     ensures { Puts result at room.old room.new (named_text bmp) }
 {
     match bmp {
-        0x49 => word(room, at, b"  49 currency"),
-        0x60 => word(room, at, b"  60 totals"),
-        0x87 => word(room, at, b"  87 receipt"),
-        0x88 => word(room, at, b"  88 turnover"),
-        0x8A => word(room, at, b"  8A card-type"),
-        0x8B => word(room, at, b"  8B card-name"),
-        0x8C => word(room, at, b"  8C network-card"),
-        0x92 => word(room, at, b"  92 field-92"),
-        0x9A => word(room, at, b"  9A field-9A"),
-        0xA0 => word(room, at, b"  A0 result-as"),
-        0xA7 => word(room, at, b"  A7 ef-id"),
-        0xAA => word(room, at, b"  AA date-ymd"),
-        0xAF => word(room, at, b"  AF field-AF"),
-        0xBA => word(room, at, b"  BA aid"),
+        0x49 => fixed(room, at, *b"  49 currency"),
+        0x60 => fixed(room, at, *b"  60 totals"),
+        0x87 => fixed(room, at, *b"  87 receipt"),
+        0x88 => fixed(room, at, *b"  88 turnover"),
+        0x8A => fixed(room, at, *b"  8A card-type"),
+        0x8B => fixed(room, at, *b"  8B card-name"),
+        0x8C => fixed(room, at, *b"  8C network-card"),
+        0x92 => fixed(room, at, *b"  92 field-92"),
+        0x9A => fixed(room, at, *b"  9A field-9A"),
+        0xA0 => fixed(room, at, *b"  A0 result-as"),
+        0xA7 => fixed(room, at, *b"  A7 ef-id"),
+        0xAA => fixed(room, at, *b"  AA date-ymd"),
+        0xAF => fixed(room, at, *b"  AF field-AF"),
+        0xBA => fixed(room, at, *b"  BA aid"),
         _ => unlisted(room, at, bmp),
     }
 }
@@ -123,7 +123,7 @@ fn unlisted(room: &mut [u8], at: usize, bmp: u8) -> Result<usize, Full>
     requires { at ≤ length room.old }
     ensures { Puts result at room.old room.new (named_text bmp) }
 {
-    let at = word(room, at, b"  ")?;
+    let at = fixed(room, at, *b"  ")?;
     let at = byte(room, at, bmp)?;
     let at = push(room, at, b' ')?;
     word(room, at, name_or_nothing(bmp).as_bytes())

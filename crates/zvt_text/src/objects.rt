@@ -5,7 +5,7 @@ ghost use Rattle.zvt_text.specs.Lines.{object_head, object_lines};
 ghost use Rattle.zvt_text.specs.Whole.{Puts};
 
 use crate::bytes::bytes_or_dash;
-use crate::room::{Full, hexadecimal, push, repeat, word};
+use crate::room::{Full, fixed, hexadecimal, push, repeat};
 use zvt_tlv::ForestView;
 
 /// A line for each object that stands at a depth; those of the objects in a constructed one follow its own.
@@ -28,7 +28,7 @@ pub(crate) fn object_lines(
                 end = push(room, at, b'\n')?;
             }
             Some(inner) => {
-                let at = word(room, at, b"constructed\n")?;
+                let at = fixed(room, at, *b"constructed\n")?;
                 end = object_lines(room, at, inner, depth + 1)?;
             }
         }

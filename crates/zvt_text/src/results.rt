@@ -4,7 +4,7 @@ ghost use Rattle.zvt_text.specs.Results.{meaning_of, result_words};
 ghost use Rattle.zvt_text.specs.Whole.{Puts};
 
 use crate::bytes::byte;
-use crate::room::{Full, push, word};
+use crate::room::{Full, fixed, push, word};
 
 /// A result code and what it means.
 pub(crate) fn put_result(room: &mut [u8], at: usize, code: u8) -> Result<usize, Full>
@@ -18,7 +18,7 @@ pub(crate) fn put_result(room: &mut [u8], at: usize, code: u8) -> Result<usize, 
             word(room, at, meaning.as_bytes())
         }
         None => {
-            let at = word(room, at, b"code ")?;
+            let at = fixed(room, at, *b"code ")?;
             byte(room, at, code)
         }
     }

@@ -37,6 +37,20 @@ pub(crate) fn word(room: &mut [u8], at: usize, word: &[u8]) -> Result<usize, Ful
     Ok(end)
 }
 
+/// Writes a word that the code names. It is passed by value, since then it is stored at once: of a slice the compiler
+/// does not know that it lies outside of the room.
+#[inline(always)]
+pub(crate) fn fixed<const N: usize>(
+    room: &mut [u8],
+    at: usize,
+    letters: [u8; N],
+) -> Result<usize, Full>
+    requires { at ≤ length room.old }
+    ensures { Puts result at room.old room.new letters.entry }
+{
+    word(room, at, letters.as_slice())
+}
+
 /// Writes two digits for each byte.
 #[inline(always)]
 pub(crate) fn hexadecimal(room: &mut [u8], at: usize, bytes: &[u8]) -> Result<usize, Full>

@@ -7,7 +7,7 @@ ghost use Rattle.zvt_text.specs.Whole.{Puts};
 
 use crate::bytes::{bytes_or_dash, quote};
 use crate::results::put_result;
-use crate::room::{Full, decimal, word};
+use crate::room::{Full, decimal, fixed};
 use zvt_bcd::number;
 
 /// An amount in its smallest unit, a result in words, quoted text, the size of what is hidden, or bytes in hexadecimal.
@@ -24,7 +24,7 @@ pub(crate) fn value(room: &mut [u8], at: usize, bmp: u8, content: &[u8]) -> Resu
         0x27 => outcome(room, at, content),
         0x2A | 0x8B => quote(room, at, content),
         0x22 | 0x23 | 0x24 | 0x2D | 0x3A | 0x3D => {
-            let at = word(room, at, b"hidden ")?;
+            let at = fixed(room, at, *b"hidden ")?;
             let hidden = content.len() as u64;
             decimal(room, at, hidden)
         }
