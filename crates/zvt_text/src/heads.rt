@@ -1,5 +1,6 @@
 //! The heads of messages.
-ghost use Rattle.std.specs.Prelude.{◌≡◌, ◌≤◌, length};
+ghost use Rattle.std.specs.Prelude.{◌≡◌, ◌≢◌, ◌≤◌, length};
+ghost use Rattle.zvt_apdu.specs.Kinds.{kind_of};
 ghost use Rattle.zvt_text.specs.Said.{detail_text, head_text, kind_name};
 ghost use Rattle.zvt_text.specs.Whole.{Puts};
 
@@ -12,23 +13,26 @@ pub(crate) fn head(room: &mut [u8], at: usize, message: &ApduView<'_>) -> Result
     requires { at ≤ length room.old }
     ensures { Puts result at room.old room.new (head_text message.now) }
 {
-    let at = kind_word(room, at, message.kind())?;
-    detail(room, at, message)
-}
-
-/// The name of a kind: those that come most in a word each.
-#[inline(always)]
-fn kind_word(room: &mut [u8], at: usize, kind: Kind) -> Result<usize, Full>
-    requires { at ≤ length room.old }
-    ensures { Puts result at room.old room.new (kind_name kind) }
-{
-    match kind {
-        Kind::Ack => fixed(room, at, *b"Ack"),
+    match message.kind() {
+        Kind::Ack => {
+            let payload = message.payload();
+            let at = fixed(room, at, *b"Ack")?;
+            data(room, at, payload)
+        }
         Kind::Authorisation => fixed(room, at, *b"Authorisation"),
         Kind::Status => fixed(room, at, *b"Status"),
-        Kind::PrintLine => fixed(room, at, *b"PrintLine"),
+        Kind::PrintLine => {
+            let attribute = message.attribute();
+            let line = message.text();
+            let at = fixed(room, at, *b"PrintLine")?;
+            let at = byte_part(room, at, attribute)?;
+            printed(room, at, line)
+        }
         Kind::Completion => fixed(room, at, *b"Completion"),
-        _ => word(room, at, kind_name(kind).as_bytes()),
+        kind => {
+            let at = word(room, at, kind_name(kind).as_bytes())?;
+            detail(room, at, message)
+        }
     }
 }
 
@@ -54,13 +58,14 @@ pub fn kind_name(kind: Kind) -> &'static str
     }
 }
 
-/// What the head says behind the name.
+/// What the heads of all other kinds say behind the name.
 fn detail(room: &mut [u8], at: usize, message: &ApduView<'_>) -> Result<usize, Full>
-    requires { at ≤ length room.old }
+    requires inside { at ≤ length room.old }
+    requires no_ack { kind_of message.now ≢ Kind.Ack }
+    requires no_line { kind_of message.now ≢ Kind.PrintLine }
     ensures { Puts result at room.old room.new (detail_text message.now) }
 {
     match message.kind() {
-        Kind::Ack => data(room, at, message.payload()),
         Kind::Nack => {
             let at = byte_part(room, at, message.code())?;
             data(room, at, message.payload())
@@ -72,10 +77,6 @@ fn detail(room: &mut [u8], at: usize, message: &ApduView<'_>) -> Result<usize, F
         Kind::Intermediate => {
             let at = byte_part(room, at, message.status())?;
             data(room, at, message.payload())
-        }
-        Kind::PrintLine => {
-            let at = byte_part(room, at, message.attribute())?;
-            printed(room, at, message.text())
         }
         Kind::Abort => {
             let at = outcome(room, at, message.code())?;
