@@ -15,8 +15,7 @@ pub put_behind : (size end : ℕ) (items put more said : List ℕ) → size ≤ 
     → (size + end ≤ length (take size items ++ (put ++ more))) × (take (size + end) (take size items ++ (put ++ more)) ≡ take size items ++ said)
 put_behind size end items put more said inside most is =
     let text = take size items in
-    let has : length text ≡ size = length-take-le size items inside in
-    (
+    let has : length text ≡ size = length-take-le size items inside in (
       omega (arith, has, length-append text (put ++ more), length-append put more),
       ap (λ (n : ℕ). take (n + end) (text ++ (put ++ more))) (sym has) ∙ take-append-add text (put ++ more) end ∙ ap (λ (l : List ℕ). text ++ l) (take-append-le end put more most ∙ is),
     )

@@ -92,7 +92,11 @@ pub(crate) fn config(room: &mut [u8], at: usize, config: Option<u8>) -> Result<u
 }
 
 /// The currency of a registration.
-pub(crate) fn currency(room: &mut [u8], at: usize, currency: Option<Currency>) -> Result<usize, Full>
+pub(crate) fn currency(
+    room: &mut [u8],
+    at: usize,
+    currency: Option<Currency>,
+) -> Result<usize, Full>
     requires { at ≤ length room.old }
     ensures { Puts result at room.old room.new (part_text named_currency currency) }
 {

@@ -10,7 +10,8 @@ use zvt_bcd::Trace;
 
 /// A trace number and a receipt number.
 pub(crate) fn put_numbers(
-    room: &mut [u8], at: usize,
+    room: &mut [u8],
+    at: usize,
     trace: Trace,
     receipt: Option<[u8; 2]>,
 ) -> Result<usize, Full>

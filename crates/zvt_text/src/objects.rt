@@ -10,7 +10,8 @@ use zvt_tlv::ForestView;
 
 /// A line for each object that stands at a depth; those of the objects in a constructed one follow its own.
 pub(crate) fn object_lines(
-    room: &mut [u8], at: usize,
+    room: &mut [u8],
+    at: usize,
     objects: ForestView<'_>,
     depth: usize,
 ) -> Result<usize, Full>

@@ -74,12 +74,7 @@ pub(crate) fn decimal<I: Integer>(room: &mut [u8], at: usize, number: I) -> Resu
 }
 
 /// Writes a character so many times.
-pub(crate) fn repeat(
-    room: &mut [u8],
-    at: usize,
-    character: u8,
-    count: usize,
-) -> Result<usize, Full>
+pub(crate) fn repeat(room: &mut [u8], at: usize, character: u8, count: usize) -> Result<usize, Full>
     requires { at ≤ length room.old }
     ensures { Puts result at room.old room.new (replicate count character) }
 {

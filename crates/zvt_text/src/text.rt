@@ -1,8 +1,8 @@
 //! Bytes of text, written one behind another.
-ghost use Rattle.std.specs.Prelude.{◌≡◌, ℕ, ◌+◌, ◌≤◌, List, [], ◌∷◌, length, take, IfOk, OnErr, OnOk};
+ghost use Rattle.std.specs.Prelude.{◌≡◌, ℕ, ◌<◌, ◌≤◌, List, [], ◌∷◌, length, take, IfOk, OnErr, OnOk};
 ghost use Rattle.zvt_text.specs.Whole.{Adds, Puts};
 
-use crate::room::Full;
+use crate::room::{self, Full};
 use itoa::{Buffer, Integer};
 use std::alloc::{AllocError, Global};
 use std::marker::Model;
@@ -80,13 +80,7 @@ impl Text {
     pub fn push(&mut self, character: u8) -> Result<(), AllocError>
         ensures { Adds result self.old self.new (character ∷ []) }
     {
-        let at = self.size;
-        if at == self.room.len() {
-            grow(&mut self.room, 1)?;
-        }
-        self.room[at] = character;
-        self.size = at + 1;
-        Ok(())
+        self.add(&Character(character))
     }
 
     /// Writes a word.
@@ -94,14 +88,7 @@ impl Text {
     pub fn word(&mut self, word: &[u8]) -> Result<(), AllocError>
         ensures { Adds result self.old self.new word.now }
     {
-        let at = self.size;
-        if self.room.len() - at < word.len() {
-            grow(&mut self.room, word.len())?;
-        }
-        let end = at + word.len();
-        self.room[at..end].copy_from_slice(word);
-        self.size = end;
-        Ok(())
+        self.add(&Word(word))
     }
 
     /// Writes a number in decimal digits.
@@ -121,7 +108,7 @@ impl Text {
                 self.size = end;
                 return Ok(());
             }
-            grow(&mut self.room, 1)?;
+            grow(&mut self.room)?;
         }
     }
 }
@@ -135,6 +122,32 @@ pub(crate) trait Says {
         ensures { Puts result 0 room.old room.new (said self.now) };
 }
 
+/// One character.
+#[derive(Drop)]
+struct Character(u8);
+
+impl Says for Character {
+    ghost said = { λ c. c.0 ∷ [] };
+
+    #[inline(always)]
+    fn put(&self, room: &mut [u8]) -> Result<usize, Full> {
+        room::push(room, 0, self.0)
+    }
+}
+
+/// One word.
+#[derive(Drop)]
+struct Word<'a>(&'a [u8]);
+
+impl Says for Word<'_> {
+    ghost said = { λ w. w.0.now };
+
+    #[inline(always)]
+    fn put(&self, room: &mut [u8]) -> Result<usize, Full> {
+        room::word(room, 0, self.0)
+    }
+}
+
 /// Writes what is said behind what stands in the room, and answers where it ends.
 #[inline(always)]
 fn put_behind<S: Says>(room: &mut [u8], size: usize, what: &S) -> Result<usize, Full>
@@ -146,15 +159,14 @@ fn put_behind<S: Says>(room: &mut [u8], size: usize, what: &S) -> Result<usize, 
     Ok(size + end)
 }
 
-/// Adds room for so many bytes at least, and for as many as there are.
+/// Adds as much room as there is.
 #[cold]
-fn grow(room: &mut Vec<u8>, more: usize) -> Result<(), AllocError>
-    ensures ok { OnOk result ((length room.old.items + more ≤ length room.new.items) × (take (length room.old.items) room.new.items ≡ room.old.items)) }
+fn grow(room: &mut Vec<u8>) -> Result<(), AllocError>
+    ensures ok { OnOk result ((length room.old.items < length room.new.items) × (take (length room.old.items) room.new.items ≡ room.old.items)) }
     ensures err { OnErr result (room.new.items ≡ room.old.items) }
 {
-    let size = room.len();
-    let Some(least) = size.checked_add(more) else {
+    let Some(twice) = room.len().checked_mul(2) else {
         return Err(AllocError);
     };
-    room.resize(least.max(FIRST_ROOM).max(size.saturating_mul(2)), 0)
+    room.resize(twice.max(FIRST_ROOM), 0)
 }
