@@ -77,7 +77,7 @@ fn tell(alloc: Global, apdu: &ApduView<'_>, room: &mut [u8]) -> Option<usize>
     ensures none { IfNone result (room.new ≡ room.old) }
 {
     let mut text = Text::new(alloc);
-    if zvt_text::message(&mut text, apdu).is_err() {
+    if zvt_text::message(&mut text, b"", apdu).is_err() {
         return None;
     }
     let size = text.size();

@@ -3,16 +3,12 @@ use Rattle.std.proofs.Common.{◌≡◌, ℕ, zero, suc, List, ◌++◌, Result,
 use Rattle.std.specs.Prelude.{OnOk}
 use Rattle.std.specs.declared.alloc.AllocError.{AllocError}
 use Rattle.std.proofs.lemmas.Result.{on_ok_weaker}
-use Rattle.zvt_text.specs.Whole.{Adds, AddsFront}
+use Rattle.zvt_text.specs.Whole.{Adds}
 use Rattle.zvt_trace.specs.declared.direction.Direction.{Direction}
 use Rattle.zvt_trace.specs.declared.listener.Scope.{Scope}
 use Rattle.zvt_notes.specs.Notes.{unread_note, unread_words}
 
 -- where all was added it stands there
-pub front_ok : (r : Result (Unit {0}) AllocError) (old new text : List ℕ) → AddsFront r old new text → OnOk r (new ≡ old ++ text)
-front_ok (Ok u) old new text adds = adds
-front_ok (Err e) old new text adds = tt
-
 pub adds_ok : (r : Result (Unit {0}) AllocError) (old new text : List ℕ) → Adds r old new text → OnOk r (new ≡ old ++ text)
 adds_ok (Ok u) old new text adds = adds
 adds_ok (Err e) old new text adds = tt

@@ -1,2 +1,3 @@
+pub mod AddLemmas
 pub mod BlockLemmas
 pub mod PageLemmas

@@ -1,5 +1,5 @@
 //! The text of what is told.
-ghost use Rattle.std.specs.Prelude.{OnOk};
+ghost use Rattle.std.specs.Prelude.{◌≡◌, OnErr, OnOk};
 ghost use Rattle.zvt_trace.specs.Told.{HasItsBytes, told_of};
 ghost use Rattle.zvt_show.specs.Written.{AddsEvent};
 
@@ -9,7 +9,7 @@ use std::alloc::{AllocError, Global};
 use zvt_text::Text;
 use zvt_trace::Told;
 
-/// Writes a message, or what becomes of the line.
+/// Writes a message, or what becomes of the line. Where memory is refused the text is as it was.
 #[inline(always)]
 pub(crate) fn write(
     text: &mut Text,
@@ -18,7 +18,8 @@ pub(crate) fn write(
     told: &Told<'_>,
 ) -> Result<(), AllocError>
     requires { HasItsBytes told.now }
-    ensures { OnOk result (AddsEvent style (told_of told.now) text.old text.new) }
+    ensures adds { OnOk result (AddsEvent style (told_of told.now) text.old text.new) }
+    ensures keeps { OnErr result (text.new ≡ text.old) }
 {
     match told {
         Told::Message {
@@ -32,9 +33,9 @@ pub(crate) fn write(
             place,
             why,
             ..
-        } => style::refused(text, style, *from, *place, *why),
-        Told::Unread { from } => style::stopped(text, style, *from),
-        Told::CutOff { from, have, .. } => style::truncated(text, style, *from, *have),
+        } => style::refused(text, alloc, style, *from, *place, *why),
+        Told::Unread { from } => style::stopped(text, alloc, style, *from),
+        Told::CutOff { from, have, .. } => style::truncated(text, alloc, style, *from, *have),
         Told::Lost => style::lost(text, style),
     }
 }

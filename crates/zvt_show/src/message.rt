@@ -1,10 +1,11 @@
 //! The text of a message.
-ghost use Rattle.std.specs.Prelude.{◌≡◌, ◌++◌, ◌∷◌, [], OnOk};
+ghost use Rattle.std.specs.Prelude.{◌≡◌, ◌++◌, ◌∷◌, [], OnErr, OnOk};
 ghost use Rattle.zvt_tlv.specs.Lengths.{reading_of};
 ghost use Rattle.zvt_apdu.specs.Grammar.{Spells};
 ghost use Rattle.zvt_trace.specs.Lines.{direction_text};
 ghost use Rattle.zvt_show.specs.Text.{joined, receipt, shown};
 ghost use Rattle.zvt_show.specs.Written.{AddsMessage};
+ghost use Rattle.zvt_text.specs.Whole.{Adds};
 ghost use Rattle.zvt_show.specs.declared.style.Style.TheVariants.{Join};
 
 use crate::style::Style;
@@ -26,7 +27,8 @@ pub(crate) fn write(
     lengths: Lengths,
 ) -> Result<(), AllocError>
     requires { Spells (reading_of lengths) apdu.now bytes.now }
-    ensures { OnOk result (AddsMessage style from apdu.now text.old text.new) }
+    ensures adds { OnOk result (AddsMessage style from apdu.now text.old text.new) }
+    ensures keeps { OnErr result (text.new ≡ text.old) }
 {
     match style {
         Style::Show => show(text, from, apdu),
@@ -38,20 +40,19 @@ pub(crate) fn write(
 /// Its direction and what it says.
 #[inline(always)]
 fn show(text: &mut Text, from: Direction, apdu: &ApduView<'_>) -> Result<(), AllocError>
-    ensures { OnOk result (text.new ≡ text.old ++ shown from apdu.now) }
+    ensures { Adds result text.old text.new (shown from apdu.now) }
 {
-    begin(text, from)?;
-    zvt_text::message(text, apdu)
+    zvt_text::message(text, front(from), apdu)
 }
 
-/// Its direction, and a space.
+/// A direction, and a space.
 #[inline(always)]
-fn begin(text: &mut Text, from: Direction) -> Result<(), AllocError>
-    ensures { OnOk result (text.new ≡ text.old ++ direction_text from ++ 32 ∷ []) }
+fn front(from: Direction) -> &'static [u8]
+    ensures { result.now ≡ direction_text from ++ 32 ∷ [] }
 {
     match from {
-        Direction::FromTill => text.word(b"> "),
-        Direction::FromTerminal => text.word(b"< "),
+        Direction::FromTill => b"> ",
+        Direction::FromTerminal => b"< ",
     }
 }
 
@@ -66,7 +67,8 @@ fn join(
     lengths: Lengths,
 ) -> Result<(), AllocError>
     requires { Spells (reading_of lengths) apdu.now bytes.now }
-    ensures { OnOk result (AddsMessage Join from apdu.now text.old text.new) }
+    ensures adds { OnOk result (AddsMessage Join from apdu.now text.old text.new) }
+    ensures keeps { OnErr result (text.new ≡ text.old) }
 {
     match lengths {
         Lengths::Shortest => line(text, from, bytes),
@@ -82,7 +84,8 @@ fn normal_line(
     from: Direction,
     apdu: &ApduView<'_>,
 ) -> Result<(), AllocError>
-    ensures { OnOk result (AddsMessage Join from apdu.now text.old text.new) }
+    ensures adds { OnOk result (AddsMessage Join from apdu.now text.old text.new) }
+    ensures keeps { OnErr result (text.new ≡ text.old) }
 {
     let message = owned(alloc, apdu)?;
     let bytes = encode(alloc, &message)?;
@@ -92,25 +95,20 @@ fn normal_line(
 /// A direction and bytes.
 #[inline(always)]
 fn line(text: &mut Text, from: Direction, bytes: &[u8]) -> Result<(), AllocError>
-    ensures { OnOk result (text.new ≡ text.old ++ joined from bytes.now) }
+    ensures { Adds result text.old text.new (joined from bytes.now) }
 {
-    begin(text, from)?;
-    zvt_text::hexadecimal(text, bytes)?;
-    text.push(b'\n')
+    zvt_text::line(text, front(from), bytes)
 }
 
 /// The text of a print line of the terminal.
 fn receipt(text: &mut Text, from: Direction, apdu: &ApduView<'_>) -> Result<(), AllocError>
-    ensures { OnOk result (text.new ≡ text.old ++ receipt from apdu.now) }
+    ensures { Adds result text.old text.new (receipt from apdu.now) }
 {
     if from == Direction::FromTill {
         return Ok(());
     }
     match apdu.text() {
-        Some(line) => {
-            zvt_text::escaped(text, line)?;
-            text.push(b'\n')
-        }
+        Some(line) => zvt_text::escaped_line(text, line),
         None => Ok(()),
     }
 }

@@ -1,5 +1,5 @@
 //! Text that goes out in blocks.
-ghost use Rattle.std.specs.Prelude.{[], ◌≡◌, ◌≤◌, ◌<◌, ◌⊎◌, Err, IfErr, OnErr, OnOk};
+ghost use Rattle.std.specs.Prelude.{[], ◌≡◌, IfErr, OnErr, OnOk};
 ghost use Rattle.std.specs.Io.KnownBytes.{Appends, Keeps};
 ghost use Rattle.zvt_io.specs.Devices.{CountsFailure};
 ghost use Rattle.zvt_trace.specs.Written.{AppendsFront};
@@ -8,7 +8,6 @@ ghost use Rattle.zvt_show.specs.Written.{Extends, IsShortOf, behind};
 use crate::event;
 use crate::style::Style;
 use std::alloc::Global;
-use std::mem;
 use zvt_io::Sink;
 use zvt_text::Text;
 use zvt_trace::{Failure, Listener, Told};
@@ -21,7 +20,6 @@ const BLOCK: usize = 65_536;
 pub(crate) struct Pages {
     alloc: Global,
     style: Style,
-    draft: Text,
     pub(crate) block: Text,
 }
 
@@ -34,7 +32,6 @@ impl Pages {
         Pages {
             alloc,
             style,
-            draft: Text::new(alloc),
             block: Text::new(alloc),
         }
     }
@@ -49,31 +46,25 @@ impl<W: Sink> Listener<W> for Pages {
 
     #[inline(always)]
     fn hear(&mut self, device: &mut W, _line: u64, told: &Told<'_>) -> Result<(), Failure> {
-        self.draft.clear();
-        event::write(&mut self.draft, self.alloc, self.style, told)?;
-        move_in(&mut self.draft, &mut self.block, device)
+        flush_full(&mut self.block, device)?;
+        event::write(&mut self.block, self.alloc, self.style, told)?;
+        Ok(())
     }
 }
 
-/// Puts the text behind the block. Where either is full, the block is written first, and the text becomes the block
-/// without a copy.
+/// Writes a full block, before the text of the next event joins it.
 #[inline(always)]
-fn move_in<W: Sink>(text: &mut Text, block: &mut Text, writer: &mut W) -> Result<(), Failure>
-    ensures moved { OnOk result (Appends (behind (W.written writer.old) block.old) (behind (W.written writer.new) block.new) text.old) }
-    ensures write { result ≡ Err Failure.Write → W.failures writer.old < W.failures writer.new }
-    ensures least { W.failures writer.old ≤ W.failures writer.new }
-    ensures count { OnOk result (W.failures writer.new ≡ W.failures writer.old) }
-    ensures memory { result ≡ Err Failure.Memory → Keeps (behind (W.written writer.old) block.old) (behind (W.written writer.new) block.new) }
-    ensures short { result ≡ Err Failure.Write → IsShortOf (behind (W.written writer.old) block.old) (behind (W.written writer.new) block.new) }
+fn flush_full<W: Sink>(block: &mut Text, writer: &mut W) -> Result<(), Failure>
+    ensures same { OnOk result (Keeps (behind (W.written writer.old) block.old) (behind (W.written writer.new) block.new)) }
+    ensures fault { IfErr result (λ failure. failure ≡ Failure.Write) }
+    ensures failures { CountsFailure (W.failures writer.old) (W.failures writer.new) result }
+    ensures short { OnErr result (IsShortOf (behind (W.written writer.old) block.old) (behind (W.written writer.new) block.new)) }
     ensures extends { Extends (W.written writer.old) (W.written writer.new) }
 {
-    if block.size() < BLOCK && text.size() < BLOCK {
-        block.word(text.bytes())?;
+    if block.size() < BLOCK {
         return Ok(());
     }
-    flush(block, writer)?;
-    mem::swap(block, text);
-    Ok(())
+    flush(block, writer)
 }
 
 /// Writes the block to the device and empties it, also where the write fails.

@@ -1,9 +1,10 @@
 //! How what a trace tells is written.
-ghost use Rattle.std.specs.Prelude.{◌≡◌, ◌++◌, OnOk};
+ghost use Rattle.std.specs.Prelude.{◌≡◌, ◌++◌, IfOk};
+ghost use Rattle.zvt_text.specs.Whole.{Adds};
 ghost use Rattle.zvt_trace.specs.Lines.{direction_text};
 ghost use Rattle.zvt_show.specs.Lines.{lost_text, refused_text, stopped_text, truncated_text};
 
-use std::alloc::AllocError;
+use std::alloc::{AllocError, Global};
 use zvt_spelling::Why;
 use zvt_text::Text;
 use zvt_trace::Direction;
@@ -35,55 +36,61 @@ impl Style {
     }
 }
 
-/// The beginning of a line that is no part of a trace.
-fn begin(text: &mut Text, mark: &str, from: Direction, words: &[u8]) -> Result<(), AllocError>
-    ensures { OnOk result (text.new ≡ text.old ++ mark.now ++ direction_text from ++ words.now) }
+/// The beginning of a line that is no part of a trace. It is made apart from the text, so that it joins it whole.
+fn begun(alloc: Global, mark: &str, from: Direction, words: &[u8]) -> Result<Text, AllocError>
+    ensures { IfOk result (λ line. line ≡ mark.now ++ direction_text from ++ words.now) }
 {
-    text.word(mark.as_bytes())?;
-    text.word(from.sign().as_bytes())?;
-    text.word(words)
+    let mut line = Text::new(alloc);
+    line.word(mark.as_bytes())?;
+    line.word(from.sign().as_bytes())?;
+    line.word(words)?;
+    Ok(line)
 }
 
 /// The line of a refused stream.
 pub(crate) fn refused(
     text: &mut Text,
+    alloc: Global,
     style: Style,
     from: Direction,
     place: usize,
     why: Why,
 ) -> Result<(), AllocError>
-    ensures { OnOk result (text.new ≡ text.old ++ refused_text style from place why) }
+    ensures { Adds result text.old text.new (refused_text style from place why) }
 {
     let Some(mark) = style.mark() else {
         return Ok(());
     };
-    begin(text, mark, from, b" refused at ")?;
-    text.number(place as u64)?;
-    text.word(b": ")?;
-    text.word(why.name().as_bytes())?;
-    text.push(b'\n')
+    let mut line = begun(alloc, mark, from, b" refused at ")?;
+    line.number(place as u64)?;
+    line.word(b": ")?;
+    line.word(why.name().as_bytes())?;
+    line.push(b'\n')?;
+    text.word(line.bytes())
 }
 
 /// The line of a stream that ends inside a message.
 pub(crate) fn truncated(
     text: &mut Text,
+    alloc: Global,
     style: Style,
     from: Direction,
     have: usize,
 ) -> Result<(), AllocError>
-    ensures { OnOk result (text.new ≡ text.old ++ truncated_text style from have) }
+    ensures { Adds result text.old text.new (truncated_text style from have) }
 {
     let Some(mark) = style.mark() else {
         return Ok(());
     };
-    begin(text, mark, from, b" truncated after ")?;
-    text.number(have as u64)?;
-    text.push(b'\n')
+    let mut line = begun(alloc, mark, from, b" truncated after ")?;
+    line.number(have as u64)?;
+    line.push(b'\n')?;
+    text.word(line.bytes())
 }
 
 /// The line of a loss.
 pub(crate) fn lost(text: &mut Text, style: Style) -> Result<(), AllocError>
-    ensures { OnOk result (text.new ≡ text.old ++ lost_text style) }
+    ensures { Adds result text.old text.new (lost_text style) }
 {
     match style {
         Style::Show => text.word(b"! line lost\n"),
@@ -93,11 +100,17 @@ pub(crate) fn lost(text: &mut Text, style: Style) -> Result<(), AllocError>
 }
 
 /// The line of a piece behind a refusal.
-pub(crate) fn stopped(text: &mut Text, style: Style, from: Direction) -> Result<(), AllocError>
-    ensures { OnOk result (text.new ≡ text.old ++ stopped_text style from) }
+pub(crate) fn stopped(
+    text: &mut Text,
+    alloc: Global,
+    style: Style,
+    from: Direction,
+) -> Result<(), AllocError>
+    ensures { Adds result text.old text.new (stopped_text style from) }
 {
     let Some(mark) = style.mark() else {
         return Ok(());
     };
-    begin(text, mark, from, b" stopped\n")
+    let line = begun(alloc, mark, from, b" stopped\n")?;
+    text.word(line.bytes())
 }

@@ -1,4 +1,5 @@
 pub mod HexText
+pub mod RoomLemmas
 pub mod Rows
 pub mod Secrets
 pub mod DetailLemmas

@@ -1,14 +1,11 @@
--- Texts that are written whole, or as far as memory goes.
-use Rattle.std.specs.Prelude.{◌≡◌, ◌≤◌, ℕ, List, [], ◌++◌, length, Result, MatchResult}
+-- Texts that are written whole, or not at all.
+use Rattle.std.specs.Prelude.{◌≡◌, ◌≤◌, ℕ, List, ◌++◌, length, take, Result, IfOk, MatchResult}
 
 -- The text grew by all that was to be said; or it stayed, where memory was refused.
 abbrev pub Adds : {E : Type 0} → Result Unit E → (old new : List ℕ) → (said : List ℕ) → Type 0
 Adds result old new said = MatchResult result (λ _. new ≡ old ++ said) (λ _. new ≡ old)
 
--- The same, where a front of it may stand.
-abbrev pub AddsFront : {E : Type 0} → Result Unit E → (old new : List ℕ) → (said : List ℕ) → Type 0
-AddsFront result old new said = MatchResult result (λ _. new ≡ old ++ said) (λ _. (length old ≤ length new) × (rest : List ℕ) × (old ++ said ≡ new ++ rest))
-
--- The text grew by all that was to be said; or nothing is left of it, where memory was refused.
-abbrev pub Drafts : {E : Type 0} → Result Unit E → (old new : List ℕ) → (said : List ℕ) → Type 0
-Drafts result old new said = MatchResult result (λ _. new ≡ old ++ said) (λ _. new ≡ [])
+-- The text ends at a place in the room, and is what stood before the place at which it began, and what was said; where
+-- the room is full nothing is known of it.
+abbrev pub Puts : {E : Type 0} → Result ℕ E → (at : ℕ) → (old new : List ℕ) → (said : List ℕ) → Type 0
+Puts result at old new said = IfOk result (λ end. (end ≤ length new) × (take end new ≡ take at old ++ said))

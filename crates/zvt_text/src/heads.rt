@@ -1,32 +1,38 @@
 //! The heads of messages.
-ghost use Rattle.std.specs.Prelude.{◌≡◌, ◌++◌, OnOk};
+ghost use Rattle.std.specs.Prelude.{◌≡◌, ◌≢◌, ◌≤◌, length};
+ghost use Rattle.zvt_apdu.specs.Kinds.{kind_of};
 ghost use Rattle.zvt_text.specs.Said.{detail_text, head_text, kind_name};
+ghost use Rattle.zvt_text.specs.Whole.{Puts};
 
 use crate::details::{byte_part, config, control, currency, data, outcome, printed};
-use crate::text::Text;
-use std::alloc::AllocError;
+use crate::room::{Full, fixed, word};
 use zvt_apdu::{ApduView, Kind};
 
 /// The name of a message's kind, and what it says behind it.
-pub(crate) fn head(text: &mut Text, message: &ApduView<'_>) -> Result<(), AllocError>
-    ensures { OnOk result (text.new ≡ text.old ++ head_text message.now) }
+pub(crate) fn head(room: &mut [u8], at: usize, message: &ApduView<'_>) -> Result<usize, Full>
+    requires { at ≤ length room.old }
+    ensures { Puts result at room.old room.new (head_text message.now) }
 {
-    kind_word(text, message.kind())?;
-    detail(text, message)
-}
-
-/// The name of a kind: those that come most in a word each.
-#[inline(always)]
-fn kind_word(text: &mut Text, kind: Kind) -> Result<(), AllocError>
-    ensures { OnOk result (text.new ≡ text.old ++ kind_name kind) }
-{
-    match kind {
-        Kind::Ack => text.word(b"Ack"),
-        Kind::Authorisation => text.word(b"Authorisation"),
-        Kind::Status => text.word(b"Status"),
-        Kind::PrintLine => text.word(b"PrintLine"),
-        Kind::Completion => text.word(b"Completion"),
-        _ => text.word(kind_name(kind).as_bytes()),
+    match message.kind() {
+        Kind::Ack => {
+            let payload = message.payload();
+            let at = fixed(room, at, *b"Ack")?;
+            data(room, at, payload)
+        }
+        Kind::Authorisation => fixed(room, at, *b"Authorisation"),
+        Kind::Status => fixed(room, at, *b"Status"),
+        Kind::PrintLine => {
+            let attribute = message.attribute();
+            let line = message.text();
+            let at = fixed(room, at, *b"PrintLine")?;
+            let at = byte_part(room, at, attribute)?;
+            printed(room, at, line)
+        }
+        Kind::Completion => fixed(room, at, *b"Completion"),
+        kind => {
+            let at = word(room, at, kind_name(kind).as_bytes())?;
+            detail(room, at, message)
+        }
     }
 }
 
@@ -52,36 +58,34 @@ pub fn kind_name(kind: Kind) -> &'static str
     }
 }
 
-/// What the head says behind the name.
-fn detail(text: &mut Text, message: &ApduView<'_>) -> Result<(), AllocError>
-    ensures { OnOk result (text.new ≡ text.old ++ detail_text message.now) }
+/// What the heads of all other kinds say behind the name.
+fn detail(room: &mut [u8], at: usize, message: &ApduView<'_>) -> Result<usize, Full>
+    requires inside { at ≤ length room.old }
+    requires no_ack { kind_of message.now ≢ Kind.Ack }
+    requires no_line { kind_of message.now ≢ Kind.PrintLine }
+    ensures { Puts result at room.old room.new (detail_text message.now) }
 {
     match message.kind() {
-        Kind::Ack => data(text, message.payload()),
         Kind::Nack => {
-            byte_part(text, message.code())?;
-            data(text, message.payload())
+            let at = byte_part(room, at, message.code())?;
+            data(room, at, message.payload())
         }
         Kind::Registration => {
-            config(text, message.config())?;
-            currency(text, message.currency())
+            let at = config(room, at, message.config())?;
+            currency(room, at, message.currency())
         }
         Kind::Intermediate => {
-            byte_part(text, message.status())?;
-            data(text, message.payload())
-        }
-        Kind::PrintLine => {
-            byte_part(text, message.attribute())?;
-            printed(text, message.text())
+            let at = byte_part(room, at, message.status())?;
+            data(room, at, message.payload())
         }
         Kind::Abort => {
-            outcome(text, message.code())?;
-            data(text, message.payload())
+            let at = outcome(room, at, message.code())?;
+            data(room, at, message.payload())
         }
         Kind::Other => {
-            control(text, message.control())?;
-            data(text, message.payload())
+            let at = control(room, at, message.control())?;
+            data(room, at, message.payload())
         }
-        _ => Ok(()),
+        _ => Ok(at),
     }
 }

@@ -3,6 +3,7 @@
 
 mod bytes;
 mod details;
+mod digits;
 mod drafts;
 mod heads;
 mod kept;
@@ -10,11 +11,11 @@ pub mod laws;
 mod lines;
 mod objects;
 mod results;
+mod room;
 mod said;
 mod text;
 mod values;
 
-pub use bytes::hexadecimal;
-pub use drafts::{escaped, message, numbers, result_words};
+pub use drafts::{escaped_line, hexadecimal, line, message, numbers, result_words};
 pub use heads::kind_name;
 pub use text::Text;

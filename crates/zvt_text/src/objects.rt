@@ -1,45 +1,49 @@
 //! The lines of a container's objects.
-ghost use Rattle.std.specs.Prelude.{◌≡◌, ◌+◌, ◌*◌, ◌≤◌, ◌++◌, true, OnOk, replicate};
+ghost use Rattle.std.specs.Prelude.{◌≡◌, ◌+◌, ◌≤◌, true, length};
 ghost use Rattle.zvt_tlv.specs.Checks.{is_shallow};
 ghost use Rattle.zvt_text.specs.Lines.{object_head, object_lines};
+ghost use Rattle.zvt_text.specs.Whole.{Puts};
 
-use crate::bytes::{bytes_or_dash, hexadecimal};
-use crate::text::Text;
-use std::alloc::AllocError;
+use crate::bytes::bytes_or_dash;
+use crate::room::{Full, fixed, hexadecimal, push, repeat};
 use zvt_tlv::ForestView;
 
 /// A line for each object that stands at a depth; those of the objects in a constructed one follow its own.
 pub(crate) fn object_lines(
-    text: &mut Text,
+    room: &mut [u8],
+    at: usize,
     objects: ForestView<'_>,
     depth: usize,
-) -> Result<(), AllocError>
+) -> Result<usize, Full>
     requires shallow { is_shallow depth objects ≡ true }
     requires most { depth ≤ 6 }
-    ensures { OnOk result (text.new ≡ text.old ++ object_lines depth objects.entry) }
+    requires inside { at ≤ length room.old }
+    ensures { Puts result at room.old room.new (object_lines depth objects.entry) }
 {
+    let mut end = at;
     for object in objects {
-        head(text, object.tag, depth)?;
+        let at = head(room, end, object.tag, depth)?;
         match object.children() {
             None => {
-                bytes_or_dash(text, object.content)?;
-                text.push(b'\n')?;
+                let at = bytes_or_dash(room, at, object.content)?;
+                end = push(room, at, b'\n')?;
             }
             Some(inner) => {
-                text.word(b"constructed\n")?;
-                object_lines(text, inner, depth + 1)?;
+                let at = fixed(room, at, *b"constructed\n")?;
+                end = object_lines(room, at, inner, depth + 1)?;
             }
         }
     }
-    Ok(())
+    Ok(end)
 }
 
 /// What stands before an object's content.
-fn head(text: &mut Text, tag: &[u8], depth: usize) -> Result<(), AllocError>
-    requires { depth ≤ 6 }
-    ensures { OnOk result (text.new ≡ text.old ++ object_head depth tag.now) }
+fn head(room: &mut [u8], at: usize, tag: &[u8], depth: usize) -> Result<usize, Full>
+    requires most { depth ≤ 6 }
+    requires inside { at ≤ length room.old }
+    ensures { Puts result at room.old room.new (object_head depth tag.now) }
 {
-    text.repeat(b' ', 2 + 2 * depth)?;
-    hexadecimal(text, tag)?;
-    text.push(b' ')
+    let at = repeat(room, at, b' ', 2 + 2 * depth)?;
+    let at = hexadecimal(room, at, tag)?;
+    push(room, at, b' ')
 }

@@ -1,24 +1,25 @@
 //! The words of result codes.
-ghost use Rattle.std.specs.Prelude.{◌≡◌, ◌++◌, OnOk, option_map};
+ghost use Rattle.std.specs.Prelude.{◌≡◌, ◌≤◌, length, option_map};
 ghost use Rattle.zvt_text.specs.Results.{meaning_of, result_words};
+ghost use Rattle.zvt_text.specs.Whole.{Puts};
 
 use crate::bytes::byte;
-use crate::text::Text;
-use std::alloc::AllocError;
+use crate::room::{Full, fixed, push, word};
 
-/// A result code and what it means. Where memory is refused the text ends anywhere.
-pub(crate) fn put_result(text: &mut Text, code: u8) -> Result<(), AllocError>
-    ensures { OnOk result (text.new ≡ text.old ++ result_words code) }
+/// A result code and what it means.
+pub(crate) fn put_result(room: &mut [u8], at: usize, code: u8) -> Result<usize, Full>
+    requires { at ≤ length room.old }
+    ensures { Puts result at room.old room.new (result_words code) }
 {
     match meaning(code) {
         Some(meaning) => {
-            byte(text, code)?;
-            text.push(b' ')?;
-            text.word(meaning.as_bytes())
+            let at = byte(room, at, code)?;
+            let at = push(room, at, b' ')?;
+            word(room, at, meaning.as_bytes())
         }
         None => {
-            text.word(b"code ")?;
-            byte(text, code)
+            let at = fixed(room, at, *b"code ")?;
+            byte(room, at, code)
         }
     }
 }

@@ -1,9 +1,8 @@
 //! Bytes of text, written one behind another.
-ghost use Rattle.std.specs.Prelude.{◌≡◌, ◌+◌, ◌≤◌, [], ◌∷◌, ◌++◌, length, replicate, take, IfOk, OnErr, OnOk};
-ghost use Rattle.hex.specs.Hex.{encode_upper};
-ghost use Rattle.zvt_text.specs.Whole.{Adds};
+ghost use Rattle.std.specs.Prelude.{◌≡◌, ℕ, ◌<◌, ◌≤◌, List, [], ◌∷◌, length, take, IfOk, OnErr, OnOk};
+ghost use Rattle.zvt_text.specs.Whole.{Adds, Puts};
 
-use crate::bytes::{CHUNK, write_digits};
+use crate::room::{self, Full};
 use itoa::{Buffer, Integer};
 use std::alloc::{AllocError, Global};
 use std::marker::Model;
@@ -81,13 +80,7 @@ impl Text {
     pub fn push(&mut self, character: u8) -> Result<(), AllocError>
         ensures { Adds result self.old self.new (character ∷ []) }
     {
-        let at = self.size;
-        if at == self.room.len() {
-            grow(&mut self.room, 1)?;
-        }
-        self.room[at] = character;
-        self.size = at + 1;
-        Ok(())
+        self.add(&Character(character))
     }
 
     /// Writes a word.
@@ -95,31 +88,7 @@ impl Text {
     pub fn word(&mut self, word: &[u8]) -> Result<(), AllocError>
         ensures { Adds result self.old self.new word.now }
     {
-        let at = self.size;
-        if self.room.len() - at < word.len() {
-            grow(&mut self.room, word.len())?;
-        }
-        let end = at + word.len();
-        self.room[at..end].copy_from_slice(word);
-        self.size = end;
-        Ok(())
-    }
-
-    /// Writes bytes in hexadecimal.
-    #[inline(always)]
-    pub(crate) fn hexadecimal(&mut self, bytes: &[u8]) -> Result<(), AllocError>
-        requires { length bytes.now ≤ CHUNK }
-        ensures { Adds result self.old self.new (encode_upper bytes.now) }
-    {
-        let at = self.size;
-        let more = 2 * bytes.len();
-        if self.room.len() - at < more {
-            grow(&mut self.room, more)?;
-        }
-        let end = at + more;
-        write_digits(bytes, &mut self.room[at..end]);
-        self.size = end;
-        Ok(())
+        self.add(&Word(word))
     }
 
     /// Writes a number in decimal digits.
@@ -129,26 +98,75 @@ impl Text {
         self.word(Buffer::new().format(number).as_bytes())
     }
 
-    /// Writes a character so many times. Where memory is refused, some of them stand.
-    pub(crate) fn repeat(&mut self, character: u8, count: usize) -> Result<(), AllocError>
-        ensures { OnOk result (self.new ≡ self.old ++ replicate count character) }
+    /// Writes what is said.
+    #[inline(always)]
+    pub(crate) fn add<S: Says>(&mut self, what: &S) -> Result<(), AllocError>
+        ensures { Adds result self.old self.new (S.said what.now) }
     {
-        for _ in 0..count {
-            self.push(character)?;
+        'tries: loop {
+            if let Ok(end) = put_behind(&mut self.room, self.size, what) {
+                self.size = end;
+                return Ok(());
+            }
+            grow(&mut self.room)?;
         }
-        Ok(())
     }
 }
 
-/// Adds room for so many bytes at least, and for as many as there are.
+/// What can be written whole.
+pub(crate) trait Says {
+    ghost said: { Self → List ℕ };
+
+    /// Writes it where the room begins, and answers its size.
+    fn put(&self, room: &mut [u8]) -> Result<usize, Full>
+        ensures { Puts result 0 room.old room.new (said self.now) };
+}
+
+/// One character.
+#[derive(Drop)]
+struct Character(u8);
+
+impl Says for Character {
+    ghost said = { λ c. c.0 ∷ [] };
+
+    #[inline(always)]
+    fn put(&self, room: &mut [u8]) -> Result<usize, Full> {
+        room::push(room, 0, self.0)
+    }
+}
+
+/// One word.
+#[derive(Drop)]
+struct Word<'a>(&'a [u8]);
+
+impl Says for Word<'_> {
+    ghost said = { λ w. w.0.now };
+
+    #[inline(always)]
+    fn put(&self, room: &mut [u8]) -> Result<usize, Full> {
+        room::word(room, 0, self.0)
+    }
+}
+
+/// Writes what is said behind what stands in the room, and answers where it ends.
+#[inline(always)]
+fn put_behind<S: Says>(room: &mut [u8], size: usize, what: &S) -> Result<usize, Full>
+    requires { size ≤ length room.old }
+    ensures puts { Puts result size room.old room.new (S.said what.now) }
+    ensures keeps { take size room.new ≡ take size room.old }
+{
+    let end = what.put(&mut room[size..])?;
+    Ok(size + end)
+}
+
+/// Adds as much room as there is.
 #[cold]
-fn grow(room: &mut Vec<u8>, more: usize) -> Result<(), AllocError>
-    ensures ok { OnOk result ((length room.old.items + more ≤ length room.new.items) × (take (length room.old.items) room.new.items ≡ room.old.items)) }
+fn grow(room: &mut Vec<u8>) -> Result<(), AllocError>
+    ensures ok { OnOk result ((length room.old.items < length room.new.items) × (take (length room.old.items) room.new.items ≡ room.old.items)) }
     ensures err { OnErr result (room.new.items ≡ room.old.items) }
 {
-    let size = room.len();
-    let Some(least) = size.checked_add(more) else {
+    let Some(twice) = room.len().checked_mul(2) else {
         return Err(AllocError);
     };
-    room.resize(least.max(FIRST_ROOM).max(size.saturating_mul(2)), 0)
+    room.resize(twice.max(FIRST_ROOM), 0)
 }

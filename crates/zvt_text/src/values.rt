@@ -1,33 +1,34 @@
 //! The values of fields whose content is bytes.
-ghost use Rattle.std.specs.Prelude.{◌≡◌, ◌++◌, OnOk};
+ghost use Rattle.std.specs.Prelude.{◌≡◌, ◌≤◌, length};
 ghost use Rattle.zvt_bcd.specs.Digits.{number_of};
 ghost use Rattle.zvt_field.specs.Views.{PlainBytes};
 ghost use Rattle.zvt_text.specs.Lines.{result_text, value_text};
+ghost use Rattle.zvt_text.specs.Whole.{Puts};
 
 use crate::bytes::{bytes_or_dash, quote};
 use crate::results::put_result;
-use crate::text::Text;
-use std::alloc::AllocError;
+use crate::room::{Full, decimal, fixed};
 use zvt_bcd::number;
 
 /// An amount in its smallest unit, a result in words, quoted text, the size of what is hidden, or bytes in hexadecimal.
-pub(crate) fn value(text: &mut Text, bmp: u8, content: &[u8]) -> Result<(), AllocError>
-    requires { PlainBytes bmp content.now }
-    ensures { OnOk result (text.new ≡ text.old ++ value_text bmp content.now) }
+pub(crate) fn value(room: &mut [u8], at: usize, bmp: u8, content: &[u8]) -> Result<usize, Full>
+    requires plain { PlainBytes bmp content.now }
+    requires inside { at ≤ length room.old }
+    ensures { Puts result at room.old room.new (value_text bmp content.now) }
 {
     match bmp {
         0x04 => {
             let units = units(content);
-            text.number(units)
+            decimal(room, at, units)
         }
-        0x27 => outcome(text, content),
-        0x2A | 0x8B => quote(text, content),
+        0x27 => outcome(room, at, content),
+        0x2A | 0x8B => quote(room, at, content),
         0x22 | 0x23 | 0x24 | 0x2D | 0x3A | 0x3D => {
-            text.word(b"hidden ")?;
+            let at = fixed(room, at, *b"hidden ")?;
             let hidden = content.len() as u64;
-            text.number(hidden)
+            decimal(room, at, hidden)
         }
-        _ => bytes_or_dash(text, content),
+        _ => bytes_or_dash(room, at, content),
     }
 }
 
@@ -39,11 +40,12 @@ fn units(content: &[u8]) -> u64
     number(content)
 }
 
-fn outcome(text: &mut Text, content: &[u8]) -> Result<(), AllocError>
-    ensures { OnOk result (text.new ≡ text.old ++ result_text content.now) }
+fn outcome(room: &mut [u8], at: usize, content: &[u8]) -> Result<usize, Full>
+    requires { at ≤ length room.old }
+    ensures { Puts result at room.old room.new (result_text content.now) }
 {
     match content {
-        [code] => put_result(text, *code),
-        _ => bytes_or_dash(text, content),
+        [code] => put_result(room, at, *code),
+        _ => bytes_or_dash(room, at, content),
     }
 }

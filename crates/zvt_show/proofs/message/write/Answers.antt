@@ -1,13 +1,13 @@
 use Rattle.std.proofs.Common.{refl}
-use Rattle.std.proofs.lemmas.Result.{on_ok_weaker}
 use Rattle.zvt_show.specs.Text.{receipt, shown}
+use Rattle.zvt_show.proofs.AddLemmas.{where_added}
 use Rattle.zvt_show.proofs.message.write.Goals as goal
 
-pub returns-in-Show : goal.returns-in-Show
-returns-in-Show c = rw c.in-Show.is (on_ok_weaker c.show.result (λ told. record { one = shown c.args.from c.args.apdu.now; says = refl; grown = told }) c.show.ensures)
+pub returns-in-Show-clause-adds : goal.returns-in-Show-clause-adds
+returns-in-Show-clause-adds c = rw c.in-Show.is (where_added c.show.result c.args.text.now _ (shown c.args.from c.args.apdu.now) (λ told. record { one = shown c.args.from c.args.apdu.now; says = refl; grown = told }) c.show.ensures)
 
-pub returns-in-Join : goal.returns-in-Join
-returns-in-Join c = rw c.in-Join.is c.join.ensures
+pub returns-in-Join-clause-adds : goal.returns-in-Join-clause-adds
+returns-in-Join-clause-adds c = rw c.in-Join.is c.join.ensures.adds
 
-pub returns-in-Receipts : goal.returns-in-Receipts
-returns-in-Receipts c = rw c.in-Receipts.is (on_ok_weaker c.receipt.result (λ told. record { one = receipt c.args.from c.args.apdu.now; says = refl; grown = told }) c.receipt.ensures)
+pub returns-in-Receipts-clause-adds : goal.returns-in-Receipts-clause-adds
+returns-in-Receipts-clause-adds c = rw c.in-Receipts.is (where_added c.receipt.result c.args.text.now _ (receipt c.args.from c.args.apdu.now) (λ told. record { one = receipt c.args.from c.args.apdu.now; says = refl; grown = told }) c.receipt.ensures)

@@ -5,14 +5,14 @@ use Rattle.zvt_text.specs.Lines.{field_line}
 use Rattle.zvt_text.proofs.FieldLemmas.{plain_shown, tree_shown, objects_shallow}
 use Rattle.zvt_text.proofs.lines.field_line.Goals as goal
 
-pub value-requires : goal.value-requires
-value-requires c = (plain_of _ _ c.args.field.now.field c.in-None.ensures).0
+pub value-requires-clause-plain : goal.value-requires-clause-plain
+value-requires-clause-plain c = (plain_of _ _ c.args.field.now.field c.in-None.ensures).0
 
 pub object_lines-requires-clause-shallow : goal.object_lines-requires-clause-shallow
 object_lines-requires-clause-shallow c = objects_shallow c.args.field.now c.in-Some.objects c.in-Some.ensures
 
-pub returns-in_ok-value-in-None : goal.returns-in_ok-value-in-None
-returns-in_ok-value-in-None c = let e = ap field_line (plain_shown c.args.field.now c.in-None.ensures) in rw e (grind (arith, common_steps))
+pub returns-in_ok-at-in-None-2 : goal.returns-in_ok-at-in-None-2
+returns-in_ok-at-in-None-2 c = let e = ap field_line (plain_shown c.args.field.now c.in-None.ensures) in rw e (grind (arith, common_steps))
 
-pub returns-in_ok-push-in-Some : goal.returns-in_ok-push-in-Some
-returns-in_ok-push-in-Some c = let e = ap field_line (tree_shown c.args.field.now c.in-Some.objects c.in-Some.ensures) in rw e (grind (arith, common_steps))
+pub returns-in_ok-at-in-Some : goal.returns-in_ok-at-in-Some
+returns-in_ok-at-in-Some c = let e = ap field_line (tree_shown c.args.field.now c.in-Some.objects c.in-Some.ensures) in rw e (grind (arith, common_steps))

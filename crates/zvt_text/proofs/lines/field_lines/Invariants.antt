@@ -1,6 +1,9 @@
-use Rattle.std.proofs.Common.{◌≡◌, ◌++◌}
+use Rattle.std.proofs.Common.{◌≡◌, ◌≤◌, ◌++◌, length, take}
 use Rattle.zvt_text.specs.Lines.{field_lines}
 use Rattle.zvt_text.proofs.lines.field_lines.Given as goal
 
 abbrev pub invariant-loop-field : goal.invariant-loop-field
-invariant-loop-field l = l.text ++ field_lines l.field-iterator ≡ l.initial.text ++ field_lines l.initial.field-iterator
+invariant-loop-field l = record {
+  inside : l.end ≤ length l.room;
+  written : take l.end l.room ++ field_lines l.field-iterator ≡ take l.at l.initial.room ++ field_lines l.initial.field-iterator;
+}

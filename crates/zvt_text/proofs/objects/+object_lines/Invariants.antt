@@ -1,4 +1,4 @@
-use Rattle.std.proofs.Common.{◌≡◌, ◌-◌, ◌++◌, true}
+use Rattle.std.proofs.Common.{◌≡◌, ◌≤◌, ◌-◌, ◌++◌, length, take, true}
 use Rattle.zvt_tlv.specs.Checks.{is_shallow}
 use Rattle.zvt_text.specs.Lines.{object_lines}
 use Rattle.zvt_text.proofs.objects.+object_lines.Given as goal
@@ -8,6 +8,7 @@ decreases-object_lines l = 7 - l.depth
 
 abbrev pub invariant-loop-object : goal.invariant-loop-object
 invariant-loop-object l = record {
+  inside : l.end ≤ length l.room;
   shallow : is_shallow l.depth l.object-iterator ≡ true;
-  lines : l.text ++ object_lines l.depth l.object-iterator ≡ l.initial.text ++ object_lines l.depth l.initial.object-iterator;
+  lines : take l.end l.room ++ object_lines l.depth l.object-iterator ≡ take l.at l.initial.room ++ object_lines l.depth l.initial.object-iterator;
 }

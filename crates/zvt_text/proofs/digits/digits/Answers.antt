@@ -1,7 +1,7 @@
 use Rattle.std.proofs.Common.{refl, arith}
-use Rattle.zvt_text.specs.declared.bytes.TheConstants.{DIGITS}
+use Rattle.zvt_text.specs.declared.digits.TheConstants.{DIGITS}
 use Rattle.zvt_text.proofs.HexText.{two_digits}
-use Rattle.zvt_text.proofs.bytes.digits.Goals as goal
+use Rattle.zvt_text.proofs.digits.digits.Goals as goal
 
 pub returns : goal.returns
 returns c = two_digits DIGITS c.args.byte (omega arith) refl

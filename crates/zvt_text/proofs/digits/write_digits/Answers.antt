@@ -2,7 +2,7 @@ use Rattle.std.proofs.Common.{arith}
 use Rattle.hex.specs.Hex.{upper_digits}
 use Rattle.hex.proofs.Pairs.{encode_done, encode_step}
 use Rattle.zvt_text.proofs.HexText.{high_digit, low_digit}
-use Rattle.zvt_text.proofs.bytes.write_digits.Goals as goal
+use Rattle.zvt_text.proofs.digits.write_digits.Goals as goal
 
 pub bytes-preserved : goal.bytes-preserved
 bytes-preserved c =
