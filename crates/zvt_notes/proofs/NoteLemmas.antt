@@ -12,7 +12,6 @@ use Rattle.zvt_trace.specs.Written.{AppendsFront}
 use Rattle.zvt_trace.specs.declared.fault.Tally.{Tally}
 use Rattle.zvt_trace.specs.declared.fault.TraceFault.{TraceFault}
 use Rattle.zvt_trace.specs.declared.fault.TraceFault.TheVariants.{Memory, Read, TooLong, Trace, Write}
-use Rattle.zvt_trace.specs.declared.listener.Failure.{Failure}
 use Rattle.zvt_trace.specs.declared.listener.Failure.TheVariants as failure
 use Rattle.zvt_trace.specs.declared.listener.Scope.{Scope}
 use Rattle.zvt_notes.specs.Notes.{Lives, cut_off_count, life_text, lives, lives_text, most, note_text, notes_text, refused_count, refused_in, summary_text, unread_of, with_event}
