@@ -1,5 +1,5 @@
 -- What is lent is what the bytes spell.
-use Rattle.std.proofs.Common.{◌≡◌, ℕ, ◌+◌, ◌≤◌, min, Bool, true, false, Option, Some, None, IfSome, Result, Ok, Err, is_err, IsOk, OnOk, List, [], ◌++◌, length, take, sym, ◌∙◌, ap, subst, refl, arith}
+use Rattle.std.proofs.Common.{◌≡◌, ℕ, ◌+◌, ◌≤◌, min, Bool, true, false, Option, Some, None, IfSome, List, [], ◌++◌, length, take, sym, ◌∙◌, ap, subst, refl, arith}
 use Rattle.std.proofs.Math.Logic.{∥∥₁_elim}
 use Rattle.std.specs.Coded.{Coded-set}
 use Rattle.zvt_spelling.specs.Reading.{Reading, shortest, padded}
@@ -131,18 +131,6 @@ feeds_shown old new piece taken shown apdu lends is found = subst (λ (m : Messa
   where
     some_is : {a b : Message} → Some a ≡ Some b → a ≡ b
     some_is e = cc (e)
-
--- what a growth that went well has made
-pub went_well : {T E : Type 0} (r : Result T E) (failed : Bool) (P : Type 0) → failed ≡ is_err r → failed ≡ false → OnOk r P → P
-went_well (Ok x) failed P is not p = p
-went_well (Err e) failed P is not p = absurd (true_is_false (sym is ∙ not))
-  where
-    true_is_false : true ≡ false → ⊥
-    true_is_false e = cc
-
-pub sure : {T E : Type 0} (r : Result T E) (P : Type 0) → IsOk r → OnOk r P → P
-sure (Ok x) P ok p = p
-sure (Err e) P ok p = absurd (cc (ok))
 
 -- the room that was made is enough for what begins a message, or is one
 pub room_for : (before more room n : ℕ) → min (before + more) 65540 ≤ room → n ≤ more → before + n ≤ 65540 → before + n ≤ room

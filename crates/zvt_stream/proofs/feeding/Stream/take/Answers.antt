@@ -3,7 +3,7 @@ use Rattle.std.proofs.lemmas.List.{length-take-le}
 use Rattle.zvt_stream.specs.Judge.{IsMessageIn, StandsFor}
 use Rattle.zvt_stream.proofs.Beginnings.{bounds_in, few_in}
 use Rattle.zvt_stream.proofs.JudgedFeeds.{place_few}
-use Rattle.zvt_stream.proofs.LentLemmas.{ran_in, idle, emptied, grown, none_lent, message_bytes, feeds_more, feeds_refused, lends_message, lending, room_for, went_well, sure}
+use Rattle.zvt_stream.proofs.LentLemmas.{ran_in, idle, emptied, grown, none_lent, message_bytes, feeds_more, feeds_refused, lends_message, lending, room_for}
 use Rattle.zvt_stream.proofs.feeding.Stream.take.Goals as goal
 
 pub make_room-requires : goal.make_room-requires
