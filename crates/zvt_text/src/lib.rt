@@ -4,7 +4,6 @@
 mod bytes;
 mod details;
 mod digits;
-mod drafts;
 mod heads;
 mod kept;
 pub mod laws;
@@ -15,7 +14,8 @@ mod room;
 mod said;
 mod text;
 mod values;
+mod whole;
 
-pub use drafts::{escaped_line, hexadecimal, line, message, numbers, result_words};
 pub use heads::kind_name;
 pub use text::Text;
+pub use whole::{escaped_line, hexadecimal, line, message, numbers, result_words};

@@ -1,5 +1,5 @@
 //! Text in a room of fixed size: each writes behind a place in it, and answers where the text ends then.
-ghost use Rattle.std.specs.Prelude.{◌≡◌, ◌∷◌, ◌≤◌, [], length, replicate};
+ghost use Rattle.std.specs.Prelude.{◌∷◌, ◌≤◌, [], length, replicate};
 ghost use Rattle.hex.specs.Hex.{encode_upper};
 ghost use Rattle.zvt_text.specs.Whole.{Puts};
 

@@ -1,5 +1,5 @@
 //! The text of a message.
-ghost use Rattle.std.specs.Prelude.{◌≡◌, ◌≤◌, length};
+ghost use Rattle.std.specs.Prelude.{◌≤◌, length};
 ghost use Rattle.zvt_text.specs.Said.{said};
 ghost use Rattle.zvt_text.specs.Whole.{Puts};
 

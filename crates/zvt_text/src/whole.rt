@@ -1,5 +1,5 @@
 //! What is written of messages and of their parts, all of it or nothing.
-ghost use Rattle.std.specs.Prelude.{◌≡◌, ◌++◌, ◌∷◌, []};
+ghost use Rattle.std.specs.Prelude.{◌++◌, ◌∷◌, []};
 ghost use Rattle.hex.specs.Hex.{encode_upper};
 ghost use Rattle.zvt_text.specs.Bytes.{escaped_text};
 ghost use Rattle.zvt_text.specs.Numbers.{numbers_text};
@@ -68,6 +68,7 @@ pub fn line(text: &mut Text, front: &[u8], bytes: &[u8]) -> Result<(), AllocErro
     text.add(&Plain { front, bytes })
 }
 
+/// A message behind a front.
 #[derive(Drop)]
 struct Told<'a> {
     front: &'a [u8],
@@ -84,6 +85,7 @@ impl Says for Told<'_> {
     }
 }
 
+/// A result code, in words.
 #[derive(Drop)]
 struct ResultCode(u8);
 
@@ -95,6 +97,7 @@ impl Says for ResultCode {
     }
 }
 
+/// The numbers under which a payment is kept.
 #[derive(Drop)]
 struct Kept {
     trace: Trace,
@@ -109,6 +112,7 @@ impl Says for Kept {
     }
 }
 
+/// A line of bytes with escapes.
 #[derive(Drop)]
 struct Escaped<'a>(&'a [u8]);
 
@@ -121,6 +125,7 @@ impl Says for Escaped<'_> {
     }
 }
 
+/// Bytes in hexadecimal.
 #[derive(Drop)]
 struct Digits<'a>(&'a [u8]);
 
@@ -132,6 +137,7 @@ impl Says for Digits<'_> {
     }
 }
 
+/// A line of bytes in hexadecimal, behind a front.
 #[derive(Drop)]
 struct Plain<'a> {
     front: &'a [u8],
