@@ -122,23 +122,23 @@ fn a_message_is_lent_at_any_cut(rt: HostRuntime) {
     }
 }
 
-/// The bytes of the message that ends in the piece.
-fn found<'a>(stream: &'a mut Stream, piece: &'a [u8]) -> Option<&'a [u8]> {
+/// Whether a message of those bytes ends in the piece.
+fn ends(stream: &mut Stream, piece: &[u8], message: &[u8]) -> bool {
     match stream.feed_in_place(piece) {
-        Ok(FedView::Message { taken }) => Some(stream.ended(piece, taken)),
-        _ => None,
+        Ok(FedView::Message { taken }) => stream.ended(piece, taken) == message,
+        _ => false,
     }
 }
 
 #[test]
 fn a_whole_message_stays_in_its_piece(rt: HostRuntime) {
     let mut stream = Stream::new(rt.alloc());
-    assert_eq!(rt; found(&mut stream, &STATUS), Some(STATUS.as_slice()));
+    assert!(rt; ends(&mut stream, &STATUS, &STATUS));
     assert_eq!(rt; lent(&stream), None);
-    assert_eq!(rt; found(&mut stream, &STATUS[..10]), None);
-    assert_eq!(rt; found(&mut stream, &STATUS[10..]), Some(STATUS.as_slice()));
+    assert!(rt; !ends(&mut stream, &STATUS[..10], &STATUS));
+    assert!(rt; ends(&mut stream, &STATUS[10..], &STATUS));
     assert_eq!(rt; lent(&stream), Some((Kind::Status, STATUS.as_slice())));
-    assert_eq!(rt; found(&mut stream, &ACK), Some(ACK.as_slice()));
+    assert!(rt; ends(&mut stream, &ACK, &ACK));
 }
 
 /// The longest line to print, and 1,460 bytes behind it.
