@@ -2,6 +2,7 @@ pub mod BehindLemmas
 pub mod EventLemmas
 pub mod InputLemmas
 pub mod LineLemmas
+pub mod PairLemmas
 pub mod PieceLemmas
 pub mod PlainLemmas
 pub mod SidesLemmas

@@ -1,10 +1,10 @@
 -- What one line of a trace means.
-use Rattle.std.specs.Prelude.{⊤, ℕ, not, ◌≡◌, ◌<◌, ◌≤◌, ◌+◌, ◌==◌, ◌&&◌, List, [], ◌∷◌, ◌++◌, length, if◌then◌else◌, IsSome, Result, Ok, Err, unwrap_or}
+use Rattle.std.specs.Prelude.{⊤, ℕ, not, ◌≡◌, ◌<◌, ◌≤◌, ◌+◌, ◌*◌, ◌==◌, ◌&&◌, List, [], ◌∷◌, ◌++◌, length, take, if◌then◌else◌, IsSome, Result, Ok, Err, unwrap_or}
 use Rattle.std.specs.List.{filter}
 use Rattle.std.specs.Str.Lines.{lines}
 use Rattle.hex.specs.Hex.{decode_of}
 use Rattle.hex.specs.declared.error.FromHexError.{FromHexError}
-use Rattle.zvt_trace.specs.Spelled.{spells}
+use Rattle.zvt_trace.specs.Spelled.{AreHex, behind_bytes, spells}
 use Rattle.zvt_trace.specs.declared.fault.What.{What}
 use Rattle.zvt_trace.specs.declared.fault.What.TheVariants.{Form, Hex}
 use Rattle.zvt_trace.specs.declared.line.Line.{Line}
@@ -41,6 +41,11 @@ SpellsBytes text = IsSome (spells (without_spaces text))
 -- those bytes, and none where it spells none
 abbrev pub bytes_of : List ℕ → List ℕ
 bytes_of text = unwrap_or (spells (without_spaces text)) []
+
+-- the first digits of a text are so many pairs, and the room begins with their bytes
+abbrev pub ReadsPairs : (text : List ℕ) (count : ℕ) (room : List ℕ) → Type 0
+ReadsPairs text count room =
+    AreHex (take (2 * count) text) × ((behind : List ℕ) → behind_bytes (take count room) (spells (without_spaces behind)) ≡ spells (without_spaces (take (2 * count) text ++ behind)))
 
 -- the meaning that a line of the code stands for
 abbrev pub meant_by : Line → Meaning

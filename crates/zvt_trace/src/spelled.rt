@@ -1,6 +1,6 @@
 //! Bytes that are spelled in hexadecimal text with spaces.
 ghost use Rattle.std.specs.Prelude.{◌≡◌, ◌≢◌, ◌*◌, ◌+◌, ◌++◌, ◌<◌, ◌≤◌, ℕ, List, length, slice_index, take, false, true, IfSome, MatchOption, None};
-ghost use Rattle.zvt_trace.specs.Meanings.{SpellsBytes, without_spaces};
+ghost use Rattle.zvt_trace.specs.Meanings.{ReadsPairs, SpellsBytes, without_spaces};
 ghost use Rattle.zvt_trace.specs.Spelled.{AreHex, IsDigit, behind_bytes, spells, worth};
 
 /// Reads bytes into the front of the room, until it is full or the text ends: how many, and the text behind them. Where
@@ -70,12 +70,17 @@ fn are_digits(text: &[u8]) -> bool
 pub(crate) fn read_pairs(text: &[u8], room: &mut [u8]) -> usize
     requires { length text.now ≤ 2 * length room.old + 1 }
     ensures few { 2 * result ≤ length text.now }
-    ensures digits { AreHex (take (2 * result) text.now) }
-    ensures read { (behind : List ℕ) → behind_bytes (take result room.new) (spells (without_spaces behind)) ≡ spells (without_spaces (take (2 * result) text.now ++ behind)) }
+    ensures read { ReadsPairs text.now result room.new }
     ensures size { length room.new ≡ length room.old }
 {
     let mut count = 0;
-    while 2 * count + 1 < text.len() {
+    'fours: while 2 * count + 7 < text.len() {
+        match read_four(text, room, count) {
+            4 => count += 4,
+            last => return count + last,
+        }
+    }
+    'pairs: while 2 * count + 1 < text.len() {
         let byte = pair(text[2 * count], text[2 * count + 1]);
         if byte > 255 {
             return count;
@@ -84,6 +89,33 @@ pub(crate) fn read_pairs(text: &[u8], room: &mut [u8]) -> usize
         count += 1;
     }
     count
+}
+
+/// Reads the four pairs behind the first `count`: how many there are before the first that is none of digits. Where a line
+/// ends in them is told by sums, since a branch on it is seldom foreseen.
+#[inline(always)]
+fn read_four(text: &[u8], room: &mut [u8], count: usize) -> usize
+    requires text { 2 * count + 7 < length text.now }
+    requires room { count + 4 ≤ length room.old }
+    ensures four { result ≤ 4 }
+    ensures read { ReadsPairs text.now count room.old → ReadsPairs text.now (count + result) room.new }
+    ensures size { length room.new ≡ length room.old }
+{
+    let at = 2 * count;
+    let first = pair(text[at], text[at + 1]);
+    let second = pair(text[at + 2], text[at + 3]);
+    let third = pair(text[at + 4], text[at + 5]);
+    let fourth = pair(text[at + 6], text[at + 7]);
+    room[count] = (first % 256) as u8;
+    room[count + 1] = (second % 256) as u8;
+    room[count + 2] = (third % 256) as u8;
+    room[count + 3] = (fourth % 256) as u8;
+    let two = first + second;
+    let three = two + third;
+    if three + fourth < NONE {
+        return 4;
+    }
+    (first < NONE) as usize + (two < NONE) as usize + (three < NONE) as usize
 }
 
 /// The text from its first byte that is no space.
@@ -100,10 +132,12 @@ fn skip_spaces(text: &[u8]) -> &[u8]
     rest
 }
 
-/// The byte of two digits, and for what are none a number above 255: so both are tested at once.
+/// The byte of two digits, and for what are none a number that four bytes together don't reach: so all are tested at
+/// once.
 #[inline(always)]
 fn pair(high: u8, low: u8) -> u32
-    ensures { result ≡ worth high * 16 + worth low }
+    ensures sum { result ≡ worth high * 16 + worth low }
+    ensures most { result ≤ 17408 }
 {
     VALUES[high as usize] * 16 + VALUES[low as usize]
 }
@@ -116,20 +150,25 @@ fn value(digit: u8) -> u32
     VALUES[digit as usize]
 }
 
-/// The value of each digit, and 256 for what is none.
+/// More than four bytes together.
+const NONE: u32 = 1_024;
+
+/// The value of each digit, and [`NONE`] for what is none.
 static VALUES: [u32; 256] = [
-    256, 256, 256, 256, 256, 256, 256, 256, 256, 256, 256, 256, 256, 256, 256, 256, 256, 256, 256,
-    256, 256, 256, 256, 256, 256, 256, 256, 256, 256, 256, 256, 256, 256, 256, 256, 256, 256, 256,
-    256, 256, 256, 256, 256, 256, 256, 256, 256, 256, 0, 1, 2, 3, 4, 5, 6, 7, 8, 9, 256, 256, 256,
-    256, 256, 256, 256, 10, 11, 12, 13, 14, 15, 256, 256, 256, 256, 256, 256, 256, 256, 256, 256,
-    256, 256, 256, 256, 256, 256, 256, 256, 256, 256, 256, 256, 256, 256, 256, 256, 10, 11, 12, 13,
-    14, 15, 256, 256, 256, 256, 256, 256, 256, 256, 256, 256, 256, 256, 256, 256, 256, 256, 256,
-    256, 256, 256, 256, 256, 256, 256, 256, 256, 256, 256, 256, 256, 256, 256, 256, 256, 256, 256,
-    256, 256, 256, 256, 256, 256, 256, 256, 256, 256, 256, 256, 256, 256, 256, 256, 256, 256, 256,
-    256, 256, 256, 256, 256, 256, 256, 256, 256, 256, 256, 256, 256, 256, 256, 256, 256, 256, 256,
-    256, 256, 256, 256, 256, 256, 256, 256, 256, 256, 256, 256, 256, 256, 256, 256, 256, 256, 256,
-    256, 256, 256, 256, 256, 256, 256, 256, 256, 256, 256, 256, 256, 256, 256, 256, 256, 256, 256,
-    256, 256, 256, 256, 256, 256, 256, 256, 256, 256, 256, 256, 256, 256, 256, 256, 256, 256, 256,
-    256, 256, 256, 256, 256, 256, 256, 256, 256, 256, 256, 256, 256, 256, 256, 256, 256, 256, 256,
-    256, 256, 256,
+    NONE, NONE, NONE, NONE, NONE, NONE, NONE, NONE, NONE, NONE, NONE, NONE, NONE, NONE, NONE, NONE,
+    NONE, NONE, NONE, NONE, NONE, NONE, NONE, NONE, NONE, NONE, NONE, NONE, NONE, NONE, NONE, NONE,
+    NONE, NONE, NONE, NONE, NONE, NONE, NONE, NONE, NONE, NONE, NONE, NONE, NONE, NONE, NONE, NONE,
+    0, 1, 2, 3, 4, 5, 6, 7, 8, 9, NONE, NONE, NONE, NONE, NONE, NONE, NONE, 10, 11, 12, 13, 14, 15,
+    NONE, NONE, NONE, NONE, NONE, NONE, NONE, NONE, NONE, NONE, NONE, NONE, NONE, NONE, NONE, NONE,
+    NONE, NONE, NONE, NONE, NONE, NONE, NONE, NONE, NONE, NONE, 10, 11, 12, 13, 14, 15, NONE, NONE,
+    NONE, NONE, NONE, NONE, NONE, NONE, NONE, NONE, NONE, NONE, NONE, NONE, NONE, NONE, NONE, NONE,
+    NONE, NONE, NONE, NONE, NONE, NONE, NONE, NONE, NONE, NONE, NONE, NONE, NONE, NONE, NONE, NONE,
+    NONE, NONE, NONE, NONE, NONE, NONE, NONE, NONE, NONE, NONE, NONE, NONE, NONE, NONE, NONE, NONE,
+    NONE, NONE, NONE, NONE, NONE, NONE, NONE, NONE, NONE, NONE, NONE, NONE, NONE, NONE, NONE, NONE,
+    NONE, NONE, NONE, NONE, NONE, NONE, NONE, NONE, NONE, NONE, NONE, NONE, NONE, NONE, NONE, NONE,
+    NONE, NONE, NONE, NONE, NONE, NONE, NONE, NONE, NONE, NONE, NONE, NONE, NONE, NONE, NONE, NONE,
+    NONE, NONE, NONE, NONE, NONE, NONE, NONE, NONE, NONE, NONE, NONE, NONE, NONE, NONE, NONE, NONE,
+    NONE, NONE, NONE, NONE, NONE, NONE, NONE, NONE, NONE, NONE, NONE, NONE, NONE, NONE, NONE, NONE,
+    NONE, NONE, NONE, NONE, NONE, NONE, NONE, NONE, NONE, NONE, NONE, NONE, NONE, NONE, NONE, NONE,
+    NONE, NONE, NONE, NONE, NONE, NONE, NONE,
 ];

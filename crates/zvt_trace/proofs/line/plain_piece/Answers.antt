@@ -8,4 +8,4 @@ returns-in-10-clause-begins c =
     let space : slice_index rest 1 ≡ 32 = search rules in
     let feed : slice_index (behind_first (2 * c.read_pairs-count.result) (behind_first 2 rest)) 0 ≡ 10 = search rules in
     plain_read rest c.read_pairs-count.new.room c.min.result c.read_pairs-count.result c.in_ok-from.from c.in-32.len_at_least space c.in_ok-from.ensures
-    c.read_pairs-count.ensures.few c.read_pairs-count.ensures.digits c.read_pairs-count.ensures.read c.in-10.len_at_least feed
+    c.read_pairs-count.ensures.few c.read_pairs-count.ensures.read.0 c.read_pairs-count.ensures.read.1 c.in-10.len_at_least feed

@@ -1,15 +1,23 @@
-use Rattle.std.proofs.Common.{◌≡◌, ◌≤◌, ◌-◌, ◌*◌, ◌++◌, ℕ, List, length, take}
-use Rattle.zvt_trace.specs.Meanings.{without_spaces}
-use Rattle.zvt_trace.specs.Spelled.{AreHex, behind_bytes, spells}
+use Rattle.std.proofs.Common.{◌≡◌, ◌≤◌, ◌-◌, ◌*◌, ℕ, length}
+use Rattle.zvt_trace.specs.Meanings.{ReadsPairs}
 use Rattle.zvt_trace.proofs.spelled.read_pairs.Given as goal
 
-abbrev pub invariant-loop-count : goal.invariant-loop-count
-invariant-loop-count l = record {
+abbrev pub invariant-fours : goal.invariant-fours
+invariant-fours l = record {
   few : 2 * l.count ≤ length l.text;
   size : length l.room ≡ length l.initial.room;
-  digits : AreHex (take (2 * l.count) l.text);
-  so_far : (behind : List ℕ) → behind_bytes (take l.count l.room) (spells (without_spaces behind)) ≡ spells (without_spaces (take (2 * l.count) l.text ++ behind));
+  so_far : ReadsPairs l.text l.count l.room;
 }
 
-abbrev pub decreases-loop-count : goal.decreases-loop-count
-decreases-loop-count l = length l.text - l.count
+abbrev pub decreases-fours : goal.decreases-fours
+decreases-fours l = length l.text - l.count
+
+abbrev pub invariant-pairs : goal.invariant-pairs
+invariant-pairs l = record {
+  few : 2 * l.count ≤ length l.text;
+  size : length l.room ≡ length l.initial.room;
+  so_far : ReadsPairs l.text l.count l.room;
+}
+
+abbrev pub decreases-pairs : goal.decreases-pairs
+decreases-pairs l = length l.text - l.count
