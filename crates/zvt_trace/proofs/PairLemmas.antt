@@ -1,11 +1,12 @@
 -- Pairs of digits, one by one and four at once.
 use mir.Val.{bool_byte}
-use Rattle.std.proofs.Common.{◌≡◌, ◌∙◌, refl, arith, nat_lt, inl, inr, ℕ, ◌+◌, ◌*◌, ◌%◌, ◌<◌, ◌≤◌, List, length, slice_index, slice_set}
+use Rattle.std.proofs.Common.{◌≡◌, ◌∙◌, refl, arith, nat_lt, inl, inr, ℕ, ◌+◌, ◌*◌, ◌%◌, ◌<◌, ◌≤◌, Option, None, Some, unwrap_or, List, [], ◌∷◌, length, slice_index, slice_set}
 use Rattle.std.proofs.lemmas.Bool.{cases_lt, le-ltb, lt-ltb}
 use Rattle.std.proofs.lemmas.List.{length-set, take-set-le}
-use Rattle.zvt_trace.specs.Meanings.{ReadsPairs, without_spaces}
+use Rattle.hex.specs.Hex.{hex_digit_value}
+use Rattle.zvt_trace.specs.Meanings.{EndsPairs, ReadsPairs, without_spaces}
 use Rattle.zvt_trace.specs.Spelled.{spells, worth}
-use Rattle.zvt_trace.proofs.SpelledLemmas.{are_digits, hex_more, read_plain, reads_none}
+use Rattle.zvt_trace.proofs.SpelledLemmas.{are_digits, digit_small, hex_more, pair_spells, read_plain, reads_none}
 
 -- the number that the characters at the place of a pair make
 abbrev pub pair_at : List ℕ → ℕ → ℕ
@@ -25,6 +26,20 @@ one_more text room count pair byte fits some is few same so =
       hex_more text count both.high both.low some both.is_high both.is_low both.high_small both.low_small so.0,
       λ behind. rw stored (read_plain text room behind count both.high both.low fits some both.is_high both.is_low both.high_small both.low_small so.1),
     )
+
+few_pair : (text : List ℕ) (i j pair : ℕ) → pair ≡ worth (slice_index text i) * 16 + worth (slice_index text j) → pair < 1024 → pair ≤ 255
+few_pair text i j pair is few =
+    let both = are_digits (slice_index text i) (slice_index text j) (omega (arith, is, few)) in
+    omega (arith, is, both.is_sum, both.high_small, both.low_small)
+
+-- two characters of which one is no digit
+pub no_byte : (a b : ℕ) → 255 < worth a * 16 + worth b → spells (a ∷ b ∷ []) ≡ None
+no_byte a b big = by (hex_digit_value a) (hex_digit_value b) refl refl big
+  where
+    by : (o p : Option ℕ) → hex_digit_value a ≡ o → hex_digit_value b ≡ p → 255 < unwrap_or o 1024 * 16 + unwrap_or p 1024 → spells (a ∷ b ∷ []) ≡ None
+    by None p e f big = pair_spells a b [] ∙ rw e refl
+    by (Some h) None e f big = pair_spells a b [] ∙ rw (e, f) refl
+    by (Some h) (Some l) e f big = absurd (omega (arith, big, digit_small a h e, digit_small b l f))
 
 -- what stands behind the bytes may change
 kept : (text room : List ℕ) (count at byte : ℕ) → count ≤ at → ReadsPairs text count room → ReadsPairs text count (slice_set room at byte)
@@ -97,6 +112,35 @@ sums_read text room count a b c d fits is so =
                 elim (cases_lt (a + b + c) 1024) [
                   | inr none ↦ rw (lt-ltb a 1024 is_a, lt-ltb (a + b) 1024 is_b, le-ltb (a + b + c) 1024 none) two.0
                   | inl is_c ↦ rw (lt-ltb a 1024 is_a, lt-ltb (a + b) 1024 is_b, lt-ltb (a + b + c) 1024 is_c) (two.1 (omega (arith, is_c))).0
+                ]
+          ]
+    ]
+
+ends_at : (text : List ℕ) (end i j pair : ℕ) → i ≡ 2 * end → j ≡ 2 * end + 1 → pair ≡ worth (slice_index text i) * 16 + worth (slice_index text j) → 255 < pair → EndsPairs text end
+ends_at text end i j pair is_i is_j is big =
+    rw (is_i, is_j) at (no_byte (slice_index text i) (slice_index text j) (omega (arith, is, big)))
+
+-- and none that is read stands behind them
+pub sums_end : (text : List ℕ) (count a b c d : ℕ) → Four text count a b c d → 1024 ≤ a + b + c + d
+    → EndsPairs text (count + (bool_byte (nat_lt a 1024) + bool_byte (nat_lt (a + b) 1024) + bool_byte (nat_lt (a + b + c) 1024)))
+sums_end text count a b c d is sum =
+    elim (cases_lt a 1024) [
+      | inr none ↦ rw (le-ltb a 1024 none, le-ltb (a + b) 1024 (omega (arith, none)), le-ltb (a + b + c) 1024 (omega (arith, none)))
+          (ends_at text (count + 0) (2 * count) (2 * count + 1) a (omega arith) (omega arith) is.first (omega (arith, none)))
+      | inl is_a ↦
+          let small_a : a ≤ 255 = few_pair text (2 * count) (2 * count + 1) a is.first is_a in
+          elim (cases_lt (a + b) 1024) [
+            | inr none ↦ rw (lt-ltb a 1024 is_a, le-ltb (a + b) 1024 none, le-ltb (a + b + c) 1024 (omega (arith, none)))
+                (ends_at text (count + 1) (2 * count + 2) (2 * count + 3) b (omega arith) (omega arith) is.second (omega (arith, none, small_a)))
+            | inl is_b ↦
+                let small_b : b ≤ 255 = few_pair text (2 * count + 2) (2 * count + 3) b is.second (omega (arith, is_b)) in
+                elim (cases_lt (a + b + c) 1024) [
+                  | inr none ↦ rw (lt-ltb a 1024 is_a, lt-ltb (a + b) 1024 is_b, le-ltb (a + b + c) 1024 none)
+                      (ends_at text (count + 2) (2 * count + 4) (2 * count + 5) c (omega arith) (omega arith) is.third (omega (arith, none, small_a, small_b)))
+                  | inl is_c ↦
+                      let small_c : c ≤ 255 = few_pair text (2 * count + 4) (2 * count + 5) c is.third (omega (arith, is_c)) in
+                      rw (lt-ltb a 1024 is_a, lt-ltb (a + b) 1024 is_b, lt-ltb (a + b + c) 1024 is_c)
+                      (ends_at text (count + 3) (2 * count + 6) (2 * count + 7) d (omega arith) (omega arith) is.fourth (omega (arith, sum, small_a, small_b, small_c)))
                 ]
           ]
     ]

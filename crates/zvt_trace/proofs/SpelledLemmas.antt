@@ -97,7 +97,7 @@ tells_at table (suc n) k all lt =
 pub worth_in : (table : List ℕ) (digit : ℕ) → digit < 256 → tells_below table 256 ≡ true → slice_index table digit ≡ worth digit
 worth_in table digit lt all = tells_at table 256 digit all lt
 
-digit_small : (d w : ℕ) → hex_digit_value d ≡ Some w → w ≤ 15
+pub digit_small : (d w : ℕ) → hex_digit_value d ≡ Some w → w ≤ 15
 digit_small d w e = grind arith
 
 worth_small : (d : ℕ) (o : Option ℕ) → hex_digit_value d ≡ o → unwrap_or o 1024 ≤ 1024
@@ -140,6 +140,10 @@ are_digits a b few = by (hex_digit_value a) (hex_digit_value b) refl refl few
       is_sum = rw (e, f) refl;
     }
 
+pub pair_spells : (a b : ℕ) (rest : List ℕ) → spells (a ∷ b ∷ rest) ≡ pair_before (hex_digit_value a) (hex_digit_value b) (spells rest)
+unfolding spells
+pair_spells a b rest = refl
+
 -- ---- the steps of the loop
 
 -- what follows the first byte
@@ -151,10 +155,6 @@ first_kept [] some other = absurd (omega arith)
 first_kept (x ∷ xs) some other =
     let differs : (x == 32) ≡ false = grind (arith, nat_tests) in
     rw differs refl
-
-pair_spells : (a b : ℕ) (rest : List ℕ) → spells (a ∷ b ∷ rest) ≡ pair_before (hex_digit_value a) (hex_digit_value b) (spells rest)
-unfolding spells
-pair_spells a b rest = refl
 
 behind_pair : (done : List ℕ) (h l : ℕ) (o : Option (List ℕ)) → behind_bytes (done ++ (h * 16 + l) ∷ []) o ≡ behind_bytes done (pair_before (Some h) (Some l) o)
 behind_pair done h l None = refl

@@ -1,5 +1,5 @@
 -- What one line of a trace means.
-use Rattle.std.specs.Prelude.{⊤, ℕ, not, ◌≡◌, ◌<◌, ◌≤◌, ◌+◌, ◌*◌, ◌==◌, ◌&&◌, List, [], ◌∷◌, ◌++◌, length, take, if◌then◌else◌, IsSome, Result, Ok, Err, unwrap_or}
+use Rattle.std.specs.Prelude.{⊤, ℕ, not, ◌≡◌, ◌<◌, ◌≤◌, ◌+◌, ◌*◌, ◌==◌, ◌&&◌, List, [], ◌∷◌, ◌++◌, length, take, slice_index, if◌then◌else◌, IsSome, None, Result, Ok, Err, unwrap_or}
 use Rattle.std.specs.List.{filter}
 use Rattle.std.specs.Str.Lines.{lines}
 use Rattle.hex.specs.Hex.{decode_of}
@@ -46,6 +46,10 @@ bytes_of text = unwrap_or (spells (without_spaces text)) []
 abbrev pub ReadsPairs : (text : List ℕ) (count : ℕ) (room : List ℕ) → Type 0
 ReadsPairs text count room =
     AreHex (take (2 * count) text) × ((behind : List ℕ) → behind_bytes (take count room) (spells (without_spaces behind)) ≡ spells (without_spaces (take (2 * count) text ++ behind)))
+
+-- the two characters behind so many pairs spell no byte
+abbrev pub EndsPairs : (text : List ℕ) (count : ℕ) → Type 0
+EndsPairs text count = spells (slice_index text (2 * count) ∷ slice_index text (2 * count + 1) ∷ []) ≡ None
 
 -- the meaning that a line of the code stands for
 abbrev pub meant_by : Line → Meaning

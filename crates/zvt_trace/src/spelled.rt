@@ -1,6 +1,6 @@
 //! Bytes that are spelled in hexadecimal text with spaces.
 ghost use Rattle.std.specs.Prelude.{◌≡◌, ◌≢◌, ◌*◌, ◌+◌, ◌++◌, ◌<◌, ◌≤◌, ℕ, List, length, slice_index, take, false, true, IfSome, MatchOption, None};
-ghost use Rattle.zvt_trace.specs.Meanings.{ReadsPairs, SpellsBytes, without_spaces};
+ghost use Rattle.zvt_trace.specs.Meanings.{EndsPairs, ReadsPairs, SpellsBytes, without_spaces};
 ghost use Rattle.zvt_trace.specs.Spelled.{AreHex, IsDigit, behind_bytes, spells, worth};
 
 /// Reads bytes into the front of the room, until it is full or the text ends: how many, and the text behind them. Where
@@ -65,12 +65,13 @@ fn are_digits(text: &[u8]) -> bool
     all
 }
 
-/// Reads the pairs of digits at the front that no space parts: so a line without spaces is read with no test for them.
+/// Reads all pairs of digits at the front that no space parts: so a line without spaces is read with no test for them.
 #[inline(always)]
 pub(crate) fn read_pairs(text: &[u8], room: &mut [u8]) -> usize
     requires { length text.now ≤ 2 * length room.old + 1 }
     ensures few { 2 * result ≤ length text.now }
     ensures read { ReadsPairs text.now result room.new }
+    ensures all { 2 * result + 1 < length text.now → EndsPairs text.now result }
     ensures size { length room.new ≡ length room.old }
 {
     let mut count = 0;
@@ -99,6 +100,7 @@ fn read_four(text: &[u8], room: &mut [u8], count: usize) -> usize
     requires room { count + 4 ≤ length room.old }
     ensures four { result ≤ 4 }
     ensures read { ReadsPairs text.now count room.old → ReadsPairs text.now (count + result) room.new }
+    ensures all { result < 4 → EndsPairs text.now (count + result) }
     ensures size { length room.new ≡ length room.old }
 {
     let at = 2 * count;

@@ -1,6 +1,6 @@
-use Rattle.std.proofs.Common.{◌≡◌, ◌∙◌, refl, arith}
+use Rattle.std.proofs.Common.{◌∙◌, ◌+◌, ◌*◌, refl, arith, slice_index}
 use Rattle.std.proofs.lemmas.List.{length-set}
-use Rattle.zvt_trace.proofs.PairLemmas.{none_read, one_more}
+use Rattle.zvt_trace.proofs.PairLemmas.{no_byte, none_read, one_more}
 use Rattle.zvt_trace.proofs.spelled.read_pairs.Goals as goal
 
 pub fours-init : goal.fours-init
@@ -17,3 +17,8 @@ pairs-preserved c =
       size = length-set c.pairs.room c.pairs.count c.pair-byte.result ∙ so.size;
       so_far = one_more c.args.text.now c.pairs.room c.pairs.count c.pair-byte.result c.pair-byte.result (omega arith) c.pairs-test.true c.pair-byte.ensures.sum (omega (arith, c.if-byte-gt255.false)) (λ small. refl) so.so_far;
     }
+
+pub returns-then-byte-gt255-clause-all : goal.returns-then-byte-gt255-clause-all
+returns-then-byte-gt255-clause-all c some =
+    let text = c.args.text.now in
+    no_byte (slice_index text (2 * c.pairs.count)) (slice_index text (2 * c.pairs.count + 1)) (omega (arith, c.pair-byte.ensures.sum, c.if-byte-gt255.true))
