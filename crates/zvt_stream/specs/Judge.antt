@@ -7,7 +7,7 @@ use Rattle.zvt_apdu.specs.Message.{Message}
 use Rattle.zvt_apdu.specs.Grammar.{Spells}
 use Rattle.zvt_tlv.specs.Judging.{Opener}
 use Rattle.zvt_apdu.specs.Judging.{Role, first_control, second_control, first_size, low_size, high_size, free, digit, in_fields, Position, fault}
-use Rattle.zvt_stream.specs.Apdus.{UnfinishedIn, IsRefusedIn}
+use Rattle.zvt_stream.specs.Apdus.{NoneWholeIn, UnfinishedIn, IsRefusedIn}
 use Rattle.zvt_stream.specs.Standing.{Where, IsFull, depth_of, role_of}
 use Rattle.zvt_stream.specs.declared.moves.At.{At}
 use Rattle.zvt_stream.specs.declared.moves.At.TheVariants as at
@@ -63,6 +63,11 @@ abbrev pub Ran : Reading → (bytes more : List ℕ) → Run → (new : JudgeSta
 Ran r bytes more run.Open new = StandsFor new (bytes ++ more) × (new.reading ≡ r)
 Ran r bytes more (run.Ended taken) new = (0 < taken) × (taken ≤ length more) × IsMessageIn r (bytes ++ take taken more) × (new ≡ start r)
 Ran r bytes more (run.Refused at why) new = (at < length more) × IsRefusedIn r (bytes ++ take (suc at) more) (length bytes + at) why × (new ≡ start r)
+
+-- The size of the message at the front of the bytes, where one is all there.
+abbrev pub Sizes : Reading → (bytes : List ℕ) → Option ℕ → Type 0
+Sizes r bytes (Some size) = (size ≤ length bytes) × IsMessageIn r (take size bytes)
+Sizes r bytes None = NoneWholeIn r bytes
 
 -- How many bytes that takes.
 abbrev pub taken_by : (more : List ℕ) → Run → ℕ

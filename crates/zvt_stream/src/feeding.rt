@@ -293,6 +293,15 @@ impl Stream {
         if self.lends { 0 } else { self.held.len() }
     }
 
+    /// Whether the next byte begins a message: nothing is held, and nothing was refused.
+    #[inline(always)]
+    pub fn is_between(&self) -> bool
+        ensures yes { result ≡ true → Holds [] self.now }
+        ensures no { result ≡ false → Holds [] self.now → ⊥ }
+    {
+        !self.stopped && self.held() == 0
+    }
+
     /// The control bytes of the unfinished message, as far as they have come: none, one, or both.
     pub fn beginning(&self) -> &[u8]
         ensures { result.now ≡ take 2 self.now.held }

@@ -4,7 +4,7 @@ ghost use Rattle.std.specs.Prelude.{◌≡◌, ℕ, ◌+◌, ◌-◌, ◌<◌, �
 ghost use Rattle.zvt_spelling.specs.Reading.{Reading, padded, shortest};
 ghost use Rattle.zvt_tlv.specs.Lengths.{reading_of};
 ghost use Rattle.zvt_stream.specs.Standing.{Where, Between};
-ghost use Rattle.zvt_stream.specs.Judge.{start, StandsFor, Begins, HasLevelsIn, Stepped, Ran, taken_by, Closes, Settles, Judges, Skips};
+ghost use Rattle.zvt_stream.specs.Judge.{start, StandsFor, Begins, HasLevelsIn, Stepped, Ran, Sizes, taken_by, Closes, Settles, Judges, Skips};
 
 use crate::moves::{At, Move, judge_byte};
 use crate::passing::{Begun, Passed, begin, pass};
@@ -247,6 +247,30 @@ impl Judge {
             }
         }
         Run::Open
+    }
+}
+
+/// How many bytes at the front are a message, where one is all there. Nothing is fed: whoever has bytes that may go on in
+/// later pieces can see so whether these end it.
+#[inline(always)]
+pub fn message_size(lengths: Lengths, bytes: &[u8]) -> Option<usize>
+    ensures { Sizes (reading_of lengths) bytes.now result }
+{
+    match begin(At::FirstControl, bytes) {
+        Some(Begun::Whole { size }) => Some(size),
+        _ => judged_size(lengths, bytes),
+    }
+}
+
+/// The same, as a judge of its own finds it.
+fn judged_size(lengths: Lengths, bytes: &[u8]) -> Option<usize>
+    ensures { Sizes (reading_of lengths) bytes.now result }
+{
+    let mut judge = Judge::of(lengths);
+    match judge.run_from(&mut Steps::new(), bytes, 0) {
+        Run::Ended { taken } => Some(taken),
+        Run::Open => None,
+        Run::Refused { .. } => None,
     }
 }
 

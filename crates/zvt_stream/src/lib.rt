@@ -14,7 +14,7 @@ mod steps;
 
 pub use engine::{pump, send};
 pub use feeding::{Fed, FedView, FeedError, Stream, Truncated};
-pub use judging::{Judge, Judged, Run};
+pub use judging::{Judge, Judged, Run, message_size};
 pub use keeping::{Held, LONGEST};
 pub use line::{Answers, LineFault, Machine, Until};
 pub use steps::Steps;

@@ -1,3 +1,4 @@
+pub mod Joining
 pub mod Lines
 pub mod Listening
 pub mod Meanings

@@ -1,14 +1,16 @@
 -- What a listener is told, and what becomes of it.
-use Rattle.std.specs.Prelude.{◌≡◌, ◌⊎◌, ℕ, Bool, true, false, List, [], ◌∷◌, ◌++◌, Result, Ok, Err}
+use Rattle.std.specs.Prelude.{◌≡◌, ◌⊎◌, ℕ, ◌+◌, ◌<◌, ◌≤◌, Bool, true, false, List, [], ◌∷◌, ◌++◌, length, Result, Ok, Err}
+use Rattle.std.specs.Str.Lines.{lines}
 use Rattle.zvt_spelling.specs.Reading.{Reading, shortest}
 use Rattle.zvt_stream.specs.StreamState.{StreamState}
 use Rattle.zvt_trace.specs.Meanings.{Meaning, meaning_of}
 use Rattle.zvt_trace.specs.Told.{At, Tallies}
-use Rattle.zvt_trace.specs.Telling.{BrokenTrace, FrontOf, LineSoFar, LineTells, MeaningBegins, PieceTells, TellsBeside, ToldSoFar, WholeTrace}
+use Rattle.zvt_trace.specs.Telling.{BrokenTrace, FrontOf, LineSoFar, LineTells, LinesTell, MeaningBegins, PieceTells, TellsBeside, ToldSoFar, WholeTrace}
 use Rattle.zvt_trace.specs.Trace.{Side, Sides, running, stopped}
 use Rattle.zvt_trace.specs.Written.{Follows}
 use Rattle.zvt_trace.specs.declared.both_sides.BothSides.{BothSides}
 use Rattle.zvt_trace.specs.declared.direction.Direction.{Direction}
+use Rattle.zvt_trace.specs.declared.direction.Direction.TheVariants.{FromTill, FromTerminal}
 use Rattle.zvt_trace.specs.declared.fault.Tally.{Tally}
 use Rattle.zvt_trace.specs.declared.fault.TraceFault.{TraceFault}
 use Rattle.zvt_trace.specs.declared.fault.TraceFault.TheVariants.{Memory, Read, TooLong, Trace, Write}
@@ -16,6 +18,7 @@ use Rattle.zvt_trace.specs.declared.listener.Failure.{Failure}
 use Rattle.zvt_trace.specs.declared.listener.Failure.TheVariants as failure
 use Rattle.zvt_trace.specs.declared.listener.Scope.{Scope}
 use Rattle.zvt_trace.specs.declared.tell.Hearing.{Hearing}
+use Rattle.zvt_trace.specs.declared.walking.Turn.{Turn}
 
 -- ---- events, one after another
 
@@ -134,6 +137,11 @@ abbrev pub TellsLine : {S : Type 0} → Reading → Hears S → Fails S → Scop
 TellsLine r hears fails scope number meaning sides state old new (Ok tally) = HearsLine r hears scope number meaning sides state tally old new
 TellsLine r hears fails scope number meaning sides state old new (Err why) = FailsIn hears fails why (MeaningBegins r scope number meaning sides) old new
 
+-- the stream of that side
+abbrev pub stream_of : Direction → BothSides → StreamState
+stream_of FromTill state = state.till
+stream_of FromTerminal state = state.terminal
+
 -- the fault of a walk that failed
 abbrev pub fault_of : Failure → TraceFault
 fault_of failure.Memory = Memory
@@ -148,6 +156,27 @@ WalksLine r hears fails scope number line sides state old new (Err Memory) = Fai
 WalksLine r hears fails scope number line sides state old new (Err Write) = FailsIn hears fails failure.Write (LineSoFar r scope number line sides) old new
 WalksLine r hears fails scope number line sides state old new (Err TooLong) = ⊥
 WalksLine r hears fails scope number line sides state old new (Err Read) = ⊥
+
+-- ---- the first lines of a text, behind so many others
+
+-- some lines tell nothing, and telling the one behind them answers this
+pub record TellsOn {S : Type 0} (r : Reading) (hears : Hears S) (fails : Fails S) (scope : Scope) (count : ℕ) (text : List ℕ) (sides : Sides) (state : BothSides) (old new : S) (answer : Result Tally TraceFault) : Type 0 where
+  pub quiet : List (List ℕ)
+  pub line : List ℕ
+  pub later : List (List ℕ)
+  pub middle : Sides
+  pub cut : lines text ≡ quiet ++ line ∷ later
+  pub tell : LinesTell r scope count sides quiet [] middle
+  pub walks : WalksLine r hears fails scope (count + length quiet + 1) line middle state old new answer
+
+abbrev pub TellsFirst : {S : Type 0} → Reading → Hears S → Fails S → Scope → ℕ → List ℕ → Sides → BothSides → (old new : S) → Result Turn TraceFault → Type 0
+TellsFirst r hears fails scope count text sides state old new (Ok turn) =
+    (told : TellsOn r hears fails scope count text sides state old new (Ok turn.tally)) × (told.later ≡ lines turn.after.now) × (turn.lines ≡ length told.quiet + 1)
+TellsFirst r hears fails scope count text sides state old new (Err fault) = TellsOn r hears fails scope count text sides state old new (Err fault)
+
+-- it counts no more than the text has
+abbrev pub IsWithin : (text : List ℕ) → Turn → Type 0
+IsWithin text turn = (0 < turn.lines) × (turn.lines + length turn.after.now ≤ length text) × (turn.tally.messages + length turn.after.now ≤ length text) × (turn.tally.bad ≤ 2)
 
 -- ---- the trace
 

@@ -8,6 +8,7 @@ use Rattle.zvt_trace.specs.Spelled.{AreHex, behind_bytes, spells}
 use Rattle.zvt_trace.specs.declared.fault.What.{What}
 use Rattle.zvt_trace.specs.declared.fault.What.TheVariants.{Form, Hex}
 use Rattle.zvt_trace.specs.declared.line.Line.{Line}
+use Rattle.zvt_trace.specs.declared.line.Plain.{Plain}
 use Rattle.zvt_trace.specs.declared.line.Line.TheVariants as code
 use Rattle.zvt_trace.specs.declared.direction.Direction.{Direction}
 use Rattle.zvt_trace.specs.declared.direction.Direction.TheVariants.{FromTill, FromTerminal}
@@ -82,3 +83,7 @@ Reads line (Err what) = meaning_of line ≡ Err what
 -- text begins with a line of which that is so, and the rest stands behind it
 abbrev pub Begins : (text : List ℕ) → (List ℕ → Type 0) → (rest : List ℕ) → Type 0
 Begins text Says rest = (line : List ℕ) × (lines text ≡ line ∷ lines rest) × Says line × (length line + length rest ≤ length text) × (length rest < length text)
+
+-- the text begins with a piece in the usual form, whose bytes the room begins with
+abbrev pub IsPlain : (text room : List ℕ) → Plain → Type 0
+IsPlain text room plain = Begins text (λ line. (meaning_of line ≡ Ok (piece plain.from (take plain.count room))) × (plain.count ≤ length line)) plain.after.now

@@ -8,6 +8,7 @@ mod both_sides;
 mod direction;
 mod fault;
 mod input;
+mod joining;
 mod line;
 mod lines;
 mod listener;

@@ -2,6 +2,7 @@
 ghost use Rattle.std.specs.Prelude.{◌≡◌, ◌<◌, ◌≤◌, ◌+◌, ◌++◌, List, ℕ, length, slice_index, false, true, Some, IfOk, OnOk, MatchResult};
 ghost use Rattle.zvt_spelling.specs.Reading.{Reading};
 ghost use Rattle.zvt_tlv.specs.Lengths.{reading_of};
+ghost use Rattle.zvt_apdu.specs.Grammar.{Spells};
 ghost use Rattle.zvt_apdu.specs.Message.{Message};
 ghost use Rattle.zvt_stream.specs.Apdus.{UnfinishedIn};
 ghost use Rattle.zvt_stream.specs.Feeds.{Lies};
@@ -67,6 +68,31 @@ fn behind_messages(messages: u64, later: Hearing) -> Hearing
     }
 }
 
+/// Tells the message that these bytes are.
+#[inline(always)]
+pub(crate) fn tell_bytes<D, L: Listener<D>>(
+    listener: &mut L,
+    device: &mut D,
+    line: u64,
+    from: Direction,
+    lengths: Lengths,
+    bytes: &[u8],
+) -> Result<(), Failure>
+    requires { (message : Message) × Spells (reading_of lengths) message bytes.now }
+    ensures { (message : Message) → Spells (reading_of lengths) message bytes.now → MatchResult result
+        (λ _. L.hears (listener.old, device.old) (on line (told.message from message)) (listener.new, device.new))
+        (λ failure. L.fails (listener.old, device.old) (on line (told.message from message)) failure (listener.new, device.new)) }
+{
+    let apdu = view(bytes);
+    let told = Told::Message {
+        from,
+        apdu,
+        bytes,
+        lengths,
+    };
+    listener.hear(device, line, &told)
+}
+
 /// Tells the message that ended in the piece.
 #[inline(always)]
 fn tell_message<D, L: Listener<D>>(
@@ -87,14 +113,7 @@ fn tell_message<D, L: Listener<D>>(
         (λ failure. L.fails (listener.old, device.old) (on line (told.message from message)) failure (listener.new, device.new)) }
 {
     let bytes = stream.ended(piece, taken);
-    let apdu = view(bytes);
-    let told = Told::Message {
-        from,
-        apdu,
-        bytes,
-        lengths,
-    };
-    listener.hear(device, line, &told)
+    tell_bytes(listener, device, line, from, lengths, bytes)
 }
 
 /// What a side has begun of a message: its control bytes, as far as they have come, and how many bytes are held.

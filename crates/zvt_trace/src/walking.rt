@@ -1,16 +1,19 @@
 //! A whole trace, told to a listener.
-ghost use Rattle.std.specs.Prelude.{◌≡◌, ◌≤◌, ℕ, List, length, IfOk, OnOk};
+ghost use Rattle.std.specs.Prelude.{◌≡◌, ◌+◌, ◌<◌, ◌≤◌, ℕ, List, length, IfOk, OnOk};
 ghost use Rattle.std.specs.Str.Lines.{lines};
 ghost use Rattle.zvt_tlv.specs.Lengths.{reading_of};
-ghost use Rattle.zvt_trace.specs.Listening.{AnswersWalk, AnswersWalkBy, FollowBoth, TakeBy, WalksLine};
-ghost use Rattle.zvt_trace.specs.Meanings.{Reads};
+ghost use Rattle.zvt_trace.specs.Listening.{AnswersWalk, AnswersWalkBy, FollowBoth, IsWithin, TakeBy, TellsFirst, WalksLine};
+ghost use Rattle.zvt_trace.specs.Meanings.{IsPlain, Reads};
 ghost use Rattle.zvt_trace.specs.Trace.{Sides};
 ghost use Rattle.zvt_trace.specs.Written.{limit};
 
 use crate::both_sides::BothSides;
 use crate::fault::{Tally, TraceFault, What};
-use crate::line::{CHUNK, Line, first_line};
+use crate::joining::{Joined, join_message};
+use crate::line::{CHUNK, Line, Plain, plain_piece, read_line};
+use crate::lines::next_line;
 use crate::listener::{Listener, Scope};
+use crate::tell::tell_bytes;
 use std::alloc::Global;
 use zvt_tlv::Lengths;
 
@@ -50,17 +53,131 @@ pub fn walk_by<D, L: Listener<D>>(
     let mut rest = trace;
     let mut number = 0;
     'lines: while !rest.is_empty() {
-        let (read, after) = first_line(&mut buffer, rest);
-        number += 1;
-        let counted = tell_line(
-            listener, device, alloc, scope, lengths, &mut sides, number, read,
+        let turn = tell_first(
+            listener,
+            device,
+            alloc,
+            scope,
+            lengths,
+            &mut sides,
+            number,
+            &mut buffer,
+            rest,
         )?;
-        tally.messages += counted.messages;
-        tally.bad += counted.bad;
-        rest = after;
+        number += turn.lines;
+        tally.messages += turn.tally.messages;
+        tally.bad += turn.tally.bad;
+        rest = turn.after;
     }
     tally.bad += sides.tell_end(listener, device, number)?;
     Ok(tally)
+}
+
+/// What was told of the first lines of a text: how many they are, and what follows them.
+#[derive(Drop)]
+struct Turn<'t> {
+    lines: u64,
+    tally: Tally,
+    after: &'t [u8],
+}
+
+impl<'t> Turn<'t> {
+    /// A message was told that these lines bring together.
+    fn of_message(joined: Joined<'t>) -> Turn<'t>
+        ensures lines { result.lines ≡ joined.entry.lines }
+        ensures after { result.after ≡ joined.entry.after }
+        ensures tally { (result.tally.messages ≡ 1) × (result.tally.bad ≡ 0) }
+    {
+        Turn {
+            lines: joined.lines,
+            tally: Tally {
+                messages: 1,
+                bad: 0,
+            },
+            after: joined.after,
+        }
+    }
+}
+
+/// Tells what the first line says, or the first lines, where they bring a message together.
+#[inline(always)]
+fn tell_first<'t, D, L: Listener<D>>(
+    listener: &mut L,
+    device: &mut D,
+    alloc: Global,
+    scope: Scope,
+    lengths: Lengths,
+    sides: &mut BothSides,
+    number: u64,
+    buffer: &mut [u8],
+    rest: &'t [u8],
+) -> Result<Turn<'t>, TraceFault>
+    requires reading { TakeBy (reading_of lengths) sides.old }
+    requires some { 0 < length rest.now }
+    requires few { number + length rest.now ≤ limit }
+    ensures reading { OnOk result (TakeBy (reading_of lengths) sides.new) }
+    ensures tells { (state : Sides) → FollowBoth (reading_of lengths) sides.old state → TellsFirst (reading_of lengths) L.hears L.fails scope number rest.now state sides.new (listener.old, device.old) (listener.new, device.new) result }
+    ensures within { IfOk result (IsWithin rest.now) }
+{
+    let Some(plain) = plain_piece(buffer, rest) else {
+        let (line, after) = next_line(rest);
+        let read = read_line(buffer, line);
+        let here = number + 1;
+        let tally = tell_line(listener, device, alloc, scope, lengths, sides, here, read)?;
+        return Ok(Turn {
+            lines: 1,
+            tally,
+            after,
+        });
+    };
+    tell_plain(
+        listener, device, alloc, scope, lengths, sides, number, buffer, plain,
+    )
+}
+
+/// Tells a piece in the usual form, whose bytes the buffer begins with. Where it begins a message and lines of its side
+/// behind it bring the rest, the message is told with the last of them, and nothing with the others: so its bytes are
+/// looked at together, and need not be held.
+#[inline(always)]
+fn tell_plain<'t, D, L: Listener<D>>(
+    listener: &mut L,
+    device: &mut D,
+    alloc: Global,
+    scope: Scope,
+    lengths: Lengths,
+    sides: &mut BothSides,
+    number: u64,
+    buffer: &mut [u8],
+    plain: Plain<'t>,
+) -> Result<Turn<'t>, TraceFault>
+    requires reading { TakeBy (reading_of lengths) sides.old }
+    requires plain { (text : List ℕ) × IsPlain text buffer.old plain × (number + length text ≤ limit) }
+    requires few { plain.count ≤ length buffer.old }
+    ensures reading { OnOk result (TakeBy (reading_of lengths) sides.new) }
+    ensures tells { (text : List ℕ) → IsPlain text buffer.old plain.entry → (state : Sides) → FollowBoth (reading_of lengths) sides.old state → TellsFirst (reading_of lengths) L.hears L.fails scope number text state sides.new (listener.old, device.old) (listener.new, device.new) result }
+    ensures within { (text : List ℕ) → IsPlain text buffer.old plain.entry → IfOk result (IsWithin text) }
+{
+    let Plain { from, count, after } = plain;
+    if sides.is_between(from)
+        && let Some(joined) = join_message(lengths, buffer, from, count, after)
+    {
+        let bytes = &buffer[..joined.count];
+        let last = number + joined.lines;
+        tell_bytes(listener, device, last, from, lengths, bytes)?;
+        return Ok(Turn::of_message(joined));
+    }
+    let read = Ok(Line::Piece {
+        from,
+        bytes: &buffer[..count],
+        behind: &[],
+    });
+    let here = number + 1;
+    let tally = tell_line(listener, device, alloc, scope, lengths, sides, here, read)?;
+    Ok(Turn {
+        lines: 1,
+        tally,
+        after,
+    })
 }
 
 /// Tells what the line of that number says, where it could be read.
