@@ -14,9 +14,9 @@ use Rattle.zvt_spelling.specs.Cuts.{Cut, Spelled}
 use Rattle.zvt_spelling.specs.Reading.{Reading}
 use Rattle.zvt_stream.proofs.Beginnings.{nothing_in}
 use Rattle.zvt_stream.specs.StreamState.{StreamState, Holds}
-use Rattle.zvt_trace.specs.Joining.{Bring, Joins}
-use Rattle.zvt_trace.specs.Listening.{Fails, FollowBoth, FollowsUntil, Hears, WalksLine, fault_of, stream_of}
-use Rattle.zvt_trace.specs.Meanings.{Begins, meaning_of, piece}
+use Rattle.zvt_trace.specs.Joining.{Bring, Joins, Together, stream_of}
+use Rattle.zvt_trace.specs.Listening.{Fails, FollowBoth, FollowsUntil, Hears, WalksLine, fault_of}
+use Rattle.zvt_trace.specs.Meanings.{Begins, IsPlain, meaning_of, piece}
 use Rattle.zvt_trace.specs.Told.{At, message, on}
 use Rattle.zvt_trace.specs.Telling.{LineTells, LinesTell, TellsBeside, both_sides, messages_told}
 use Rattle.zvt_trace.specs.Trace.{Arrives, Side, Sides, begun, running, stopped}
@@ -26,6 +26,7 @@ use Rattle.zvt_trace.specs.declared.direction.Direction.{Direction}
 use Rattle.zvt_trace.specs.declared.direction.Direction.TheVariants.{FromTill, FromTerminal}
 use Rattle.zvt_trace.specs.declared.fault.Tally.{Tally}
 use Rattle.zvt_trace.specs.declared.joining.Joined.{Joined}
+use Rattle.zvt_trace.specs.declared.line.Plain.{Plain}
 use Rattle.zvt_trace.specs.declared.listener.Failure.{Failure}
 use Rattle.zvt_trace.specs.declared.listener.Scope.{Scope}
 use Rattle.zvt_trace.proofs.EventLemmas.{fails_next, front_whole, hears_one}
@@ -289,3 +290,23 @@ all_joined from side text first rest room sub next count front more joined same 
   counted = omega (arith, is_lines, so.counted);
   shorter = omega (arith, is_lines, so.shorter, shorter);
 }
+
+-- and so a first line and those behind it
+pub all_together : (text read room : List ℕ) (plain : Plain) (joined : Joined) → IsPlain text read plain → Joins plain.from plain.after.now (take plain.count read) joined room → Together plain.from text (take joined.count room) joined.lines joined.after.now
+all_together text read room plain joined (line, cut, says, size, shorter) joins = record {
+  quiet = line ∷ joins.quiet;
+  line = joins.line;
+  front = take plain.count read ++ joins.middle;
+  last = joins.last;
+  cut = cut ∙ ap (λ (ls : List (List ℕ)). line ∷ ls) joins.cut;
+  bring = (take plain.count read, joins.middle, says.0, refl, joins.bring);
+  means = joins.means;
+  all = joins.all;
+  some = joins.some;
+  counted = omega (arith, joins.counted);
+  shorter = omega (arith, joins.shorter, shorter);
+}
+
+-- the first line's bytes are still there
+pub plain_kept : (text read room : List ℕ) (plain : Plain) → take plain.count room ≡ take plain.count read → IsPlain text read plain → IsPlain text room plain
+plain_kept text read room plain same (line, cut, says, size, shorter) = (line, cut, (says.0 ∙ ap (λ (b : List ℕ). Ok (piece plain.from b)) (sym same), says.1), size, shorter)

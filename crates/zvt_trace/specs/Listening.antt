@@ -10,7 +10,6 @@ use Rattle.zvt_trace.specs.Trace.{Side, Sides, running, stopped}
 use Rattle.zvt_trace.specs.Written.{Follows}
 use Rattle.zvt_trace.specs.declared.both_sides.BothSides.{BothSides}
 use Rattle.zvt_trace.specs.declared.direction.Direction.{Direction}
-use Rattle.zvt_trace.specs.declared.direction.Direction.TheVariants.{FromTill, FromTerminal}
 use Rattle.zvt_trace.specs.declared.fault.Tally.{Tally}
 use Rattle.zvt_trace.specs.declared.fault.TraceFault.{TraceFault}
 use Rattle.zvt_trace.specs.declared.fault.TraceFault.TheVariants.{Memory, Read, TooLong, Trace, Write}
@@ -136,11 +135,6 @@ pub record HearsLine {S : Type 0} (r : Reading) (hears : Hears S) (scope : Scope
 abbrev pub TellsLine : {S : Type 0} → Reading → Hears S → Fails S → Scope → ℕ → Meaning → Sides → BothSides → (old new : S) → Result Tally Failure → Type 0
 TellsLine r hears fails scope number meaning sides state old new (Ok tally) = HearsLine r hears scope number meaning sides state tally old new
 TellsLine r hears fails scope number meaning sides state old new (Err why) = FailsIn hears fails why (MeaningBegins r scope number meaning sides) old new
-
--- the stream of that side
-abbrev pub stream_of : Direction → BothSides → StreamState
-stream_of FromTill state = state.till
-stream_of FromTerminal state = state.terminal
 
 -- the fault of a walk that failed
 abbrev pub fault_of : Failure → TraceFault

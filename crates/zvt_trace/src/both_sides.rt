@@ -6,7 +6,8 @@ ghost use Rattle.zvt_trace.specs.Meanings.{GoesOn, SpellsBytes, bytes_of, meant_
 ghost use Rattle.zvt_trace.specs.Trace.{Sides, new_line};
 ghost use Rattle.zvt_trace.specs.Telling.{LineEnds};
 ghost use Rattle.zvt_stream.specs.StreamState.{Holds};
-ghost use Rattle.zvt_trace.specs.Listening.{FollowBoth, TakeBy, TellsEnd, TellsLine, stream_of};
+ghost use Rattle.zvt_trace.specs.Joining.{stream_of};
+ghost use Rattle.zvt_trace.specs.Listening.{FollowBoth, TakeBy, TellsEnd, TellsLine};
 
 use crate::direction::Direction;
 use crate::fault::Tally;

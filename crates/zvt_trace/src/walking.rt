@@ -3,15 +3,14 @@ ghost use Rattle.std.specs.Prelude.{◌≡◌, ◌+◌, ◌<◌, ◌≤◌, ℕ,
 ghost use Rattle.std.specs.Str.Lines.{lines};
 ghost use Rattle.zvt_tlv.specs.Lengths.{reading_of};
 ghost use Rattle.zvt_trace.specs.Listening.{AnswersWalk, AnswersWalkBy, FollowBoth, IsWithin, TakeBy, TellsFirst, WalksLine};
-ghost use Rattle.zvt_trace.specs.Meanings.{IsPlain, Reads};
+ghost use Rattle.zvt_trace.specs.Meanings.{Reads};
 ghost use Rattle.zvt_trace.specs.Trace.{Sides};
 ghost use Rattle.zvt_trace.specs.Written.{limit};
 
 use crate::both_sides::BothSides;
 use crate::fault::{Tally, TraceFault, What};
-use crate::joining::{Joined, join_message};
-use crate::line::{CHUNK, Line, Plain, plain_piece, read_line};
-use crate::lines::next_line;
+use crate::joining::{First, first_lines};
+use crate::line::{CHUNK, Line};
 use crate::listener::{Listener, Scope};
 use crate::tell::tell_bytes;
 use std::alloc::Global;
@@ -81,25 +80,8 @@ struct Turn<'t> {
     after: &'t [u8],
 }
 
-impl<'t> Turn<'t> {
-    /// A message was told that these lines bring together.
-    fn of_message(joined: Joined<'t>) -> Turn<'t>
-        ensures lines { result.lines ≡ joined.entry.lines }
-        ensures after { result.after ≡ joined.entry.after }
-        ensures tally { (result.tally.messages ≡ 1) × (result.tally.bad ≡ 0) }
-    {
-        Turn {
-            lines: joined.lines,
-            tally: Tally {
-                messages: 1,
-                bad: 0,
-            },
-            after: joined.after,
-        }
-    }
-}
-
-/// Tells what the first line says, or the first lines, where they bring a message together.
+/// Tells what the first line says, or a message that the first lines bring together: with the last of them, and nothing
+/// with the others.
 #[inline(always)]
 fn tell_first<'t, D, L: Listener<D>>(
     listener: &mut L,
@@ -119,65 +101,31 @@ fn tell_first<'t, D, L: Listener<D>>(
     ensures tells { (state : Sides) → FollowBoth (reading_of lengths) sides.old state → TellsFirst (reading_of lengths) L.hears L.fails scope number rest.now state sides.new (listener.old, device.old) (listener.new, device.new) result }
     ensures within { IfOk result (IsWithin rest.now) }
 {
-    let Some(plain) = plain_piece(buffer, rest) else {
-        let (line, after) = next_line(rest);
-        let read = read_line(buffer, line);
-        let here = number + 1;
-        let tally = tell_line(listener, device, alloc, scope, lengths, sides, here, read)?;
-        return Ok(Turn {
-            lines: 1,
-            tally,
+    match first_lines(buffer, rest, lengths, sides) {
+        First::Line { read, after } => {
+            let number = number + 1;
+            let tally = tell_line(listener, device, alloc, scope, lengths, sides, number, read)?;
+            Ok(Turn {
+                lines: 1,
+                tally,
+                after,
+            })
+        }
+        First::Message {
+            from,
+            bytes,
+            lines,
             after,
-        });
-    };
-    tell_plain(
-        listener, device, alloc, scope, lengths, sides, number, buffer, plain,
-    )
-}
-
-/// Tells a piece in the usual form, whose bytes the buffer begins with. Where it begins a message and lines of its side
-/// behind it bring the rest, the message is told with the last of them, and nothing with the others: so its bytes are
-/// looked at together, and need not be held.
-#[inline(always)]
-fn tell_plain<'t, D, L: Listener<D>>(
-    listener: &mut L,
-    device: &mut D,
-    alloc: Global,
-    scope: Scope,
-    lengths: Lengths,
-    sides: &mut BothSides,
-    number: u64,
-    buffer: &mut [u8],
-    plain: Plain<'t>,
-) -> Result<Turn<'t>, TraceFault>
-    requires reading { TakeBy (reading_of lengths) sides.old }
-    requires plain { (text : List ℕ) × IsPlain text buffer.old plain × (number + length text ≤ limit) }
-    requires few { plain.count ≤ length buffer.old }
-    ensures reading { OnOk result (TakeBy (reading_of lengths) sides.new) }
-    ensures tells { (text : List ℕ) → IsPlain text buffer.old plain.entry → (state : Sides) → FollowBoth (reading_of lengths) sides.old state → TellsFirst (reading_of lengths) L.hears L.fails scope number text state sides.new (listener.old, device.old) (listener.new, device.new) result }
-    ensures within { (text : List ℕ) → IsPlain text buffer.old plain.entry → IfOk result (IsWithin text) }
-{
-    let Plain { from, count, after } = plain;
-    if sides.is_between(from)
-        && let Some(joined) = join_message(lengths, buffer, from, count, after)
-    {
-        let bytes = &buffer[..joined.count];
-        let last = number + joined.lines;
-        tell_bytes(listener, device, last, from, lengths, bytes)?;
-        return Ok(Turn::of_message(joined));
+        } => {
+            let number = number + lines;
+            tell_bytes(listener, device, number, from, lengths, bytes)?;
+            Ok(Turn {
+                lines,
+                tally: Tally::of_message(),
+                after,
+            })
+        }
     }
-    let read = Ok(Line::Piece {
-        from,
-        bytes: &buffer[..count],
-        behind: &[],
-    });
-    let here = number + 1;
-    let tally = tell_line(listener, device, alloc, scope, lengths, sides, here, read)?;
-    Ok(Turn {
-        lines: 1,
-        tally,
-        after,
-    })
 }
 
 /// Tells what the line of that number says, where it could be read.

@@ -12,8 +12,8 @@ lines-init c = record {
   size = refl;
 }
 
-pub returns-then-not-is_cut-2-clause-joins : goal.returns-then-not-is_cut-2-clause-joins
-returns-then-not-is_cut-2-clause-joins c =
+pub returns-then-not-is_cut-clause-joins : goal.returns-then-not-is_cut-clause-joins
+returns-then-not-is_cut-clause-joins c =
     let so = c.lines.invariant in
     let same : c.in_ok-side.field-0.from ≡ c.args.from = search rules in
     all_joined c.args.from c.in_ok-side.field-0.from c.args.text.now _ c.lines.rest.now c.lines.room c.plain_piece.new.room _ c.lines.lines c.lines.front c.in_ok-side.field-0.count _ same
