@@ -5,7 +5,7 @@ ghost use Rattle.zvt_till.specs.Books.{books};
 ghost use Rattle.zvt_till.specs.Outcomes.{note, note_if};
 ghost use Rattle.zvt_till.specs.Judging.{books_value, written, paying, opened, IsJudged, KnowsTraces};
 
-use crate::happenings::{Happening, Sent, ends, is_positive};
+use crate::happenings::{Happening, Sent, ends};
 use crate::messages::{Heard, StatusFacts};
 use crate::orders::Order;
 use crate::outcomes::{Cause, Outcome, outcome_by};
