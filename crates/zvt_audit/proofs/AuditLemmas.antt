@@ -27,11 +27,11 @@ use Rattle.zvt_audit.specs.declared.auditing.Found.{Found}
 use Rattle.zvt_audit.specs.declared.orders.Orders.{Orders}
 
 -- nothing happened
-pub takes_none : (books : BooksSoFar) → Takes books books []
+takes_none : (books : BooksSoFar) → Takes books books []
 takes_none books = λ log judged. subst (λ (l : List Happening). HasJudged l books) (sym (append-nil log)) judged
 
 -- one thing after another
-pub takes_more : (a b c : BooksSoFar) (x y : List Happening) → Takes a b x → Takes b c y → Takes a c (x ++ y)
+takes_more : (a b c : BooksSoFar) (x y : List Happening) → Takes a b x → Takes b c y → Takes a c (x ++ y)
 takes_more a b c x y first second = λ log judged. subst (λ (l : List Happening). HasJudged l c) (append_assoc log x y) (second (log ++ x) (first log judged))
 
 -- ---- what is heard
@@ -60,10 +60,6 @@ log_judged books_of orders events first old new start connects heard = taken boo
 or_false : (b : Bool) → (b || false) ≡ b
 or_false true = refl
 or_false false = refl
-
--- nothing was noticed
-pub unnoticed : (o : Orders) → o ≡ record { till = o.till || false; terminal = o.terminal || false }
-unnoticed o = rw (or_false o.till, or_false o.terminal) refl
 
 or_more : (a b c : Bool) → ((a || b) || c) ≡ (a || (b || c))
 or_more true b c = refl

@@ -1,13 +1,12 @@
 //! Books of what a trace tells.
-ghost use Rattle.std.specs.Prelude.{◌≡◌, [], OnOk};
-ghost use Rattle.std.specs.List.{cons_option};
+ghost use Rattle.std.specs.Prelude.{◌≡◌, ◌∷◌, [], OnOk};
+ghost use Rattle.zvt_till.specs.declared.happenings.Happening.TheVariants.{Connected, Lost, Malformed};
 ghost use Rattle.zvt_audit.specs.Audited.{Takes};
-ghost use Rattle.zvt_audit.specs.Happened.{happened};
 
-use crate::happened::happened;
+use crate::happened::ordered;
 use crate::orders::Orders;
 use std::alloc::AllocError;
-use zvt_apdu::ApduView;
+use zvt_apdu::{ApduView, Kind};
 use zvt_till::Happening;
 use zvt_till::books::Bookkeeping;
 use zvt_trace::{Direction, Failure, Listener, Told};
@@ -32,31 +31,72 @@ impl Listener<()> for Auditor {
     #[inline(always)]
     fn hear(&mut self, _device: &mut (), _line: u64, told: &Told<'_>) -> Result<(), Failure> {
         match told {
-            Told::Message { from, apdu, .. } => {
-                take_message(&mut self.books, *from, apdu)?;
-                self.orders.notice(*from, apdu);
-            }
-            Told::Refused { .. } => self.books.take(&Happening::Malformed)?,
-            Told::Lost => {
-                self.books.take(&Happening::Lost)?;
-                self.books.take(&Happening::Connected)?;
-            }
+            Told::Message { from, apdu, .. } => match from {
+                Direction::FromTill => self.hear_till(apdu)?,
+                Direction::FromTerminal => self.hear_terminal(apdu)?,
+            },
+            Told::Refused { .. } => malform(&mut self.books)?,
+            Told::Lost => lose(&mut self.books)?,
             Told::Unread { .. } | Told::CutOff { .. } => {}
         }
         Ok(())
     }
 }
 
-/// Takes what happened by a message.
-fn take_message(
-    books: &mut Bookkeeping,
-    from: Direction,
-    apdu: &ApduView<'_>,
-) -> Result<(), AllocError>
-    ensures { OnOk result (Takes books.old books.new (cons_option (happened from apdu.now) [])) }
-{
-    match happened(from, apdu) {
-        Some(happening) => books.take(&happening),
-        None => Ok(()),
+impl Auditor {
+    ghost use Rattle.std.specs.Prelude.{◌≡◌, OnOk};
+    ghost use Rattle.zvt_audit.specs.Audited.{Takes};
+    ghost use Rattle.zvt_audit.specs.Happened.{happenings_of};
+    ghost use Rattle.zvt_audit.specs.Orders.{noticed};
+    ghost use Rattle.zvt_trace.specs.Told as told;
+    ghost use Rattle.zvt_trace.specs.declared.direction.Direction.TheVariants.{FromTill, FromTerminal};
+
+    /// Hears a message of the till. Most acknowledge one of the terminal, and leave at once.
+    #[inline(always)]
+    fn hear_till(&mut self, apdu: &ApduView<'_>) -> Result<(), AllocError>
+        ensures { OnOk result (Takes self.old.books self.new.books (happenings_of (told.message FromTill apdu.now)) × (self.new.orders ≡ noticed self.old.orders (told.message FromTill apdu.now))) }
+    {
+        match apdu.kind() {
+            Kind::Ack => Ok(()),
+            _ => self.hear_order(apdu),
+        }
     }
+
+    /// Hears a message of the till that may be an order.
+    #[inline(never)]
+    fn hear_order(&mut self, apdu: &ApduView<'_>) -> Result<(), AllocError>
+        ensures { OnOk result (Takes self.old.books self.new.books (happenings_of (told.message FromTill apdu.now)) × (self.new.orders ≡ noticed self.old.orders (told.message FromTill apdu.now))) }
+    {
+        self.orders.notice(Direction::FromTill, apdu);
+        match ordered(apdu) {
+            Some(order) => self.books.take(&Happening::Sent(order)),
+            None => Ok(()),
+        }
+    }
+
+    /// Hears a message of the terminal.
+    #[inline(always)]
+    fn hear_terminal(&mut self, apdu: &ApduView<'_>) -> Result<(), AllocError>
+        ensures { OnOk result (Takes self.old.books self.new.books (happenings_of (told.message FromTerminal apdu.now)) × (self.new.orders ≡ noticed self.old.orders (told.message FromTerminal apdu.now))) }
+    {
+        self.orders.notice(Direction::FromTerminal, apdu);
+        self.books.hear(apdu)
+    }
+}
+
+/// What came is no message.
+#[inline(never)]
+fn malform(books: &mut Bookkeeping) -> Result<(), AllocError>
+    ensures { OnOk result (Takes books.old books.new (Malformed ∷ [])) }
+{
+    books.take(&Happening::Malformed)
+}
+
+/// The line is lost, and the next one is up.
+#[inline(never)]
+fn lose(books: &mut Bookkeeping) -> Result<(), AllocError>
+    ensures { OnOk result (Takes books.old books.new (Lost ∷ Connected ∷ [])) }
+{
+    books.take(&Happening::Lost)?;
+    books.take(&Happening::Connected)
 }

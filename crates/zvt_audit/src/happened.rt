@@ -1,13 +1,11 @@
-//! What messages are to a till.
+//! The orders that a till gives.
 ghost use Rattle.std.specs.Prelude.{◌≡◌, Some};
 ghost use Rattle.zvt_apdu.specs.Message.{authorisation};
-ghost use Rattle.zvt_audit.specs.Happened.{happened, ordered};
+ghost use Rattle.zvt_audit.specs.Happened.{ordered};
 
 use zvt_apdu::{ApduView, Kind};
 use zvt_field::FieldsView;
-use zvt_till::hearing::heard_view;
-use zvt_till::{Happening, Sent};
-use zvt_trace::Direction;
+use zvt_till::Sent;
 
 /// The authorisation that these fields order: of their amount, where that stands exactly once and is not zero.
 fn paid(fields: &FieldsView<'_>) -> Sent
@@ -20,7 +18,7 @@ fn paid(fields: &FieldsView<'_>) -> Sent
 }
 
 /// The order that a till gives by this message, if it gives one.
-fn ordered(apdu: &ApduView<'_>) -> Option<Sent>
+pub(crate) fn ordered(apdu: &ApduView<'_>) -> Option<Sent>
     ensures { result ≡ ordered apdu.now }
 {
     match apdu.kind() {
@@ -33,18 +31,5 @@ fn ordered(apdu: &ApduView<'_>) -> Option<Sent>
         Kind::EndOfDay => Some(Sent::CloseDay),
         Kind::Reversal | Kind::Other => Some(Sent::Foreign),
         _ => None,
-    }
-}
-
-/// What happened by this message, if it counts.
-pub(crate) fn happened(from: Direction, apdu: &ApduView<'_>) -> Option<Happening>
-    ensures { result ≡ happened from apdu.now }
-{
-    match from {
-        Direction::FromTill => match ordered(apdu) {
-            Some(order) => Some(Happening::Sent(order)),
-            None => None,
-        },
-        Direction::FromTerminal => Some(Happening::Heard(heard_view(apdu))),
     }
 }

@@ -29,8 +29,16 @@ impl Orders {
         ensures { self.new ≡ noticed self.old (told.message from apdu.now) }
     {
         match from {
-            Direction::FromTill => self.till = self.till || is_order(apdu),
-            Direction::FromTerminal => self.terminal = self.terminal || is_order(apdu),
+            Direction::FromTill => {
+                if is_order(apdu) {
+                    self.till = true;
+                }
+            }
+            Direction::FromTerminal => {
+                if is_order(apdu) {
+                    self.terminal = true;
+                }
+            }
         }
     }
 

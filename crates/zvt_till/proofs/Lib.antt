@@ -22,6 +22,7 @@ pub mod Pieces
 pub mod Carrying
 pub mod Ordering
 pub mod BooksLemmas
+pub mod Noted
 mod Rows
 mod Room
 mod Once

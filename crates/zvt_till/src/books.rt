@@ -1,14 +1,21 @@
 //! The books of a whole log.
 ghost use Rattle.std.specs.Prelude.{◌≡◌, ◌++◌, ◌∷◌, [], List, IfOk, OnOk};
 ghost use Rattle.zvt_till.specs.Books.{books};
+ghost use Rattle.zvt_till.specs.declared.happenings.Happening.TheVariants.{Heard as HeardIn};
+ghost use Rattle.zvt_till.specs.declared.messages.Heard.TheVariants.{Completion, Status};
+ghost use Rattle.zvt_till.specs.Hearing.{facts_in_fields, heard_as};
 ghost use Rattle.zvt_till.specs.Judging.{HasJudged, books_value};
 
 use crate::happenings::{Happening, force_after};
+use crate::hearing::{facts_shown, heard_view};
 use crate::judging::{Books, OpenPayment};
+use crate::messages::Heard;
 use crate::statuses::Statuses;
 use std::alloc::{AllocError, Global};
 use std::marker::Model;
+use zvt_apdu::{ApduView, Kind};
 use zvt_bcd::{Currency, Trace};
+use zvt_field::FieldsView;
 
 /// The books of a log that goes on: each happening is judged as it comes, and none is kept.
 #[derive(Drop)]
@@ -43,16 +50,68 @@ impl Bookkeeping {
     }
 
     /// Judges what happened next. Where memory is refused the books are those of no log any more.
+    #[inline(always)]
     pub fn take(&mut self, happening: &Happening) -> Result<(), AllocError>
         ensures { OnOk result ((log : List Happening) → HasJudged log self.old → HasJudged (log ++ happening.now ∷ []) self.new) }
     {
         // Names the types that a running payment is made of, which the proof asks for.
         let _statuses: Option<Statuses> = None;
         let _trace: Option<Trace> = None;
-        let running = self.found.take(&self.running, self.currency, happening)?;
-        self.running = running;
+        self.found
+            .take(&mut self.running, self.currency, happening)?;
         self.currency = force_after(self.currency, happening);
         Ok(())
+    }
+
+    /// Judges a message of the terminal, as `take` does what it is to a till. Most messages leave early.
+    #[inline(always)]
+    pub fn hear(&mut self, apdu: &ApduView<'_>) -> Result<(), AllocError>
+        ensures { OnOk result ((log : List Happening) → HasJudged log self.old → HasJudged (log ++ HeardIn (heard_as apdu.now) ∷ []) self.new) }
+    {
+        match apdu.kind() {
+            Kind::Intermediate | Kind::PrintLine | Kind::TextBlock => Ok(()),
+            Kind::Ack => {
+                if let Some(payment) = &mut self.running {
+                    payment.positive = true;
+                }
+                Ok(())
+            }
+            Kind::Status => match apdu.fields() {
+                Some(fields) => {
+                    self.note(&fields);
+                    Ok(())
+                }
+                None => unreachable!(),
+            },
+            Kind::Completion => self.complete(),
+            _ => self.hear_rare(apdu),
+        }
+    }
+
+    /// Notes what the fields of a status say of the payment that runs.
+    #[inline(never)]
+    fn note(&mut self, fields: &FieldsView<'_>)
+        ensures { (log : List Happening) → HasJudged log self.old → HasJudged (log ++ HeardIn (Status (facts_in_fields fields.now)) ∷ []) self.new }
+    {
+        if let Some(payment) = &mut self.running {
+            payment.note(&facts_shown(fields));
+        }
+    }
+
+    /// The terminal completes what runs.
+    #[inline(never)]
+    fn complete(&mut self) -> Result<(), AllocError>
+        ensures { OnOk result ((log : List Happening) → HasJudged log self.old → HasJudged (log ++ HeardIn Completion ∷ []) self.new) }
+    {
+        self.take(&Happening::Heard(Heard::Completion))
+    }
+
+    /// Judges a message of any kind.
+    #[inline(never)]
+    fn hear_rare(&mut self, apdu: &ApduView<'_>) -> Result<(), AllocError>
+        ensures { OnOk result ((log : List Happening) → HasJudged log self.old → HasJudged (log ++ HeardIn (heard_as apdu.now) ∷ []) self.new) }
+    {
+        self.take(&Happening::Heard(heard_view(apdu)))
     }
 
     /// The log ends: a payment without an end is unfinished.

@@ -31,6 +31,7 @@ pub enum Happening {
 
 /// Whether this ends the running order, of which a positive answer was heard or not: once the terminal
 /// has taken an order up, a negative answer is none to the order.
+#[inline(always)]
 pub fn ends(positive: bool, happening: &Happening) -> bool
     ensures { result ≡ ends positive happening.now }
 {
@@ -44,6 +45,7 @@ pub fn ends(positive: bool, happening: &Happening) -> bool
 }
 
 /// The currency in force after this: that of the last registration, where it named one.
+#[inline(always)]
 pub fn force_after(force: Option<Currency>, happening: &Happening) -> Option<Currency>
     ensures { result ≡ force_after force happening.now }
 {
@@ -54,6 +56,7 @@ pub fn force_after(force: Option<Currency>, happening: &Happening) -> Option<Cur
 }
 
 /// Whether this is a positive answer.
+#[inline(always)]
 pub fn is_positive(happening: &Happening) -> bool
     ensures { result ≡ is_positive happening.now }
 {

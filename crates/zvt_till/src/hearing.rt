@@ -94,6 +94,7 @@ pub fn heard(apdu: &Apdu) -> Heard
 }
 
 /// The payment that is taken back, where BMP 37 stands once.
+#[inline(always)]
 fn original_shown(single: &Single) -> Original
     ensures { (fields : List Field) → Says fields single.now → result ≡ original_in fields }
 {
@@ -105,6 +106,7 @@ fn original_shown(single: &Single) -> Original
 }
 
 /// The currency that is named, where BMP 49 stands once.
+#[inline(always)]
 fn currency_named(single: &Single) -> CurrencyFact
     ensures { (fields : List Field) → Says fields single.now → result ≡ currency_in fields }
 {
@@ -129,7 +131,8 @@ pub fn currency_shown(fields: &FieldsView<'_>) -> CurrencyFact
 }
 
 /// What the fields of a view of a status information say.
-fn facts_shown(fields: &FieldsView<'_>) -> StatusFacts
+#[inline(always)]
+pub(crate) fn facts_shown(fields: &FieldsView<'_>) -> StatusFacts
     ensures { result ≡ facts_in_fields fields.now }
 {
     let single = read_single(fields);

@@ -1,12 +1,12 @@
 //! A log's payments, judged one after another.
-ghost use Rattle.std.specs.Prelude.{◌≡◌, ◌++◌, ◌∷◌, [], ◌||◌, List, OnOk, IfOk};
+ghost use Rattle.std.specs.Prelude.{◌≡◌, ◌++◌, ◌∷◌, [], ◌||◌, List, OnOk};
 ghost use Rattle.zvt_till.specs.Segments.{begun, in_force, is_positive, status_of};
 ghost use Rattle.zvt_till.specs.Books.{books};
-ghost use Rattle.zvt_till.specs.Outcomes.{note_if};
+ghost use Rattle.zvt_till.specs.Outcomes.{note, note_if};
 ghost use Rattle.zvt_till.specs.Judging.{books_value, written, paying, opened, IsJudged, KnowsTraces};
 
-use crate::happenings::{Happening, Sent, ends, is_positive};
-use crate::messages::Heard;
+use crate::happenings::{Happening, Sent, ends};
+use crate::messages::{Heard, StatusFacts};
 use crate::orders::Order;
 use crate::outcomes::{Cause, Outcome, outcome_by};
 use crate::statuses::{Charge, Demand, Statuses, note};
@@ -46,6 +46,7 @@ pub struct OpenPayment {
 }
 
 /// The order that this begins, if it does: any but Cancel.
+#[inline(always)]
 fn begun(happening: &Happening) -> Option<Sent>
     ensures { result ≡ begun happening.now }
 {
@@ -57,6 +58,7 @@ fn begun(happening: &Happening) -> Option<Sent>
 }
 
 /// The payment that the order begins under this currency, if it is one.
+#[inline(always)]
 fn opened(currency: Option<Currency>, order: &Sent) -> Option<OpenPayment>
     ensures { result ≡ opened currency order.now }
 {
@@ -72,28 +74,33 @@ fn opened(currency: Option<Currency>, order: &Sent) -> Option<OpenPayment>
 }
 
 impl OpenPayment {
-    /// The payment after something that does not end it.
-    fn listened(&self, happening: &Happening) -> OpenPayment
-        ensures amount { result.amount ≡ self.now.amount }
-        ensures currency { result.currency ≡ self.now.currency }
-        ensures positive { result.positive ≡ (self.now.positive || is_positive happening.now) }
-        ensures statuses { result.statuses ≡ note_if (paying self.now.currency self.now.amount) self.now.statuses (status_of happening.now) }
+    /// Notes what one more status says.
+    #[inline(always)]
+    pub(crate) fn note(&mut self, status: &StatusFacts)
+        ensures amount { self.new.amount ≡ self.old.amount }
+        ensures currency { self.new.currency ≡ self.old.currency }
+        ensures positive { self.new.positive ≡ self.old.positive }
+        ensures statuses { self.new.statuses ≡ note (paying self.old.currency self.old.amount) self.old.statuses status.now }
     {
-        let statuses = match happening {
-            Happening::Heard(Heard::Status(status)) => {
-                let charge = Charge {
-                    amount: self.amount,
-                    currency: self.currency,
-                };
-                note(&Some(Demand::Payment(charge)), self.statuses, status)
-            }
-            _ => self.statuses,
-        };
-        OpenPayment {
+        let charge = Charge {
             amount: self.amount,
             currency: self.currency,
-            positive: self.positive || is_positive(happening),
-            statuses,
+        };
+        self.statuses = note(&Some(Demand::Payment(charge)), self.statuses, status);
+    }
+
+    /// Listens to something that does not end it.
+    #[inline(always)]
+    fn listen(&mut self, happening: &Happening)
+        ensures amount { self.new.amount ≡ self.old.amount }
+        ensures currency { self.new.currency ≡ self.old.currency }
+        ensures positive { self.new.positive ≡ (self.old.positive || is_positive happening.now) }
+        ensures statuses { self.new.statuses ≡ note_if (paying self.old.currency self.old.amount) self.old.statuses (status_of happening.now) }
+    {
+        match happening {
+            Happening::Heard(Heard::Positive) => self.positive = true,
+            Happening::Heard(Heard::Status(status)) => self.note(status),
+            _ => {}
         }
     }
 }
@@ -145,30 +152,34 @@ impl Books {
         Ok(())
     }
 
-    /// Takes what happened next, under the currency in force before it, and answers the payment that runs after it.
+    /// Takes what happened next, under the currency in force before it.
+    #[inline(always)]
     pub(crate) fn take(
         &mut self,
-        running: &Option<OpenPayment>,
+        running: &mut Option<OpenPayment>,
         currency: Option<Currency>,
         happening: &Happening,
-    ) -> Result<Option<OpenPayment>, AllocError>
+    ) -> Result<(), AllocError>
         requires { KnowsTraces self.old }
         ensures traces { KnowsTraces self.new }
-        ensures judged { IfOk result (λ next. (log : List Happening) → currency ≡ in_force log → IsJudged log (books_value self.old) running.now → IsJudged (log ++ happening.now ∷ []) (books_value self.new) next) }
+        ensures judged { OnOk result ((log : List Happening) → currency ≡ in_force log → IsJudged log (books_value self.old) running.old → IsJudged (log ++ happening.now ∷ []) (books_value self.new) running.new) }
     {
         if let Some(order) = begun(happening) {
             self.close(running)?;
-            return Ok(opened(currency, &order));
+            *running = opened(currency, &order);
+            return Ok(());
         }
         let Some(payment) = running else {
-            return Ok(None);
+            return Ok(());
         };
         if ends(payment.positive, happening) {
             let order = Order::Pay(payment.amount);
             let outcome = outcome_by(&self.used, &order, &payment.statuses, happening);
             self.write(payment.amount, &outcome)?;
-            return Ok(None);
+            *running = None;
+            return Ok(());
         }
-        Ok(Some(payment.listened(happening)))
+        payment.listen(happening);
+        Ok(())
     }
 }

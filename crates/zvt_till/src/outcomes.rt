@@ -92,6 +92,7 @@ pub enum Outcome {
 }
 
 /// How a completed payment ends, where the entries have these trace numbers.
+#[inline(always)]
 fn payment_outcome(used: &UsedTraces, so_far: Statuses) -> Outcome
     ensures { (book : List Entry) → AreTracesOf used.now book → result ≡ payment_outcome book so_far }
 {
@@ -134,6 +135,7 @@ fn closing_outcome(so_far: Statuses) -> Outcome
 }
 
 /// How an order ends by a completion.
+#[inline(always)]
 fn completion_outcome(used: &UsedTraces, order: &Order, so_far: Statuses) -> Outcome
     ensures { (book : List Entry) → AreTracesOf used.now book → result ≡ completion_outcome book order.now so_far }
 {
@@ -146,6 +148,7 @@ fn completion_outcome(used: &UsedTraces, order: &Order, so_far: Statuses) -> Out
 }
 
 /// How an order ends that was broken off: plainly, where nothing but declines were heard.
+#[inline(always)]
 fn broken_outcome(so_far: Statuses, plain: Outcome) -> Outcome
     ensures { result ≡ broken_outcome so_far plain }
 {
@@ -156,6 +159,7 @@ fn broken_outcome(so_far: Statuses, plain: Outcome) -> Outcome
 }
 
 /// How the running order ends by this, where the entries have these trace numbers.
+#[inline(always)]
 pub fn outcome_by(
     used: &UsedTraces,
     order: &Order,

@@ -65,6 +65,7 @@ pub struct Running {
 }
 
 /// Whether these are the same number, or both none.
+#[inline(always)]
 fn same_trace(one: &Option<Trace>, other: &Option<Trace>) -> bool
     ensures { result ≡ same_trace one.now other.now }
 {
@@ -72,6 +73,7 @@ fn same_trace(one: &Option<Trace>, other: &Option<Trace>) -> bool
 }
 
 /// The class of a status that names one result, and that no decline.
+#[inline(always)]
 fn class_undeclined(demand: &Demand, status: &StatusFacts) -> Class
     ensures { result ≡ class_undeclined demand.now status.now }
 {
@@ -106,6 +108,7 @@ fn class_undeclined(demand: &Demand, status: &StatusFacts) -> Class
 }
 
 /// What the status says under the order.
+#[inline(always)]
 fn class_of(demand: &Demand, status: &StatusFacts) -> Class
     ensures { result ≡ class_of demand.now status.now }
 {
@@ -117,6 +120,7 @@ fn class_of(demand: &Demand, status: &StatusFacts) -> Class
 }
 
 /// What the statuses say together with one more of this class.
+#[inline(always)]
 fn note_class(so_far: Statuses, class: Class, receipt: Option<[u8; 2]>) -> Statuses
     ensures { result ≡ note_class so_far class receipt }
 {
@@ -147,6 +151,7 @@ fn note_class(so_far: Statuses, class: Class, receipt: Option<[u8; 2]>) -> Statu
 }
 
 /// What the statuses say together with one more.
+#[inline(always)]
 pub(crate) fn note(demand: &Option<Demand>, so_far: Statuses, status: &StatusFacts) -> Statuses
     ensures { result ≡ note demand.now so_far status.now }
 {

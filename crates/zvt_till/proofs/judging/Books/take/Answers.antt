@@ -10,7 +10,7 @@ returns-in-Some-clause-judged c log force before =
 pub returns-in_default-running-clause-judged : goal.returns-in_default-running-clause-judged
 returns-in_default-running-clause-judged c log force before =
     let rests = rw c.in_default-running.is at before in
-    judged-rest log c.args.happening.now _ (sym c.begun.ensures ∙ c.in_default.is) rests
+    rw c.in_default-running.is (judged-rest log c.args.happening.now _ (sym c.begun.ensures ∙ c.in_default.is) rests)
 
 pub returns-then-ends-clause-judged : goal.returns-then-ends-clause-judged
 returns-then-ends-clause-judged c log force before =
@@ -22,5 +22,5 @@ returns-then-ends-clause-judged c log force before =
 pub returns-clause-judged : goal.returns-clause-judged
 returns-clause-judged c log force before =
     let runs = rw c.in-Some-running.is at before in
-    let next = c.listened.ensures in
+    let next = c.listen.ensures in
     judged-more log c.args.happening.now _ c.in-Some-running.payment _ (sym c.begun.ensures ∙ c.in_default.is) (sym c.ends.ensures ∙ c.if-ends.false) next.amount next.currency next.positive next.statuses runs
