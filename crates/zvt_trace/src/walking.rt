@@ -95,8 +95,7 @@ fn tell_first<'t, D, L: Listener<D>>(
     rest: &'t [u8],
 ) -> Result<Turn<'t>, TraceFault>
     requires reading { TakeBy (reading_of lengths) sides.old }
-    requires some { 0 < length rest.now }
-    requires few { number + length rest.now ≤ limit }
+    requires few { (0 < length rest.now) × (number + length rest.now ≤ limit) }
     ensures reading { OnOk result (TakeBy (reading_of lengths) sides.new) }
     ensures tells { (state : Sides) → FollowBoth (reading_of lengths) sides.old state → TellsFirst (reading_of lengths) L.hears L.fails scope number rest.now state sides.new (listener.old, device.old) (listener.new, device.new) result }
     ensures within { IfOk result (IsWithin rest.now) }
@@ -117,8 +116,7 @@ fn tell_first<'t, D, L: Listener<D>>(
             lines,
             after,
         } => {
-            let number = number + lines;
-            tell_bytes(listener, device, number, from, lengths, bytes)?;
+            tell_bytes(listener, device, number + lines, from, lengths, bytes)?;
             Ok(Turn {
                 lines,
                 tally: Tally::of_message(),
