@@ -5,7 +5,8 @@ use std::process::Abort;
 use std::test::Fail;
 use zvt_apdu::Kind;
 use zvt_spelling::Why;
-use zvt_stream::{Fed, FedView, FeedError, Held, LONGEST, Stream, Truncated};
+use zvt_stream::{Fed, FedView, FeedError, Held, LONGEST, Stream, Truncated, message_size};
+use zvt_tlv::Lengths;
 
 const STATUS: [u8; 19] = [
     0x04, 0x0F, 0x10, 0x27, 0x00, 0x04, 0x00, 0x00, 0x00, 0x00, 0x12, 0x34, 0x0B, 0x00, 0x00, 0x17,
@@ -139,6 +140,46 @@ fn a_whole_message_stays_in_its_piece(rt: HostRuntime) {
     assert!(rt; ends(&mut stream, &STATUS[10..], &STATUS));
     assert_eq!(rt; lent(&stream), Some((Kind::Status, STATUS.as_slice())));
     assert!(rt; ends(&mut stream, &ACK, &ACK));
+}
+
+// As silent as those that feed.
+fn sized(lengths: Lengths, bytes: &[u8]) -> Option<usize> {
+    message_size(lengths, bytes)
+}
+
+#[test]
+fn the_first_message_of_bytes_has_a_size(rt: HostRuntime) -> Result<(), Fail> {
+    let nested = [0x06, 0x0F, 0x05, 0x06, 0x03, 0x07, 0x01, 0x41, 0x80];
+    let padded = [0x06, 0x0F, 0x06, 0x06, 0x04, 0x07, 0x81, 0x01, 0x41];
+    let line = longest(rt.alloc())?;
+    let rows = [
+        (Lengths::Shortest, STATUS.as_slice(), Some(19)),
+        (Lengths::Shortest, &STATUS[..18], None),
+        (Lengths::Shortest, &nested, Some(8)),
+        (Lengths::Shortest, &nested[..7], None),
+        (Lengths::Shortest, &padded, None),
+        (Lengths::Padded, &padded, Some(9)),
+        (Lengths::Shortest, line.as_slice(), Some(LONGEST)),
+    ];
+    for (lengths, bytes, size) in rows {
+        assert_eq!(rt; sized(lengths, bytes), size);
+    }
+    Ok(())
+}
+
+/// Whether the stream is between two messages behind the piece.
+fn is_between(stream: &mut Stream, piece: &[u8]) -> bool {
+    let _ = placed(stream, piece);
+    stream.is_between()
+}
+
+#[test]
+fn a_stream_is_between_messages(rt: HostRuntime) {
+    let mut stream = Stream::new(rt.alloc());
+    assert!(rt; is_between(&mut stream, &[]));
+    assert!(rt; !is_between(&mut stream, &[0x80]));
+    assert!(rt; is_between(&mut stream, &[0x00, 0x00]));
+    assert!(rt; !is_between(&mut stream, &[0x06, 0x01, 0x01, 0x04]));
 }
 
 /// The longest line to print, and 1,460 bytes behind it.
