@@ -1,6 +1,7 @@
 //! Command lines, and the texts of help and of refused words.
 use clap::error::ErrorKind;
 use std::alloc::{AllocError, Global};
+use std::process::Abort;
 use std::test::Fail;
 use zvt_choice::ChoiceFault;
 use zvt_choice::words::choice;
@@ -34,9 +35,16 @@ fn refused(alloc: Global, line: &str) -> Result<(ErrorKind, String), Fail> {
     }
 }
 
+/// Each line makes the choice beside it.
+fn are_chosen(rt: &impl Abort, alloc: Global, cases: &[(&str, &str)]) -> Result<(), Fail> {
+    for &(line, choice) in cases {
+        assert_eq!(rt; chosen(alloc, line)?.as_str(), choice);
+    }
+    Ok(())
+}
+
 #[test]
 fn commands_on_a_trace(rt: HostRuntime) -> Result<(), Fail> {
-    let alloc = rt.alloc();
     let cases = [
         ("", "Show { file: None, loose: false }"),
         ("zvt", "Show { file: None, loose: false }"),
@@ -55,15 +63,11 @@ fn commands_on_a_trace(rt: HostRuntime) -> Result<(), Fail> {
             r#"Normalise { file: Some("t.trace") }"#,
         ),
     ];
-    for (line, choice) in cases {
-        assert_eq!(rt; chosen(alloc, line)?.as_str(), choice);
-    }
-    Ok(())
+    are_chosen(&rt, rt.alloc(), &cases)
 }
 
 #[test]
 fn commands_at_the_ends_of_a_line(rt: HostRuntime) -> Result<(), Fail> {
-    let alloc = rt.alloc();
     let cases = [
         ("zvt loop", "Loop { trace: None, steps: [] }"),
         (
@@ -91,15 +95,19 @@ fn commands_at_the_ends_of_a_line(rt: HostRuntime) -> Result<(), Fail> {
             r#"Terminal { port: 4711, host: "127.0.0.1", tid: 12345678, connections: 1, decline: None, trace: None, loose: false }"#,
         ),
     ];
-    for (line, choice) in cases {
-        assert_eq!(rt; chosen(alloc, line)?.as_str(), choice);
+    are_chosen(&rt, rt.alloc(), &cases)
+}
+
+/// Each line is refused for the reason beside it.
+fn are_refused(rt: &impl Abort, alloc: Global, cases: &[(&str, ErrorKind)]) -> Result<(), Fail> {
+    for &(line, kind) in cases {
+        assert_eq!(rt; refused(alloc, line)?.0, kind);
     }
     Ok(())
 }
 
 #[test]
 fn wrong_words(rt: HostRuntime) -> Result<(), Fail> {
-    let alloc = rt.alloc();
     let cases = [
         ("zvt pay", ErrorKind::InvalidSubcommand),
         ("zvt show x y", ErrorKind::UnknownArgument),
@@ -123,15 +131,20 @@ fn wrong_words(rt: HostRuntime) -> Result<(), Fail> {
         ("zvt till --help", ErrorKind::DisplayHelp),
         ("zvt --version", ErrorKind::DisplayVersion),
     ];
-    for (line, kind) in cases {
-        assert_eq!(rt; refused(alloc, line)?.0, kind);
+    are_refused(&rt, rt.alloc(), &cases)
+}
+
+/// Each line is answered with the text beside it.
+fn are_answered(rt: &impl Abort, alloc: Global, cases: &[(&str, &str)]) -> Result<(), Fail> {
+    for &(line, expected) in cases {
+        let (_, text) = refused(alloc, line)?;
+        assert_eq!(rt; text.as_str(), expected);
     }
     Ok(())
 }
 
 #[test]
 fn texts_of_refused_words(rt: HostRuntime) -> Result<(), Fail> {
-    let alloc = rt.alloc();
     let cases = [
         (
             "zvt receipt",
@@ -155,11 +168,12 @@ For more information, try '--help'.
         ),
         ("zvt --version", "zvt 0.1.0\n"),
     ];
-    for (line, expected) in cases {
-        let (_, text) = refused(alloc, line)?;
-        assert_eq!(rt; text.as_str(), expected);
-    }
-    let text = format!(in alloc; "{}", ChoiceFault::Memory)?;
+    are_answered(&rt, rt.alloc(), &cases)
+}
+
+#[test]
+fn text_of_refused_memory(rt: HostRuntime) -> Result<(), Fail> {
+    let text = format!(in rt.alloc(); "{}", ChoiceFault::Memory)?;
     assert_eq!(rt;
         text.as_str(),
         "there is too little memory for the command line"
@@ -167,10 +181,18 @@ For more information, try '--help'.
     Ok(())
 }
 
+/// The text of help on this line has each of the words.
+fn has_words(rt: &impl Abort, alloc: Global, line: &str, words: &[&str]) -> Result<(), Fail> {
+    let (_, text) = refused(alloc, line)?;
+    for word in words {
+        assert!(rt; text.as_str().contains(*word), "{word}: {text}");
+    }
+    Ok(())
+}
+
 #[test]
 fn help_of_the_program(rt: HostRuntime) -> Result<(), Fail> {
-    let (_, text) = refused(rt.alloc(), "zvt --help")?;
-    for word in [
+    let words = [
         "\n  show ",
         "\n  join ",
         "\n  normalise ",
@@ -187,15 +209,21 @@ fn help_of_the_program(rt: HostRuntime) -> Result<(), Fail> {
         "close",
         "> HEX",
         "Exit status:",
-    ] {
-        assert!(rt; text.as_str().contains(word), "{word}");
-    }
-    Ok(())
+    ];
+    has_words(&rt, rt.alloc(), "zvt --help", &words)
+}
+
+/// The help of a command says how it is used, and gives an example.
+fn is_helped(rt: &impl Abort, alloc: Global, name: &str) -> Result<(), Fail> {
+    let line = format!(in alloc; "zvt {name} --help")?;
+    let usage = format!(in alloc; "Usage: zvt {name}")?;
+    let example = format!(in alloc; "Example:\n  zvt {name} ")?;
+    let words = [usage.as_str(), example.as_str()];
+    has_words(rt, alloc, line.as_str(), &words)
 }
 
 #[test]
 fn help_of_each_command(rt: HostRuntime) -> Result<(), Fail> {
-    let alloc = rt.alloc();
     for name in [
         "show",
         "join",
@@ -207,12 +235,7 @@ fn help_of_each_command(rt: HostRuntime) -> Result<(), Fail> {
         "till",
         "terminal",
     ] {
-        let line = format!(in alloc; "zvt {name} --help")?;
-        let (_, text) = refused(alloc, line.as_str())?;
-        let usage = format!(in alloc; "Usage: zvt {name}")?;
-        let example = format!(in alloc; "Example:\n  zvt {name} ")?;
-        assert!(rt; text.as_str().contains(usage.as_str()), "{text}");
-        assert!(rt; text.as_str().contains(example.as_str()), "{text}");
+        is_helped(&rt, rt.alloc(), name)?;
     }
     Ok(())
 }

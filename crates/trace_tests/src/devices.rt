@@ -1,5 +1,5 @@
 //! Commands on a trace over devices that fail, and the longest trace.
-use std::alloc::Global;
+use std::alloc::{AllocError, Global};
 use std::test::Fail;
 use zvt_audit::audit;
 use zvt_io::{Failed, GhostCount, Over, Sink, Source};
@@ -49,29 +49,34 @@ fn remark_of(bytes_left: usize, breaks: bool) -> Remark {
     }
 }
 
-/// What `show` answers to a remark, and how much it writes.
-fn remarked(alloc: Global, bytes: usize, breaks: bool) -> (Option<TraceFault>, usize) {
+// This function and those below that call the library say nothing of what it answers: beside that each step of a
+// caller's proof is dear.
+fn shown_remark(alloc: Global, bytes: usize, breaks: bool) -> (Option<TraceFault>, usize) {
     let mut writer = Over::new(Vec::new(alloc));
     let answer = show(alloc, &mut remark_of(bytes, breaks), &mut writer);
     (answer.err(), writer.inner.len())
 }
 
+fn audited_remark(alloc: Global, bytes: usize) -> (Option<TraceFault>, usize) {
+    let mut writer = Over::new(Vec::new(alloc));
+    let answer = audit(alloc, &mut remark_of(bytes, true), &mut writer);
+    (answer.err(), writer.inner.len())
+}
+
 #[test]
 fn traces_have_a_limit(rt: HostRuntime) {
-    let longest = remarked(rt.alloc(), 16_777_216, false);
+    let longest = shown_remark(rt.alloc(), 16_777_216, false);
     assert!(rt; matches!(longest, (None, 0)));
-    let longer = remarked(rt.alloc(), 16_777_217, false);
+    let longer = shown_remark(rt.alloc(), 16_777_217, false);
     assert!(rt; matches!(longer, (Some(TraceFault::TooLong), 0)));
 }
 
 #[test]
 fn a_read_that_fails_is_told(rt: HostRuntime) {
-    let broken = remarked(rt.alloc(), 5, true);
-    assert!(rt; matches!(broken, (Some(TraceFault::Read), 0)));
-    let mut writer = Over::new(Vec::new(rt.alloc()));
-    let audited = audit(rt.alloc(), &mut remark_of(5, true), &mut writer);
-    assert!(rt; matches!(audited, Err(TraceFault::Read)));
-    assert_eq!(rt; writer.inner.len(), 0);
+    let shown = shown_remark(rt.alloc(), 5, true);
+    assert!(rt; matches!(shown, (Some(TraceFault::Read), 0)));
+    let audited = audited_remark(rt.alloc(), 5);
+    assert!(rt; matches!(audited, (Some(TraceFault::Read), 0)));
 }
 
 /// Counts the writes, takes so many, and then fails.
@@ -109,35 +114,53 @@ fn takes(writes_left: usize) -> Full {
     }
 }
 
-#[test]
-fn a_write_that_fails_is_told(rt: HostRuntime) -> Result<(), Fail> {
-    let mut trace = String::new(rt.alloc());
+fn shown(alloc: Global, trace: &[u8], writes_left: usize) -> Option<TraceFault> {
+    show(alloc, &mut Over::new(trace), &mut takes(writes_left)).err()
+}
+
+fn noted(alloc: Global, trace: &[u8; 13], writes_left: usize) -> Option<Failure> {
+    let mut writer = takes(writes_left);
+    write_notes(alloc, Scope::OneSide, Lengths::Shortest, trace, &mut writer).err()
+}
+
+/// More text than is written at once.
+fn long_trace(alloc: Global) -> Result<String, AllocError> {
+    let mut trace = String::new(alloc);
     for _ in 0..12_000 {
         trace.push_str("< 80 00 00\n")?;
     }
+    Ok(trace)
+}
+
+#[test]
+fn a_write_that_fails_is_told(rt: HostRuntime) -> Result<(), Fail> {
+    let trace = long_trace(rt.alloc())?;
     for writes_left in 0..2 {
-        let mut reader = Over::new(trace.as_str().as_bytes());
-        let answer = show(rt.alloc(), &mut reader, &mut takes(writes_left));
-        assert!(rt; matches!(answer, Err(TraceFault::Write)), "{writes_left}");
+        let fault = shown(rt.alloc(), trace.as_str().as_bytes(), writes_left);
+        assert!(rt; matches!(fault, Some(TraceFault::Write)), "{writes_left}");
     }
-    let answer = write_notes(
-        rt.alloc(),
-        Scope::OneSide,
-        Lengths::Shortest,
-        b"> 06 01 02 D0",
-        &mut takes(0),
-    );
-    assert!(rt; matches!(answer, Err(Failure::Write)));
     Ok(())
 }
 
 #[test]
+fn notes_that_cannot_be_written_are_told(rt: HostRuntime) {
+    let fault = noted(rt.alloc(), b"> 06 01 02 D0", 0);
+    assert!(rt; matches!(fault, Some(Failure::Write)));
+}
+
+/// What an audit answers, and how often it writes.
+fn audited(alloc: Global, trace: &[u8], writes_left: usize) -> (Option<TraceFault>, usize) {
+    let mut writer = takes(writes_left);
+    let answer = audit(alloc, &mut Over::new(trace), &mut writer);
+    (answer.err(), writer.writes)
+}
+
+#[test]
 fn the_books_are_written_once(rt: HostRuntime) {
-    for writes_left in 0..2 {
-        let mut reader = Over::new(b"> 06 01 07 04 00 00 00 00 12 34\n".as_slice());
-        let mut writer = takes(writes_left);
-        let answer = audit(rt.alloc(), &mut reader, &mut writer);
-        assert_eq!(rt; matches!(answer, Err(TraceFault::Write)), writes_left == 0);
-        assert_eq!(rt; writer.writes, 1);
-    }
+    let trace = b"> 06 01 07 04 00 00 00 00 12 34\n";
+    let full = audited(rt.alloc(), trace, 0);
+    assert!(rt; matches!(full, (Some(TraceFault::Write), 1)));
+    let roomy = audited(rt.alloc(), trace, 1);
+    assert!(rt; !matches!(roomy.0, Some(TraceFault::Write)));
+    assert_eq!(rt; roomy.1, 1);
 }

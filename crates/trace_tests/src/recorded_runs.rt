@@ -1,17 +1,18 @@
 //! The trace that a run writes, over many runs against terminals that do what they like: an audit of it says what the
 //! till's book says.
-use std::alloc::Global;
+use std::alloc::{AllocError, Global};
 use std::cell::RefCell;
 use std::fmt::Write as FmtWrite;
-use std::io::{self, Read, Write};
+use std::io::{self, Write};
+use std::process::Abort;
 use std::test::Fail;
 use zvt_audit::audit;
 use zvt_bcd::{Amount, Currency};
-use zvt_io::Over;
-use zvt_run::{Recorded, Way, end_trace};
+use zvt_io::{Failed, GhostCount, Over, Source};
+use zvt_run::{End, Recorded, Way, end_trace};
 use zvt_show::show;
 use zvt_stream::Stream;
-use zvt_till::{Order, Till, run_order};
+use zvt_till::{Entry, Order, Till, run_order};
 
 const ACK: &[u8] = &[0x80, 0x00, 0x00];
 
@@ -47,24 +48,29 @@ const APPROVED_ELSE: &[u8] = &[
 
 const NOTHING: &[u8] = &[];
 
+/// How many answers there are.
+const ANSWERS: usize = 14;
+
 /// What a terminal says to an order: as it should, or with something repeated, left out, refused, unknown, malformed or
-/// about another amount.
-const ANSWERS: &[[&[u8]; 4]] = &[
-    [ACK, COMPLETION, NOTHING, NOTHING],
-    [ACK, APPROVED, COMPLETION, NOTHING],
-    [ACK, APPROVED_NEXT, PRINT_LINE, COMPLETION],
-    [ACK, APPROVED, APPROVED, COMPLETION],
-    [APPROVED_NEXT, COMPLETION, NOTHING, NOTHING],
-    [ACK, APPROVED, APPROVED_NEXT, COMPLETION],
-    [ACK, APPROVED_ELSE, COMPLETION, NOTHING],
-    [ACK, DECLINED, ABORT, NOTHING],
-    [ACK, APPROVED, ABORT, NOTHING],
-    [REFUSED, NOTHING, NOTHING, NOTHING],
-    [ACK, UNKNOWN, APPROVED_NEXT, COMPLETION],
-    [ACK, APPROVED, MALFORMED, NOTHING],
-    [ACK, COMPLETION, APPROVED, COMPLETION],
-    [COMPLETION, MALFORMED, NOTHING, NOTHING],
-];
+/// about another amount. A match and no table, whose rows would all stand in each step of a proof.
+fn answers(number: usize) -> [&'static [u8]; 4] {
+    match number {
+        0 => [ACK, COMPLETION, NOTHING, NOTHING],
+        1 => [ACK, APPROVED, COMPLETION, NOTHING],
+        2 => [ACK, APPROVED_NEXT, PRINT_LINE, COMPLETION],
+        3 => [ACK, APPROVED, APPROVED, COMPLETION],
+        4 => [APPROVED_NEXT, COMPLETION, NOTHING, NOTHING],
+        5 => [ACK, APPROVED, APPROVED_NEXT, COMPLETION],
+        6 => [ACK, APPROVED_ELSE, COMPLETION, NOTHING],
+        7 => [ACK, DECLINED, ABORT, NOTHING],
+        8 => [ACK, APPROVED, ABORT, NOTHING],
+        9 => [REFUSED, NOTHING, NOTHING, NOTHING],
+        10 => [ACK, UNKNOWN, APPROVED_NEXT, COMPLETION],
+        11 => [ACK, APPROVED, MALFORMED, NOTHING],
+        12 => [ACK, COMPLETION, APPROVED, COMPLETION],
+        _ => [COMPLETION, MALFORMED, NOTHING, NOTHING],
+    }
+}
 
 /// Numbers that look as if by chance, the same at each run.
 #[derive(Clone, Copy)]
@@ -88,15 +94,27 @@ struct Pieces {
     bytes: Vec<u8>,
     given: usize,
     chance: Chance,
+    failures: GhostCount,
+    reads: GhostCount,
 }
 
-impl Read for Pieces {
-    fn read(&mut self, buffer: &mut [u8]) -> io::Result<usize> {
-        let Some(mut left) = self.bytes.get(self.given..) else {
+impl Source for Pieces {
+    ghost use Rattle.std.specs.Prelude.{None};
+
+    ghost remaining = { λ _. None };
+
+    ghost failures = { λ pieces. pieces.failures.count };
+
+    ghost reads = { λ pieces. pieces.reads.count };
+
+    fn read(&mut self, buffer: &mut [u8]) -> Result<usize, Failed> {
+        self.reads = self.reads.next();
+        let most = buffer.len().min(self.chance.next(20).max(1));
+        let Some(left) = self.bytes.get(self.given..) else {
             return Ok(0);
         };
-        let most = buffer.len().min(self.chance.next(20).max(1));
-        let count = left.read(&mut buffer[..most])?;
+        let count = most.min(left.len());
+        buffer[..count].copy_from_slice(&left[..count]);
         self.given = self.given.saturating_add(count);
         Ok(count)
     }
@@ -133,13 +151,56 @@ fn next_order(chance: &mut Chance, made: u32) -> Result<Order, Fail> {
 }
 
 /// The messages that a terminal answers to an order: to the first those of a registration.
-fn next_answers(chance: &mut Chance, made: u32) -> Result<&'static [&'static [u8]; 4], Fail> {
-    let number = if made == 0 {
-        0
+fn next_answers(chance: &mut Chance, made: u32) -> [&'static [u8]; 4] {
+    if made == 0 {
+        answers(0)
     } else {
-        chance.next(ANSWERS.len())
+        answers(chance.next(ANSWERS))
+    }
+}
+
+type Heard<'a> = Recorded<Pieces, Over<Shared<'a>>>;
+
+type Sent<'a> = Recorded<Over<Vec<u8>>, Over<Shared<'a>>>;
+
+/// A till's end of a new line, which writes its trace there.
+fn new_line(
+    alloc: Global,
+    chance: Chance,
+    trace: Shared<'_>,
+) -> Result<End<Heard<'_>, Sent<'_>>, AllocError> {
+    let pieces = Pieces {
+        bytes: Vec::new(alloc),
+        given: 0,
+        chance,
+        failures: GhostCount::zero(),
+        reads: GhostCount::zero(),
     };
-    Ok(ANSWERS.get(number).ok_or("answers")?)
+    let sent = Over::new(Vec::new(alloc));
+    let writer = Recorded::new(alloc, Way::FromTill, sent, Over::new(trace))?;
+    Ok(End {
+        reader: Recorded::new(alloc, Way::FromTerminal, pieces, Over::new(trace))?,
+        writer,
+        stream: Stream::new(alloc),
+    })
+}
+
+/// The terminal is to say these messages next.
+fn hear(bytes: &mut Vec<u8>, messages: [&[u8]; 4]) -> Result<(), AllocError> {
+    for message in messages {
+        bytes.extend_from_slice(message)?;
+    }
+    Ok(())
+}
+
+// Says nothing of what becomes of the order: beside that each step of a caller's proof is dear.
+fn run(alloc: Global, line: &mut End<Heard<'_>, Sent<'_>>, till: &mut Till, order: Order) {
+    let End {
+        reader,
+        writer,
+        stream,
+    } = line;
+    let _ = run_order(alloc, reader, writer, stream, till, order, 50);
 }
 
 /// Makes orders at a till over one line, each answered as chance has it, until the line breaks or five are made.
@@ -149,31 +210,12 @@ fn make_orders(
     till: &mut Till,
     trace: Shared<'_>,
 ) -> Result<(), Fail> {
-    let pieces = Pieces {
-        bytes: Vec::new(alloc),
-        given: 0,
-        chance: *chance,
-    };
-    let heard = Over::new(pieces);
-    let mut reader = Recorded::new(alloc, Way::FromTerminal, heard, Over::new(trace))?;
-    let sent = Over::new(Vec::new(alloc));
-    let mut writer = Recorded::new(alloc, Way::FromTill, sent, Over::new(trace))?;
-    let mut stream = Stream::new(alloc);
+    let mut line = new_line(alloc, *chance, trace)?;
     till.connected();
     for made in 0..5 {
-        for message in next_answers(chance, made)? {
-            reader.device.inner.bytes.extend_from_slice(message)?;
-        }
+        hear(&mut line.reader.device.bytes, next_answers(chance, made))?;
         let order = next_order(chance, made)?;
-        let _ = run_order(
-            alloc,
-            &mut reader,
-            &mut writer,
-            &mut stream,
-            till,
-            order,
-            50,
-        );
+        run(alloc, &mut line, till, order);
     }
     till.lost();
     if end_trace(&mut Over::new(trace)).is_err() {
@@ -182,22 +224,26 @@ fn make_orders(
     Ok(())
 }
 
+/// What an audit should say of a payment in the book.
+fn booked(alloc: Global, entry: &Entry) -> Result<String, Fail> {
+    let amount = entry.amount.get();
+    let trace = entry.trace.get();
+    Ok(match entry.receipt {
+        Some(number) => {
+            let receipt = u16::from_be_bytes(number);
+            format!(in alloc; "booked {amount} trace {trace:06} receipt {receipt:04X}\n")?
+        }
+        None => format!(in alloc; "booked {amount} trace {trace:06} receipt -\n")?,
+    })
+}
+
 /// What an audit should say of the till.
 fn expected(alloc: Global, till: &Till) -> Result<String, Fail> {
     let mut text = String::new(alloc);
     let mut total = 0u64;
     for entry in till.book() {
-        let amount = entry.amount.get();
-        total = total.saturating_add(amount);
-        write!(
-            text,
-            "booked {amount} trace {:06} receipt ",
-            entry.trace.get()
-        )?;
-        match entry.receipt {
-            Some(number) => writeln!(text, "{:04X}", u16::from_be_bytes(number))?,
-            None => writeln!(text, "-")?,
-        }
+        total = total.saturating_add(entry.amount.get());
+        text.push_str(booked(alloc, entry)?.as_str())?;
     }
     for (amount, cause) in till.unclear() {
         writeln!(text, "unclear {} {cause}", amount.get())?;
@@ -206,29 +252,54 @@ fn expected(alloc: Global, till: &Till) -> Result<String, Fail> {
     Ok(text)
 }
 
+/// A run as this seed has it: its till, and its trace.
+fn recorded(alloc: Global, seed: u64) -> Result<(Till, Vec<u8>), Fail> {
+    let mut chance = Chance(seed);
+    let trace = RefCell::new(Vec::new(alloc));
+    let currency = Currency::new(978).ok_or("a currency")?;
+    let mut till = Till::new(alloc, [0; 3], 0xBE, currency);
+    for _connection in 0..3 {
+        make_orders(alloc, &mut chance, &mut till, Shared(&trace))?;
+    }
+    Ok((till, trace.into_inner()))
+}
+
+// This one and the next say nothing of what they answer: beside that each step of a caller's proof is dear.
+fn audited(alloc: Global, trace: &[u8]) -> Result<Vec<u8>, Fail> {
+    let mut writer = Over::new(Vec::new(alloc));
+    audit(alloc, &mut Over::new(trace), &mut writer)?;
+    Ok(writer.inner)
+}
+
+fn shown(alloc: Global, trace: &[u8]) -> Result<Vec<u8>, Fail> {
+    let mut writer = Over::new(Vec::new(alloc));
+    show(alloc, &mut Over::new(trace), &mut writer)?;
+    Ok(writer.inner)
+}
+
+/// The audit of a run says what its till's book says. Answers how many payments are booked, and how many are unclear.
+fn has_its_book(rt: &impl Abort, alloc: Global, seed: u64) -> Result<(usize, usize), Fail> {
+    let (till, trace) = recorded(alloc, seed)?;
+    let wanted = expected(alloc, &till)?;
+    let counts = (till.book().len(), till.unclear().len());
+    drop(till);
+    assert_eq!(rt;
+        audited(alloc, &trace)?.as_slice(),
+        wanted.as_bytes(),
+        "{seed}"
+    );
+    assert!(rt; !shown(alloc, &trace)?.is_empty());
+    Ok(counts)
+}
+
 #[test]
 fn an_audit_of_a_recorded_run_has_the_book(rt: HostRuntime) -> Result<(), Fail> {
-    let alloc = rt.alloc();
-    let mut booked = 0;
-    let mut unclear = 0;
+    let mut booked = 0usize;
+    let mut unclear = 0usize;
     for seed in 0..60 {
-        let mut chance = Chance(seed);
-        let trace = RefCell::new(Vec::new(alloc));
-        let currency = Currency::new(978).ok_or("a currency")?;
-        let mut till = Till::new(alloc, [0; 3], 0xBE, currency);
-        for _connection in 0..3 {
-            make_orders(alloc, &mut chance, &mut till, Shared(&trace))?;
-        }
-        let trace = trace.into_inner();
-        let mut writer = Over::new(Vec::new(alloc));
-        audit(alloc, &mut Over::new(trace.as_slice()), &mut writer)?;
-        let wanted = expected(alloc, &till)?;
-        assert_eq!(rt; writer.inner.as_slice(), wanted.as_bytes(), "{seed}");
-        let mut shown = Over::new(Vec::new(alloc));
-        show(alloc, &mut Over::new(trace.as_slice()), &mut shown)?;
-        assert!(rt; !shown.inner.is_empty());
-        booked = till.book().len().saturating_add(booked);
-        unclear = till.unclear().len().saturating_add(unclear);
+        let (more_booked, more_unclear) = has_its_book(&rt, rt.alloc(), seed)?;
+        booked = booked.saturating_add(more_booked);
+        unclear = unclear.saturating_add(more_unclear);
     }
     assert!(rt; booked > 60);
     assert!(rt; unclear > 60);

@@ -1,7 +1,8 @@
 //! Runs over TCP, over memory, and over devices that fail.
-use std::alloc::Global;
+use std::alloc::{AllocError, Global};
 use std::io::{self, Read, Write};
 use std::net::TcpListener;
+use std::process::Abort;
 use std::test::Fail;
 use zvt_io::{Over, Sink, Source};
 use zvt_run::{
@@ -35,26 +36,31 @@ pay:4 -> paid trace 000002 receipt 0002
 total 25
 "#;
 
+// This function and those below that call the library say nothing of what it answers: beside that each step of a
+// caller's proof is dear.
+fn looped(rt: &HostRuntime, words: &[&str]) -> (Result<(), EndFault>, Vec<u8>) {
+    let mut writer = Over::new(Vec::new(rt.alloc()));
+    let ended = run_loop(rt, rt.alloc(), words, None, &mut writer);
+    (ended, writer.inner)
+}
+
+/// The run ended well, and wrote this text.
+fn wrote(rt: &impl Abort, run: (Result<(), EndFault>, Vec<u8>), text: &str) -> Result<(), Fail> {
+    let (ended, written) = run;
+    ended?;
+    assert_eq!(rt; written.as_slice(), text.as_bytes());
+    Ok(())
+}
+
 #[test]
 fn both_ends_run(rt: HostRuntime) -> Result<(), Fail> {
-    let none: [&str; 0] = [];
-    let unregistered = ["pay:100"];
+    wrote(&rt, looped(&rt, &[]), USUAL)?;
+    let unregistered = "pay:100 -> not sent: NotRegistered\ntotal 0\n";
+    wrote(&rt, looped(&rt, &["pay:100"]), unregistered)?;
     let twice = ["register", "pay:100", "reverse:1", "reverse:1"];
+    wrote(&rt, looped(&rt, &twice), TWICE_REVERSED)?;
     let declined = ["register", "decline:7:b5", "pay:0021", "pay:4"];
-    for (words, text) in [
-        (none.as_slice(), USUAL),
-        (
-            unregistered.as_slice(),
-            "pay:100 -> not sent: NotRegistered\ntotal 0\n",
-        ),
-        (twice.as_slice(), TWICE_REVERSED),
-        (declined.as_slice(), DECLINED_ONCE),
-    ] {
-        let mut writer = Over::new(Vec::new(rt.alloc()));
-        run_loop(&rt, rt.alloc(), words, None, &mut writer)?;
-        assert_eq!(rt; writer.inner.as_slice(), text.as_bytes());
-    }
-    Ok(())
+    wrote(&rt, looped(&rt, &declined), DECLINED_ONCE)
 }
 
 /// What a till writes of `register` and `pay:1000` where these bytes come, and how it ends.
@@ -79,34 +85,46 @@ fn registers_and_pays(
     Ok((ended, writer.inner))
 }
 
+/// Where these bytes come the till's line breaks so, and it writes this text.
+fn breaks(
+    rt: &impl Abort,
+    alloc: Global,
+    coming: &[u8],
+    fault: LineFault,
+    text: &str,
+) -> Result<(), Fail> {
+    let (ended, written) = registers_and_pays(alloc, coming)?;
+    assert!(rt; matches!(&ended, Err(EndFault::Line(found)) if *found == fault));
+    assert_eq!(rt; written.as_slice(), text.as_bytes());
+    Ok(())
+}
+
 #[test]
-fn terminals_that_break_the_line(rt: HostRuntime) -> Result<(), Fail> {
-    let closes = [0x80, 0x00, 0x00, 0x06, 0x0F, 0x00];
-    let half = [0x80, 0x00, 0x00, 0x06, 0x0F, 0x00, 0x80];
-    let impossible = [0x80, 0x00, 0x00, 0x06, 0x0F, 0x03, 0x06];
+fn terminals_that_close_the_line(rt: HostRuntime) -> Result<(), Fail> {
     let unpaid = "register -> registered\npay:1000 -> unclear Line\ntotal 0\n";
-    for (coming, fault, text) in [
-        (closes.as_slice(), LineFault::Ended { have: 0 }, unpaid),
-        (half.as_slice(), LineFault::Ended { have: 1 }, unpaid),
+    for (coming, have, text) in [
+        ([0x80, 0x00, 0x00, 0x06, 0x0F, 0x00].as_slice(), 0, unpaid),
         (
-            impossible.as_slice(),
-            LineFault::Malformed {
-                place: 3,
-                why: Why::DoesNotFit,
-            },
-            "register -> unclear Malformed\ntotal 0\n",
+            [0x80, 0x00, 0x00, 0x06, 0x0F, 0x00, 0x80].as_slice(),
+            1,
+            unpaid,
         ),
-        (
-            [].as_slice(),
-            LineFault::Ended { have: 0 },
-            "register -> unclear Line\ntotal 0\n",
-        ),
+        (&[], 0, "register -> unclear Line\ntotal 0\n"),
     ] {
-        let (ended, written) = registers_and_pays(rt.alloc(), coming)?;
-        assert!(rt; matches!(&ended, Err(EndFault::Line(found)) if *found == fault));
-        assert_eq!(rt; written.as_slice(), text.as_bytes());
+        breaks(&rt, rt.alloc(), coming, LineFault::Ended { have }, text)?;
     }
     Ok(())
+}
+
+#[test]
+fn a_terminal_that_sends_no_message(rt: HostRuntime) -> Result<(), Fail> {
+    let impossible = [0x80, 0x00, 0x00, 0x06, 0x0F, 0x03, 0x06];
+    let fault = LineFault::Malformed {
+        place: 3,
+        why: Why::DoesNotFit,
+    };
+    let text = "register -> unclear Malformed\ntotal 0\n";
+    breaks(&rt, rt.alloc(), &impossible, fault, text)
 }
 
 /// A writer that takes nothing.
@@ -142,9 +160,11 @@ impl Read for Again<'_> {
     }
 }
 
-#[test]
-fn ends_that_never_rest(rt: HostRuntime) -> Result<(), Fail> {
-    let alloc = rt.alloc();
+/// How a registration ends between ends to which the same bytes come again and again, the text that is written of it,
+/// and how much the till and the terminal send.
+fn registers_without_rest(
+    alloc: Global,
+) -> Result<(Result<(), EndFault>, Vec<u8>, usize, usize), EndFault> {
     let plan = plan(alloc, Ends::Both, ["register"].as_slice())?;
     let mut line = BothEnds {
         till: End {
@@ -162,21 +182,22 @@ fn ends_that_never_rest(rt: HostRuntime) -> Result<(), Fail> {
             verdict: Verdict::Approve,
         },
     };
+    let usual = TillSettings::usual();
     let mut writer = Over::new(Vec::new(alloc));
-    let ended = run_both_ends(
-        alloc,
-        &mut line,
-        &TillSettings::usual(),
-        plan.as_slice(),
-        &mut writer,
-    );
+    let ended = run_both_ends(alloc, &mut line, &usual, plan.as_slice(), &mut writer);
+    let BothEnds { till, terminal, .. } = line;
+    let till_sent = till.writer.inner.len();
+    let terminal_sent = terminal.writer.inner.len();
+    Ok((ended, writer.inner, till_sent, terminal_sent))
+}
+
+#[test]
+fn ends_that_never_rest(rt: HostRuntime) -> Result<(), Fail> {
+    let (ended, written, till_sent, terminal_sent) = registers_without_rest(rt.alloc())?;
     assert!(rt; matches!(ended, Err(EndFault::Line(LineFault::Turns))));
-    assert_eq!(rt;
-        writer.inner.as_slice(),
-        b"register -> unclear Line\ntotal 0\n".as_slice()
-    );
-    assert_eq!(rt; line.till.writer.inner.len(), 9 + 3 * 1000);
-    assert_eq!(rt; line.terminal.writer.inner.len(), 3 * 1000);
+    let text = "register -> unclear Line\ntotal 0\n";
+    assert_eq!(rt; written.as_slice(), text.as_bytes());
+    assert_eq!(rt; (till_sent, terminal_sent), (9 + 3 * 1000, 3 * 1000));
     Ok(())
 }
 
@@ -196,7 +217,7 @@ fn serves(alloc: Global, coming: &[u8]) -> (Result<(), LineFault>, Vec<u8>) {
 }
 
 #[test]
-fn a_terminal_serves_its_line(rt: HostRuntime) -> Result<(), Fail> {
+fn a_terminal_serves_its_line(rt: HostRuntime) {
     let dialogue = [
         0x06, 0x00, 0x06, 0x00, 0x00, 0x00, 0xBE, 0x09, 0x78, 0x80, 0x00, 0x00, 0x06, 0x01, 0x0A,
         0x04, 0x00, 0x00, 0x00, 0x00, 0x12, 0x34, 0x49, 0x09, 0x78, 0x80, 0x00, 0x00, 0x80, 0x00,
@@ -209,6 +230,10 @@ fn a_terminal_serves_its_line(rt: HostRuntime) -> Result<(), Fail> {
     let (ended, written) = serves(rt.alloc(), dialogue.as_slice());
     assert!(rt; ended.is_ok());
     assert_eq!(rt; written.as_slice(), answers.as_slice());
+}
+
+#[test]
+fn a_terminal_tells_how_its_line_broke(rt: HostRuntime) {
     let (ended, _) = serves(rt.alloc(), [0x06, 0x01, 0x0A, 0x04].as_slice());
     assert!(rt; matches!(ended, Err(LineFault::Ended { have: 4 })));
     let (ended, _) = serves(rt.alloc(), [0x06, 0x01, 0x02, 0xD0].as_slice());
@@ -217,30 +242,33 @@ fn a_terminal_serves_its_line(rt: HostRuntime) -> Result<(), Fail> {
         why: Why::UnknownField,
     };
     assert!(rt; matches!(&ended, Err(found) if *found == fault));
-    Ok(())
+}
+
+/// A run of a terminal at this port, and what it tells.
+fn terminal_at(rt: &HostRuntime, port: u16) -> (Result<(), EndFault>, Vec<u8>) {
+    let mut tell = Over::new(Vec::new(rt.alloc()));
+    let ended = run_terminal(
+        rt,
+        rt.alloc(),
+        "127.0.0.1",
+        port,
+        1,
+        Verdict::Approve,
+        Lengths::Shortest,
+        1,
+        None,
+        &mut tell,
+    );
+    (ended, tell.inner)
 }
 
 #[test]
 fn no_till_connects(rt: HostRuntime) -> Result<(), Fail> {
     let listener = TcpListener::bind(&rt, "127.0.0.1:0")?;
     let port = listener.local_addr()?.port();
-    let mut tell = Over::new(Vec::new(rt.alloc()));
-    let host = "127.0.0.1";
-    let verdict = Verdict::Approve;
-    let ended = run_terminal(
-        &rt,
-        rt.alloc(),
-        host,
-        port,
-        1,
-        verdict,
-        Lengths::Shortest,
-        1,
-        None,
-        &mut tell,
-    );
+    let (ended, told) = terminal_at(&rt, port);
     assert!(rt; matches!(ended, Err(EndFault::Net(NetFault::InUse))));
-    assert!(rt; tell.inner.is_empty());
+    assert!(rt; told.is_empty());
     Ok(())
 }
 
@@ -250,47 +278,41 @@ fn closed_port(rt: &HostRuntime) -> Result<u16, Fail> {
     Ok(listener.local_addr()?.port())
 }
 
-/// A run of a till against this port, which writes here.
-fn till_at(
-    rt: &HostRuntime,
-    port: u16,
-    steps: &[&str],
-    writer: &mut Over<Vec<u8>>,
-) -> Result<(), EndFault> {
-    let settings = TillSettings::usual();
-    run_till(
+/// A run of a till against this port, and what it writes.
+fn till_at(rt: &HostRuntime, port: u16, steps: &[&str]) -> (Result<(), EndFault>, Vec<u8>) {
+    let mut writer = Over::new(Vec::new(rt.alloc()));
+    let ended = run_till(
         rt,
         rt.alloc(),
         "127.0.0.1",
         port,
-        &settings,
+        &TillSettings::usual(),
         Lengths::Shortest,
         steps,
         None,
-        writer,
-    )
+        &mut writer,
+    );
+    (ended, writer.inner)
 }
 
 #[test]
 fn no_terminal_listens(rt: HostRuntime) -> Result<(), Fail> {
     let port = closed_port(&rt)?;
-    let mut writer = Over::new(Vec::new(rt.alloc()));
-    let ended = till_at(&rt, port, &[], &mut writer);
+    let (ended, written) = till_at(&rt, port, &[]);
     assert!(rt; matches!(ended, Err(EndFault::Net(NetFault::Refused))));
-    assert!(rt; writer.inner.is_empty());
+    assert!(rt; written.is_empty());
     Ok(())
 }
 
 #[test]
 fn wrong_words_are_told_first(rt: HostRuntime) -> Result<(), Fail> {
     let port = closed_port(&rt)?;
-    let mut writer = Over::new(Vec::new(rt.alloc()));
-    let words = ["register", "decline:1:6C"];
-    let ended = till_at(&rt, port, &words, &mut writer);
+    let (ended, written) = till_at(&rt, port, &["register", "decline:1:6C"]);
     assert!(rt; matches!(ended, Err(EndFault::BadStep { at: 1 })));
-    let ended = run_loop(&rt, rt.alloc(), &["pay:0"], None, &mut writer);
+    assert!(rt; written.is_empty());
+    let (ended, written) = looped(&rt, &["pay:0"]);
     assert!(rt; matches!(ended, Err(EndFault::BadStep { at: 0 })));
-    assert!(rt; writer.inner.is_empty());
+    assert!(rt; written.is_empty());
     Ok(())
 }
 
@@ -335,17 +357,27 @@ fn a_line_is_recorded(rt: HostRuntime) -> Result<(), Fail> {
     Ok(())
 }
 
-#[test]
-fn a_trace_that_cannot_be_written(rt: HostRuntime) -> Result<(), Fail> {
-    let alloc = rt.alloc();
+/// Whether a byte is sent whose trace can't be written, and how many are.
+fn sends_untraced(alloc: Global) -> Result<(bool, usize), AllocError> {
     let sent = Over::new(Vec::new(alloc));
     let mut writer = Recorded::new(alloc, Way::FromTill, sent, Over::new(Full))?;
-    assert!(rt; writer.write_all([1].as_slice()).is_err());
-    assert!(rt; writer.device.inner.is_empty());
+    let is_sent = writer.write_all([1].as_slice()).is_ok();
+    Ok((is_sent, writer.device.inner.len()))
+}
+
+/// How many bytes come in the first read and in the second, where the trace of the first can't be written.
+fn reads_untraced(alloc: Global) -> Result<[Option<usize>; 2], AllocError> {
     let coming = Over::new([1, 2].as_slice());
     let mut reader = Recorded::new(alloc, Way::FromTerminal, coming, Over::new(Full))?;
     let mut buffer = [0];
-    assert_eq!(rt; Source::read(&mut reader, &mut buffer), Ok(1));
-    assert!(rt; Source::read(&mut reader, &mut buffer).is_err());
+    let first = Source::read(&mut reader, &mut buffer).ok();
+    let second = Source::read(&mut reader, &mut buffer).ok();
+    Ok([first, second])
+}
+
+#[test]
+fn a_trace_that_cannot_be_written(rt: HostRuntime) -> Result<(), Fail> {
+    assert_eq!(rt; sends_untraced(rt.alloc())?, (false, 0));
+    assert_eq!(rt; reads_untraced(rt.alloc())?, [Some(1), None]);
     Ok(())
 }
