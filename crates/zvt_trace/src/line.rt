@@ -68,7 +68,8 @@ fn direction(sign: u8) -> Option<Direction>
 }
 
 /// Reads a line, which has lost its line feed. Of a piece, as many bytes are read as the buffer takes.
-#[inline(always)]
+// Few lines come here, and what reads the others is small enough to be inlined without this.
+#[inline(never)]
 pub(crate) fn read_line<'a, 't>(buffer: &'a mut [u8], line: &'t [u8]) -> Result<Line<'a, 't>, What>
     ensures { Reads line.now result }
 {
