@@ -18,16 +18,16 @@ given_up : (m : Message) → kind.Abort ≡ kind_of m → part_text words_part (
 given_up (abort c x) e = refl
 given_up m e = absurd (cc (e))
 
--- a text that two parts were put behind
-joined : (t0 t1 t2 a b whole : List ℕ) → t1 ≡ t0 ++ a → t2 ≡ t1 ++ b → a ++ b ≡ whole → t2 ≡ t0 ++ whole
-joined t0 t1 t2 a b whole one two e = two ∙ ap (λ (t : List ℕ). t ++ b) one ∙ append_assoc t0 a b ∙ ap (λ (l : List ℕ). t0 ++ l) e
+-- what two parts are, put behind a text
+joined : (t0 t1 a b whole : List ℕ) → t1 ≡ t0 ++ a → a ++ b ≡ whole → t1 ++ b ≡ t0 ++ whole
+joined t0 t1 a b whole one e = ap (λ (t : List ℕ). t ++ b) one ∙ append_assoc t0 a b ∙ ap (λ (l : List ℕ). t0 ++ l) e
 
-pub registration_written : (m : Message) (t0 t1 t2 : List ℕ) (config currency : Option ℕ) → kind.Registration ≡ kind_of m → config ≡ config_in m → currency ≡ currency_in m →
-    t1 ≡ t0 ++ part_text config_text config → t2 ≡ t1 ++ part_text named_currency currency → t2 ≡ t0 ++ detail_text m
-registration_written m t0 t1 t2 config currency k p q one two =
-    joined t0 t1 t2 _ _ (detail_text m) one two (two_parts config_text named_currency config (config_in m) currency (currency_in m) p q ∙ registered m k)
+pub registration_written : (m : Message) (t0 t1 : List ℕ) (config currency : Option ℕ) → kind.Registration ≡ kind_of m → config ≡ config_in m → currency ≡ currency_in m →
+    t1 ≡ t0 ++ part_text config_text config → t1 ++ part_text named_currency currency ≡ t0 ++ detail_text m
+registration_written m t0 t1 config currency k p q one =
+    joined t0 t1 _ _ (detail_text m) one (two_parts config_text named_currency config (config_in m) currency (currency_in m) p q ∙ registered m k)
 
-pub abort_written : (m : Message) (t0 t1 t2 : List ℕ) (code : Option ℕ) (payload : Option (List ℕ)) → kind.Abort ≡ kind_of m → code ≡ code_in m → payload ≡ payload_in m →
-    t1 ≡ t0 ++ part_text words_part code → t2 ≡ t1 ++ part_text data_text payload → t2 ≡ t0 ++ detail_text m
-abort_written m t0 t1 t2 code payload k p q one two =
-    joined t0 t1 t2 _ _ (detail_text m) one two (two_parts words_part data_text code (code_in m) payload (payload_in m) p q ∙ given_up m k)
+pub abort_written : (m : Message) (t0 t1 : List ℕ) (code : Option ℕ) (payload : Option (List ℕ)) → kind.Abort ≡ kind_of m → code ≡ code_in m → payload ≡ payload_in m →
+    t1 ≡ t0 ++ part_text words_part code → t1 ++ part_text data_text payload ≡ t0 ++ detail_text m
+abort_written m t0 t1 code payload k p q one =
+    joined t0 t1 _ _ (detail_text m) one (two_parts words_part data_text code (code_in m) payload (payload_in m) p q ∙ given_up m k)

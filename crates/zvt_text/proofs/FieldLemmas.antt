@@ -1,5 +1,5 @@
 -- The field that a view shows, by what the view gives.
-use Rattle.std.proofs.Common.{◌≡◌, ℕ, true, Some, None, List, ◌∙◌, ap}
+use Rattle.std.proofs.Common.{◌≡◌, ℕ, ◌<◌, true, Some, None, List, [], ◌∷◌, ◌++◌, length, ◌∙◌, ap, sym, append_assoc}
 use Rattle.std.proofs.Math.Bool.{Bool-set}
 use Rattle.std.proofs.Math.Logic.{∥∥₁_elim}
 use Rattle.zvt_spelling.specs.Reading.{padded}
@@ -13,6 +13,8 @@ use Rattle.zvt_field.specs.Named.{bytes_of}
 use Rattle.zvt_field.specs.Views.{FieldBytes, tree_of}
 use Rattle.zvt_field.specs.declared.views.FieldView.{FieldView}
 use Rattle.zvt_field.proofs.ViewLemmas.{name_is, plain_of}
+use Rattle.zvt_text.specs.Lines.{field_line, named_text, object_lines, value_text}
+use Rattle.zvt_text.proofs.RoomLemmas.{front_full}
 
 named_plain : (f : Field) (bmp : ℕ) (content : List ℕ) → name_of f ≡ bmp → bytes_of f ≡ Some content → f ≡ plain bmp content
 named_plain (plain n c) bmp content name bytes = let same : c ≡ content = cc (bytes) in cc (name, same)
@@ -35,3 +37,18 @@ inside_shallow bmp content (tree n o, h) objects e =
 
 pub objects_shallow : (v : FieldView) (objects : Objects) → Some objects ≡ tree_of (shown v) → is_shallow 1 objects ≡ true
 objects_shallow v objects e = inside_shallow v.bmp v.content.now v.field objects e
+
+-- a field's line begins with its name
+named_first : (f : Field) (bmp : ℕ) → name_of f ≡ bmp → (rest : List ℕ) × (named_text bmp ++ rest ≡ field_line f)
+named_first (plain n content) bmp name =
+    let same : bmp ≡ n = sym name in (
+      32 ∷ value_text n content ++ 10 ∷ [],
+      sym (append_assoc (named_text bmp) (32 ∷ value_text n content) (10 ∷ [])) ∙ ap (λ (b : ℕ). named_text b ++ 32 ∷ value_text n content ++ 10 ∷ []) same,
+    )
+named_first (tree n objects) bmp name = let same : bmp ≡ n = sym name in (10 ∷ object_lines 1 objects, ap (λ (b : ℕ). named_text b ++ 10 ∷ object_lines 1 objects) same)
+
+-- where a room is full at the name, it has no room for the line
+pub name_full : (v : FieldView) (room : ℕ) (before : List ℕ) → room < length (before ++ named_text v.bmp) → room < length (before ++ field_line (shown v))
+name_full v room before full =
+    let first = named_first (shown v) v.bmp (name_is v.bmp v.content.now v.field) in
+    front_full room (before ++ named_text v.bmp) first.0 (before ++ field_line (shown v)) (append_assoc before (named_text v.bmp) first.0 ∙ ap (λ (line : List ℕ). before ++ line) first.1) full
