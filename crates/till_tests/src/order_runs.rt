@@ -2,6 +2,7 @@
 use std::alloc::Global;
 use std::io::{self, Read, Write};
 use std::process::Abort;
+use std::test::Fail;
 use zvt_bcd::{Amount, Currency, Trace};
 use zvt_io::Over;
 use zvt_spelling::Why;
@@ -18,11 +19,12 @@ fn connected_till(rt: &impl Abort, alloc: Global) -> Till {
     till
 }
 
-/// What comes of registering where these bytes come and so many turns are made, after which this ended last: what was
-/// written.
+/// What comes of registering where these bytes come over a stream and so many turns are made, after which this ended last:
+/// what was written.
 fn registers(
     rt: &impl Abort,
     alloc: Global,
+    mut stream: Stream,
     coming: &[u8],
     turns: u64,
     wanted: Result<Outcome, RunFault>,
@@ -30,7 +32,6 @@ fn registers(
 ) -> Vec<u8> {
     let mut reader = Over::new(coming);
     let mut writer = Over::new(Vec::new(alloc));
-    let mut stream = Stream::new(alloc);
     let mut till = connected_till(rt, alloc);
     let result = run_order(
         alloc,
@@ -46,15 +47,23 @@ fn registers(
     writer.inner
 }
 
-#[test]
-fn an_order_from_end_to_end(rt: HostRuntime) {
+/// A registration that ends over that stream, and what it writes.
+fn is_registered(rt: &impl Abort, alloc: Global, stream: Stream) {
     let completed = [0x80, 0x00, 0x00, 0x06, 0x0F, 0x00];
     let (ended, last) = (Ok(Outcome::Registered), Outcome::Registered);
-    let written = registers(&rt, rt.alloc(), &completed, 10, ended, last);
+    let written = registers(rt, alloc, stream, &completed, 10, ended, last);
     let registration_and_ack = [
         0x06, 0x00, 0x06, 0x00, 0x00, 0x00, 0xBE, 0x09, 0x78, 0x80, 0x00, 0x00,
     ];
     assert_eq!(rt; written.as_slice(), registration_and_ack.as_slice());
+}
+
+#[test]
+fn an_order_from_end_to_end(rt: HostRuntime) -> Result<(), Fail> {
+    let alloc = rt.alloc();
+    is_registered(&rt, alloc, Stream::new(alloc));
+    is_registered(&rt, alloc, Stream::reserved(alloc)?);
+    Ok(())
 }
 
 #[test]
@@ -75,7 +84,8 @@ fn an_order_whose_line_breaks(rt: HostRuntime) {
     for (coming, turns, fault, cause) in rows {
         let wanted = Err(RunFault::Line(fault));
         let last = Outcome::Unclear(cause);
-        let written = registers(&rt, rt.alloc(), coming, turns, wanted, last);
+        let stream = Stream::new(rt.alloc());
+        let written = registers(&rt, rt.alloc(), stream, coming, turns, wanted, last);
         assert_eq!(rt; written.as_slice(), REGISTRATION.as_slice());
     }
 }

@@ -1,5 +1,7 @@
 //! A till on a line: as a machine that hears and answers, and one order from end to end.
 ghost use Rattle.std.specs.Prelude.{◌≡◌, ◌+◌, ◌≤◌, OnOk, IfOk, IfErr, MatchResult};
+ghost use Rattle.std.specs.Result.{IsErrOf};
+ghost use Rattle.zvt_stream.specs.StreamState.{IsReserved};
 ghost use Rattle.zvt_till.specs.Line.{Sends, NotSent, Runs, Fails, IsOver, reads_failed, writes_failed};
 
 use crate::hearing::heard_view;
@@ -81,7 +83,8 @@ pub fn send_order<W: Sink>(writer: &mut W, till: &mut Till, order: Order) -> Res
 }
 
 /// Gives the till an order, and goes on with the line, for so many turns of one read each at most, until no order runs.
-/// It answers what became of the order.
+/// It answers what became of the order. Over a stream that was made by `Stream::reserved` no line breaks for want of
+/// memory.
 pub fn run_order<R: Source, W: Sink>(
     alloc: Global,
     reader: &mut R,
@@ -100,6 +103,7 @@ pub fn run_order<R: Source, W: Sink>(
     // After a broken line it is known what became of the order.
     ensures over { IfErr result (λ fault. IsOver fault till.new.state) }
     ensures reads { R.reads reader.new ≤ R.reads reader.old + turns }
+    ensures frugal { IsReserved stream.old → IsErrOf result (RunFault.Line LineFault.Memory) → ⊥ }
     ensures reader_failures { MatchResult result (λ _. R.failures reader.new ≡ R.failures reader.old) (λ fault. R.failures reader.new ≡ R.failures reader.old + reads_failed fault) }
     ensures writer_failures { MatchResult result (λ _. W.failures writer.new ≡ W.failures writer.old) (λ fault. W.failures writer.new ≡ W.failures writer.old + writes_failed fault) }
 {
