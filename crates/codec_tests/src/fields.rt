@@ -2,13 +2,13 @@
 
 ghost use Rattle.std.specs.Prelude.{◌≢◌, ◌<◌, ◌^◌};
 
-use std::alloc::{AllocError, Global};
+use std::alloc::Global;
 use std::process::Abort;
 use std::test::Fail;
 use zvt_bcd::{Amount, Currency, Trace};
 use zvt_field::{
-    BadField, Field, FieldBody, Fields, PushRefusal, amount, count, currency, only, original,
-    receipt, result, scan, size, trace, write_into,
+    Field, FieldBody, Fields, PushRefusal, amount, currency, only, original, receipt, result, scan,
+    size, trace, write_into,
 };
 use zvt_spelling::Scan;
 use zvt_tlv::{Body, Forest, Tag, Tlv};
@@ -67,24 +67,6 @@ fn fields_of_a_status(rt: HostRuntime) {
     }
 }
 
-#[test]
-fn fields_that_stand_twice_say_nothing(rt: HostRuntime) {
-    let bytes = [0x0B, 0x00, 0x00, 0x17, 0x0B, 0x00, 0x00, 0x17];
-    let twice = read(&rt, rt.alloc(), &bytes, 8);
-    assert_eq!(rt; count(&twice, 0x0B), 2);
-    assert_eq!(rt; count(&twice, 0x04), 0);
-    assert!(rt; trace(&twice).is_none());
-    assert!(rt; only(&twice, 0x0B).is_none());
-}
-
-#[test]
-fn odd_values(rt: HostRuntime) {
-    let zero = read(&rt, rt.alloc(), &[0x04, 0, 0, 0, 0, 0, 0], 7);
-    assert_eq!(rt; amount(&zero), None);
-    let odd = read(&rt, rt.alloc(), &[0x87, 0xFF, 0xFF], 3);
-    assert_eq!(rt; receipt(&odd), Some([0xFF, 0xFF]));
-}
-
 /// The fields that fill a room are written at the front of a buffer as they were read.
 fn is_written(rt: &impl Abort, alloc: Global, bytes: &[u8], room: usize) -> Result<(), Fail>
     requires small { room < 2 ^ 16 }
@@ -106,52 +88,6 @@ fn written(rt: HostRuntime) -> Result<(), Fail> {
         0x06, 0x05, 0x07, 0x01, 0x41, 0x25, 0x00, 0x22, 0xF0, 0xF1, 0x55,
     ];
     is_written(&rt, rt.alloc(), &container, 11)
-}
-
-/// Whether the body makes a field of that BMP, or why not.
-fn fault(bmp: u8, body: FieldBody) -> Option<BadField> {
-    match Field::checked(bmp, body) {
-        Ok(_) => None,
-        Err((_, why)) => Some(why),
-    }
-}
-
-fn zeros(alloc: Global, count: usize) -> Result<FieldBody, AllocError> {
-    Ok(FieldBody::Bytes(vec![in alloc; 0u8; count]?))
-}
-
-#[test]
-fn sizes_are_checked(rt: HostRuntime) -> Result<(), Fail> {
-    let rows = [
-        (0xD0, 1, Some(BadField::Unknown)),
-        (0x27, 1, None),
-        (0x27, 2, Some(BadField::Size)),
-        (0x06, 0, Some(BadField::Size)),
-        (0x22, 99, None),
-        (0x22, 100, Some(BadField::Size)),
-        (0x3C, 999, None),
-        (0x3C, 1_000, Some(BadField::Size)),
-    ];
-    for (bmp, size, wanted) in rows {
-        assert_eq!(rt; fault(bmp, zeros(rt.alloc(), size)?), wanted);
-    }
-    let objects = FieldBody::Tree(forest(rt.alloc(), 0)?);
-    assert_eq!(rt; fault(0x27, objects), Some(BadField::Size));
-    Ok(())
-}
-
-#[test]
-fn digits_are_checked(rt: HostRuntime) -> Result<(), Fail> {
-    let digits = Vec::from_slice(rt.alloc(), &[0x09, 0x7A])?;
-    let Err((body, why)) = Field::checked(0x49, FieldBody::Bytes(digits)) else {
-        panic!(rt; "no digits were taken");
-    };
-    assert_eq!(rt; why, BadField::NotDigit);
-    let FieldBody::Bytes(back) = body else {
-        panic!(rt; "another body");
-    };
-    assert_eq!(rt; back.as_slice(), [0x09, 0x7A].as_slice());
-    Ok(())
 }
 
 /// One object with so many bytes of content.
@@ -185,13 +121,6 @@ fn comes_back(rt: &impl Abort, fields: &mut Fields, field: Field) -> Option<u8> 
         Err(PushRefusal::TooLarge(back)) => Some(back.bmp()),
         Err(PushRefusal::Memory(_)) => panic!(rt; "memory is left"),
     }
-}
-
-#[test]
-fn largest_container(rt: HostRuntime) -> Result<(), Fail> {
-    let too_large = FieldBody::Tree(forest(rt.alloc(), 65_528)?);
-    assert_eq!(rt; fault(0x06, too_large), Some(BadField::Size));
-    Ok(())
 }
 
 #[test]

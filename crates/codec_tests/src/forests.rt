@@ -5,9 +5,7 @@ use std::alloc::{AllocError, Global};
 use std::process::Abort;
 use std::test::Fail;
 use zvt_spelling::Scan;
-use zvt_tlv::{
-    BadForest, Body, Forest, Tag, Tlv, length_size, put_sized, reader, size, write_into,
-};
+use zvt_tlv::{Body, Forest, Tag, Tlv, length_size, put_sized, reader, size, write_into};
 
 fn tag(rt: &impl Abort, bytes: &[u8]) -> Tag {
     Tag::checked(bytes).expect(rt, "a tag")
@@ -43,58 +41,6 @@ fn forest(rt: &impl Abort, objects: Vec<Tlv>) -> Forest {
         panic!(rt; "the objects have a spelling");
     };
     forest
-}
-
-/// Why the objects have no spelling, as which they come back.
-fn fault(objects: Vec<Tlv>) -> Option<(Vec<Tlv>, BadForest)> {
-    match Forest::checked(objects) {
-        Ok(_) => None,
-        Err(refused) => Some(refused),
-    }
-}
-
-/// The object has no spelling, for the reason, and comes back as it was.
-fn refuses(rt: &impl Abort, alloc: Global, object: Tlv, wanted: BadForest) -> Result<(), Fail> {
-    let objects = vec![in alloc; object]?;
-    let before = shown_objects(alloc, &objects)?;
-    let Some((back, found)) = fault(objects) else {
-        panic!(rt; "refused as {wanted:?}");
-    };
-    assert_eq!(rt; found, wanted);
-    assert_eq!(rt; shown_objects(alloc, &back)?.as_str(), before.as_str());
-    Ok(())
-}
-
-#[test]
-fn contents_are_of_the_kind_of_their_tag(rt: HostRuntime) -> Result<(), Fail> {
-    let alloc = rt.alloc();
-    let bytes_for_objects = Tlv {
-        tag: tag(&rt, &[0x25]),
-        body: Body::Prim(vec![in alloc; 0x41; 70_000]?),
-    };
-    refuses(&rt, alloc, bytes_for_objects, BadForest::Kind)?;
-    let objects_for_bytes = Tlv {
-        tag: tag(&rt, &[0x07]),
-        body: Body::Cons(Vec::new(alloc)),
-    };
-    refuses(&rt, alloc, objects_for_bytes, BadForest::Kind)
-}
-
-#[test]
-fn objects_have_a_largest_depth(rt: HostRuntime) -> Result<(), Fail> {
-    let alloc = rt.alloc();
-    let object = deep(&rt, alloc, 70_000, 6)?;
-    refuses(&rt, alloc, object, BadForest::TooDeep)
-}
-
-#[test]
-fn objects_have_a_largest_size(rt: HostRuntime) -> Result<(), Fail> {
-    let alloc = rt.alloc();
-    let larger = primitive(&rt, alloc, 65_532)?;
-    refuses(&rt, alloc, larger, BadForest::TooLarge)?;
-    let largest = forest(&rt, vec![in alloc; primitive(&rt, alloc, 65_531)?]?);
-    assert_eq!(&rt; size(&largest), 65_535);
-    Ok(())
 }
 
 /// Writes a forest, without its length and with it: the bytes, and two more that were there.
@@ -192,30 +138,4 @@ fn spellings_are_those_of_the_standard(rt: HostRuntime) -> Result<(), Fail> {
         bytes.as_slice()
     );
     Ok(())
-}
-
-/// Whether a tag of these bytes is constructed, where they are one.
-fn kind_of_tag(rt: &impl Abort, bytes: &[u8]) -> Option<bool> {
-    let tag = Tag::checked(bytes)?;
-    assert!(rt; *tag.bytes() == *bytes);
-    Some(tag.constructed())
-}
-
-#[test]
-fn tags_have_one_to_three_bytes(rt: HostRuntime) {
-    let rows: [(&[u8], Option<bool>); 8] = [
-        (&[0x07], Some(false)),
-        (&[0x1F, 0x7F], Some(false)),
-        (&[0xFF, 0x81, 0x07], Some(true)),
-        // A further byte is missing
-        (&[], None),
-        (&[0x1F], None),
-        (&[0x1F, 0x81], None),
-        // A byte too much, and one more that asks for another
-        (&[0x07, 0x00], None),
-        (&[0x1F, 0x81, 0x81], None),
-    ];
-    for (bytes, constructed) in rows {
-        assert_eq!(&rt; kind_of_tag(&rt, bytes), constructed, "{bytes:?}");
-    }
 }

@@ -1,6 +1,6 @@
 //! The tests of the crates between bytes and messages: of digits, objects, fields, messages, and messages out of pieces of
-//! a line. Which bytes are refused, and where, is compared by `zvt vectors examples/vectors.txt`, and the texts of messages
-//! by `examples/commands`.
+//! a line. Which bytes are refused, and where, is compared by `zvt vectors examples/vectors.txt`, lines cut into pieces by
+//! `examples/cuttings`, and the texts of messages by `examples/commands`.
 #![tactic(auto)]
 
 #[cfg(test)]
@@ -13,8 +13,6 @@ mod engine;
 mod fields;
 #[cfg(test)]
 mod forests;
-#[cfg(test)]
-mod judging;
 #[cfg(test)]
 mod message_fields;
 #[cfg(test)]
@@ -29,5 +27,3 @@ mod owned;
 mod padded;
 #[cfg(test)]
 mod pieces;
-#[cfg(test)]
-mod rescan;

@@ -1,8 +1,7 @@
 //! Messages with fields, worked by hand.
 
-use crate::messages::{first, is_read};
+use crate::messages::is_read;
 use std::test::Fail;
-use zvt_apdu::Message;
 
 const PAYMENT: [u8; 13] = [
     0x06, 0x01, 0x0A, 0x04, 0x00, 0x00, 0x00, 0x00, 0x12, 0x34, 0x49, 0x09, 0x78,
@@ -13,29 +12,14 @@ const STATUS: [u8; 19] = [
     0x87, 0x00, 0x05,
 ];
 
-/// How many fields the payment has.
-fn fields_of_payment(message: &Message) -> Option<usize> {
-    match message {
-        Message::Authorisation(fields) => Some(fields.list().len()),
-        _ => None,
-    }
-}
-
-#[test]
-fn reads_fields(rt: HostRuntime) -> Result<(), Fail> {
-    let apdu = first(&rt, rt.alloc(), &PAYMENT)?;
-    assert_eq!(rt; fields_of_payment(apdu.message()), Some(2));
-    drop(apdu);
-    is_read(&rt, rt.alloc(), &PAYMENT, 13)
-}
-
 #[test]
 fn takes_each_message_whole(rt: HostRuntime) -> Result<(), Fail> {
     let nested = [
         0x06, 0x0F, 0x0E, 0x06, 0x0C, 0x25, 0x0A, 0x25, 0x08, 0x25, 0x06, 0x25, 0x04, 0x25, 0x02,
         0x07, 0x00,
     ];
-    let rows: [&[u8]; 7] = [
+    let rows: [&[u8]; 8] = [
+        &PAYMENT,
         &STATUS,
         &[0x06, 0x30, 0x06, 0x00, 0x00, 0x00, 0x87, 0x00, 0x05],
         &[0x06, 0x50, 0x03, 0x00, 0x00, 0x00],

@@ -3,11 +3,8 @@
 use std::alloc::{AllocError, Global};
 use std::process::Abort;
 use std::test::Fail;
-use zvt_spelling::{Scan, Why};
-use zvt_tlv::{
-    Body, Forest, LengthAt, LengthNext, Lengths, TagAt, TagNext, Tlv, judge_length, judge_tag,
-    reader,
-};
+use zvt_spelling::Scan;
+use zvt_tlv::{Body, Forest, Lengths, Tlv, reader};
 
 /// Writes each object as its tag and its content, a constructed one's in parentheses.
 #[cycle(show)]
@@ -221,63 +218,4 @@ fn lengths_count_the_objects_behind_them(rt: HostRuntime) -> Result<(), Fail> {
         (&counted, 13, "TooDeep at 11"),
     ];
     scans_sized(&rt, rt.alloc(), &rows, Lengths::Shortest)
-}
-
-#[test]
-fn bytes_of_tags_are_judged(rt: HostRuntime) {
-    let (shortest, padded) = (Lengths::Shortest, Lengths::Padded);
-    let second = TagAt::Second { constructed: true };
-    let done = TagNext::Done { constructed: true };
-    for (at, left, depth, byte, lengths, wanted) in [
-        (
-            TagAt::First,
-            3,
-            5,
-            0x3F,
-            shortest,
-            Ok(TagNext::More(second)),
-        ),
-        (TagAt::First, 3, 6, 0x3F, shortest, Err(Why::TooDeep)),
-        (second, 2, 1, 0x07, shortest, Err(Why::DoesNotFit)),
-        (second, 2, 1, 0x07, padded, Ok(done)),
-    ] {
-        assert_eq!(&rt; judge_tag(at, left, depth, byte, lengths), wanted);
-    }
-}
-
-/// The byte, before so many others, is judged so.
-fn judges_length(
-    rt: &impl Abort,
-    at: LengthAt,
-    left: usize,
-    nests: bool,
-    byte: u8,
-    lengths: Lengths,
-    wanted: Result<LengthNext, Why>,
-) {
-    assert_eq!(rt; judge_length(at, left, nests, byte, lengths), wanted);
-}
-
-#[test]
-fn bytes_of_lengths_are_judged(rt: HostRuntime) {
-    let (shortest, padded) = (Lengths::Shortest, Lengths::Padded);
-    let (first, after) = (LengthAt::First, LengthAt::After81);
-    let low = LengthAt::Low82 { high: 1 };
-    for (at, left, nests, byte, lengths, wanted) in [
-        (first, 3, false, 3, shortest, Ok(LengthNext::Done(3))),
-        (first, 3, true, 1, shortest, Err(Why::DoesNotFit)),
-        (
-            LengthAt::High82,
-            300,
-            true,
-            1,
-            shortest,
-            Ok(LengthNext::More(low)),
-        ),
-        (low, 258, true, 2, shortest, Ok(LengthNext::Done(258))),
-        (after, 1, true, 0, padded, Err(Why::DoesNotFit)),
-        (after, 0, true, 0, padded, Ok(LengthNext::Done(0))),
-    ] {
-        judges_length(&rt, at, left, nests, byte, lengths, wanted);
-    }
 }

@@ -5,7 +5,7 @@ use crate::messages::{is_read, spelling};
 use std::alloc::{AllocError, Global};
 use std::process::Abort;
 use std::test::Fail;
-use zvt_apdu::{encode, owned, view};
+use zvt_apdu::owned;
 
 /// The message that is made of the view is the one that is read: their one spelling is these bytes.
 fn is_owned(rt: &impl Abort, alloc: Global, bytes: &[u8]) -> Result<(), Fail> {
@@ -69,7 +69,6 @@ fn makes_each_message(rt: HostRuntime) -> Result<(), Fail> {
     Ok(())
 }
 
-/// Of padded lengths the message is made all the same, and is written with the shortest ones.
 /// A status of 65,540 bytes: a receipt number, and 16,383 trace numbers.
 fn longest_list(alloc: Global) -> Result<Vec<u8>, AllocError> {
     let mut bytes = Vec::from_slice(alloc, &[0x04, 0x0F, 0xFF, 0xFF, 0xFF, 0x87, 0x00, 0x05])?;
@@ -101,15 +100,4 @@ fn makes_the_largest_messages(rt: HostRuntime) -> Result<(), Fail> {
     let container = largest_container(rt.alloc())?;
     assert_eq!(rt; container.len(), 65_540);
     is_owned(&rt, rt.alloc(), &container)
-}
-
-#[test]
-fn makes_a_message_of_padded_lengths(rt: HostRuntime) -> Result<(), Fail> {
-    let padded = [
-        0x06, 0x0F, 0xFF, 0x07, 0x00, 0x06, 0x81, 0x04, 0x07, 0x81, 0x01, 0x41,
-    ];
-    let made = owned(rt.alloc(), &view(&padded))?;
-    let shortest = [0x06, 0x0F, 0x05, 0x06, 0x03, 0x07, 0x01, 0x41];
-    assert_eq!(rt; encode(rt.alloc(), &made)?.as_slice(), shortest.as_slice());
-    Ok(())
 }

@@ -198,28 +198,6 @@ fn repeated_messages_book_once(rt: HostRuntime) {
 }
 
 #[test]
-fn trace_numbers_serve_once(rt: HostRuntime) {
-    let mut till = registered_till(&rt, rt.alloc());
-    let used = Outcome::Unclear(Cause::TraceUsed);
-    for (number, receipt, outcome) in [
-        (17, 5, paid(&rt, 17, 5)),
-        (17, 5, used),
-        (18, 6, paid(&rt, 18, 6)),
-    ] {
-        let status = approval(PRICE, number, receipt);
-        let ended = pays(
-            &rt,
-            &mut till,
-            &[Heard::Positive, status, Heard::Completion],
-        );
-        assert_eq!(rt; ended, Some(outcome));
-    }
-    let book = [entry(&rt, 17, 5), entry(&rt, 18, 6)];
-    let unclear = [(price(&rt), Cause::TraceUsed)];
-    stands(&rt, &till, &book, &unclear, 2468, paid(&rt, 18, 6));
-}
-
-#[test]
 fn each_trace_number_serves_once(rt: HostRuntime) {
     let mut till = registered_till(&rt, rt.alloc());
     for number in [0, 999_999, 63, 64, 999_936] {
@@ -233,96 +211,6 @@ fn each_trace_number_serves_once(rt: HostRuntime) {
         assert_eq!(rt; again, Some(Outcome::Unclear(Cause::TraceUsed)));
     }
     assert_eq!(rt; till.book().len(), 5);
-}
-
-/// A payment of the worked price after which these messages come is left unclear for the cause.
-fn is_unclear(rt: &impl Abort, alloc: Global, heard: &[Heard], cause: Cause) {
-    let mut till = registered_till(rt, alloc);
-    let ended = pays(rt, &mut till, heard);
-    assert_eq!(rt; ended, Some(Outcome::Unclear(cause)));
-    let unclear = [(price(rt), cause)];
-    stands(rt, &till, &[], &unclear, 0, Outcome::Unclear(cause));
-}
-
-#[test]
-fn doubtful_payments_are_unclear(rt: HostRuntime) {
-    let alloc = rt.alloc();
-    let aborted = [Heard::Positive, approval(PRICE, 17, 5), Heard::Abort(0x6C)];
-    is_unclear(&rt, alloc, &aborted, Cause::AbortAfterApproval);
-    let refused = [approval(PRICE, 17, 5), Heard::Negative(0x6C)];
-    is_unclear(&rt, alloc, &refused, Cause::AbortAfterApproval);
-    let other_amount = [
-        Heard::Positive,
-        approval(PRICE + 1, 17, 5),
-        Heard::Completion,
-    ];
-    is_unclear(&rt, alloc, &other_amount, Cause::AmountDiffers);
-    let two_numbers = [
-        approval(PRICE, 17, 5),
-        approval(PRICE, 18, 5),
-        Heard::Completion,
-    ];
-    is_unclear(&rt, alloc, &two_numbers, Cause::Conflict);
-    let no_status = [Heard::Positive, Heard::Completion];
-    is_unclear(&rt, alloc, &no_status, Cause::NoStatus);
-    let taken_back = [Heard::Positive, reversal(None), Heard::Completion];
-    is_unclear(&rt, alloc, &taken_back, Cause::Conflict);
-}
-
-#[test]
-fn a_broken_line_leaves_a_payment_unclear(rt: HostRuntime) {
-    let mut till = registered_till(&rt, rt.alloc());
-    pays(&rt, &mut till, &[Heard::Positive]);
-    assert_eq!(rt; till.lost(), Some(Outcome::Unclear(Cause::Line)));
-    let unclear = [(price(&rt), Cause::Line)];
-    stands(&rt, &till, &[], &unclear, 0, Outcome::Unclear(Cause::Line));
-    assert!(rt; !till.registered());
-    let course = [
-        Told::Refused(Order::Pay(price(&rt)), OrderRefusal::Offline),
-        Told::Heard(Heard::Completion, None, None),
-    ];
-    goes(&rt, &mut till, &course);
-}
-
-#[test]
-fn a_malformed_line_leaves_a_payment_unclear(rt: HostRuntime) {
-    let mut till = registered_till(&rt, rt.alloc());
-    pays(&rt, &mut till, &[]);
-    let malformed = till.malformed();
-    assert_eq!(rt; malformed, Some(Outcome::Unclear(Cause::Malformed)));
-    let unclear = [(price(&rt), Cause::Malformed)];
-    stands(
-        &rt,
-        &till,
-        &[],
-        &unclear,
-        0,
-        Outcome::Unclear(Cause::Malformed),
-    );
-    assert_eq!(rt; till.lost(), None);
-}
-
-#[test]
-fn negative_answers_refuse_at_first_alone(rt: HostRuntime) {
-    let mut till = registered_till(&rt, rt.alloc());
-    let first = pays(&rt, &mut till, &[Heard::Negative(0x6C)]);
-    assert_eq!(rt; first, Some(Outcome::Refused(0x6C)));
-    stands(&rt, &till, &[], &[], 0, Outcome::Refused(0x6C));
-    let late = [
-        Heard::Positive,
-        approval(PRICE, 17, 5),
-        Heard::Negative(0x83),
-        Heard::Completion,
-    ];
-    assert_eq!(rt; pays(&rt, &mut till, &late), Some(paid(&rt, 17, 5)));
-    stands(
-        &rt,
-        &till,
-        &[entry(&rt, 17, 5)],
-        &[],
-        1234,
-        paid(&rt, 17, 5),
-    );
 }
 
 #[test]
@@ -366,15 +254,6 @@ fn other_orders_end_too(rt: HostRuntime) {
     ];
     goes(&rt, &mut till, &course);
     stands(&rt, &till, &[], &[], 0, Outcome::DayClosed);
-}
-
-#[test]
-fn a_payment_without_a_receipt_is_not_taken_back(rt: HostRuntime) {
-    let mut till = registered_till(&rt, rt.alloc());
-    let silent = status(PRICE, 17, None, Original::Absent);
-    pays(&rt, &mut till, &[silent, Heard::Completion]);
-    let refused = Told::Refused(Order::Reverse(0), OrderRefusal::NoReceipt);
-    goes(&rt, &mut till, &[refused]);
 }
 
 #[test]

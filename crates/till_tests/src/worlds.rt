@@ -80,20 +80,6 @@ fn books_once_what_comes_twice(rt: HostRuntime) -> Result<(), Fail> {
 }
 
 #[test]
-fn a_cut_line_leaves_a_payment_unclear(rt: HostRuntime) -> Result<(), Fail> {
-    let alloc = rt.alloc();
-    let mut moves = approved(&rt, alloc)?;
-    moves.push(Move::TillLost)?;
-    let world = run_world(alloc, moves.as_slice())?;
-    stands(&rt, &world, false);
-    assert_eq!(rt;
-        world.till.unclear(),
-        [(price(&rt), Cause::Line)].as_slice()
-    );
-    Ok(())
-}
-
-#[test]
 fn a_late_approval_is_not_booked_again(rt: HostRuntime) -> Result<(), Fail> {
     let alloc = rt.alloc();
     let mut moves = booked(&rt, alloc)?;
@@ -112,20 +98,5 @@ fn a_late_approval_is_not_booked_again(rt: HostRuntime) -> Result<(), Fail> {
         world.till.unclear(),
         [(price(&rt), Cause::TraceUsed)].as_slice()
     );
-    Ok(())
-}
-
-#[test]
-fn what_was_never_sent_does_nothing(rt: HostRuntime) -> Result<(), Fail> {
-    let alloc = rt.alloc();
-    let moves = [
-        to_terminal(0),
-        Move::ToTill(0),
-        Move::Order(Order::CloseDay),
-        Move::TerminalLost,
-    ];
-    let world = run_world(alloc, moves.as_slice())?;
-    assert!(rt; world.from_till.is_empty());
-    assert!(rt; world.from_terminal.is_empty());
     Ok(())
 }
