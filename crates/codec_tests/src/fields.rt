@@ -7,8 +7,8 @@ use std::process::Abort;
 use std::test::Fail;
 use zvt_bcd::{Amount, Currency, Trace};
 use zvt_field::{
-    Field, FieldBody, Fields, PushRefusal, amount, currency, only, original, receipt, result, scan,
-    size, trace, write_into,
+    Field, FieldBody, Fields, PushRefusal, amount, count, currency, only, original, receipt,
+    result, scan, size, trace, write_into,
 };
 use zvt_spelling::Scan;
 use zvt_tlv::{Body, Forest, Tag, Tlv};
@@ -65,6 +65,16 @@ fn fields_of_a_status(rt: HostRuntime) {
     for (bmp, found) in [(0x3C, Some(0x3C)), (0x22, None)] {
         assert_eq!(rt; only_bmp(&fields, bmp), found);
     }
+}
+
+#[test]
+fn fields_that_stand_twice_say_nothing(rt: HostRuntime) {
+    let bytes = [0x0B, 0x00, 0x00, 0x17, 0x0B, 0x00, 0x00, 0x17];
+    let twice = read(&rt, rt.alloc(), &bytes, 8);
+    assert_eq!(rt; count(&twice, 0x0B), 2);
+    assert_eq!(rt; count(&twice, 0x04), 0);
+    assert!(rt; trace(&twice).is_none());
+    assert!(rt; only(&twice, 0x0B).is_none());
 }
 
 /// The fields that fill a room are written at the front of a buffer as they were read.

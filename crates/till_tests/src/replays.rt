@@ -24,6 +24,23 @@ const APPROVAL: [u8; 19] = [
     0x87, 0x00, 0x05,
 ];
 
+/// An approval of another amount.
+const OTHER_AMOUNT: [u8; 16] = [
+    0x04, 0x0F, 0x0D, 0x27, 0x00, 0x04, 0x00, 0x00, 0x00, 0x00, 0x12, 0x35, 0x0B, 0x00, 0x00, 0x17,
+];
+
+/// A status of a reversal.
+const TAKES_BACK: [u8; 20] = [
+    0x04, 0x0F, 0x11, 0x27, 0x00, 0x04, 0x00, 0x00, 0x00, 0x00, 0x12, 0x34, 0x0B, 0x00, 0x00, 0x18,
+    0x37, 0x00, 0x00, 0x17,
+];
+
+/// An approval of 1234 as number 17, in dollars and without a receipt number.
+const IN_DOLLARS: [u8; 19] = [
+    0x04, 0x0F, 0x10, 0x27, 0x00, 0x04, 0x00, 0x00, 0x00, 0x00, 0x12, 0x34, 0x0B, 0x00, 0x00, 0x17,
+    0x49, 0x08, 0x40,
+];
+
 /// The price of the payments, in cents.
 fn price(rt: &impl Abort) -> Amount {
     Amount::new(1234).expect(rt, "an amount")
@@ -178,5 +195,45 @@ fn a_line_lost_at_each_byte(rt: HostRuntime) -> Result<(), Fail> {
             runs(&rt, alloc, &events, &book, &[], paid(&rt, 17, 5))?;
         }
     }
+    Ok(())
+}
+
+#[test]
+fn what_leaves_a_payment_unclear(rt: HostRuntime) -> Result<(), Fail> {
+    let aborts = [0x06, 0x1E, 0x01, 0x6C];
+    let refuses = [0x84, 0x6C, 0x00];
+    let malformed = [0x06, 0x01, 0x02, 0xD0];
+    let rows: [(&[u8], &[u8], &[u8], Cause); 7] = [
+        (&ACK, &IN_DOLLARS, &COMPLETION, Cause::WrongCurrency),
+        (&ACK, &APPROVAL, &aborts, Cause::AbortAfterApproval),
+        (&ACK, &OTHER_AMOUNT, &COMPLETION, Cause::AmountDiffers),
+        (&ACK, &TAKES_BACK, &COMPLETION, Cause::Conflict),
+        (&ACK, &COMPLETION, &COMPLETION, Cause::NoStatus),
+        (&APPROVAL, &refuses, &COMPLETION, Cause::AbortAfterApproval),
+        (&malformed, &APPROVAL, &COMPLETION, Cause::Malformed),
+    ];
+    for (first, second, third, cause) in rows {
+        let mut events = Vec::new(rt.alloc());
+        registers(rt.alloc(), &mut events)?;
+        pays(&rt, rt.alloc(), &mut events, &[first, second, third])?;
+        let last = Outcome::Unclear(cause);
+        runs(&rt, rt.alloc(), &events, &[], &[cause], last)?;
+    }
+    Ok(())
+}
+
+#[test]
+fn negative_answers(rt: HostRuntime) -> Result<(), Fail> {
+    let alloc = rt.alloc();
+    let mut events = Vec::new(alloc);
+    registers(alloc, &mut events)?;
+    pays(&rt, alloc, &mut events, &[&[0x84, 0x6C, 0x00]])?;
+    let refused = Outcome::Refused(0x6C);
+    runs(&rt, alloc, &events, &[], &[], refused)?;
+    let (taken, nack) = ([0x84, 0x00, 0x00], [0x84, 0x83, 0x00]);
+    let messages: [&[u8]; 4] = [&taken, &APPROVAL, &nack, &COMPLETION];
+    pays(&rt, alloc, &mut events, &messages)?;
+    let book = [entry(&rt, 17, 5)];
+    runs(&rt, alloc, &events, &book, &[], paid(&rt, 17, 5))?;
     Ok(())
 }
