@@ -12,11 +12,12 @@ use zvt_spelling::Why;
 use zvt_tlv::Lengths;
 
 /// Whether an item of `size` more bytes ends its level or leaves room for another one.
+#[inline(always)]
 fn fits(size: usize, left: usize) -> bool
     requires { size < 2 ^ 16 }
     ensures { result ≡ fits size left }
 {
-    left == size || size + 2 <= left
+    size <= left && left - size != 1
 }
 
 /// Judges a BMP. `left` counts the bytes of the fields after it.
@@ -45,6 +46,7 @@ pub fn judge_name(left: usize, byte: u8, lengths: Lengths) -> Result<Shape, Why>
 
 /// Judges a digit of a length, with so many digits after it and that number before it: the number with it.
 /// `left` counts the bytes of the fields after it.
+#[inline(always)]
 pub fn judge_digit(more: usize, before: usize, left: usize, byte: u8) -> Result<usize, Why>
     requires more { more ≤ 2 }
     requires before { before ≤ 99 }
@@ -67,6 +69,7 @@ pub fn judge_digit(more: usize, before: usize, left: usize, byte: u8) -> Result<
 }
 
 /// Judges a byte of a content, of digits or of any bytes.
+#[inline(always)]
 pub fn judge_content(digits: bool, byte: u8) -> Result<(), Why>
     ensures { JudgesContent digits byte result }
 {

@@ -48,6 +48,7 @@ pub enum LengthNext {
 const DEEPEST: usize = 6;
 
 /// Whether an item of `size` more bytes ends its level or leaves room for another one, which has two bytes at least.
+#[inline(always)]
 fn fits(size: usize, left: usize) -> bool
     requires { size < 2 ^ 16 }
     ensures { result ≡ fits size left }
@@ -56,6 +57,7 @@ fn fits(size: usize, left: usize) -> bool
 }
 
 /// Whether a content of that length fits; one byte is no content of a constructed object.
+#[inline(always)]
 fn content_fits(nests: bool, size: usize, left: usize) -> bool
     requires { size < 2 ^ 16 }
     ensures { result ≡ content_fits nests size left }
@@ -64,6 +66,7 @@ fn content_fits(nests: bool, size: usize, left: usize) -> bool
 }
 
 /// Whether what is left is not just so many bytes that a shortest length would count a single byte of objects.
+#[inline(always)]
 fn avoids(lengths: Lengths, nests: bool, left: usize, size: usize) -> bool
     ensures { result ≡ avoids (reading_of lengths) nests left size }
 {
@@ -74,6 +77,7 @@ fn avoids(lengths: Lengths, nests: bool, left: usize, size: usize) -> bool
 }
 
 /// Judges one byte of a tag, of an object at that depth. `left` counts the bytes of the enclosing content after it.
+#[inline(always)]
 pub fn judge_tag(
     at: TagAt,
     left: usize,
@@ -101,6 +105,7 @@ pub fn judge_tag(
     }
 }
 
+#[inline(always)]
 fn judge_first_tag_byte(
     left: usize,
     depth: usize,
@@ -125,6 +130,7 @@ fn judge_first_tag_byte(
     Ok(TagNext::Done { constructed })
 }
 
+#[inline(always)]
 fn judge_second_tag_byte(
     constructed: bool,
     left: usize,
@@ -148,6 +154,7 @@ fn judge_second_tag_byte(
 
 /// Judges one byte of a length. `nests` says that the content is objects: after a constructed tag, and where a length
 /// and objects stand without a tag. `left` counts the bytes of the enclosing content after the byte.
+#[inline(always)]
 pub fn judge_length(
     at: LengthAt,
     left: usize,
@@ -185,6 +192,7 @@ pub fn judge_length(
 }
 
 /// A length that is whole.
+#[inline(always)]
 fn judge_content(size: usize, left: usize, nests: bool) -> Result<LengthNext, Why>
     requires { size < 2 ^ 16 }
     ensures { JudgesContent nests size left result }
@@ -196,6 +204,7 @@ fn judge_content(size: usize, left: usize, nests: bool) -> Result<LengthNext, Wh
     }
 }
 
+#[inline(always)]
 fn judge_first_length_byte(
     left: usize,
     nests: bool,
@@ -219,6 +228,7 @@ fn judge_first_length_byte(
 }
 
 /// Why no length in so many further bytes can follow, of a form that the shortest reading takes from `least` on.
+#[inline(always)]
 fn long_form(lengths: Lengths, nests: bool, left: usize, least: usize, bytes: usize) -> Option<Why>
     requires { bytes + least < 2 ^ 16 }
     ensures { result ≡ long_form (reading_of lengths) nests left least bytes }

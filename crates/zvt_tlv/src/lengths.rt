@@ -15,6 +15,7 @@ pub enum Lengths {
 
 impl Lengths {
     /// The least length that a form may hold whose shorter form ends below `size`.
+    #[inline(always)]
     pub fn least(self, size: usize) -> usize
         ensures { result ≡ least (reading_of self) size }
     {
