@@ -1,11 +1,11 @@
-//! Messages out of pieces, worked by hand: built by `feed`, lent by `feed_view`, and left in the piece by `feed_in_place`.
+//! Messages out of pieces, worked by hand: built by `feed` and lent by `feed_view`.
 
 use std::alloc::{AllocError, Global};
 use std::process::Abort;
 use std::test::Fail;
 use zvt_apdu::Kind;
 use zvt_spelling::Why;
-use zvt_stream::{Fed, FedView, FeedError, Held, LONGEST, Stream, Truncated, message_size};
+use zvt_stream::{Fed, FedView, FeedError, Head, Held, LONGEST, Stream, Truncated};
 use zvt_tlv::Lengths;
 
 const STATUS: [u8; 19] = [
@@ -16,17 +16,17 @@ const STATUS: [u8; 19] = [
 const ACK: [u8; 3] = [0x80, 0x00, 0x00];
 
 /// What a feed answers.
-type Answer = Result<FedView, FeedError>;
+pub type Answer = Result<FedView, FeedError>;
 
-const MORE: Answer = Ok(FedView::More);
+pub const MORE: Answer = Ok(FedView::More);
 
 /// A message ended after so many bytes of the piece.
-fn ended(taken: usize) -> Answer {
+pub fn ended(taken: usize) -> Answer {
     Ok(FedView::Message { taken })
 }
 
 /// What `feed` answers, its message left aside.
-fn built(alloc: Global, stream: &mut Stream, piece: &[u8]) -> Answer {
+pub fn built(alloc: Global, stream: &mut Stream, piece: &[u8]) -> Answer {
     match stream.feed(alloc, piece) {
         Ok(Fed::Message { taken, .. }) => ended(taken),
         Ok(Fed::More) => MORE,
@@ -36,13 +36,8 @@ fn built(alloc: Global, stream: &mut Stream, piece: &[u8]) -> Answer {
 }
 
 // Says nothing of what it answers: beside that each step of a caller's proof is dear.
-fn viewed(stream: &mut Stream, piece: &[u8]) -> Answer {
+pub fn viewed(stream: &mut Stream, piece: &[u8]) -> Answer {
     stream.feed_view(piece)
-}
-
-// As silent as the one before.
-fn placed(stream: &mut Stream, piece: &[u8]) -> Answer {
-    stream.feed_in_place(piece)
 }
 
 /// The kind and the bytes of the message that is lent.
@@ -54,22 +49,20 @@ fn lent(stream: &Stream) -> Option<(Kind, &[u8])> {
 }
 
 /// How many bytes a stream holds, and whether it may end there.
-fn left(stream: &Stream) -> (usize, Result<(), Truncated>) {
+pub fn left(stream: &Stream) -> (usize, Result<(), Truncated>) {
     (stream.held(), stream.finish())
 }
 
 /// Pieces that are fed one after another, what is answered to each, and how many bytes are held then.
 type Row<'a> = (&'a [u8], Answer, usize);
 
-/// A stream that builds its messages answers so, one that lends them, and one that leaves them where they lie.
+/// A stream that builds its messages answers so, and one that lends them.
 fn answers(rt: &impl Abort, alloc: Global, rows: &[Row]) {
     let mut stream = Stream::new(alloc);
     let mut lending = Stream::new(alloc);
-    let mut leaving = Stream::new(alloc);
     for &(piece, answer, have) in rows {
         assert_eq!(rt; built(alloc, &mut stream, piece), answer);
         assert_eq!(rt; viewed(&mut lending, piece), answer);
-        assert_eq!(rt; placed(&mut leaving, piece), answer);
         let end = if have == 0 {
             Ok(())
         } else {
@@ -77,7 +70,6 @@ fn answers(rt: &impl Abort, alloc: Global, rows: &[Row]) {
         };
         assert_eq!(rt; left(&stream), (have, end));
         assert_eq!(rt; left(&lending), (have, end));
-        assert_eq!(rt; left(&leaving), (have, end));
     }
 }
 
@@ -123,28 +115,12 @@ fn a_message_is_lent_at_any_cut(rt: HostRuntime) {
     }
 }
 
-/// Whether a message of those bytes ends in the piece.
-fn ends(stream: &mut Stream, piece: &[u8], message: &[u8]) -> bool {
-    match stream.feed_in_place(piece) {
-        Ok(FedView::Message { taken }) => stream.ended(piece, taken) == message,
-        _ => false,
+/// The size of the message at the front of the bytes, where one is all there.
+fn sized(alloc: Global, lengths: Lengths, bytes: &[u8]) -> Option<usize> {
+    match viewed(&mut Stream::of(alloc, lengths), bytes) {
+        Ok(FedView::Message { taken }) => Some(taken),
+        _ => None,
     }
-}
-
-#[test]
-fn a_whole_message_stays_in_its_piece(rt: HostRuntime) {
-    let mut stream = Stream::new(rt.alloc());
-    assert!(rt; ends(&mut stream, &STATUS, &STATUS));
-    assert_eq!(rt; lent(&stream), None);
-    assert!(rt; !ends(&mut stream, &STATUS[..10], &STATUS));
-    assert!(rt; ends(&mut stream, &STATUS[10..], &STATUS));
-    assert_eq!(rt; lent(&stream), Some((Kind::Status, STATUS.as_slice())));
-    assert!(rt; ends(&mut stream, &ACK, &ACK));
-}
-
-// As silent as those that feed.
-fn sized(lengths: Lengths, bytes: &[u8]) -> Option<usize> {
-    message_size(lengths, bytes)
 }
 
 #[test]
@@ -162,24 +138,32 @@ fn the_first_message_of_bytes_has_a_size(rt: HostRuntime) -> Result<(), Fail> {
         (Lengths::Shortest, line.as_slice(), Some(LONGEST)),
     ];
     for (lengths, bytes, size) in rows {
-        assert_eq!(rt; sized(lengths, bytes), size);
+        assert_eq!(rt; sized(rt.alloc(), lengths, bytes), size);
     }
     Ok(())
 }
 
-/// Whether the stream is between two messages behind the piece.
-fn is_between(stream: &mut Stream, piece: &[u8]) -> bool {
-    let _ = placed(stream, piece);
-    stream.is_between()
+/// The control bytes of what is begun behind the piece.
+fn head_behind(stream: &mut Stream, piece: &[u8]) -> Head {
+    let _ = viewed(stream, piece);
+    stream.head()
 }
 
 #[test]
-fn a_stream_is_between_messages(rt: HostRuntime) {
+fn the_control_bytes_of_an_unfinished_message(rt: HostRuntime) {
+    let rows: [(&[u8], Head); 7] = [
+        (&[], Head::Empty),
+        (&[0x80], Head::One(0x80)),
+        (&[0x00, 0x00], Head::Empty),
+        (&STATUS[..2], Head::Two(0x04, 0x0F)),
+        (&STATUS[2..18], Head::Two(0x04, 0x0F)),
+        (&STATUS[18..], Head::Empty),
+        (&[0x06, 0x01, 0x01, 0x04], Head::Empty),
+    ];
     let mut stream = Stream::new(rt.alloc());
-    assert!(rt; is_between(&mut stream, &[]));
-    assert!(rt; !is_between(&mut stream, &[0x80]));
-    assert!(rt; is_between(&mut stream, &[0x00, 0x00]));
-    assert!(rt; !is_between(&mut stream, &[0x06, 0x01, 0x01, 0x04]));
+    for (piece, head) in rows {
+        assert_eq!(rt; head_behind(&mut stream, piece), head);
+    }
 }
 
 /// The longest line to print, and 1,460 bytes behind it.

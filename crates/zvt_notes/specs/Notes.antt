@@ -17,8 +17,8 @@ use Rattle.zvt_trace.specs.declared.direction.Direction.{Direction}
 use Rattle.zvt_trace.specs.declared.direction.Direction.TheVariants.{FromTill, FromTerminal}
 use Rattle.zvt_trace.specs.declared.listener.Scope.{Scope}
 use Rattle.zvt_trace.specs.declared.listener.Scope.TheVariants.{OneSide, WholeLine}
-use Rattle.zvt_trace.specs.declared.told.Head.{Head}
-use Rattle.zvt_trace.specs.declared.told.Head.TheVariants.{Empty, One, Two}
+use Rattle.zvt_stream.specs.declared.head.Head.{Head}
+use Rattle.zvt_stream.specs.declared.head.Head.TheVariants.{Empty, One, Two}
 
 -- ---- numbers of things
 

@@ -1,5 +1,5 @@
 -- The levels that a complete item leaves, and what a byte says of the bytes before it and of itself.
-use Rattle.std.proofs.Common.{◌≡◌, ◌≢◌, ℕ, ◌+◌, ◌-◌, ◌<◌, ◌≤◌, Some, None, Ok, Err, List, [], ◌∷◌, ◌++◌, length, reverse, take, get_or, slice_get, refl, sym, ◌∙◌, ap, subst, append_assoc, arith, length-append, ◌⊎◌, inl, inr, suc, zero}
+use Rattle.std.proofs.Common.{◌≡◌, ◌≢◌, ℕ, ◌+◌, ◌-◌, ◌<◌, ◌≤◌, Some, None, Result, Ok, List, [], ◌∷◌, ◌++◌, length, reverse, take, get_or, slice_get, refl, sym, ◌∙◌, ap, subst, append_assoc, arith, length-append, ◌⊎◌, inl, inr, suc, zero}
 use Rattle.std.proofs.lemmas.Bool.{cases_lt}
 use Rattle.std.proofs.lemmas.List.{append-nil, reverse-append, length-take-le}
 use Rattle.std.proofs.Math.Seq.{take-append_seam, take-suc}
@@ -14,9 +14,15 @@ use Rattle.zvt_stream.specs.Apdus.{AliveIn, NoneWholeIn, UnfinishedIn, IsRefused
 use Rattle.zvt_stream.specs.declared.moves.At.{At}
 use Rattle.zvt_stream.specs.declared.moves.At.TheVariants as stage
 use Rattle.zvt_stream.specs.declared.judging.Goes.{Goes}
+use Rattle.zvt_stream.specs.declared.judging.Judged.{Judged}
+use Rattle.zvt_stream.specs.declared.judging.Judged.TheVariants.{Open, Ended}
 use Rattle.zvt_stream.specs.Standing.{IsFull, depth_of, Level, Between, Where, role_of}
-use Rattle.zvt_stream.specs.Moves.{IsReady}
-use Rattle.zvt_stream.specs.Judge.{unfilled, IsMessageIn, StandsFor, HasLevelsIn, Judges}
+use Rattle.zvt_stream.specs.declared.moves.Move.{Move}
+use Rattle.zvt_stream.specs.Moves.{IsReady, Moves}
+use Rattle.zvt_stream.specs.declared.head.Head.{Head}
+use Rattle.zvt_stream.specs.declared.head.Head.TheVariants.{One, Two}
+use Rattle.zvt_stream.specs.Head.{head_of}
+use Rattle.zvt_stream.specs.Judge.{unfilled, beginning, IsJudge, IsMessageIn, JudgeState, Settles, StandsFor, Stepped, HasLevelsIn}
 use Rattle.zvt_stream.proofs.Beginnings.{nothing_in}
 use Rattle.zvt_stream.proofs.LevelLemmas.{filled_level}
 use Rattle.zvt_stream.proofs.Stood.{stood, position_none, full_message}
@@ -154,19 +160,57 @@ refuses r at left x outer b why lt u h e =
             u.none_whole m front t.0 t.1 s
 
 -- what a step makes of a judge
-pub start_stands : (r : Reading) (items : List ℕ) → items ≡ [] → StandsFor (record { reading = r; at = stage.FirstControl; left = 1; outer = reverse items }) []
-start_stands r items e = record { unfinished = nothing_in r; stands = (ap reverse e, refl) }
+pub start_stands : (r : Reading) (items : List ℕ) (goes : Goes) → items ≡ [] → goes ≡ beginning → StandsFor (record { reading = r; at = goes.at; left = goes.left; outer = reverse items; head = goes.head }) []
+start_stands r items goes e g =
+    let Stands : Goes → Type 0 = λ (k : Goes). StandsFor (record { reading = r; at = k.at; left = k.left; outer = reverse items; head = k.head }) [] in
+    subst Stands (sym g) (record { unfinished = nothing_in r; stands = (ap reverse e, refl); front = refl })
 
-pub stepped_open : (r : Reading) (at : At) (left x : ℕ) (outer new b : List ℕ) (goes : Goes) → x < 256 → StandsFor (record { reading = r; at = at; left = left; outer = outer }) b → Judges r at left outer new b x (Ok (Some goes)) →
-    StandsFor (record { reading = r; at = goes.at; left = goes.left; outer = new }) (b ++ x ∷ [])
-stepped_open r at left x outer new b goes lt s q =
-    record { unfinished = unfinished r goes.at goes.left new (b ++ x ∷ []) (passes r at left x outer b lt s.unfinished.alive s.stands q.0) q.1; stands = q.1 }
+pub stepped : (r : Reading) (at : At) (left x : ℕ) (outer b now : List ℕ) (head : Head) (old new : Goes) (judged : Judged) → x < 256 → StandsFor (record { reading = r; at = at; left = left; outer = outer; head = head }) b → fault r (role_of at left (depth_of outer)) x ≡ None
+    → Settles r old new now (b ++ x ∷ []) judged → old.head ≡ head_of (b ++ x ∷ []) → Stepped r b x (Ok judged) (record { reading = r; at = new.at; left = new.left; outer = now; head = new.head })
+stepped r at left x outer b now head old new Open lt s passed settles front =
+    (record { unfinished = unfinished r new.at new.left now (b ++ x ∷ []) (passes r at left x outer b lt s.unfinished.alive s.stands passed) settles.0; stands = settles.0; front = settles.1 ∙ front }, refl)
+stepped r at left x outer b now head old new Ended lt s passed settles front =
+    (whole r (b ++ x ∷ []) (passes r at left x outer b lt s.unfinished.alive s.stands passed) settles.0, rw (settles.1, settles.2) refl)
 
-pub stepped_ended : (r : Reading) (at : At) (left x : ℕ) (outer new b : List ℕ) → x < 256 → StandsFor (record { reading = r; at = at; left = left; outer = outer }) b → Judges r at left outer new b x (Ok None) → IsMessageIn r (b ++ x ∷ [])
-stepped_ended r at left x outer new b lt s q = whole r (b ++ x ∷ []) (passes r at left x outer b lt s.unfinished.alive s.stands q.0) q.1
+-- a judge behind an answer stands for some bytes
+pub still_judge : (r : Reading) (b : List ℕ) (x : ℕ) (judged : Judged) (new : JudgeState) → Stepped r b x (Ok judged) new → IsJudge new
+still_judge r b x Open new s = (b ++ x ∷ [], s.0)
+still_judge r b x Ended new s = subst IsJudge (sym s.1) ([], start_stands r [] beginning refl refl)
 
-pub stepped_refused : (r : Reading) (at : At) (left x : ℕ) (outer new b : List ℕ) (why : Why) → x < 256 → StandsFor (record { reading = r; at = at; left = left; outer = outer }) b → Judges r at left outer new b x (Err why) → IsRefusedIn r (b ++ x ∷ []) (length b) why
-stepped_refused r at left x outer new b why lt s q = refuses r at left x outer b why lt s.unfinished s.stands q
+-- what was judged of a judge, by what it is
+pub moved_in : (v now : JudgeState) (x : ℕ) (b : List ℕ) (moved : Result Move Why) → v ≡ now → Moves now.reading now.at now.left now.outer b x moved → Moves v.reading v.at v.left v.outer b x moved
+moved_in v now x b moved same m = subst (λ (w : JudgeState). Moves w.reading w.at w.left w.outer b x moved) (sym same) m
+
+pub followed : (v now : JudgeState) (x : ℕ) (b outer : List ℕ) (old new : Goes) (judged : Judged) → v ≡ now → x < 256 → StandsFor now b → fault v.reading (role_of v.at v.left (depth_of v.outer)) x ≡ None
+    → Settles v.reading old new outer (b ++ x ∷ []) judged → old.head ≡ head_of (b ++ x ∷ []) → Stepped now.reading b x (Ok judged) (record { reading = v.reading; at = new.at; left = new.left; outer = outer; head = new.head })
+followed v now x b outer old new judged same lt s passed settles front =
+    let there : StandsFor v b = subst (λ (w : JudgeState). StandsFor w b) (sym same) s in
+    let answer : JudgeState = record { reading = v.reading; at = new.at; left = new.left; outer = outer; head = new.head } in
+    subst (λ (w : JudgeState). Stepped w.reading b x (Ok judged) answer) same (stepped v.reading v.at v.left x v.outer b outer v.head old new judged lt there passed settles front)
+
+-- behind the first control byte, and behind the second
+pub first_control : (v now : JudgeState) (x : ℕ) (b : List ℕ) (goes : Goes) → v ≡ now → v.at ≡ stage.FirstControl → goes ≡ record { at = stage.SecondControl x; left = v.left; head = One x } → x < 256 → StandsFor now b
+    → Stepped now.reading b x (Ok Open) (record { reading = v.reading; at = goes.at; left = goes.left; outer = v.outer; head = goes.head })
+first_control v now x b goes same is gone lt s =
+    let there : StandsFor v b = subst (λ (w : JudgeState). StandsFor w b) (sym same) s in
+    let none = subst (λ (a : At). Where v.reading a v.left v.outer b) is there.stands in
+    let there_goes : Goes = record { at = stage.SecondControl x; left = v.left; head = One x } in
+    let Answers : Goes → Type 0 = λ (g : Goes). Stepped now.reading b x (Ok Open) (record { reading = v.reading; at = g.at; left = g.left; outer = v.outer; head = g.head }) in
+    subst Answers (sym gone) (followed v now x b v.outer there_goes there_goes Open same lt s (subst (λ (a : At). fault v.reading (role_of a v.left (depth_of v.outer)) x ≡ None) (sym is) refl)
+    ((none.0, ap (λ (t : List ℕ). t ++ x ∷ []) none.1, lt), refl) (ap (λ (t : List ℕ). head_of (t ++ x ∷ [])) (sym none.1)))
+
+pub second_control : (v now : JudgeState) (high x : ℕ) (b : List ℕ) (goes : Goes) → v ≡ now → v.at ≡ stage.SecondControl high → goes ≡ record { at = stage.FirstSize high x; left = v.left; head = Two high x } → x < 256 → StandsFor now b
+    → Stepped now.reading b x (Ok Open) (record { reading = v.reading; at = goes.at; left = goes.left; outer = v.outer; head = goes.head })
+second_control v now high x b goes same is gone lt s =
+    let there : StandsFor v b = subst (λ (w : JudgeState). StandsFor w b) (sym same) s in
+    let one = subst (λ (a : At). Where v.reading a v.left v.outer b) is there.stands in
+    let there_goes : Goes = record { at = stage.FirstSize high x; left = v.left; head = Two high x } in
+    let Answers : Goes → Type 0 = λ (g : Goes). Stepped now.reading b x (Ok Open) (record { reading = v.reading; at = g.at; left = g.left; outer = v.outer; head = g.head }) in
+    subst Answers (sym gone) (followed v now x b v.outer there_goes there_goes Open same lt s (subst (λ (a : At). fault v.reading (role_of a v.left (depth_of v.outer)) x ≡ None) (sym is) refl)
+    ((one.0, ap (λ (t : List ℕ). t ++ x ∷ []) one.1, one.2, lt), refl) (ap (λ (t : List ℕ). head_of (t ++ x ∷ [])) (sym one.1)))
+
+pub stepped_refused : (r : Reading) (at : At) (left x : ℕ) (outer b : List ℕ) (why : Why) (head : Head) → x < 256 → StandsFor (record { reading = r; at = at; left = left; outer = outer; head = head }) b → fault r (role_of at left (depth_of outer)) x ≡ Some why → IsRefusedIn r (b ++ x ∷ []) (length b) why
+stepped_refused r at left x outer b why head lt s failed = refuses r at left x outer b why lt s.unfinished s.stands failed
 
 -- a byte of a piece that is refused
 pub ran_refused : (r : Reading) (held bytes : List ℕ) (taken : ℕ) (why : Why) → taken < length bytes → IsRefusedIn r ((held ++ take taken bytes) ++ get_or bytes taken 0 ∷ []) (length (held ++ take taken bytes)) why → IsRefusedIn r (held ++ take (suc taken) bytes) (length held + taken) why
@@ -176,7 +220,7 @@ ran_refused r held bytes taken why lt e =
     subst (λ (s : List ℕ). IsRefusedIn r s (length held + taken) why) same (subst (λ (n : ℕ). IsRefusedIn r ((held ++ take taken bytes) ++ get_or bytes taken 0 ∷ []) n why) long e)
 
 -- how many levels are open
-pub levels_are : (r : Reading) (at : At) (left n : ℕ) (outer b : List ℕ) → n ≡ suc (length outer) → StandsFor (record { reading = r; at = at; left = left; outer = outer }) b → HasLevelsIn r b n
-levels_are r at left n outer b e s =
+pub levels_are : (r : Reading) (at : At) (left n : ℕ) (outer b : List ℕ) (head : Head) → n ≡ suc (length outer) → StandsFor (record { reading = r; at = at; left = left; outer = outer; head = head }) b → HasLevelsIn r b n
+levels_are r at left n outer b head e s =
     let p = stood r at left outer b s.stands in
     (p.0, role_of at left (depth_of outer), p.1, e ∙ sym p.2)

@@ -62,13 +62,13 @@ pub record Idle (lends : Bool) (bytes : List ℕ) (judge : JudgeState) (old : St
   pub stands : StandsFor judge bytes
   pub alike : judge.reading ≡ old.reading
 
-pub idle : (lends stopped : Bool) (bytes : List ℕ) (s : LentBytes lends bytes) (room : ℕ) (judge : JudgeState) (old now : StreamState)
-    → (let state : StreamState = record { held = held_of lends bytes; stopped = stopped; lent = lent_of lends bytes s; room = room; reading = judge.reading } in state) ≡ now → Keeps old now
+pub idle : (lends stopped : Bool) (bytes : List ℕ) (s : LentBytes lends bytes) (room judged : ℕ) (judge : JudgeState) (old now : StreamState)
+    → (let state : StreamState = record { held = held_of lends bytes; stopped = stopped; lent = lent_of lends bytes s; room = room; judged = judged; reading = judge.reading } in state) ≡ now → Keeps old now
     → IsSound judge.reading (held_of lends bytes) stopped × StandsFor judge (held_of lends bytes) × (lends ≡ true → IsMessageIn judge.reading bytes) → Idle lends bytes judge old
-idle false stopped bytes s room judge old now is keeps sound =
+idle false stopped bytes s room judged judge old now is keeps sound =
     let alike : judge.reading ≡ old.reading = ap (λ (t : StreamState). t.reading) is ∙ keeps.3 in
     record { idle = refl; is_held = ap (λ (t : StreamState). t.held) is ∙ keeps.0; unfinished = subst (λ (r : Reading). UnfinishedIn r bytes) alike sound.0.unfinished; stands = sound.1; alike = alike }
-idle true stopped bytes s room judge old now is keeps sound = absurd (some_is_none (ap (λ (t : StreamState). t.lent) is ∙ keeps.2))
+idle true stopped bytes s room judged judge old now is keeps sound = absurd (some_is_none (ap (λ (t : StreamState). t.lent) is ∙ keeps.2))
   where
     some_is_none : {m : Message} → Some m ≡ None → ⊥
     some_is_none e = cc
@@ -97,29 +97,29 @@ lending r stopped bytes judge runs e whole =
     (new.0, new.1, λ lent. subst (λ (k : Reading). IsMessageIn k bytes) (sym (ap (λ (j : JudgeState). j.reading) e)) whole)
 
 -- what a feed gives where no message ended
-pub feeds_more : (lends stopped : Bool) (bytes piece after : List ℕ) (lent : Option Message) (room : ℕ) (judge new : JudgeState) (old : StreamState)
+pub feeds_more : (lends stopped : Bool) (bytes piece after : List ℕ) (lent : Option Message) (room judged : ℕ) (judge new : JudgeState) (old : StreamState)
     → Idle lends bytes judge old → StandsFor new (bytes ++ piece) × (new.reading ≡ old.reading) → after ≡ bytes ++ piece → stopped ≡ false
-    → Feeds old piece fed.More (let state : StreamState = record { held = held_of lends after; stopped = stopped; lent = lent; room = room; reading = new.reading } in state)
-feeds_more false stopped bytes piece after lent room judge new old i s is runs =
+    → Feeds old piece fed.More (let state : StreamState = record { held = held_of lends after; stopped = stopped; lent = lent; room = room; judged = judged; reading = new.reading } in state)
+feeds_more false stopped bytes piece after lent room judged judge new old i s is runs =
     let same : bytes ++ piece ≡ old.held ++ piece = ap (λ (b : List ℕ). b ++ piece) i.is_held in
     (subst (UnfinishedIn old.reading) same (subst (λ (r : Reading). UnfinishedIn r (bytes ++ piece)) s.1 s.0.unfinished), (is ∙ same, runs), s.1)
-feeds_more true stopped bytes piece after lent room judge new old i s is runs = absurd (cc (i.idle))
+feeds_more true stopped bytes piece after lent room judged judge new old i s is runs = absurd (cc (i.idle))
 
 -- and where bytes were refused
-pub feeds_refused : (lends : Bool) (bytes piece after : List ℕ) (lent : Option Message) (room at place : ℕ) (why : Why) (judge new : JudgeState) (old : StreamState)
+pub feeds_refused : (lends : Bool) (bytes piece after : List ℕ) (lent : Option Message) (room judged at place : ℕ) (why : Why) (judge new : JudgeState) (old : StreamState)
     → Idle lends bytes judge old → Ran old.reading bytes piece (run.Refused at why) new → place ≡ length bytes + at → after ≡ []
-    → Feeds old piece (fed.Refused place why) (let state : StreamState = record { held = held_of lends after; stopped = true; lent = lent; room = room; reading = new.reading } in state)
-feeds_refused false bytes piece after lent room at place why judge new old i ran is none =
+    → Feeds old piece (fed.Refused place why) (let state : StreamState = record { held = held_of lends after; stopped = true; lent = lent; room = room; judged = judged; reading = new.reading } in state)
+feeds_refused false bytes piece after lent room judged at place why judge new old i ran is none =
     let out = ran_out old.reading new bytes piece at why i.unfinished ran in
     let alike : new.reading ≡ old.reading = ap (λ (j : JudgeState). j.reading) ran.2 in
     rw (← i.is_held, is) (out.0, out.1, (none, refl), alike)
-feeds_refused true bytes piece after lent room at place why judge new old i ran is none = absurd (cc (i.idle))
+feeds_refused true bytes piece after lent room judged at place why judge new old i ran is none = absurd (cc (i.idle))
 
 -- and where a message ended, which is lent
-pub lends_message : (stopped : Bool) (bytes piece after : List ℕ) (s : LentBytes true after) (room taken : ℕ) (judge new : JudgeState) (lends : Bool) (old : StreamState)
+pub lends_message : (stopped : Bool) (bytes piece after : List ℕ) (s : LentBytes true after) (room judged taken : ℕ) (judge new : JudgeState) (lends : Bool) (old : StreamState)
     → Idle lends bytes judge old → Ran old.reading bytes piece (run.Ended taken) new → after ≡ bytes ++ take taken piece → stopped ≡ false
-    → Lends old piece (view.Message taken) (let state : StreamState = record { held = []; stopped = stopped; lent = lent_of true after s; room = room; reading = new.reading } in state)
-lends_message stopped bytes piece after s room taken judge new lends old i ran is runs =
+    → Lends old piece (view.Message taken) (let state : StreamState = record { held = []; stopped = stopped; lent = lent_of true after s; room = room; judged = judged; reading = new.reading } in state)
+lends_message stopped bytes piece after s room judged taken judge new lends old i ran is runs =
     let r = old.reading in
     let whole : IsMessageIn r after = subst (IsMessageIn r) (sym is) ran.2 in
     let spells : Spells r whole.0 (old.held ++ take taken piece) = subst (Spells r whole.0) (is ∙ ap (λ (b : List ℕ). b ++ take taken piece) i.is_held) whole.1 in

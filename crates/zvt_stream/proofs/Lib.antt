@@ -12,12 +12,8 @@ pub mod TreeMoves
 pub mod FieldMoves
 pub mod FrameMoves
 pub mod Stood
+pub mod HeadLemmas
 pub mod JudgeLemmas
 pub mod WholeLemmas
 pub mod JudgedFeeds
-pub mod PassLemmas
 pub mod RunLemmas
-pub mod EndLemmas
-pub mod BegunLemmas
-pub mod WholeFirst
-pub mod WholeFields

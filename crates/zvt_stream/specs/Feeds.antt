@@ -1,5 +1,5 @@
 -- What a feed answers.
-use Rattle.std.specs.Prelude.{◌≡◌, ◌⊎◌, ℕ, Bool, false, suc, ◌-◌, ◌<◌, ◌≤◌, Some, None, List, [], ◌++◌, length, take}
+use Rattle.std.specs.Prelude.{◌≡◌, ℕ, suc, ◌-◌, ◌<◌, ◌≤◌, Some, None, List, [], ◌++◌, length, take}
 use Rattle.zvt_apdu.specs.Message as message
 use Rattle.zvt_apdu.specs.Grammar.{Spells}
 use Rattle.zvt_stream.specs.Apdus.{UnfinishedIn, IsRefusedIn}
@@ -32,13 +32,3 @@ abbrev pub taken_in_view : StreamState → List ℕ → FedView → ℕ
 taken_in_view old piece (view.Message taken) = taken
 taken_in_view old piece view.More = length piece
 taken_in_view old piece (view.Refused place why) = suc place - length old.held
-
--- A message that ended is lent, or it is the front of the piece and nobody lends it.
-abbrev pub Lies : StreamState → (piece : List ℕ) → (taken : ℕ) → message.Message → Type 0
-Lies s piece taken apdu = (s.lent ≡ Some apdu) ⊎ ((s.lent ≡ None) × Spells s.reading apdu (take taken piece))
-
--- The same, where a message may stay in the piece.
-abbrev pub Leaves : (stays : Bool) → StreamState → List ℕ → FedView → StreamState → Type 0
-Leaves stays old piece (view.Message taken) new = (apdu : message.Message) × Feeds old piece (Message apdu taken) new × Lies new piece taken apdu × (stays ≡ false → new.lent ≡ Some apdu)
-Leaves stays old piece view.More new = Lends old piece view.More new
-Leaves stays old piece (view.Refused place why) new = Lends old piece (view.Refused place why) new

@@ -10,4 +10,5 @@ pub mod Course
 pub mod Turns
 pub mod Standing
 pub mod Moves
+pub mod Head
 pub mod Judge

@@ -8,12 +8,13 @@ use Rattle.zvt_apdu.specs.MessageCode.{message_code}
 use Rattle.zvt_stream.specs.Apdus.{UnfinishedIn}
 
 -- The bytes of the unfinished message, whether bytes were refused, the message that is lent, how many bytes there is
--- room for before memory is asked for, and the reading of lengths.
+-- room for before memory is asked for, how many bytes were judged, and the reading of lengths.
 pub record StreamState : Type 0 where
   pub held : List ℕ
   pub stopped : Bool
   pub lent : Option Message
   pub room : ℕ
+  pub judged : ℕ
   pub reading : Reading
 
 -- Whether it takes each form of length.
@@ -26,23 +27,23 @@ reading-back shortest = refl
 reading-back padded = refl
 
 -- A state is stored as the tuple of its parts.
-abbrev pub state_parts : StreamState → List ℕ × (Bool × (Option Message × (ℕ × Bool)))
-state_parts s = (s.held, (s.stopped, (s.lent, (s.room, is_padded s.reading))))
+abbrev pub state_parts : StreamState → List ℕ × (Bool × (Option Message × (ℕ × (ℕ × Bool))))
+state_parts s = (s.held, (s.stopped, (s.lent, (s.room, (s.judged, is_padded s.reading)))))
 
-abbrev pub state_from : List ℕ × (Bool × (Option Message × (ℕ × Bool))) → StreamState
-state_from p = record { held = p.0; stopped = p.1.0; lent = p.1.1.0; room = p.1.1.1.0; reading = reading p.1.1.1.1 }
+abbrev pub state_from : List ℕ × (Bool × (Option Message × (ℕ × (ℕ × Bool)))) → StreamState
+state_from p = record { held = p.0; stopped = p.1.0; lent = p.1.1.0; room = p.1.1.1.0; judged = p.1.1.1.1.0; reading = reading p.1.1.1.1.1 }
 
 pub state-back : (s : StreamState) → state_from (state_parts s) ≡ s
-state-back s = ap (λ (r : Reading). record { held = s.held; stopped = s.stopped; lent = s.lent; room = s.room; reading = r }) (reading-back s.reading)
+state-back s = ap (λ (r : Reading). record { held = s.held; stopped = s.stopped; lent = s.lent; room = s.room; judged = s.judged; reading = r }) (reading-back s.reading)
 
 abbrev pub state_code : Coded StreamState
 state_code =
-    code_by (List ℕ × (Bool × (Option Message × (ℕ × Bool)))) (coded× (coded_list coded_ℕ) (coded× coded_bool (coded× (coded_option message_code) (coded× coded_ℕ coded_bool))))
+    code_by (List ℕ × (Bool × (Option Message × (ℕ × (ℕ × Bool))))) (coded× (coded_list coded_ℕ) (coded× coded_bool (coded× (coded_option message_code) (coded× coded_ℕ (coded× coded_ℕ coded_bool)))))
     state_parts state_from state-back
 
 -- A stream of that reading at the start of a line, without room.
 abbrev pub start_in : Reading → StreamState
-start_in r = record { held = []; stopped = false; lent = None; room = 0; reading = r }
+start_in r = record { held = []; stopped = false; lent = None; room = 0; judged = 0; reading = r }
 
 -- A stream of the shortest lengths there.
 abbrev pub at_start : StreamState

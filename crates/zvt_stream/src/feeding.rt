@@ -9,11 +9,12 @@ ghost use Rattle.zvt_stream.specs.Apdus.{UnfinishedIn};
 ghost use Rattle.zvt_stream.specs.StreamState.{at_start, start_in, Holds, Keeps, IsReserved};
 ghost use Rattle.zvt_stream.specs.Lending.{LentBytes, lent_once};
 ghost use Rattle.zvt_stream.specs.Feeds.{Feeds, Lends, taken_by, taken_in_view};
-ghost use Rattle.zvt_stream.specs.Judge.{HasLevelsIn, IsMessageIn};
+ghost use Rattle.zvt_stream.specs.Head.{head_of};
+ghost use Rattle.zvt_stream.specs.Judge.{HasLevelsIn, IsMessageIn, judged_of};
 
-use crate::judging::{Judge, Run};
+use crate::head::Head;
+use crate::judging::{Judge, Run, Steps};
 use crate::keeping::Held;
-use crate::steps::Steps;
 use std::alloc::{AllocError, Global};
 use std::marker::Model;
 use zvt_apdu::{Apdu, ApduView, scan_message, view};
@@ -75,6 +76,7 @@ pub struct Truncated {
 pub struct Stream {
     pub(crate) held: Held,
     pub(crate) judge: Judge,
+    steps: Steps,
     pub(crate) stopped: bool,
     pub(crate) lends: bool,
     ghost spelled: { LentBytes lends held.bytes } by { lent_once lends held.bytes },
@@ -84,13 +86,13 @@ impl Model for Stream {
     ghost use Rattle.zvt_stream.specs.StreamState.{StreamState, state_code, IsSound};
     ghost use Rattle.zvt_stream.specs.Lending.{held_of, lent_of};
     ghost use Rattle.std.specs.Prelude.{◌≡◌, true};
-    ghost use Rattle.zvt_stream.specs.Judge.{StandsFor, IsMessageIn};
+    ghost use Rattle.zvt_stream.specs.Judge.{StandsFor, IsMessageIn, judged_of};
 
     ghost Value = { StreamState };
 
     ghost coded = { state_code };
 
-    ghost view = { λ s. record { held = held_of s.lends s.held.bytes; stopped = s.stopped; lent = lent_of s.lends s.held.bytes s.spelled; room = s.held.room; reading = s.judge.reading } };
+    ghost view = { λ s. record { held = held_of s.lends s.held.bytes; stopped = s.stopped; lent = lent_of s.lends s.held.bytes s.spelled; room = s.held.room; judged = judged_of s.steps; reading = s.judge.reading } };
 
     ghost invariant = { λ s. IsSound s.judge.reading (held_of s.lends s.held.bytes) s.stopped × StandsFor s.judge (held_of s.lends s.held.bytes) × (s.lends ≡ true → IsMessageIn s.judge.reading s.held.bytes) };
 }
@@ -103,6 +105,7 @@ impl Stream {
         Stream {
             held: Held::new(alloc),
             judge: Judge::new(),
+            steps: Steps::new(),
             stopped: false,
             lends: false,
         }
@@ -115,6 +118,7 @@ impl Stream {
         Stream {
             held: Held::new(alloc),
             judge: Judge::loose(),
+            steps: Steps::new(),
             stopped: false,
             lends: false,
         }
@@ -134,11 +138,13 @@ impl Stream {
     pub fn reserved(alloc: Global) -> Result<Stream, AllocError>
         ensures new { IfOk result (λ stream. Holds [] stream × (stream.lent ≡ None)) }
         ensures reserved { IfOk result (λ stream. IsReserved stream) }
+        ensures count { IfOk result (λ stream. stream.judged ≡ 0) }
         ensures reading { IfOk result (λ stream. stream.reading ≡ shortest) }
     {
         Ok(Stream {
             held: Held::reserved(alloc)?,
             judge: Judge::new(),
+            steps: Steps::new(),
             stopped: false,
             lends: false,
         })
@@ -171,6 +177,7 @@ impl Stream {
     pub(crate) fn give_up(&mut self)
         ensures keeps { Keeps self.old self.new }
         ensures room { self.new.room ≡ self.old.room }
+        ensures count { self.new.judged ≡ self.old.judged }
     {
         if self.lends {
             self.lends = false;
@@ -181,9 +188,7 @@ impl Stream {
     /// Takes bytes of the piece up to the end of a message, or all of it where none ends. A refusal is answered in the
     /// feed that brings the fatal byte, and each later feed answers `Stopped`.
     ///
-    /// Each byte is judged once. A message that lies in the piece is read where it lies, and only an unfinished one is
-    /// copied.
-    #[inline(always)]
+    /// Each byte is judged once. The message is built of the bytes that are held.
     pub fn feed(&mut self, alloc: Global, piece: &[u8]) -> Result<Fed, FeedError>
         ensures fed { IfOk result (λ fed. Feeds self.old piece.now fed self.new) }
         ensures stopped { self.old.stopped ≡ true → IsErrOf result FeedError.Stopped }
@@ -191,25 +196,7 @@ impl Stream {
         ensures err { OnErr result (Keeps self.old self.new) }
         ensures lent { self.new.lent ≡ None }
         ensures room { self.old.room ≤ self.new.room }
-    {
-        let mut steps = Steps::new();
-        self.feed_counted(&mut steps, alloc, piece)
-    }
-
-    /// The same, with the count of the bytes that are judged.
-    pub fn feed_counted(
-        &mut self,
-        steps: &mut Steps,
-        alloc: Global,
-        piece: &[u8],
-    ) -> Result<Fed, FeedError>
-        ensures fed { IfOk result (λ fed. Feeds self.old piece.now fed self.new) }
-        ensures stopped { self.old.stopped ≡ true → IsErrOf result FeedError.Stopped }
-        ensures only { IsErrOf result FeedError.Stopped → self.old.stopped ≡ true }
-        ensures err { OnErr result (Keeps self.old self.new) }
-        ensures lent { self.new.lent ≡ None }
-        ensures room { self.old.room ≤ self.new.room }
-        ensures count { MatchResult result (λ fed. steps.new.judged.count ≡ steps.old.judged.count + taken_by self.old piece.now fed) (λ _. steps.new.judged.count ≤ steps.old.judged.count + length piece.now) }
+        ensures count { MatchResult result (λ fed. self.new.judged ≡ self.old.judged + taken_by self.old piece.now fed) (λ _. self.new.judged ≤ self.old.judged + length piece.now) }
     {
         self.give_up();
         if self.stopped {
@@ -217,7 +204,7 @@ impl Stream {
         }
         let lengths = self.judge.lengths();
         let mut judge = self.judge.again();
-        match judge.run(steps, piece) {
+        match judge.run(&mut self.steps, piece) {
             Run::Open => {
                 self.held.add_all(piece)?;
                 self.judge = judge;
@@ -248,28 +235,30 @@ impl Stream {
         ensures err { OnErr result (Keeps self.old self.new) }
         ensures room { self.old.room ≤ self.new.room }
         ensures frugal { IsReserved self.old → IsErrOf result FeedError.Memory → ⊥ }
+        ensures count { MatchResult result (λ fed. self.new.judged ≡ self.old.judged + taken_in_view self.old piece.now fed) (λ _. self.new.judged ≡ self.old.judged) }
     {
-        let mut steps = Steps::new();
-        self.feed_view_counted(&mut steps, piece)
-    }
-
-    /// The same, with the count of the bytes that are judged.
-    #[inline(always)]
-    pub fn feed_view_counted(
-        &mut self,
-        steps: &mut Steps,
-        piece: &[u8],
-    ) -> Result<FedView, FeedError>
-        ensures fed { IfOk result (λ fed. Lends self.old piece.now fed self.new) }
-        ensures stopped { self.old.stopped ≡ true → IsErrOf result FeedError.Stopped }
-        ensures only { IsErrOf result FeedError.Stopped → self.old.stopped ≡ true }
-        ensures err { OnErr result (Keeps self.old self.new) }
-        ensures room { self.old.room ≤ self.new.room }
-        ensures frugal { IsReserved self.old → IsErrOf result FeedError.Memory → ⊥ }
-        ensures count { MatchResult result (λ fed. steps.new.judged.count ≡ steps.old.judged.count + taken_in_view self.old piece.now fed)
-            (λ _. steps.new.judged.count ≡ steps.old.judged.count) }
-    {
-        self.take(steps, piece, false)
+        self.give_up();
+        if self.stopped {
+            return Err(FeedError::Stopped);
+        }
+        self.held.make_room(piece.len())?;
+        match self.judge.run(&mut self.steps, piece) {
+            Run::Open => {
+                self.held.put(piece);
+                Ok(FedView::More)
+            }
+            Run::Ended { taken } => {
+                self.held.put(&piece[..taken]);
+                self.lends = true;
+                Ok(FedView::Message { taken })
+            }
+            Run::Refused { at, why } => {
+                let place = self.held.len() + at;
+                self.held.cut(0);
+                self.stopped = true;
+                Ok(FedView::Refused { place, why })
+            }
+        }
     }
 
     /// Whether the stream may end here: Err where bytes of an unfinished message are held. After a refusal it is Ok.
@@ -293,24 +282,12 @@ impl Stream {
         if self.lends { 0 } else { self.held.len() }
     }
 
-    /// Whether the next byte begins a message: nothing is held, and nothing was refused.
+    /// The control bytes of the unfinished message, as far as they have come.
     #[inline(always)]
-    pub fn is_between(&self) -> bool
-        ensures yes { result ≡ true → Holds [] self.now }
-        ensures no { result ≡ false → Holds [] self.now → ⊥ }
+    pub fn head(&self) -> Head
+        ensures { result ≡ head_of self.now.held }
     {
-        !self.stopped && self.held() == 0
-    }
-
-    /// The control bytes of the unfinished message, as far as they have come: none, one, or both.
-    pub fn beginning(&self) -> &[u8]
-        ensures { result.now ≡ take 2 self.now.held }
-    {
-        if self.lends {
-            &[]
-        } else {
-            self.held.beginning()
-        }
+        self.judge.head()
     }
 
     /// How many levels are open: none where nothing is held, else the frame, the fields, and containers and objects in
@@ -341,9 +318,6 @@ fn message(
     ensures room { held.old.room ≤ held.new.room }
 {
     let before = held.len();
-    if before == 0 {
-        return whole(alloc, last, lengths);
-    }
     held.add_all(last)?;
     match whole(alloc, held.spelled(), lengths) {
         Ok(apdu) => {

@@ -3,16 +3,39 @@
 ghost use Rattle.std.specs.Prelude.{◌≡◌, ℕ, ◌+◌, ◌-◌, ◌<◌, ◌≤◌, List, [], ◌∷◌, ◌++◌, false, length, take, reverse, IfNone, IfSome};
 ghost use Rattle.zvt_spelling.specs.Reading.{Reading, padded, shortest};
 ghost use Rattle.zvt_tlv.specs.Lengths.{reading_of};
-ghost use Rattle.zvt_stream.specs.Standing.{Where, Between};
-ghost use Rattle.zvt_stream.specs.Judge.{start, StandsFor, Begins, HasLevelsIn, Stepped, Ran, Sizes, taken_by, Closes, Settles, Judges, Skips};
+ghost use Rattle.zvt_stream.specs.Standing.{Between};
+ghost use Rattle.zvt_stream.specs.Moves.{Moves};
+ghost use Rattle.zvt_stream.specs.Head.{head_of};
+ghost use Rattle.zvt_stream.specs.Judge.{start, beginning, StandsFor, HasLevelsIn, Stepped, Ran, taken_by, judged_of, Closes, Settles};
 
-use crate::moves::{At, Move, judge_byte};
-use crate::passing::{Begun, Passed, begin, pass};
-use crate::steps::Steps;
+use crate::head::Head::{self, One, Two};
+use crate::moves::{
+    At, Move, judge_container, judge_count, judge_field, judge_field_content, judge_first_size,
+    judge_head, judge_high_size, judge_low_size, judge_object_content, judge_object_length,
+    judge_object_tag, judge_payload,
+};
 use arrayvec::ArrayVec;
 use std::marker::Model;
+use zvt_io::GhostCount;
 use zvt_spelling::Why;
 use zvt_tlv::{Lengths, TagAt};
+
+/// How many bytes were judged. Contracts alone see it: it takes no room and no time.
+#[derive(Drop)]
+pub struct Steps {
+    judged: GhostCount,
+}
+
+impl Steps {
+    /// No byte was judged.
+    pub fn new() -> Steps
+        ensures { judged_of result ≡ 0 }
+    {
+        Steps {
+            judged: GhostCount::zero(),
+        }
+    }
+}
 
 /// What a judged byte leaves.
 #[derive(Clone, Copy, Debug, PartialEq, Eq)]
@@ -34,11 +57,39 @@ pub enum Run {
     Refused { at: usize, why: Why },
 }
 
-/// Where a message goes on: the part of the next byte, and how many bytes of its level are to come.
+/// Where a message goes on.
 #[derive(Clone, Copy)]
 pub(crate) struct Goes {
+    /// The part that the next byte plays.
     at: At,
+    /// The bytes of the innermost level that are to come.
     left: usize,
+    /// The control bytes that were judged.
+    head: Head,
+}
+
+impl Goes {
+    /// Where a message begins.
+    fn start() -> Goes
+        ensures { result ≡ beginning }
+    {
+        Goes {
+            at: At::FirstControl,
+            left: 1,
+            head: Head::Empty,
+        }
+    }
+
+    /// Goes on at that part, with these control bytes.
+    #[inline(always)]
+    fn pass(&mut self, at: At, head: Head) -> Result<Judged, Why>
+        ensures goes { self.new ≡ record { at = at; left = self.old.left; head = head } }
+        ensures open { result ≡ Ok Judged.Open }
+    {
+        self.at = at;
+        self.head = head;
+        Ok(Judged::Open)
+    }
 }
 
 /// What the bytes of an unfinished message leave open: the part that the next byte plays, and for each open level, the
@@ -47,10 +98,8 @@ pub(crate) struct Goes {
 pub struct Judge {
     /// The forms of length that it takes.
     lengths: Lengths,
-    at: At,
-    /// The bytes of the innermost level that are to come.
-    left: usize,
-    /// For each level around it the bytes that are to come behind the level in it, the frame's first.
+    goes: Goes,
+    /// For each level around the innermost one the bytes that are to come behind the level in it, the frame's first.
     outer: ArrayVec<usize, 7>,
 }
 
@@ -61,9 +110,9 @@ impl Model for Judge {
 
     ghost Value = { JudgeState };
 
-    ghost view = { λ j. record { reading = reading_of j.lengths; at = j.at; left = j.left; outer = reverse j.outer.items } };
+    ghost view = { λ j. record { reading = reading_of j.lengths; at = j.goes.at; left = j.goes.left; outer = reverse j.outer.items; head = j.goes.head } };
 
-    ghost invariant = { λ j. IsJudge (record { reading = reading_of j.lengths; at = j.at; left = j.left; outer = reverse j.outer.items }) };
+    ghost invariant = { λ j. IsJudge (record { reading = reading_of j.lengths; at = j.goes.at; left = j.goes.left; outer = reverse j.outer.items; head = j.goes.head }) };
 }
 
 impl Judge {
@@ -90,8 +139,7 @@ impl Judge {
     {
         Judge {
             lengths,
-            at: At::FirstControl,
-            left: 1,
+            goes: Goes::start(),
             outer: ArrayVec::new(),
         }
     }
@@ -111,8 +159,7 @@ impl Judge {
         let _ = outer.try_extend_from_slice(self.outer.as_slice());
         Judge {
             lengths: self.lengths,
-            at: self.at,
-            left: self.left,
+            goes: self.goes,
             outer,
         }
     }
@@ -125,21 +172,74 @@ impl Judge {
         1 + self.outer.len()
     }
 
+    /// The control bytes of the message that was begun, as far as they were judged.
+    #[inline(always)]
+    pub fn head(&self) -> Head
+        ensures { (bytes : List ℕ) → StandsFor self.now bytes → result ≡ head_of bytes }
+    {
+        self.goes.head
+    }
+
     /// Judges the next byte. After the end of a message, and after a refusal, the judge is a new one of the same lengths.
+    // Each arm goes by its own move, so that it writes only what this part of a message changes.
+    #[inline(always)]
     pub fn step(&mut self, steps: &mut Steps, byte: u8) -> Result<Judged, Why>
         ensures judged { (bytes : List ℕ) → StandsFor self.old bytes → Stepped self.old.reading bytes byte result self.new }
-        ensures count { steps.new.judged.count ≡ steps.old.judged.count + 1 }
+        ensures count { judged_of steps.new ≡ judged_of steps.old + 1 }
     {
         steps.judged = steps.judged.next();
-        match judge_in(self.at, self.left, &mut self.outer, byte, self.lengths) {
-            Ok(Some(goes)) => {
-                self.at = goes.at;
-                self.left = goes.left;
+        let left = self.goes.left;
+        let lengths = self.lengths;
+        match self.goes.at {
+            At::FirstControl => self.goes.pass(At::SecondControl { high: byte }, One(byte)),
+            At::SecondControl { high } => {
+                self.goes
+                    .pass(At::FirstSize { high, low: byte }, Two(high, byte))
+            }
+            At::FirstSize { high, low } => {
+                self.go(byte, judge_first_size(high, low, left, byte))
+            }
+            At::LowSize { high, low } => self.go(byte, judge_low_size(high, low, left, byte)),
+            At::HighSize {
+                high,
+                low,
+                size_low,
+            } => self.go(byte, judge_high_size(high, low, size_low, byte, lengths)),
+            At::Payload => self.go(byte, judge_payload(left)),
+            At::Head { free, digits } => self.go(byte, judge_head(free, digits, left, byte)),
+            At::Name => self.go(byte, judge_field(left, byte, lengths)),
+            At::Digit { more, before } => { self.go(byte, judge_count(more, before, left, byte)) }
+            At::Content { digits, more } => {
+                self.go(byte, judge_field_content(digits, more, left, byte))
+            }
+            At::Container(at) => self.go(byte, judge_container(at, left, byte, lengths)),
+            At::Tag(at) => {
+                let depth = self.outer.len().saturating_sub(1);
+                self.go(byte, judge_object_tag(at, left, depth, byte, lengths))
+            }
+            At::Length { nests, at } => {
+                self.go(byte, judge_object_length(nests, at, left, byte, lengths))
+            }
+            At::Object { more } => self.go(byte, judge_object_content(more, left)),
+        }
+    }
+
+    // Goes where a byte behind the control bytes leads, or begins anew where it is refused.
+    #[inline(always)]
+    fn go(&mut self, byte: u8, moved: Result<Move, Why>) -> Result<Judged, Why>
+        requires { (bytes : List ℕ) × StandsFor self.old bytes × Moves self.old.reading self.old.at self.old.left self.old.outer bytes byte moved × (self.old.head ≡ head_of (bytes ++ byte ∷ [])) }
+        ensures { (bytes : List ℕ) → StandsFor self.old bytes → Moves self.old.reading self.old.at self.old.left self.old.outer bytes byte moved → self.old.head ≡ head_of (bytes ++ byte ∷ []) → Stepped self.old.reading bytes byte result self.new }
+    {
+        match moved {
+            Ok(Move::Within { at, left }) => {
+                self.goes.at = at;
+                self.goes.left = left;
                 Ok(Judged::Open)
             }
-            Ok(None) => {
-                *self = Judge::of(self.lengths);
-                Ok(Judged::Ended)
+            Ok(Move::Ends { left }) => Ok(settle(left, &mut self.outer, &mut self.goes)),
+            Ok(Move::Opens { behind, left }) => {
+                self.outer.push(behind);
+                Ok(settle(left, &mut self.outer, &mut self.goes))
             }
             Err(why) => {
                 *self = Judge::of(self.lengths);
@@ -148,100 +248,15 @@ impl Judge {
         }
     }
 
-    // Takes the bytes at the front that need no step of their own: what they leave, and how many they are.
-    #[inline(always)]
-    fn skip(&mut self, steps: &mut Steps, bytes: &[u8]) -> (Judged, usize)
-        ensures few { result.1 ≤ length bytes.now }
-        ensures some { result.0 ≡ Judged.Ended → 0 < result.1 }
-        ensures judged { Skips self.old (take result.1 bytes.now) result.0 self.new }
-        ensures count { steps.new.judged.count ≡ steps.old.judged.count + result.1 }
-    {
-        match pass(self.at, self.left, bytes, self.lengths) {
-            Some(Passed::Open { at, left, count }) => {
-                self.at = at;
-                self.left = left;
-                steps.raise(count);
-                (Judged::Open, count)
-            }
-            Some(Passed::Ended { count }) => {
-                *self = Judge::of(self.lengths);
-                steps.raise(count);
-                (Judged::Ended, count)
-            }
-            None => (Judged::Open, 0),
-        }
-    }
-
-    /// How the message begins of which no byte was judged, where its length is there.
-    #[inline(always)]
-    pub(crate) fn begin(&self, bytes: &[u8]) -> Option<Begun>
-        ensures { IfSome result (Begins self.now.at bytes.now) }
-    {
-        begin(self.at, bytes)
-    }
-
-    /// Judges bytes up to the end of a message. Taken at once are a whole message without fields, or of fields of fixed
-    /// sizes alone; else the control bytes with a length of one byte in front of fields or of data without fields, fields
-    /// of fixed sizes, and data without fields.
+    /// Judges bytes one after another, up to the end of a message.
     #[inline(always)]
     pub fn run(&mut self, steps: &mut Steps, bytes: &[u8]) -> Run
         ensures judged { (held : List ℕ) → StandsFor self.old held → Ran self.old.reading held bytes.now result self.new }
-        ensures count { steps.new.judged.count ≡ steps.old.judged.count + taken_by bytes.now result }
+        ensures count { judged_of steps.new ≡ judged_of steps.old + taken_by bytes.now result }
     {
-        let begun = self.begin(bytes);
-        self.run_begun(steps, begun, bytes)
-    }
-
-    /// The same of a message that begins so.
-    #[inline(always)]
-    pub(crate) fn run_begun(&mut self, steps: &mut Steps, begun: Option<Begun>, bytes: &[u8]) -> Run
-        requires { IfSome begun (Begins self.old.at bytes.now) }
-        ensures judged { (held : List ℕ) → StandsFor self.old held → Ran self.old.reading held bytes.now result self.new }
-        ensures count { steps.new.judged.count ≡ steps.old.judged.count + taken_by bytes.now result }
-    {
-        let lengths = self.lengths;
-        match begun {
-            Some(Begun::Whole { size }) => {
-                steps.raise(size);
-                *self = Judge::of(lengths);
-                Run::Ended { taken: size }
-            }
-            Some(Begun::Fields { room }) => {
-                steps.raise(3);
-                self.at = At::Name;
-                self.left = room;
-                self.outer.push(0);
-                self.run_from(steps, bytes, 3)
-            }
-            Some(Begun::Payload { left }) => {
-                steps.raise(3);
-                self.at = At::Payload;
-                self.left = left;
-                self.run_from(steps, bytes, 3)
-            }
-            None => self.run_from(steps, bytes, 0),
-        }
-    }
-
-    // Judges the bytes behind the first `from`, some of them one by one.
-    fn run_from(&mut self, steps: &mut Steps, bytes: &[u8], from: usize) -> Run
-        requires { from ≤ length bytes.now }
-        ensures judged { (held : List ℕ) → StandsFor self.old (held ++ take from bytes.now) → Ran self.old.reading held bytes.now result self.new }
-        ensures count { steps.new.judged.count + from ≡ steps.old.judged.count + taken_by bytes.now result }
-    {
-        let mut taken = from;
-        while taken < bytes.len() {
-            let (skipped, count) = self.skip(steps, &bytes[taken..]);
-            taken += count;
-            match skipped {
-                Judged::Open => {}
-                Judged::Ended => return Run::Ended { taken },
-            }
-            if taken == bytes.len() {
-                return Run::Open;
-            }
-            match self.step(steps, bytes[taken]) {
-                Ok(Judged::Open) => taken += 1,
+        for (taken, byte) in bytes.iter().enumerate() {
+            match self.step(steps, *byte) {
+                Ok(Judged::Open) => {}
                 Ok(Judged::Ended) => return Run::Ended { taken: taken + 1 },
                 Err(why) => return Run::Refused { at: taken, why },
             }
@@ -250,72 +265,30 @@ impl Judge {
     }
 }
 
-/// How many bytes at the front are a message, where one is all there. Nothing is fed: whoever has bytes that may go on in
-/// later pieces can see so whether these end it.
+/// Goes on in the innermost level that has bytes to come, or begins anew behind the end of the message.
 #[inline(always)]
-pub fn message_size(lengths: Lengths, bytes: &[u8]) -> Option<usize>
-    ensures { Sizes (reading_of lengths) bytes.now result }
-{
-    match begin(At::FirstControl, bytes) {
-        Some(Begun::Whole { size }) => Some(size),
-        _ => judged_size(lengths, bytes),
-    }
-}
-
-/// The same, as a judge of its own finds it.
-fn judged_size(lengths: Lengths, bytes: &[u8]) -> Option<usize>
-    ensures { Sizes (reading_of lengths) bytes.now result }
-{
-    let mut judge = Judge::of(lengths);
-    match judge.run_from(&mut Steps::new(), bytes, 0) {
-        Run::Ended { taken } => Some(taken),
-        Run::Open => None,
-        Run::Refused { .. } => None,
-    }
-}
-
-/// Judges a byte, and opens and leaves levels: where the message goes on, or none where it has ended.
-fn judge_in(
-    at: At,
-    left: usize,
-    outer: &mut ArrayVec<usize, 7>,
-    byte: u8,
-    lengths: Lengths,
-) -> Result<Option<Goes>, Why>
-    requires { (bytes : List ℕ) × Where (reading_of lengths) at left (reverse outer.old.items) bytes }
-    ensures { (bytes : List ℕ) → Where (reading_of lengths) at left (reverse outer.old.items) bytes → Judges (reading_of lengths) at left (reverse outer.old.items) (reverse outer.new.items) bytes byte result }
-{
-    match judge_byte(at, left, outer.len().saturating_sub(1), byte, lengths) {
-        Ok(Move::Within { at, left }) => Ok(Some(Goes { at, left })),
-        Ok(Move::Ends { left }) => Ok(settle(left, outer)),
-        Ok(Move::Opens { behind, left }) => {
-            outer.push(behind);
-            Ok(settle(left, outer))
-        }
-        Err(why) => Err(why),
-    }
-}
-
-/// Goes on in the innermost level that has bytes to come.
-fn settle(left: usize, outer: &mut ArrayVec<usize, 7>) -> Option<Goes>
-    ensures { (r : Reading) (bytes : List ℕ) → Between r left (reverse outer.old.items) bytes → Settles r (reverse outer.new.items) bytes result }
+fn settle(left: usize, outer: &mut ArrayVec<usize, 7>, goes: &mut Goes) -> Judged
+    ensures { (r : Reading) (bytes : List ℕ) → Between r left (reverse outer.old.items) bytes → Settles r goes.old goes.new (reverse outer.new.items) bytes result }
 {
     match close(left, outer) {
         Some(left) => {
+            goes.left = left;
             if outer.len() == 1 {
-                Some(Goes { at: At::Name, left })
-            } else {
-                Some(Goes {
-                    at: At::Tag(TagAt::First),
-                    left,
-                })
+                goes.at = At::Name;
+                return Judged::Open;
             }
+            goes.at = At::Tag(TagAt::First);
+            Judged::Open
         }
-        None => None,
+        None => {
+            *goes = Goes::start();
+            Judged::Ended
+        }
     }
 }
 
 /// Leaves the levels that are full: how many bytes are to come of the innermost other one, or none where all are full.
+#[inline(always)]
 fn close(left: usize, outer: &mut ArrayVec<usize, 7>) -> Option<usize>
     ensures { Closes left (reverse outer.old.items) (reverse outer.new.items) result }
 {

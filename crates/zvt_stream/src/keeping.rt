@@ -12,7 +12,7 @@ pub const LONGEST: usize = 65_540;
 /// The room of the first bytes.
 const FIRST_ROOM: usize = 64;
 
-/// The bytes of an unfinished message. They are lent only where they have become a whole one, but for the first two.
+/// The bytes of an unfinished message. They are lent only where they have become a whole one.
 #[derive(Drop)]
 pub struct Held {
     /// The bytes, and room behind them.
@@ -103,6 +103,12 @@ impl Held {
         ensures { self.new ≡ record { bytes = self.old.bytes ++ bytes.now; room = self.old.room } }
     {
         let at = self.size;
+        // A peer that sends byte by byte costs no call for each.
+        if let [byte] = bytes {
+            self.room[at] = *byte;
+            self.size = at + 1;
+            return;
+        }
         let end = at + bytes.len();
         self.room[at..end].copy_from_slice(bytes);
         self.size = end;
@@ -123,14 +129,6 @@ impl Held {
         ensures { result ≡ length self.now.bytes }
     {
         self.size
-    }
-
-    /// The first two bytes, or those that there are.
-    #[inline(always)]
-    pub fn beginning(&self) -> &[u8]
-        ensures { result.now ≡ take 2 self.now.bytes }
-    {
-        &self.room[..self.size.min(2)]
     }
 
     /// The bytes of a whole message.

@@ -3,18 +3,16 @@
 
 mod engine;
 mod feeding;
-mod in_place;
+mod head;
 mod judging;
 mod keeping;
 pub mod laws;
 mod line;
 mod moves;
-mod passing;
-mod steps;
 
 pub use engine::{pump, send};
 pub use feeding::{Fed, FedView, FeedError, Stream, Truncated};
-pub use judging::{Judge, Judged, Run, message_size};
+pub use head::Head;
+pub use judging::{Judge, Judged, Run, Steps};
 pub use keeping::{Held, LONGEST};
 pub use line::{Answers, LineFault, Machine, Until};
-pub use steps::Steps;

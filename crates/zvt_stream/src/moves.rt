@@ -51,46 +51,10 @@ pub(crate) enum Move {
     Opens { behind: usize, left: usize },
 }
 
-/// Judges a byte. `left` counts the bytes of the innermost level from this byte on, and `depth` the levels of objects.
-pub(crate) fn judge_byte(
-    at: At,
-    left: usize,
-    depth: usize,
-    byte: u8,
-    lengths: Lengths,
-) -> Result<Move, Why>
-    requires { IsReady at left }
-    ensures { Judges (reading_of lengths) at left depth byte result }
-{
-    match at {
-        At::FirstControl => Ok(Move::Within {
-            at: At::SecondControl { high: byte },
-            left,
-        }),
-        At::SecondControl { high } => Ok(Move::Within {
-            at: At::FirstSize { high, low: byte },
-            left,
-        }),
-        At::FirstSize { high, low } => judge_first_size(high, low, left, byte),
-        At::LowSize { high, low } => judge_low_size(high, low, left, byte),
-        At::HighSize {
-            high,
-            low,
-            size_low,
-        } => judge_high_size(high, low, size_low, byte, lengths),
-        At::Payload => judge_payload(left),
-        At::Head { free, digits } => judge_head(free, digits, left, byte),
-        At::Name => judge_field(left, byte, lengths),
-        At::Digit { more, before } => judge_count(more, before, left, byte),
-        At::Content { digits, more } => judge_field_content(digits, more, left, byte),
-        At::Container(at) => judge_container(at, left, byte, lengths),
-        At::Tag(at) => judge_object_tag(at, left, depth, byte, lengths),
-        At::Length { nests, at } => judge_object_length(nests, at, left, byte, lengths),
-        At::Object { more } => judge_object_content(more, left),
-    }
-}
+// Each function judges a byte that plays one part. `left` counts the bytes of the innermost level from this byte on.
 
-fn judge_first_size(high: u8, low: u8, left: usize, byte: u8) -> Result<Move, Why>
+#[inline(always)]
+pub(crate) fn judge_first_size(high: u8, low: u8, left: usize, byte: u8) -> Result<Move, Why>
     ensures { (r : Reading) (depth : ℕ) → Judges r (At.FirstSize high low) left depth byte result }
 {
     if byte == 0xFF {
@@ -102,7 +66,8 @@ fn judge_first_size(high: u8, low: u8, left: usize, byte: u8) -> Result<Move, Wh
     begin_data(high, low, usize::from(byte))
 }
 
-fn judge_low_size(high: u8, low: u8, left: usize, byte: u8) -> Result<Move, Why>
+#[inline(always)]
+pub(crate) fn judge_low_size(high: u8, low: u8, left: usize, byte: u8) -> Result<Move, Why>
     ensures { (r : Reading) (depth : ℕ) → Judges r (At.LowSize high low) left depth byte result }
 {
     Ok(Move::Within {
@@ -115,7 +80,14 @@ fn judge_low_size(high: u8, low: u8, left: usize, byte: u8) -> Result<Move, Why>
     })
 }
 
-fn judge_high_size(high: u8, low: u8, size_low: u8, byte: u8, lengths: Lengths) -> Result<Move, Why>
+#[inline(always)]
+pub(crate) fn judge_high_size(
+    high: u8,
+    low: u8,
+    size_low: u8,
+    byte: u8,
+    lengths: Lengths,
+) -> Result<Move, Why>
     ensures { (left depth : ℕ) → Judges (reading_of lengths) (At.HighSize high low size_low) left depth byte result }
 {
     let size = 256 * usize::from(byte) + usize::from(size_low);
@@ -155,7 +127,8 @@ fn begin_data(high: u8, low: u8, size: usize) -> Result<Move, Why>
     })
 }
 
-fn judge_payload(left: usize) -> Result<Move, Why>
+#[inline(always)]
+pub(crate) fn judge_payload(left: usize) -> Result<Move, Why>
     requires { 0 < left }
     ensures { (r : Reading) (depth byte : ℕ) → byte < 256 → Judges r At.Payload left depth byte result }
 {
@@ -168,7 +141,8 @@ fn judge_payload(left: usize) -> Result<Move, Why>
     })
 }
 
-fn judge_head(free: usize, digits: usize, left: usize, byte: u8) -> Result<Move, Why>
+#[inline(always)]
+pub(crate) fn judge_head(free: usize, digits: usize, left: usize, byte: u8) -> Result<Move, Why>
     requires { IsReady (At.Head free digits) left }
     ensures { (r : Reading) (depth : ℕ) → Judges r (At.Head free digits) left depth byte result }
 {
@@ -201,8 +175,7 @@ fn judge_head(free: usize, digits: usize, left: usize, byte: u8) -> Result<Move,
 #[inline(always)]
 pub(crate) fn judge_field(left: usize, byte: u8, lengths: Lengths) -> Result<Move, Why>
     requires { 2 ≤ left }
-    ensures judged { (depth : ℕ) → Judges (reading_of lengths) At.Name left depth byte result }
-    ensures room { (digits : Bool) (more within : ℕ) → result ≡ Ok (Move.Within (At.Content digits more) within) → (0 < more) × (more ≤ within) }
+    ensures { (depth : ℕ) → Judges (reading_of lengths) At.Name left depth byte result }
 {
     let shape = judge_name(left - 1, byte, lengths)?;
     let left = left - 1;
@@ -233,7 +206,8 @@ pub(crate) fn judge_field(left: usize, byte: u8, lengths: Lengths) -> Result<Mov
     }
 }
 
-fn judge_count(more: usize, before: usize, left: usize, byte: u8) -> Result<Move, Why>
+#[inline(always)]
+pub(crate) fn judge_count(more: usize, before: usize, left: usize, byte: u8) -> Result<Move, Why>
     requires { HasDigits more before left }
     ensures { (r : Reading) (depth : ℕ) → Judges r (At.Digit more before) left depth byte result }
 {
@@ -259,7 +233,13 @@ fn judge_count(more: usize, before: usize, left: usize, byte: u8) -> Result<Move
     })
 }
 
-fn judge_field_content(digits: bool, more: usize, left: usize, byte: u8) -> Result<Move, Why>
+#[inline(always)]
+pub(crate) fn judge_field_content(
+    digits: bool,
+    more: usize,
+    left: usize,
+    byte: u8,
+) -> Result<Move, Why>
     requires { IsReady (At.Content digits more) left }
     ensures { (r : Reading) (depth : ℕ) → Judges r (At.Content digits more) left depth byte result }
 {
@@ -276,7 +256,13 @@ fn judge_field_content(digits: bool, more: usize, left: usize, byte: u8) -> Resu
     })
 }
 
-fn judge_container(at: LengthAt, left: usize, byte: u8, lengths: Lengths) -> Result<Move, Why>
+#[inline(always)]
+pub(crate) fn judge_container(
+    at: LengthAt,
+    left: usize,
+    byte: u8,
+    lengths: Lengths,
+) -> Result<Move, Why>
     requires { 1 ≤ left }
     ensures { (depth : ℕ) → Judges (reading_of lengths) (At.Container at) left depth byte result }
 {
@@ -292,7 +278,8 @@ fn judge_container(at: LengthAt, left: usize, byte: u8, lengths: Lengths) -> Res
     }
 }
 
-fn judge_object_tag(
+#[inline(always)]
+pub(crate) fn judge_object_tag(
     at: TagAt,
     left: usize,
     depth: usize,
@@ -317,7 +304,8 @@ fn judge_object_tag(
     }
 }
 
-fn judge_object_length(
+#[inline(always)]
+pub(crate) fn judge_object_length(
     nests: bool,
     at: LengthAt,
     left: usize,
@@ -350,7 +338,8 @@ fn judge_object_length(
     }
 }
 
-fn judge_object_content(more: usize, left: usize) -> Result<Move, Why>
+#[inline(always)]
+pub(crate) fn judge_object_content(more: usize, left: usize) -> Result<Move, Why>
     requires { IsReady (At.Object more) left }
     ensures { (r : Reading) (depth byte : ℕ) → byte < 256 → Judges r (At.Object more) left depth byte result }
 {

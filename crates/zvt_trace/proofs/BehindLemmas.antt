@@ -18,7 +18,8 @@ use Rattle.zvt_stream.proofs.FeedLemmas.{fed_refused}
 use Rattle.zvt_stream.specs.StreamState.{StreamState}
 use Rattle.zvt_trace.specs.Listening.{Fails, FailsIn, Hears, HearsPiece, PieceBegins, is_stopped}
 use Rattle.zvt_trace.specs.Meanings.{bytes_of}
-use Rattle.zvt_trace.specs.Told.{At, head_of, message, on}
+use Rattle.zvt_stream.specs.Head.{head_of}
+use Rattle.zvt_trace.specs.Told.{At, message, on}
 use Rattle.zvt_trace.specs.Telling.{PieceTells, Tells, ending_told, messages_told}
 use Rattle.zvt_trace.specs.Trace.{Arrives, Ending, Side, begun, refused, running, side_after, stopped}
 use Rattle.zvt_trace.specs.declared.direction.Direction.{Direction}

@@ -1,8 +1,6 @@
 pub mod BehindLemmas
 pub mod EventLemmas
-pub mod FirstLemmas
 pub mod InputLemmas
-pub mod JoinLemmas
 pub mod LineLemmas
 pub mod PairLemmas
 pub mod PieceLemmas

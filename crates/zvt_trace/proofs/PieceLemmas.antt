@@ -10,11 +10,11 @@ use Rattle.zvt_spelling.specs.declared.why.Why.{Why}
 use Rattle.zvt_apdu.proofs.ViewLemmas.{message_loosened}
 use Rattle.zvt_stream.specs.Apdus.{UnfinishedIn, IsRefusedIn}
 use Rattle.zvt_stream.specs.StreamState.{StreamState, Holds, HasRefused}
-use Rattle.zvt_stream.specs.Feeds.{Leaves}
+use Rattle.zvt_stream.specs.Feeds.{Lends}
 use Rattle.zvt_stream.specs.declared.feeding.FedView.{FedView}
 use Rattle.zvt_stream.specs.declared.feeding.FeedError.{FeedError}
 use Rattle.zvt_stream.specs.declared.feeding.FeedError.TheVariants.{Stopped}
-use Rattle.std.specs.Prelude.{Result, Ok, Err}
+use Rattle.std.specs.Prelude.{Result, Ok, Err, Option, Some, IfSome, IsSome}
 use Rattle.std.specs.Result.{IsErrOf}
 use Rattle.zvt_trace.specs.Trace.{Arrives, Ending, EndsIn, begun, running, refused, side_after}
 use Rattle.zvt_trace.specs.Written.{Follows}
@@ -62,8 +62,8 @@ going true answer fed is refuses = absurd (ok_is_no_err (sym is ∙ refuses refl
     ok_is_no_err e = cc
 
 -- its answer as it was matched
-pub fed_as : (old new : StreamState) (piece : List ℕ) (answer fed : FedView) → answer ≡ fed → Leaves true old piece answer new → Leaves true old piece fed new
-fed_as old new piece answer fed is feeds = subst (λ (f : FedView). Leaves true old piece f new) is feeds
+pub fed_as : (old new : StreamState) (piece : List ℕ) (answer fed : FedView) → answer ≡ fed → Lends old piece answer new → Lends old piece fed new
+fed_as old new piece answer fed is feeds = subst (λ (f : FedView). Lends old piece f new) is feeds
 
 -- what a stream of some reading says is said by that reading
 pub spells_by : (k r : Reading) (m : Message) (bytes : List ℕ) → k ≡ r → Spells k m bytes → Spells r m bytes
@@ -75,7 +75,14 @@ unfinished_by k r bytes e = subst (λ (x : Reading). UnfinishedIn x bytes) e
 pub refused_by : (k r : Reading) (bytes : List ℕ) (place : ℕ) (why : Why) → k ≡ r → IsRefusedIn k bytes place why → IsRefusedIn r bytes place why
 refused_by k r bytes place why e = subst (λ (x : Reading). IsRefusedIn x bytes place why) e
 
--- what a reading spells the padded one spells
+-- the bytes that are lent are a spelling of the message that is
+pub lent_spelling : {A : Type 0} (k r : Reading) → k ≡ r → (now : A → List ℕ) (shown : Option A) (bytes : A) (lent : Option Message) (m : Message) → lent ≡ Some m
+    → IfSome lent (λ n. IfSome shown (λ b. Spells k n (now b)) × IsSome shown) → shown ≡ Some bytes → Spells r m (now bytes)
+lent_spelling k r same now shown bytes lent m is told found =
+    let here = subst (λ l. IfSome l (λ n. IfSome shown (λ b. Spells k n (now b)) × IsSome shown)) is told in
+    spells_by k r m (now bytes) same (subst (λ s. IfSome s (λ b. Spells k m (now b))) found here.0)
+
+-- and a padded spelling of it, as each spelling is
 pub loosened : (r : Reading) (m : Message) (bytes : List ℕ) → Spells r m bytes → Spells padded m bytes
 loosened shortest m bytes spells = message_loosened m bytes spells
 loosened padded m bytes spells = spells

@@ -23,7 +23,7 @@ use Rattle.zvt_trace.proofs.EventLemmas.{fails_as, fails_behind, fails_next, fro
 -- ---- a piece, and the other side
 
 -- a side that goes on leaves the other one as it is, and so does one that is left alone
-pub leaves_all : (r : Reading) (scope : Scope) (line : ℕ) (from : Direction) (side beside : Side) → (scope ≡ WholeLine → is_stopped side ≡ false) → Leaves r scope line from side beside [] beside
+leaves_all : (r : Reading) (scope : Scope) (line : ℕ) (from : Direction) (side beside : Side) → (scope ≡ WholeLine → is_stopped side ≡ false) → Leaves r scope line from side beside [] beside
 leaves_all r OneSide line from side beside going = (refl, refl)
 leaves_all r WholeLine line from (running bytes) beside going = (refl, refl)
 leaves_all r WholeLine line from stopped beside going = absurd (false≢true (sym (going refl)))

@@ -100,18 +100,18 @@ worth_in table digit lt all = tells_at table 256 digit all lt
 pub digit_small : (d w : ℕ) → hex_digit_value d ≡ Some w → w ≤ 15
 digit_small d w e = grind arith
 
-worth_small : (d : ℕ) (o : Option ℕ) → hex_digit_value d ≡ o → unwrap_or o 1024 ≤ 1024
+worth_small : (d : ℕ) (o : Option ℕ) → hex_digit_value d ≡ o → unwrap_or o 256 ≤ 256
 worth_small d None e = omega arith
 worth_small d (Some w) e = omega (arith, digit_small d w e)
 
-told : (o : Option ℕ) (v : ℕ) → v ≡ unwrap_or o 1024 → MatchOption o (15 < v) (λ is. v ≡ is)
+told : (o : Option ℕ) (v : ℕ) → v ≡ unwrap_or o 256 → MatchOption o (15 < v) (λ is. v ≡ is)
 told None v e = omega (arith, e)
 told (Some w) v e = e
 
 pub digit_in : (table : List ℕ) (digit : ℕ) → digit < 256 → tells_below table 256 ≡ true → IsDigit digit (slice_index table digit)
 digit_in table digit lt all = told _ _ (worth_in table digit lt all)
 
-pub few_worth : (digit : ℕ) → worth digit ≤ 1024
+pub few_worth : (digit : ℕ) → worth digit ≤ 256
 few_worth digit = worth_small digit (hex_digit_value digit) refl
 
 -- two digits that add up to a byte
@@ -124,10 +124,10 @@ pub record AreDigits (a b sum : ℕ) : Type 0 where
   pub low_small : low ≤ 15
   pub is_sum : sum ≡ high * 16 + low
 
-pub are_digits : (a b : ℕ) → worth a * 16 + worth b < 1024 → AreDigits a b (worth a * 16 + worth b)
+pub are_digits : (a b : ℕ) → worth a * 16 + worth b < 256 → AreDigits a b (worth a * 16 + worth b)
 are_digits a b few = by (hex_digit_value a) (hex_digit_value b) refl refl few
   where
-    by : (o p : Option ℕ) → hex_digit_value a ≡ o → hex_digit_value b ≡ p → unwrap_or o 1024 * 16 + unwrap_or p 1024 < 1024 → AreDigits a b (worth a * 16 + worth b)
+    by : (o p : Option ℕ) → hex_digit_value a ≡ o → hex_digit_value b ≡ p → unwrap_or o 256 * 16 + unwrap_or p 256 < 256 → AreDigits a b (worth a * 16 + worth b)
     by None p e f few = absurd (omega (arith, few))
     by (Some h) None e f few = absurd (omega (arith, few))
     by (Some h) (Some l) e f few = record {

@@ -17,7 +17,8 @@ use Rattle.zvt_stream.specs.declared.feeding.FedView.{FedView}
 use Rattle.zvt_stream.specs.declared.feeding.FeedError.{FeedError}
 use Rattle.zvt_stream.specs.declared.feeding.FeedError.TheVariants as fault_of
 use Rattle.zvt_trace.specs.Listening.{Fails, FailsIn, Hears, HearsAll, HearsEnd, HearsPiece, PieceBegins, is_stopped}
-use Rattle.zvt_trace.specs.Told.{At, Tallies, Told, bad_in, head_of, message, messages_in, on, unread}
+use Rattle.zvt_stream.specs.Head.{head_of}
+use Rattle.zvt_trace.specs.Told.{At, Tallies, Told, bad_in, message, messages_in, on, unread}
 use Rattle.zvt_trace.specs.Told as told
 use Rattle.zvt_trace.specs.Telling.{FrontOf, SideEnds, Tells, ending_told, messages_told}
 use Rattle.zvt_trace.specs.Trace.{Ending, EndsIn, Side, begun, refused, running, side_after, stopped}
@@ -26,16 +27,9 @@ use Rattle.zvt_trace.specs.declared.direction.Direction.{Direction}
 use Rattle.zvt_trace.specs.declared.listener.Failure.{Failure}
 use Rattle.zvt_trace.specs.declared.listener.Failure.TheVariants.{Memory}
 use Rattle.zvt_trace.specs.declared.tell.Hearing.{Hearing}
-use Rattle.zvt_trace.specs.declared.told.Head.{Head}
+use Rattle.zvt_stream.specs.declared.head.Head.{Head}
 use Rattle.zvt_trace.proofs.EventLemmas.{bad_append, fails_here, fails_next, front_whole, hears_append, hears_one, hears_push, messages_append, messages_of, none_bad}
 use Rattle.zvt_trace.proofs.PieceLemmas.{EndsAs, arrived, behind, nothing_left}
-
--- ---- control bytes
-
-pub head_take : (bytes : List ℕ) → head_of (take 2 bytes) ≡ head_of bytes
-head_take [] = refl
-head_take (first ∷ []) = refl
-head_take (first ∷ second ∷ bytes) = refl
 
 -- ---- the messages so far
 
@@ -266,10 +260,10 @@ none_cut r hears line from (running bytes) state now follows none = record {
 none_cut r hears line from stopped state now follows none = record { events = []; ends = refl; heard = refl; counts = record { messages = refl; bad = refl } }
 
 -- what is cut off, as it is told
-pub ends_cut : (r : Reading) (line : ℕ) (from : Direction) (side : Side) (state : StreamState) (first : List ℕ) (head : Head) (have : ℕ) → Follows r state side → 0 < have → have ≡ length state.held → head ≡ head_of first → first ≡ take 2 state.held
+pub ends_cut : (r : Reading) (line : ℕ) (from : Direction) (side : Side) (state : StreamState) (head : Head) (have : ℕ) → Follows r state side → 0 < have → have ≡ length state.held → head ≡ head_of state.held
     → SideEnds r line from side (on line (told.cut_off from head have) ∷ [])
-ends_cut r line from stopped state first head have follows some is is_head is_first = absurd (omega (arith, some, is, ap length follows.0))
-ends_cut r line from (running bytes) state first head have follows some is is_head is_first = by_held state.held follows.2 is (is_head ∙ ap head_of is_first ∙ head_take state.held)
+ends_cut r line from stopped state head have follows some is is_head = absurd (omega (arith, some, is, ap length follows.0))
+ends_cut r line from (running bytes) state head have follows some is is_head = by_held state.held follows.2 is is_head
   where
     by_held : (held : List ℕ) → Cut (Spells r) bytes follows.1 held → have ≡ length held → head ≡ head_of held → SideEnds r line from (running bytes) (on line (told.cut_off from head have) ∷ [])
     by_held [] cut is is_head = absurd (omega (arith, some, is))

@@ -1,4 +1,3 @@
-pub mod Joining
 pub mod Lines
 pub mod Listening
 pub mod Meanings

@@ -1,11 +1,10 @@
 -- What a listener is told, and what becomes of it.
-use Rattle.std.specs.Prelude.{◌≡◌, ◌⊎◌, ℕ, ◌+◌, ◌<◌, ◌≤◌, Bool, true, false, List, [], ◌∷◌, ◌++◌, length, Result, Ok, Err}
-use Rattle.std.specs.Str.Lines.{lines}
+use Rattle.std.specs.Prelude.{◌≡◌, ◌⊎◌, ℕ, Bool, true, false, List, [], ◌∷◌, ◌++◌, Result, Ok, Err}
 use Rattle.zvt_spelling.specs.Reading.{Reading, shortest}
 use Rattle.zvt_stream.specs.StreamState.{StreamState}
 use Rattle.zvt_trace.specs.Meanings.{Meaning, meaning_of}
 use Rattle.zvt_trace.specs.Told.{At, Tallies}
-use Rattle.zvt_trace.specs.Telling.{BrokenTrace, FrontOf, LineSoFar, LineTells, LinesTell, MeaningBegins, PieceTells, TellsBeside, ToldSoFar, WholeTrace}
+use Rattle.zvt_trace.specs.Telling.{BrokenTrace, FrontOf, LineSoFar, LineTells, MeaningBegins, PieceTells, TellsBeside, ToldSoFar, WholeTrace}
 use Rattle.zvt_trace.specs.Trace.{Side, Sides, running, stopped}
 use Rattle.zvt_trace.specs.Written.{Follows}
 use Rattle.zvt_trace.specs.declared.both_sides.BothSides.{BothSides}
@@ -17,7 +16,6 @@ use Rattle.zvt_trace.specs.declared.listener.Failure.{Failure}
 use Rattle.zvt_trace.specs.declared.listener.Failure.TheVariants as failure
 use Rattle.zvt_trace.specs.declared.listener.Scope.{Scope}
 use Rattle.zvt_trace.specs.declared.tell.Hearing.{Hearing}
-use Rattle.zvt_trace.specs.declared.walking.Turn.{Turn}
 
 -- ---- events, one after another
 
@@ -150,27 +148,6 @@ WalksLine r hears fails scope number line sides state old new (Err Memory) = Fai
 WalksLine r hears fails scope number line sides state old new (Err Write) = FailsIn hears fails failure.Write (LineSoFar r scope number line sides) old new
 WalksLine r hears fails scope number line sides state old new (Err TooLong) = ⊥
 WalksLine r hears fails scope number line sides state old new (Err Read) = ⊥
-
--- ---- the first lines of a text, behind so many others
-
--- some lines tell nothing, and telling the one behind them answers this
-pub record TellsOn {S : Type 0} (r : Reading) (hears : Hears S) (fails : Fails S) (scope : Scope) (count : ℕ) (text : List ℕ) (sides : Sides) (state : BothSides) (old new : S) (answer : Result Tally TraceFault) : Type 0 where
-  pub quiet : List (List ℕ)
-  pub line : List ℕ
-  pub later : List (List ℕ)
-  pub middle : Sides
-  pub cut : lines text ≡ quiet ++ line ∷ later
-  pub tell : LinesTell r scope count sides quiet [] middle
-  pub walks : WalksLine r hears fails scope (count + length quiet + 1) line middle state old new answer
-
-abbrev pub TellsFirst : {S : Type 0} → Reading → Hears S → Fails S → Scope → ℕ → List ℕ → Sides → BothSides → (old new : S) → Result Turn TraceFault → Type 0
-TellsFirst r hears fails scope count text sides state old new (Ok turn) =
-    (told : TellsOn r hears fails scope count text sides state old new (Ok turn.tally)) × (told.later ≡ lines turn.after.now) × (turn.lines ≡ length told.quiet + 1)
-TellsFirst r hears fails scope count text sides state old new (Err fault) = TellsOn r hears fails scope count text sides state old new (Err fault)
-
--- it counts no more than the text has
-abbrev pub IsWithin : (text : List ℕ) → Turn → Type 0
-IsWithin text turn = (0 < turn.lines) × (turn.lines + length turn.after.now ≤ length text) × (turn.tally.messages + length turn.after.now ≤ length text) × (turn.tally.bad ≤ 2)
 
 -- ---- the trace
 

@@ -11,9 +11,9 @@ abbrev pub AreHex : List ℕ → Type 0
 AreHex [] = ⊤
 AreHex (digit ∷ rest) = IsSome (hex_digit_value digit) × AreHex rest
 
--- the value of a digit, and for what is none more than four bytes together
+-- the value of a digit, and 256 for what is none
 abbrev pub worth : (digit : ℕ) → ℕ
-worth digit = unwrap_or (hex_digit_value digit) 1024
+worth digit = unwrap_or (hex_digit_value digit) 256
 
 -- a byte of two digits, before the bytes that follow
 abbrev pub pair_before : Option ℕ → Option ℕ → Option (List ℕ) → Option (List ℕ)

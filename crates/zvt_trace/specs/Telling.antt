@@ -5,7 +5,8 @@ use Rattle.zvt_spelling.specs.Reading.{Reading}
 use Rattle.zvt_apdu.specs.Grammar.{Spells}
 use Rattle.zvt_apdu.specs.Message.{Message}
 use Rattle.zvt_trace.specs.Meanings.{Meaning, lost, meaning_of, piece, remark}
-use Rattle.zvt_trace.specs.Told.{At, head_of, on}
+use Rattle.zvt_stream.specs.Head.{head_of}
+use Rattle.zvt_trace.specs.Told.{At, on}
 use Rattle.zvt_trace.specs.Told as told
 use Rattle.zvt_trace.specs.Trace.{Arrives, Ending, Side, Sides, begun, new_line, refused, running, side_after, side_of, stopped}
 use Rattle.zvt_trace.specs.declared.direction.Direction.{Direction}

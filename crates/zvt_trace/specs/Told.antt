@@ -1,5 +1,5 @@
 -- What is told of a trace, and at which of its lines.
-use Rattle.std.specs.Prelude.{◌≡◌, ℕ, List, [], ◌∷◌}
+use Rattle.std.specs.Prelude.{◌≡◌, ℕ, List}
 use Rattle.std.specs.List.{sum_by}
 use Rattle.zvt_spelling.specs.declared.why.Why.{Why}
 use Rattle.zvt_tlv.specs.Lengths.{reading_of}
@@ -7,16 +7,9 @@ use Rattle.zvt_apdu.specs.Grammar.{Spells}
 use Rattle.zvt_apdu.specs.Message.{Message}
 use Rattle.zvt_trace.specs.declared.direction.Direction.{Direction}
 use Rattle.zvt_trace.specs.declared.fault.Tally.{Tally}
-use Rattle.zvt_trace.specs.declared.told.Head.{Head}
-use Rattle.zvt_trace.specs.declared.told.Head.TheVariants.{Empty, One, Two}
+use Rattle.zvt_stream.specs.declared.head.Head.{Head}
 use Rattle.zvt_trace.specs.declared.told.Told as code
 use Rattle.zvt_trace.specs.declared.told.Told.TheVariants as code_told
-
--- the control bytes at the front of a message, as far as they have come
-abbrev pub head_of : List ℕ → Head
-head_of [] = Empty
-head_of (first ∷ []) = One first
-head_of (first ∷ second ∷ more) = Two first second
 
 -- a whole message; or that bytes were refused, with the byte at which no message could follow any more; or that a piece
 -- behind a refusal is not read; or that a message of so many bytes is cut off where the line ends; or that the line was lost

@@ -1,12 +1,10 @@
 //! Both sides of the line between a till and its terminal.
-ghost use Rattle.std.specs.Prelude.{◌≡◌, ◌≤◌, [], ◌++◌, false, true, length, IfOk, OnOk};
+ghost use Rattle.std.specs.Prelude.{◌≡◌, ◌≤◌, ◌++◌, length, IfOk, OnOk};
 ghost use Rattle.zvt_spelling.specs.Reading.{Reading};
 ghost use Rattle.zvt_tlv.specs.Lengths.{reading_of};
 ghost use Rattle.zvt_trace.specs.Meanings.{GoesOn, SpellsBytes, bytes_of, meant_by, piece, size_of};
 ghost use Rattle.zvt_trace.specs.Trace.{Sides, new_line};
 ghost use Rattle.zvt_trace.specs.Telling.{LineEnds};
-ghost use Rattle.zvt_stream.specs.StreamState.{Holds};
-ghost use Rattle.zvt_trace.specs.Joining.{stream_of};
 ghost use Rattle.zvt_trace.specs.Listening.{FollowBoth, TakeBy, TellsEnd, TellsLine};
 
 use crate::direction::Direction;
@@ -38,18 +36,6 @@ impl BothSides {
             terminal: Stream::of(alloc, lengths),
             deaf: false,
         }
-    }
-
-    /// Whether the next byte of that side begins a message that is read.
-    #[inline(always)]
-    pub(crate) fn is_between(&self, from: Direction) -> bool
-        ensures { result ≡ true → (self.now.deaf ≡ false) × Holds [] (stream_of from self.now) }
-    {
-        !self.deaf
-            && match from {
-                Direction::FromTill => self.till.is_between(),
-                Direction::FromTerminal => self.terminal.is_between(),
-            }
     }
 
     /// Tells what the line of that number says.

@@ -25,16 +25,6 @@ impl Tally {
             bad: 0,
         }
     }
-
-    /// A message was read.
-    pub(crate) fn of_message() -> Tally
-        ensures { (result.messages ≡ 1) × (result.bad ≡ 0) }
-    {
-        Tally {
-            messages: 1,
-            bad: 0,
-        }
-    }
 }
 
 /// What is wrong with a line of a trace.

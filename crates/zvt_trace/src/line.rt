@@ -1,11 +1,12 @@
 //! One line of a trace.
-ghost use Rattle.std.specs.Prelude.{◌≡◌, ◌≤◌, length, IfOk, IfSome, Ok, Err};
+ghost use Rattle.std.specs.Prelude.{◌≡◌, ◌<◌, ◌≤◌, length, IfOk, IfSome, Ok, Err};
 ghost use Rattle.hex.specs.Hex.{decode_of};
-ghost use Rattle.zvt_trace.specs.Meanings.{GoesOn, IsPlain, IsSign, Reads, meant_by, piece_of, size_of, without_spaces};
+ghost use Rattle.zvt_trace.specs.Meanings.{Begins, GoesOn, IsPlain, IsSign, Reads, meant_by, piece_of, size_of, without_spaces};
 ghost use Rattle.zvt_trace.specs.declared.fault.What.{What};
 
 use crate::direction::Direction;
 use crate::fault::What;
+use crate::lines::next_line;
 use crate::spelled;
 
 /// How many bytes of a piece are read at once.
@@ -27,18 +28,42 @@ pub(crate) enum Line<'a, 't> {
     Lost,
 }
 
+/// Reads the first line, and answers what follows it too. Of a piece, as many bytes are read as the buffer takes.
+#[inline(always)]
+pub(crate) fn first_line<'a, 't>(
+    buffer: &'a mut [u8],
+    rest: &'t [u8],
+) -> (Result<Line<'a, 't>, What>, &'t [u8])
+    requires { 0 < length rest.now }
+    ensures { Begins rest.now (λ line. Reads line result.0) result.1.now }
+{
+    match plain_piece(buffer, rest) {
+        Some(Plain { from, count, after }) => {
+            let line = Line::Piece {
+                from,
+                bytes: &buffer[..count],
+                behind: &[],
+            };
+            (Ok(line), after)
+        }
+        None => {
+            let (line, after) = next_line(rest);
+            (read_line(buffer, line), after)
+        }
+    }
+}
+
 /// A piece in the usual form: `count` bytes, and what follows its line.
-#[derive(Drop)]
-pub(crate) struct Plain<'t> {
-    pub(crate) from: Direction,
-    pub(crate) count: usize,
-    pub(crate) after: &'t [u8],
+struct Plain<'t> {
+    from: Direction,
+    count: usize,
+    after: &'t [u8],
 }
 
 /// Reads the first line where it is a piece in the usual form, a sign, a space and pairs of digits, and the room is
 /// enough. So the end of the line is found as its digits are read.
 #[inline(always)]
-pub(crate) fn plain_piece<'t>(room: &mut [u8], rest: &'t [u8]) -> Option<Plain<'t>>
+fn plain_piece<'t>(room: &mut [u8], rest: &'t [u8]) -> Option<Plain<'t>>
     ensures begins { IfSome result (IsPlain rest.now room.new) }
     ensures few { IfSome result (λ plain. plain.count ≤ length room.new) }
     ensures size { length room.new ≡ length room.old }
@@ -70,7 +95,7 @@ fn direction(sign: u8) -> Option<Direction>
 /// Reads a line, which has lost its line feed. Of a piece, as many bytes are read as the buffer takes.
 // Few lines come here, and what reads the others is small enough to be inlined without this.
 #[inline(never)]
-pub(crate) fn read_line<'a, 't>(buffer: &'a mut [u8], line: &'t [u8]) -> Result<Line<'a, 't>, What>
+fn read_line<'a, 't>(buffer: &'a mut [u8], line: &'t [u8]) -> Result<Line<'a, 't>, What>
     ensures { Reads line.now result }
 {
     match line {

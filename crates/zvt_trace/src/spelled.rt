@@ -75,12 +75,6 @@ pub(crate) fn read_pairs(text: &[u8], room: &mut [u8]) -> usize
     ensures size { length room.new ≡ length room.old }
 {
     let mut count = 0;
-    'fours: while 2 * count + 7 < text.len() {
-        match read_four(text, room, count) {
-            4 => count += 4,
-            last => return count + last,
-        }
-    }
     'pairs: while 2 * count + 1 < text.len() {
         let byte = pair(text[2 * count], text[2 * count + 1]);
         if byte > 255 {
@@ -90,34 +84,6 @@ pub(crate) fn read_pairs(text: &[u8], room: &mut [u8]) -> usize
         count += 1;
     }
     count
-}
-
-/// Reads the four pairs behind the first `count`: how many there are before the first that is none of digits. Where a line
-/// ends in them is told by sums, since a branch on it is seldom foreseen.
-#[inline(always)]
-fn read_four(text: &[u8], room: &mut [u8], count: usize) -> usize
-    requires text { 2 * count + 7 < length text.now }
-    requires room { count + 4 ≤ length room.old }
-    ensures four { result ≤ 4 }
-    ensures read { ReadsPairs text.now count room.old → ReadsPairs text.now (count + result) room.new }
-    ensures all { result < 4 → EndsPairs text.now (count + result) }
-    ensures size { length room.new ≡ length room.old }
-{
-    let at = 2 * count;
-    let first = pair(text[at], text[at + 1]);
-    let second = pair(text[at + 2], text[at + 3]);
-    let third = pair(text[at + 4], text[at + 5]);
-    let fourth = pair(text[at + 6], text[at + 7]);
-    room[count] = (first % 256) as u8;
-    room[count + 1] = (second % 256) as u8;
-    room[count + 2] = (third % 256) as u8;
-    room[count + 3] = (fourth % 256) as u8;
-    let two = first + second;
-    let three = two + third;
-    if three + fourth < NONE {
-        return 4;
-    }
-    (first < NONE) as usize + (two < NONE) as usize + (three < NONE) as usize
 }
 
 /// The text from its first byte that is no space.
@@ -134,12 +100,10 @@ fn skip_spaces(text: &[u8]) -> &[u8]
     rest
 }
 
-/// The byte of two digits, and for what are none a number that four bytes together don't reach: so all are tested at
-/// once.
+/// The byte of two digits, and for what are none a number above 255: so both are tested at once.
 #[inline(always)]
 fn pair(high: u8, low: u8) -> u32
-    ensures sum { result ≡ worth high * 16 + worth low }
-    ensures most { result ≤ 17408 }
+    ensures { result ≡ worth high * 16 + worth low }
 {
     VALUES[high as usize] * 16 + VALUES[low as usize]
 }
@@ -152,8 +116,8 @@ fn value(digit: u8) -> u32
     VALUES[digit as usize]
 }
 
-/// More than four bytes together.
-const NONE: u32 = 1_024;
+/// More than a byte.
+const NONE: u32 = 256;
 
 /// The value of each digit, and [`NONE`] for what is none.
 static VALUES: [u32; 256] = [

@@ -2,11 +2,10 @@
 ghost use Rattle.std.specs.Prelude.{◌≡◌, ◌<◌, ◌≤◌, ◌+◌, ◌++◌, List, ℕ, length, slice_index, false, true, Some, IfOk, OnOk, MatchResult};
 ghost use Rattle.zvt_spelling.specs.Reading.{Reading};
 ghost use Rattle.zvt_tlv.specs.Lengths.{reading_of};
-ghost use Rattle.zvt_apdu.specs.Grammar.{Spells};
 ghost use Rattle.zvt_apdu.specs.Message.{Message};
 ghost use Rattle.zvt_stream.specs.Apdus.{UnfinishedIn};
-ghost use Rattle.zvt_stream.specs.Feeds.{Lies};
-ghost use Rattle.zvt_trace.specs.Told.{head_of, on};
+ghost use Rattle.zvt_stream.specs.Head.{head_of};
+ghost use Rattle.zvt_trace.specs.Told.{on};
 ghost use Rattle.zvt_trace.specs.Told as told;
 ghost use Rattle.zvt_trace.specs.Meanings.{SpellsBytes, bytes_of};
 ghost use Rattle.zvt_trace.specs.Trace.{Side};
@@ -19,10 +18,10 @@ use crate::fault::Tally;
 use crate::line::CHUNK;
 use crate::listener::{Failure, Listener, Scope};
 use crate::spelled;
-use crate::told::{Head, Told};
+use crate::told::Told;
 use zvt_apdu::view;
 use zvt_spelling::Why;
-use zvt_stream::{FedView, FeedError, Stream, Truncated};
+use zvt_stream::{FedView, FeedError, Head, Stream, Truncated};
 use zvt_tlv::Lengths;
 
 /// What a piece brought: the tally, and whether nothing more is read.
@@ -68,32 +67,7 @@ fn behind_messages(messages: u64, later: Hearing) -> Hearing
     }
 }
 
-/// Tells the message that these bytes are.
-#[inline(always)]
-pub(crate) fn tell_bytes<D, L: Listener<D>>(
-    listener: &mut L,
-    device: &mut D,
-    line: u64,
-    from: Direction,
-    lengths: Lengths,
-    bytes: &[u8],
-) -> Result<(), Failure>
-    requires { (message : Message) × Spells (reading_of lengths) message bytes.now }
-    ensures { (message : Message) → Spells (reading_of lengths) message bytes.now → MatchResult result
-        (λ _. L.hears (listener.old, device.old) (on line (told.message from message)) (listener.new, device.new))
-        (λ failure. L.fails (listener.old, device.old) (on line (told.message from message)) failure (listener.new, device.new)) }
-{
-    let apdu = view(bytes);
-    let told = Told::Message {
-        from,
-        apdu,
-        bytes,
-        lengths,
-    };
-    listener.hear(device, line, &told)
-}
-
-/// Tells the message that ended in the piece.
+/// Tells the message that the stream lends.
 #[inline(always)]
 fn tell_message<D, L: Listener<D>>(
     listener: &mut L,
@@ -102,18 +76,24 @@ fn tell_message<D, L: Listener<D>>(
     from: Direction,
     lengths: Lengths,
     stream: &Stream,
-    piece: &[u8],
-    taken: usize,
 ) -> Result<(), Failure>
-    requires within { taken ≤ length piece.now }
-    requires lies { (message : Message) × Lies stream.now piece.now taken message }
+    requires lent { (message : Message) × (stream.now.lent ≡ Some message) }
     requires reading { stream.now.reading ≡ reading_of lengths }
-    ensures { (message : Message) → Lies stream.now piece.now taken message → MatchResult result
+    ensures { (message : Message) → stream.now.lent ≡ Some message → MatchResult result
         (λ _. L.hears (listener.old, device.old) (on line (told.message from message)) (listener.new, device.new))
         (λ failure. L.fails (listener.old, device.old) (on line (told.message from message)) failure (listener.new, device.new)) }
 {
-    let bytes = stream.ended(piece, taken);
-    tell_bytes(listener, device, line, from, lengths, bytes)
+    let Some(bytes) = stream.lent_bytes() else {
+        unreachable!()
+    };
+    let apdu = view(bytes);
+    let told = Told::Message {
+        from,
+        apdu,
+        bytes,
+        lengths,
+    };
+    listener.hear(device, line, &told)
 }
 
 /// What a side has begun of a message: its control bytes, as far as they have come, and how many bytes are held.
@@ -132,7 +112,7 @@ impl Beginning {
         ensures unfinished { UnfinishedIn stream.now.reading stream.now.held }
     {
         Beginning {
-            head: Head::of(stream.beginning()),
+            head: stream.head(),
             held: stream.held(),
         }
     }
@@ -185,9 +165,9 @@ pub(crate) fn tell_piece<D, L: Listener<D>>(
     let mut rest = bytes;
     'messages: loop {
         let begun = Beginning::of(stream);
-        match stream.feed_in_place(rest) {
+        match stream.feed_view(rest) {
             Ok(FedView::Message { taken }) => {
-                tell_message(listener, device, line, from, lengths, stream, rest, taken)?;
+                tell_message(listener, device, line, from, lengths, stream)?;
                 messages += 1;
                 rest = rest.split_at(taken).1;
                 if rest.is_empty() {
@@ -318,7 +298,7 @@ pub(crate) fn tell_cut_off<D, L: Listener<D>>(
     match stream.finish() {
         Ok(()) => Ok(0),
         Err(Truncated { have }) => {
-            let head = Head::of(stream.beginning());
+            let head = stream.head();
             listener.hear(device, line, &Told::CutOff { from, head, have })?;
             Ok(1)
         }

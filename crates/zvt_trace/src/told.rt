@@ -1,47 +1,10 @@
 //! What a trace tells.
-ghost use Rattle.std.specs.Prelude.{◌≡◌, ◌++◌, ℕ, List};
-ghost use Rattle.zvt_trace.specs.Told.{head_of};
 
 use crate::direction::Direction;
 use zvt_apdu::ApduView;
 use zvt_spelling::Why;
+use zvt_stream::Head;
 use zvt_tlv::Lengths;
-
-/// The control bytes at the front of a message, as far as they have come.
-#[derive(Clone, Copy, Debug, PartialEq, Eq)]
-pub enum Head {
-    Empty,
-    One(u8),
-    Two(u8, u8),
-}
-
-impl Head {
-    /// Those of a message that begins with the bytes.
-    #[inline(always)]
-    pub(crate) fn of(bytes: &[u8]) -> Head
-        ensures { result ≡ head_of bytes.now }
-    {
-        match bytes {
-            [] => Head::Empty,
-            [first] => Head::One(*first),
-            [first, second, ..] => Head::Two(*first, *second),
-        }
-    }
-
-    /// Those of the message that goes on with the bytes.
-    pub(crate) fn before(self, bytes: &[u8]) -> Head
-        ensures { (held : List ℕ) → self ≡ head_of held → result ≡ head_of (held ++ bytes.now) }
-    {
-        match self {
-            Head::Empty => Head::of(bytes),
-            Head::One(first) => match bytes {
-                [] => self,
-                [second, ..] => Head::Two(first, *second),
-            },
-            Head::Two(_, _) => self,
-        }
-    }
-}
 
 /// What a trace tells at one of its lines.
 #[derive(Drop)]

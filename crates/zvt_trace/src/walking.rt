@@ -1,18 +1,16 @@
 //! A whole trace, told to a listener.
-ghost use Rattle.std.specs.Prelude.{◌≡◌, ◌+◌, ◌<◌, ◌≤◌, ℕ, List, length, IfOk, OnOk};
+ghost use Rattle.std.specs.Prelude.{◌≡◌, ◌≤◌, ℕ, List, length, IfOk, OnOk};
 ghost use Rattle.std.specs.Str.Lines.{lines};
 ghost use Rattle.zvt_tlv.specs.Lengths.{reading_of};
-ghost use Rattle.zvt_trace.specs.Listening.{AnswersWalk, AnswersWalkBy, FollowBoth, IsWithin, TakeBy, TellsFirst, WalksLine};
+ghost use Rattle.zvt_trace.specs.Listening.{AnswersWalk, AnswersWalkBy, FollowBoth, TakeBy, WalksLine};
 ghost use Rattle.zvt_trace.specs.Meanings.{Reads};
 ghost use Rattle.zvt_trace.specs.Trace.{Sides};
 ghost use Rattle.zvt_trace.specs.Written.{limit};
 
 use crate::both_sides::BothSides;
 use crate::fault::{Tally, TraceFault, What};
-use crate::joining::{First, first_lines};
-use crate::line::{CHUNK, Line};
+use crate::line::{CHUNK, Line, first_line};
 use crate::listener::{Listener, Scope};
-use crate::tell::tell_bytes;
 use std::alloc::Global;
 use zvt_tlv::Lengths;
 
@@ -52,78 +50,17 @@ pub fn walk_by<D, L: Listener<D>>(
     let mut rest = trace;
     let mut number = 0;
     'lines: while !rest.is_empty() {
-        let turn = tell_first(
-            listener,
-            device,
-            alloc,
-            scope,
-            lengths,
-            &mut sides,
-            number,
-            &mut buffer,
-            rest,
+        let (read, after) = first_line(&mut buffer, rest);
+        number += 1;
+        let counted = tell_line(
+            listener, device, alloc, scope, lengths, &mut sides, number, read,
         )?;
-        number += turn.lines;
-        tally.messages += turn.tally.messages;
-        tally.bad += turn.tally.bad;
-        rest = turn.after;
+        tally.messages += counted.messages;
+        tally.bad += counted.bad;
+        rest = after;
     }
     tally.bad += sides.tell_end(listener, device, number)?;
     Ok(tally)
-}
-
-/// What was told of the first lines of a text: how many they are, and what follows them.
-#[derive(Drop)]
-struct Turn<'t> {
-    lines: u64,
-    tally: Tally,
-    after: &'t [u8],
-}
-
-/// Tells what the first line says, or a message that the first lines bring together: with the last of them, and nothing
-/// with the others.
-#[inline(always)]
-fn tell_first<'t, D, L: Listener<D>>(
-    listener: &mut L,
-    device: &mut D,
-    alloc: Global,
-    scope: Scope,
-    lengths: Lengths,
-    sides: &mut BothSides,
-    number: u64,
-    buffer: &mut [u8],
-    rest: &'t [u8],
-) -> Result<Turn<'t>, TraceFault>
-    requires reading { TakeBy (reading_of lengths) sides.old }
-    requires few { (0 < length rest.now) × (number + length rest.now ≤ limit) }
-    ensures reading { OnOk result (TakeBy (reading_of lengths) sides.new) }
-    ensures tells { (state : Sides) → FollowBoth (reading_of lengths) sides.old state → TellsFirst (reading_of lengths) L.hears L.fails scope number rest.now state sides.new (listener.old, device.old) (listener.new, device.new) result }
-    ensures within { IfOk result (IsWithin rest.now) }
-{
-    match first_lines(buffer, rest, lengths, sides) {
-        First::Line { read, after } => {
-            let number = number + 1;
-            let tally = tell_line(listener, device, alloc, scope, lengths, sides, number, read)?;
-            Ok(Turn {
-                lines: 1,
-                tally,
-                after,
-            })
-        }
-        First::Message {
-            from,
-            bytes,
-            lines,
-            after,
-        } => {
-            tell_bytes(listener, device, number + lines, from, lengths, bytes)?;
-            Ok(Turn {
-                lines,
-                tally: Tally::of_message(),
-                after,
-            })
-        }
-    }
 }
 
 /// Tells what the line of that number says, where it could be read.

@@ -3,17 +3,11 @@ use Rattle.zvt_trace.specs.declared.spelled.TheConstants.{VALUES}
 use Rattle.zvt_trace.proofs.SpelledLemmas.{few_worth, worth_in}
 use Rattle.zvt_trace.proofs.spelled.pair.Goals as goal
 
-pub returns-clause-sum : goal.returns-clause-sum
-returns-clause-sum c =
+pub returns : goal.returns
+returns c =
     let high = worth_in VALUES c.args.high (omega arith) refl in
     let low = worth_in VALUES c.args.low (omega arith) refl in
     omega (arith, high, low)
-
-pub returns-clause-most : goal.returns-clause-most
-returns-clause-most c =
-    let high = worth_in VALUES c.args.high (omega arith) refl in
-    let low = worth_in VALUES c.args.low (omega arith) refl in
-    omega (arith, high, low, few_worth c.args.high, few_worth c.args.low)
 
 pub overflow_mul-result : goal.overflow_mul-result
 overflow_mul-result c = omega (arith, worth_in VALUES c.args.high (omega arith) refl, few_worth c.args.high)

@@ -3,8 +3,8 @@ use Rattle.std.proofs.lemmas.List.{length-set}
 use Rattle.zvt_trace.proofs.PairLemmas.{no_byte, none_read, one_more}
 use Rattle.zvt_trace.proofs.spelled.read_pairs.Goals as goal
 
-pub fours-init : goal.fours-init
-fours-init c = record {
+pub pairs-init : goal.pairs-init
+pairs-init c = record {
   few = omega arith;
   size = refl;
   so_far = none_read c.args.text.now c.args.room.now;
@@ -15,10 +15,10 @@ pairs-preserved c =
     let so = c.pairs.invariant in record {
       few = omega (arith, c.pairs-test.true);
       size = length-set c.pairs.room c.pairs.count c.pair-byte.result ∙ so.size;
-      so_far = one_more c.args.text.now c.pairs.room c.pairs.count c.pair-byte.result c.pair-byte.result (omega arith) c.pairs-test.true c.pair-byte.ensures.sum (omega (arith, c.if-byte-gt255.false)) (λ small. refl) so.so_far;
+      so_far = one_more c.args.text.now c.pairs.room c.pairs.count c.pair-byte.result (omega arith) c.pairs-test.true c.pair-byte.ensures (omega (arith, c.if-byte-gt255.false)) so.so_far;
     }
 
 pub returns-then-byte-gt255-clause-all : goal.returns-then-byte-gt255-clause-all
 returns-then-byte-gt255-clause-all c some =
     let text = c.args.text.now in
-    no_byte (slice_index text (2 * c.pairs.count)) (slice_index text (2 * c.pairs.count + 1)) (omega (arith, c.pair-byte.ensures.sum, c.if-byte-gt255.true))
+    no_byte (slice_index text (2 * c.pairs.count)) (slice_index text (2 * c.pairs.count + 1)) (omega (arith, c.pair-byte.ensures, c.if-byte-gt255.true))

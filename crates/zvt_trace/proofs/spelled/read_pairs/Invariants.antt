@@ -2,16 +2,6 @@ use Rattle.std.proofs.Common.{◌≡◌, ◌≤◌, ◌-◌, ◌*◌, length}
 use Rattle.zvt_trace.specs.Meanings.{ReadsPairs}
 use Rattle.zvt_trace.proofs.spelled.read_pairs.Given as goal
 
-abbrev pub invariant-fours : goal.invariant-fours
-invariant-fours l = record {
-  few : 2 * l.count ≤ length l.text;
-  size : length l.room ≡ length l.initial.room;
-  so_far : ReadsPairs l.text l.count l.room;
-}
-
-abbrev pub decreases-fours : goal.decreases-fours
-decreases-fours l = length l.text - l.count
-
 abbrev pub invariant-pairs : goal.invariant-pairs
 invariant-pairs l = record {
   few : 2 * l.count ≤ length l.text;

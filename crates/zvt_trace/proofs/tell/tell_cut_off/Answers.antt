@@ -5,11 +5,11 @@ use Rattle.zvt_trace.proofs.tell.tell_cut_off.Goals as goal
 pub returns-in_err-hear-in-Err-clause-tells : goal.returns-in_err-hear-in-Err-clause-tells
 returns-in_err-hear-in-Err-clause-tells g c = λ r side follows.
     let p = err_from_is_err_and c.from_residual.result c.from_residual.ensures.1 in
-    rw (p.1, p.2) (cut_failed r g.L.Listener.hears g.L.Listener.fails _ _ _ side _ _ _ _ (ends_cut r _ _ side c.args.stream.now c.beginning.result.now c.of-head.result c.in-Err.field-0.have follows c.in-Err.ensures.0 c.in-Err.ensures.1 c.of-head.ensures c.beginning.ensures) c.in_err-hear-in-Err.ensures)
+    rw (p.1, p.2) (cut_failed r g.L.Listener.hears g.L.Listener.fails _ _ _ side _ _ _ _ (ends_cut r _ _ side c.args.stream.now c.head-head.result c.in-Err.field-0.have follows c.in-Err.ensures.0 c.in-Err.ensures.1 c.head-head.ensures) c.in_err-hear-in-Err.ensures)
 
 pub returns-in_ok-hear-in-Err-clause-tells : goal.returns-in_ok-hear-in-Err-clause-tells
 returns-in_ok-hear-in-Err-clause-tells g c = λ r side follows.
-    some_cut r g.L.Listener.hears _ _ side _ _ _ _ (ends_cut r _ _ side c.args.stream.now c.beginning.result.now c.of-head.result c.in-Err.field-0.have follows c.in-Err.ensures.0 c.in-Err.ensures.1 c.of-head.ensures c.beginning.ensures) c.in_ok-hear-in-Err.ensures
+    some_cut r g.L.Listener.hears _ _ side _ _ _ _ (ends_cut r _ _ side c.args.stream.now c.head-head.result c.in-Err.field-0.have follows c.in-Err.ensures.0 c.in-Err.ensures.1 c.head-head.ensures) c.in_ok-hear-in-Err.ensures
 
 pub returns-in-Ok-clause-tells : goal.returns-in-Ok-clause-tells
 returns-in-Ok-clause-tells g c = λ r side follows. none_cut r g.L.Listener.hears _ _ side c.args.stream.now _ follows c.in-Ok.ensures

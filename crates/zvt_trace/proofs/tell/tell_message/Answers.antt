@@ -1,10 +1,19 @@
-use Rattle.zvt_trace.proofs.PieceLemmas.{spells_by}
+use Rattle.std.proofs.Common.{◌≡◌}
+use Rattle.zvt_tlv.specs.Lengths.{reading_of}
+use Rattle.zvt_trace.proofs.PieceLemmas.{lent_spelling, loosened}
 use Rattle.zvt_trace.proofs.tell.tell_message.Goals as goal
 
-pub tell_bytes-requires : goal.tell_bytes-requires
-tell_bytes-requires g c =
-    let it = c.requires.lies in
-    (it.0, spells_by _ _ it.0 _ c.requires.reading (c.ended-bytes.ensures it.0 it.1))
+pub view-apdu-requires : goal.view-apdu-requires
+view-apdu-requires g c = (c.requires.lent.0, ∣ loosened _ c.requires.lent.0 _ (lent_spelling c.args.stream.now.reading (reading_of c.args.lengths) c.requires.reading (λ b. b.now) c.lent_bytes.result c.in-Some.bytes _ c.requires.lent.0 c.requires.lent.1 c.lent_bytes.ensures.some c.in-Some.is) ∣₁)
+
+pub hear-requires : goal.hear-requires
+hear-requires g c =
+    let spells = lent_spelling c.args.stream.now.reading (reading_of c.args.lengths) c.requires.reading (λ b. b.now) c.lent_bytes.result c.in-Some.bytes _ c.requires.lent.0 c.requires.lent.1 c.lent_bytes.ensures.some c.in-Some.is in
+    let same : c.view-apdu.result ≡ c.requires.lent.0 = c.view-apdu.ensures c.requires.lent.0 (loosened _ c.requires.lent.0 _ spells) in
+    rw same spells
 
 pub returns : goal.returns
-returns g c = λ message lies. c.tell_bytes.ensures message (spells_by _ _ message _ c.requires.reading (c.ended-bytes.ensures message lies))
+returns g c = λ message is.
+    let spells = lent_spelling c.args.stream.now.reading (reading_of c.args.lengths) c.requires.reading (λ b. b.now) c.lent_bytes.result c.in-Some.bytes _ message is c.lent_bytes.ensures.some c.in-Some.is in
+    let same : c.view-apdu.result ≡ message = c.view-apdu.ensures message (loosened _ message _ spells) in
+    rw same at c.hear.ensures

@@ -14,79 +14,67 @@ messages-init g c = record {
   few = omega arith;
 }
 
-pub tell_message-requires-clause-within : goal.tell_message-requires-clause-within
-tell_message-requires-clause-within g c =
-    let it = fed_as c.messages.stream c.feed_in_place.new.self c.messages.rest.now c.in-Ok-Message.field-0 (fed.Message c.in-Ok-Message.taken) c.in-Ok-Message.field-0-is c.in-Ok-Message.ensures.fed in
-    it.1.1
-
-pub tell_message-requires-clause-lies : goal.tell_message-requires-clause-lies
-tell_message-requires-clause-lies g c =
-    let it = fed_as c.messages.stream c.feed_in_place.new.self c.messages.rest.now c.in-Ok-Message.field-0 (fed.Message c.in-Ok-Message.taken) c.in-Ok-Message.field-0-is c.in-Ok-Message.ensures.fed in
-    (it.0, it.2)
-
-pub tell_message-requires-clause-reading : goal.tell_message-requires-clause-reading
-tell_message-requires-clause-reading g c =
-    let it = fed_as c.messages.stream c.feed_in_place.new.self c.messages.rest.now c.in-Ok-Message.field-0 (fed.Message c.in-Ok-Message.taken) c.in-Ok-Message.field-0-is c.in-Ok-Message.ensures.fed in
-    it.1.4 ∙ c.messages.invariant.reading
-
 pub returns-in_err-tell_message-in-Ok-Message-clause-tells :
     goal.returns-in_err-tell_message-in-Ok-Message-clause-tells
 returns-in_err-tell_message-in-Ok-Message-clause-tells g c = λ side follows.
     let p = err_from_is_err_and c.from_residual.result c.from_residual.ensures.1 in
-    let it = fed_as c.messages.stream c.feed_in_place.new.self c.messages.rest.now c.in-Ok-Message.field-0 (fed.Message c.in-Ok-Message.taken) c.in-Ok-Message.field-0-is c.in-Ok-Message.ensures.fed in
-    rw (p.1, p.2) (fails_message g.L.Listener.hears g.L.Listener.fails _ _ _ side _ c.messages.rest.now _ c.messages.stream c.feed_in_place.new.self _ _ _ _ c.in-Ok-Message.taken it.0 c.messages.invariant.so_far
-    (going _ _ _ c.in-Ok-Message.is c.feed_in_place.ensures.stopped) (spells_by _ _ it.0 _ c.messages.invariant.reading it.1.2) it.1.3 (c.in_err-tell_message-in-Ok-Message.ensures it.0 it.2) follows)
+    let lends = fed_as c.messages.stream c.feed_view.new.self c.messages.rest.now c.in-Ok-Message.field-0 (fed.Message c.in-Ok-Message.taken) c.in-Ok-Message.field-0-is c.in-Ok-Message.ensures.fed in
+    let feeds = lends.1 in
+    rw (p.1, p.2) (fails_message g.L.Listener.hears g.L.Listener.fails _ _ _ side _ c.messages.rest.now _ c.messages.stream c.feed_view.new.self _ _ _ _ c.in-Ok-Message.taken lends.0 c.messages.invariant.so_far
+    (going _ _ _ c.in-Ok-Message.is c.feed_view.ensures.stopped) (spells_by _ _ lends.0 _ c.messages.invariant.reading feeds.2) feeds.3 (c.in_err-tell_message-in-Ok-Message.ensures lends.0 lends.2) follows)
 
 pub returns-then-is_empty-clause-tells : goal.returns-then-is_empty-clause-tells
 returns-then-is_empty-clause-tells g c = λ side follows.
-    let it = fed_as c.messages.stream c.feed_in_place.new.self c.messages.rest.now c.in-Ok-Message.field-0 (fed.Message c.in-Ok-Message.taken) c.in-Ok-Message.field-0-is c.in-Ok-Message.ensures.fed in
-    let so_far = one_more g.L.Listener.hears _ _ _ c.messages.rest.now _ _ c.messages.stream c.feed_in_place.new.self _ _ _ _ c.in-Ok-Message.taken it.0 c.messages.invariant.so_far
-    (going _ _ _ c.in-Ok-Message.is c.feed_in_place.ensures.stopped) (spells_by _ _ it.0 _ c.messages.invariant.reading it.1.2) it.1.3 c.split_at.ensures.back (c.in_ok-tell_message-in-Ok-Message.ensures it.0 it.2) in
-    ends_whole g.L.Listener.hears _ _ side _ c.split_at.result.1.now _ c.feed_in_place.new.self _ _ _ c.going.result so_far it.1.3 (search rules) c.going.ensures.0 c.going.ensures.1 c.going.ensures.2 follows
+    let lends = fed_as c.messages.stream c.feed_view.new.self c.messages.rest.now c.in-Ok-Message.field-0 (fed.Message c.in-Ok-Message.taken) c.in-Ok-Message.field-0-is c.in-Ok-Message.ensures.fed in
+    let feeds = lends.1 in
+    let so_far = one_more g.L.Listener.hears _ _ _ c.messages.rest.now _ _ c.messages.stream c.feed_view.new.self _ _ _ _ c.in-Ok-Message.taken lends.0 c.messages.invariant.so_far
+    (going _ _ _ c.in-Ok-Message.is c.feed_view.ensures.stopped) (spells_by _ _ lends.0 _ c.messages.invariant.reading feeds.2) feeds.3 c.split_at.ensures.back (c.in_ok-tell_message-in-Ok-Message.ensures lends.0 lends.2) in
+    ends_whole g.L.Listener.hears _ _ side _ c.split_at.result.1.now _ c.feed_view.new.self _ _ _ c.going.result so_far feeds.3 (search rules) c.going.ensures.0 c.going.ensures.1 c.going.ensures.2 follows
 
 pub messages-preserved : goal.messages-preserved
 messages-preserved g c =
-    let it = fed_as c.messages.stream c.feed_in_place.new.self c.messages.rest.now c.in-Ok-Message.field-0 (fed.Message c.in-Ok-Message.taken) c.in-Ok-Message.field-0-is c.in-Ok-Message.ensures.fed in
+    let lends = fed_as c.messages.stream c.feed_view.new.self c.messages.rest.now c.in-Ok-Message.field-0 (fed.Message c.in-Ok-Message.taken) c.in-Ok-Message.field-0-is c.in-Ok-Message.ensures.fed in
+    let feeds = lends.1 in
     record {
-      so_far = one_more g.L.Listener.hears _ _ _ c.messages.rest.now _ _ c.messages.stream c.feed_in_place.new.self _ _ _ _ c.in-Ok-Message.taken it.0 c.messages.invariant.so_far
-          (going _ _ _ c.in-Ok-Message.is c.feed_in_place.ensures.stopped) (spells_by _ _ it.0 _ c.messages.invariant.reading it.1.2) it.1.3 c.split_at.ensures.back (c.in_ok-tell_message-in-Ok-Message.ensures it.0 it.2);
-      reading = it.1.4 ∙ c.messages.invariant.reading;
-      few = omega (arith, it.1.0, it.1.1, c.split_at.ensures.back_len);
+      so_far = one_more g.L.Listener.hears _ _ _ c.messages.rest.now _ _ c.messages.stream c.feed_view.new.self _ _ _ _ c.in-Ok-Message.taken lends.0 c.messages.invariant.so_far
+          (going _ _ _ c.in-Ok-Message.is c.feed_view.ensures.stopped) (spells_by _ _ lends.0 _ c.messages.invariant.reading feeds.2) feeds.3 c.split_at.ensures.back (c.in_ok-tell_message-in-Ok-Message.ensures lends.0 lends.2);
+      reading = feeds.4 ∙ c.messages.invariant.reading;
+      few = omega (arith, feeds.0, feeds.1, c.split_at.ensures.back_len);
     }
 
 pub returns-in-Ok-More-clause-tells : goal.returns-in-Ok-More-clause-tells
 returns-in-Ok-More-clause-tells g c = λ side follows.
-    let lends = fed_as c.messages.stream c.feed_in_place.new.self c.messages.rest.now c.in-Ok-More.field-0 fed.More c.in-Ok-More.field-0-is c.in-Ok-More.ensures.fed in
+    let lends = fed_as c.messages.stream c.feed_view.new.self c.messages.rest.now c.in-Ok-More.field-0 fed.More c.in-Ok-More.field-0-is c.in-Ok-More.ensures.fed in
     let feeds = lends.0 in
     let told = c.going-in-Ok-More.ensures in
     let unfinished = unfinished_by _ _ _ c.messages.invariant.reading feeds.0 in
-    ends g.L.Listener.hears _ _ side _ c.messages.rest.now _ c.messages.stream c.feed_in_place.new.self _ _ _ _ begun c.going-in-Ok-More.result c.messages.invariant.so_far
-    (going _ _ _ c.in-Ok-More.is c.feed_in_place.ensures.stopped) unfinished.none_whole unfinished.alive feeds.1 refl told.0 told.1 told.2 follows
+    ends g.L.Listener.hears _ _ side _ c.messages.rest.now _ c.messages.stream c.feed_view.new.self _ _ _ _ begun c.going-in-Ok-More.result c.messages.invariant.so_far
+    (going _ _ _ c.in-Ok-More.is c.feed_view.ensures.stopped) unfinished.none_whole unfinished.alive feeds.1 refl told.0 told.1 told.2 follows
 
 pub tell_refused-requires-clause-begun : goal.tell_refused-requires-clause-begun
 tell_refused-requires-clause-begun g c =
-    let lends = fed_as c.messages.stream c.feed_in_place.new.self c.messages.rest.now c.in-Ok-Refused.field-0 (fed.Refused c.in-Ok-Refused.place c.in-Ok-Refused.why) c.in-Ok-Refused.field-0-is c.in-Ok-Refused.ensures.fed in
+    let lends = fed_as c.messages.stream c.feed_view.new.self c.messages.rest.now c.in-Ok-Refused.field-0 (fed.Refused c.in-Ok-Refused.place c.in-Ok-Refused.why) c.in-Ok-Refused.field-0-is c.in-Ok-Refused.ensures.fed in
     omega (arith, lends.0.1, c.of-begun.ensures.held)
 
 pub returns-in_err-tell_refused-in-Ok-Refused-clause-tells :
     goal.returns-in_err-tell_refused-in-Ok-Refused-clause-tells
 returns-in_err-tell_refused-in-Ok-Refused-clause-tells g c = λ side follows.
     let p = err_from_is_err_and c.from_residual-in_err-tell_refused-in-Ok-Refused.result c.from_residual-in_err-tell_refused-in-Ok-Refused.ensures.1 in
-    let lends = fed_as c.messages.stream c.feed_in_place.new.self c.messages.rest.now c.in-Ok-Refused.field-0 (fed.Refused c.in-Ok-Refused.place c.in-Ok-Refused.why) c.in-Ok-Refused.field-0-is c.in-Ok-Refused.ensures.fed in
+    let lends = fed_as c.messages.stream c.feed_view.new.self c.messages.rest.now c.in-Ok-Refused.field-0 (fed.Refused c.in-Ok-Refused.place c.in-Ok-Refused.why) c.in-Ok-Refused.field-0-is c.in-Ok-Refused.ensures.fed in
     let fatal = refused_by _ _ _ _ _ c.messages.invariant.reading lends.0.0 in
     rw (p.1, p.2) (fails_refused g.L.Listener.hears g.L.Listener.fails _ _ _ side _ c.messages.rest.now _ c.messages.stream _ _ _ _ (refused c.in-Ok-Refused.place c.in-Ok-Refused.why) _ c.messages.invariant.so_far
-    (going _ _ _ c.in-Ok-Refused.is c.feed_in_place.ensures.stopped) fatal.0 (fatal.1, fatal.2) refl
+    (going _ _ _ c.in-Ok-Refused.is c.feed_view.ensures.stopped) fatal.0 (fatal.1, fatal.2) refl
     (c.in_err-tell_refused-in-Ok-Refused.ensures c.messages.stream.held c.of-begun.ensures.head c.of-begun.ensures.held) follows)
 
 pub returns-in-Ok-Refused-clause-tells : goal.returns-in-Ok-Refused-clause-tells
 returns-in-Ok-Refused-clause-tells g c = λ side follows.
-    let lends = fed_as c.messages.stream c.feed_in_place.new.self c.messages.rest.now c.in-Ok-Refused.field-0 (fed.Refused c.in-Ok-Refused.place c.in-Ok-Refused.why) c.in-Ok-Refused.field-0-is c.in-Ok-Refused.ensures.fed in
+    let lends = fed_as c.messages.stream c.feed_view.new.self c.messages.rest.now c.in-Ok-Refused.field-0 (fed.Refused c.in-Ok-Refused.place c.in-Ok-Refused.why) c.in-Ok-Refused.field-0-is c.in-Ok-Refused.ensures.fed in
     let feeds = lends.0 in
     let ended = c.stopped.ensures in
     let fatal = refused_by _ _ _ _ _ c.messages.invariant.reading feeds.0 in
     let heard = c.in_ok-tell_refused-in-Ok-Refused.ensures c.messages.stream.held c.of-begun.ensures.head c.of-begun.ensures.held in
-    ends g.L.Listener.hears _ _ side _ c.messages.rest.now _ c.messages.stream c.feed_in_place.new.self _ _ _ _ (refused c.in-Ok-Refused.place c.in-Ok-Refused.why) _ c.messages.invariant.so_far
-    (going _ _ _ c.in-Ok-Refused.is c.feed_in_place.ensures.stopped) fatal.0 (fatal.1, fatal.2) feeds.2 (hears_told g.L.Listener.hears _ _ _ _ refl heard) ended.0 ended.1 ended.2 follows
+    ends g.L.Listener.hears _ _ side _ c.messages.rest.now _ c.messages.stream c.feed_view.new.self _ _ _ _ (refused c.in-Ok-Refused.place c.in-Ok-Refused.why) _ c.messages.invariant.so_far
+    (going _ _ _ c.in-Ok-Refused.is c.feed_view.ensures.stopped) fatal.0 (fatal.1, fatal.2) feeds.2 (hears_told g.L.Listener.hears _ _ _ _ refl heard) ended.0 ended.1 ended.2 follows
 
 pub returns-in_err-hear-in-Err-Stopped-clause-tells :
     goal.returns-in_err-hear-in-Err-Stopped-clause-tells
@@ -98,27 +86,27 @@ returns-in_err-hear-in-Err-Stopped-clause-tells g c = λ side follows.
 pub returns-in-Err-Stopped-clause-tells : goal.returns-in-Err-Stopped-clause-tells
 returns-in-Err-Stopped-clause-tells g c = λ side follows.
     let ended = c.stopped-in-Err-Stopped.ensures in
-    stays g.L.Listener.hears _ _ side _ c.messages.rest.now _ c.messages.stream c.feed_in_place.new.self _ _ _ _ _ c.messages.invariant.so_far
+    stays g.L.Listener.hears _ _ side _ c.messages.rest.now _ c.messages.stream c.feed_view.new.self _ _ _ _ _ c.messages.invariant.so_far
     (c.in-Err-Stopped.ensures.only (ap Err c.in-Err-Stopped.field-0-is)) c.in-Err-Stopped.ensures.err c.in_ok-hear-in-Err-Stopped.ensures ended.0 ended.1 ended.2 follows
 
 pub returns-in-Err-Memory-clause-tells : goal.returns-in-Err-Memory-clause-tells
 returns-in-Err-Memory-clause-tells g c = λ side follows.
     fails_memory g.L.Listener.hears g.L.Listener.fails _ _ side _ c.messages.rest.now _ c.messages.stream _ _ _ c.messages.invariant.so_far
-    (not_stopped _ _ c.in-Err-Memory.is c.in-Err-Memory.field-0-is c.feed_in_place.ensures.stopped) (unfinished_by _ _ _ c.messages.invariant.reading c.of-begun.ensures.unfinished) follows
+    (not_stopped _ _ c.in-Err-Memory.is c.in-Err-Memory.field-0-is c.feed_view.ensures.stopped) (unfinished_by _ _ _ c.messages.invariant.reading c.of-begun.ensures.unfinished) follows
 
 pub returns-then-is_empty-clause-reading : goal.returns-then-is_empty-clause-reading
 returns-then-is_empty-clause-reading g c =
-    let it = fed_as c.messages.stream c.feed_in_place.new.self c.messages.rest.now c.in-Ok-Message.field-0 (fed.Message c.in-Ok-Message.taken) c.in-Ok-Message.field-0-is c.in-Ok-Message.ensures.fed in
-    it.1.4 ∙ c.messages.invariant.reading
+    let lends = fed_as c.messages.stream c.feed_view.new.self c.messages.rest.now c.in-Ok-Message.field-0 (fed.Message c.in-Ok-Message.taken) c.in-Ok-Message.field-0-is c.in-Ok-Message.ensures.fed in
+    lends.1.4 ∙ c.messages.invariant.reading
 
 pub returns-in-Ok-More-clause-reading : goal.returns-in-Ok-More-clause-reading
 returns-in-Ok-More-clause-reading g c =
-    let lends = fed_as c.messages.stream c.feed_in_place.new.self c.messages.rest.now c.in-Ok-More.field-0 fed.More c.in-Ok-More.field-0-is c.in-Ok-More.ensures.fed in
+    let lends = fed_as c.messages.stream c.feed_view.new.self c.messages.rest.now c.in-Ok-More.field-0 fed.More c.in-Ok-More.field-0-is c.in-Ok-More.ensures.fed in
     lends.0.2 ∙ c.messages.invariant.reading
 
 pub returns-in-Ok-Refused-clause-reading : goal.returns-in-Ok-Refused-clause-reading
 returns-in-Ok-Refused-clause-reading g c =
-    let lends = fed_as c.messages.stream c.feed_in_place.new.self c.messages.rest.now c.in-Ok-Refused.field-0 (fed.Refused c.in-Ok-Refused.place c.in-Ok-Refused.why) c.in-Ok-Refused.field-0-is c.in-Ok-Refused.ensures.fed in
+    let lends = fed_as c.messages.stream c.feed_view.new.self c.messages.rest.now c.in-Ok-Refused.field-0 (fed.Refused c.in-Ok-Refused.place c.in-Ok-Refused.why) c.in-Ok-Refused.field-0-is c.in-Ok-Refused.ensures.fed in
     lends.0.3 ∙ c.messages.invariant.reading
 
 pub returns-in-Err-Stopped-clause-reading : goal.returns-in-Err-Stopped-clause-reading

@@ -1,0 +1,37 @@
+//! The control bytes at the front of a message.
+
+ghost use Rattle.std.specs.Prelude.{◌≡◌, ◌++◌, ◌∷◌, [], ℕ, List};
+ghost use Rattle.zvt_stream.specs.Head.{head_of};
+
+/// The control bytes at the front of a message, as far as they have come (PA00P015, chapter 2).
+#[derive(Clone, Copy, Debug, PartialEq, Eq)]
+pub enum Head {
+    Empty,
+    One(u8),
+    Two(u8, u8),
+}
+
+impl Head {
+    /// The control bytes with one more byte of the message behind those that have come.
+    #[inline(always)]
+    pub fn then(self, byte: u8) -> Head
+        ensures { (bytes : List ℕ) → self ≡ head_of bytes → result ≡ head_of (bytes ++ byte ∷ []) }
+    {
+        match self {
+            Head::Empty => Head::One(byte),
+            Head::One(first) => Head::Two(first, byte),
+            Head::Two(_, _) => self,
+        }
+    }
+
+    /// The control bytes of the message that goes on with these bytes.
+    pub fn before(self, bytes: &[u8]) -> Head
+        ensures { (held : List ℕ) → self ≡ head_of held → result ≡ head_of (held ++ bytes.now) }
+    {
+        match bytes {
+            [] => self,
+            [first] => self.then(*first),
+            [first, second, ..] => self.then(*first).then(*second),
+        }
+    }
+}
