@@ -1,11 +1,16 @@
 -- Where the first character of another kind stands.
-use Rattle.std.proofs.Common.{◌≡◌, ℕ, ◌<◌, ◌≤◌, suc, zero, List, [], ◌∷◌, ◌++◌, length, take, drop, slice_index, refl, sym, ◌∙◌, ap, subst, append_assoc, arith}
-use Rattle.std.proofs.lemmas.List.Elements.{All-head, All-tail}
-use Rattle.std.proofs.lemmas.List.{append_cancel_left, take-append-drop}
-use Rattle.std.proofs.Math.Seq.{drop-append_seam}
-use Rattle.std.specs.List.{All}
+use Rattle.std.proofs.Common.{Bool, true, false, MatchBool, slice_index_or, ◌≡◌, ℕ, ◌<◌, ◌≤◌, suc, zero, List, [], ◌∷◌, ◌++◌, length, take, drop, slice_index, refl, sym, ◌∙◌, ap, subst, append_assoc, arith}
+use Rattle.std.proofs.lemmas.List.Elements.{All-append, All-cons, All-head, All-nil, All-tail}
+use Rattle.std.proofs.lemmas.List.{append_cancel_left, append_cancel_right, take-append-drop}
+use Rattle.std.proofs.Math.Seq.{drop-append_seam, take-append_seam}
+use Rattle.std.proofs.lemmas.Bool.{false≢true}
+use Rattle.std.specs.List.{All, AllWithin, HoldsAt}
 use Rattle.std.specs.Prelude.{codes}
-use Rattle.zvt_vectors.specs.Vectors.{IsDigit, IsOther, IsRefusal, IsVector, IsWord}
+use Rattle.zvt_spelling.specs.Names.{why_name}
+use Rattle.zvt_spelling.specs.declared.why.Why.{Why}
+use Rattle.zvt_spelling.specs.declared.why.Why.TheVariants.{NotShortest, DoesNotFit, LengthForm, TooDeep, TagTooLong, UnknownField, NotDigit, LengthDigit}
+use Rattle.zvt_vectors.specs.Vectors.{IsClaim, IsDigit, IsNumber, IsOther, IsReason, IsRefusal, IsSpelling, IsVector}
+use Rattle.zvt_vectors.specs.declared.claims.TheConstants.{REASONS}
 
 -- so many stand before it
 pub count_is : (P : ℕ → Type 0) (c : ℕ) → (P c → ⊥) → (front rest : List ℕ) (n : ℕ) → All P front → n ≤ length (front ++ c ∷ rest) → All P (take n (front ++ c ∷ rest))
@@ -20,13 +25,14 @@ count_is P c stop (x ∷ front) rest (suc n) are few first all =
 -- the parts that it stands between
 pub record Parts (text front rest : List ℕ) (n : ℕ) : Type 0 where
   pub count : n ≡ length front
+  pub before : take n text ≡ front
   pub behind : drop n text ≡ rest
 
 pub parts : (P : ℕ → Type 0) (c : ℕ) → (P c → ⊥) → (text front rest : List ℕ) (n : ℕ) → text ≡ front ++ c ∷ rest → All P front → n ≤ length text → All P (take n text) → (n < length text → P (slice_index text n) → ⊥)
     → Parts text front (c ∷ rest) n
 parts P c stop text front rest n is are few first all =
     let count = count_is P c stop front rest n are (subst (λ (t : List ℕ). n ≤ length t) is few) (subst (λ (t : List ℕ). All P (take n t)) is first) (subst (λ (t : List ℕ). n < length t → P (slice_index t n) → ⊥) is all) in
-    record { count = count; behind = ap (λ (t : List ℕ). drop n t) is ∙ ap (λ (m : ℕ). drop m (front ++ c ∷ rest)) count ∙ drop-append_seam front (c ∷ rest) }
+    record { count = count; before = ap (λ (t : List ℕ). take n t) is ∙ ap (λ (m : ℕ). take m (front ++ c ∷ rest)) count ∙ take-append_seam front (c ∷ rest); behind = ap (λ (t : List ℕ). drop n t) is ∙ ap (λ (m : ℕ). drop m (front ++ c ∷ rest)) count ∙ drop-append_seam front (c ∷ rest) }
 
 pub colon : IsDigit 58 → ⊥
 colon is = omega (arith, is.1)
@@ -34,24 +40,27 @@ colon is = omega (arith, is.1)
 pub equals : IsOther 61 → ⊥
 equals is = is refl
 
+space : IsOther 32
+space e = omega (arith, e)
+
 -- ---- a place and a reason
 
-pub made : (text front back p reason : List ℕ) (n : ℕ) → front ≡ take n text → back ≡ drop n text → p ≡ codes ": " → back ≡ p ++ reason → 0 < length front → All IsDigit (take n text) → IsWord reason → IsRefusal text
-made text front back p reason n is_front is_back is_p cut some digits word =
+pub made : (text front back p reason : List ℕ) (n : ℕ) → front ≡ take n text → back ≡ drop n text → p ≡ codes ": " → back ≡ p ++ reason → IsNumber front → IsReason reason → IsRefusal text
+made text front back p reason n is_front is_back is_p cut number word =
     let behind : drop n text ≡ codes ": " ++ reason = sym is_back ∙ cut ∙ ap (λ (q : List ℕ). q ++ reason) is_p in
     let whole : text ≡ front ++ (codes ": " ++ reason) = sym (take-append-drop n text) ∙ ap (λ (t : List ℕ). t ++ drop n text) (sym is_front) ∙ ap (λ (t : List ℕ). front ++ t) behind in
-    (front, reason, (some, subst (All IsDigit) (sym is_front) digits), word, whole ∙ sym (append_assoc front (codes ": ") reason))
+    (front, reason, number, word, whole ∙ sym (append_assoc front (codes ": ") reason))
 
-pub record Found (back : List ℕ) (n : ℕ) : Type 0 where
+pub record Found (front back : List ℕ) : Type 0 where
   pub reason : List ℕ
-  pub word : IsWord reason
+  pub number : IsNumber front
+  pub word : IsReason reason
   pub behind : back ≡ codes ": " ++ reason
-  pub some : 0 < n
 
-pub found : (text back : List ℕ) (n : ℕ) → IsRefusal text → back ≡ drop n text → n ≤ length text → All IsDigit (take n text) → (n < length text → IsDigit (slice_index text n) → ⊥) → Found back n
-found text back n (place, reason, number, word, is) is_back few first all =
-    let p = parts IsDigit 58 colon text place (32 ∷ reason) n (is ∙ append_assoc place (codes ": ") reason) number.1 few first all in
-    record { reason = reason; word = word; behind = is_back ∙ p.behind; some = omega (arith, p.count, number.0) }
+pub found : (text front back : List ℕ) (n : ℕ) → IsRefusal text → front ≡ take n text → back ≡ drop n text → n ≤ length text → All IsDigit (take n text) → (n < length text → IsDigit (slice_index text n) → ⊥) → Found front back
+found text front back n (place, reason, number, word, is) is_front is_back few first all =
+    let p = parts IsDigit 58 colon text place (32 ∷ reason) n (is ∙ append_assoc place (codes ": ") reason) number.digits few first all in
+    record { reason = reason; number = subst IsNumber (sym (is_front ∙ p.before)) number; word = word; behind = is_back ∙ p.behind }
 
 pub same_rest : (p q a b : List ℕ) → p ≡ q → p ++ a ≡ q ++ b → a ≡ b
 same_rest p q a b is e = append_cancel_left q a b (ap (λ (r : List ℕ). r ++ a) (sym is) ∙ e)
@@ -61,7 +70,59 @@ same_front p q a is = ap (λ (r : List ℕ). r ++ a) is
 
 -- ---- a vector
 
-pub cut_behind : (line back spelled claim : List ℕ) (n : ℕ) → IsVector line spelled claim → back ≡ drop n line → n ≤ length line → All IsOther (take n line) → (n < length line → IsOther (slice_index line n) → ⊥) → back ≡ codes "= " ++ claim
-cut_behind line back spelled claim n vector is_back few first all =
-    let p = parts IsOther 61 equals line spelled (32 ∷ claim) n (vector.cut ∙ append_assoc spelled (codes "= ") claim) vector.first few first all in
-    is_back ∙ p.behind
+-- what stands before the first '=', and from there on
+pub record CutAt (front back spelled claim : List ℕ) : Type 0 where
+  pub before : front ≡ spelled ++ codes " "
+  pub behind : back ≡ codes "= " ++ claim
+
+pub cut_at : (line front back spelled claim : List ℕ) (n : ℕ) → IsVector line spelled claim → front ≡ take n line → back ≡ drop n line → n ≤ length line → All IsOther (take n line) → (n < length line → IsOther (slice_index line n) → ⊥) → CutAt front back spelled claim
+cut_at line front back spelled claim n vector is_front is_back few first all =
+    let others : All IsOther (spelled ++ codes " ") = All-append IsOther spelled (codes " ") vector.first (All-cons IsOther 32 [] space (All-nil IsOther)) in
+    let whole : line ≡ (spelled ++ codes " ") ++ 61 ∷ 32 ∷ claim = vector.cut ∙ append_assoc spelled (codes " = ") claim ∙ sym (append_assoc spelled (codes " ") (codes "= " ++ claim)) in
+    let p = parts IsOther 61 equals line (spelled ++ codes " ") (32 ∷ claim) n whole others few first all in
+    record { before = is_front ∙ p.before; behind = is_back ∙ p.behind }
+
+all_before : (P : ℕ → Type 0) (xs ys : List ℕ) → All P (xs ++ ys) → All P xs
+all_before P [] ys all = All-nil P
+all_before P (x ∷ xs) ys all = All-cons P x xs (All-head P x (xs ++ ys) all) (all_before P xs ys (All-tail P x (xs ++ ys) all))
+
+pub same_begin : (p q a b : List ℕ) → p ≡ q → a ++ p ≡ b ++ q → a ≡ b
+same_begin p q a b is e = append_cancel_right a b q (ap (λ (r : List ℕ). a ++ r) (sym is) ∙ e)
+
+-- the parts of a line are a vector's, where they have its forms
+pub joined : (line front back p q spelled claim : List ℕ) (n : ℕ) → front ≡ take n line → back ≡ drop n line → p ≡ codes " " → q ≡ codes "= " → front ≡ spelled ++ p → back ≡ q ++ claim → All IsOther (take n line) → IsSpelling spelled → IsClaim claim → IsVector line spelled claim
+joined line front back p q spelled claim n is_front is_back is_p is_q cut_front cut_back others spells claims =
+    let before : take n line ≡ spelled ++ codes " " = sym is_front ∙ cut_front ∙ ap (λ (t : List ℕ). spelled ++ t) is_p in
+    let behind : drop n line ≡ codes "= " ++ claim = sym is_back ∙ cut_back ∙ ap (λ (t : List ℕ). t ++ claim) is_q in
+    let whole : line ≡ (spelled ++ codes " ") ++ (codes "= " ++ claim) = sym (take-append-drop n line) ∙ ap (λ (t : List ℕ). t ++ drop n line) before ∙ ap (λ (t : List ℕ). (spelled ++ codes " ") ++ t) behind in
+    record {
+      cut = whole ∙ append_assoc spelled (codes " ") (codes "= " ++ claim) ∙ sym (append_assoc spelled (codes " = ") claim);
+      first = all_before IsOther spelled (codes " ") (subst (All IsOther) before others);
+      spells = spells;
+      claims = claims;
+    }
+
+-- ---- the reasons
+
+pub some_named : (r : Bool) (text : List ℕ) → MatchBool r ((k : ℕ) × (k < length REASONS) × HoldsAt (λ (why : Why). why_name why ≡ text) REASONS k) (AllWithin (λ (why : Why). why_name why ≡ text → ⊥) REASONS 0 (length REASONS))
+    → r ≡ true → IsReason text
+some_named true text (k, few, is) e = (slice_index_or REASONS k NotShortest, sym (is NotShortest))
+some_named false text none e = absurd (false≢true e)
+
+-- each reason stands among them
+listed : (why : Why) → (k : ℕ) × (k < length REASONS) × (slice_index_or REASONS k NotShortest ≡ why)
+listed NotShortest = (0, omega arith, refl)
+listed DoesNotFit = (1, omega arith, refl)
+listed LengthForm = (2, omega arith, refl)
+listed TooDeep = (3, omega arith, refl)
+listed TagTooLong = (4, omega arith, refl)
+listed UnknownField = (5, omega arith, refl)
+listed NotDigit = (6, omega arith, refl)
+listed LengthDigit = (7, omega arith, refl)
+
+pub none_named : (r : Bool) (text : List ℕ) → MatchBool r ((k : ℕ) × (k < length REASONS) × HoldsAt (λ (why : Why). why_name why ≡ text) REASONS k) (AllWithin (λ (why : Why). why_name why ≡ text → ⊥) REASONS 0 (length REASONS))
+    → r ≡ false → IsReason text → ⊥
+none_named true text some e is = absurd (false≢true (sym e))
+none_named false text none e (why, is) =
+    let (k, few, at) = listed why in
+    none k NotShortest (omega arith) few (ap why_name at ∙ sym is)

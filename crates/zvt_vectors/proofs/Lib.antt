@@ -1,3 +1,4 @@
 pub mod ClaimLemmas
 pub mod LineLemmas
+mod Rows
 pub mod VectorLemmas

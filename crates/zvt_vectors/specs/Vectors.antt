@@ -1,10 +1,11 @@
 -- What a line of a file of vectors means.
-use Rattle.std.specs.Prelude.{◌≡◌, ◌≢◌, ℕ, ◌<◌, ◌≤◌, ◌⊎◌, List, [], ◌∷◌, ◌++◌, codes, length, IsErr, Result, Ok, Err}
+use Rattle.std.specs.Prelude.{◌≡◌, ◌≢◌, ℕ, ◌-◌, ◌<◌, ◌≤◌, ◌⊎◌, List, [], ◌∷◌, ◌++◌, codes, length, slice_index, IsErr, Result, Ok, Err}
 use Rattle.std.specs.Fmt.{decimal}
 use Rattle.std.specs.List.{All}
 use Rattle.hex.specs.Hex.{decode_of}
 use Rattle.zvt_spelling.specs.Names.{why_name}
 use Rattle.zvt_spelling.specs.Reading.{shortest}
+use Rattle.zvt_spelling.specs.declared.why.Why.{Why}
 use Rattle.zvt_spelling.specs.declared.answer.Scan.{Scan}
 use Rattle.zvt_spelling.specs.declared.answer.Scan.TheVariants.{Whole, More, Refused}
 use Rattle.zvt_apdu.specs.Judging.{Answers}
@@ -33,17 +34,18 @@ pub record AnswersAs (bytes text : List ℕ) : Type 0 where
 abbrev pub IsDigit : ℕ → Type 0
 IsDigit character = (48 ≤ character) × (character ≤ 57)
 
-abbrev pub IsLetter : ℕ → Type 0
-IsLetter character = ((65 ≤ character) × (character ≤ 90)) ⊎ ((97 ≤ character) × (character ≤ 122))
+-- a number in decimal digits: one that begins with 0 has no other digit
+pub record IsNumber (text : List ℕ) : Type 0 where
+  pub some : 0 < length text
+  pub digits : All IsDigit text
+  pub no_zero_first : slice_index text 0 ≡ 48 → length text ≡ 1
 
-abbrev pub IsNumber : List ℕ → Type 0
-IsNumber text = (0 < length text) × All IsDigit text
-
-abbrev pub IsWord : List ℕ → Type 0
-IsWord text = (0 < length text) × All IsLetter text
+-- the name of a reason
+abbrev pub IsReason : List ℕ → Type 0
+IsReason text = (why : Why) × (text ≡ why_name why)
 
 abbrev pub IsRefusal : List ℕ → Type 0
-IsRefusal text = (place : List ℕ) × (reason : List ℕ) × IsNumber place × IsWord reason × (text ≡ place ++ codes ": " ++ reason)
+IsRefusal text = (place : List ℕ) × (reason : List ℕ) × IsNumber place × IsReason reason × (text ≡ place ++ codes ": " ++ reason)
 
 abbrev pub IsClaim : List ℕ → Type 0
 IsClaim text =
@@ -57,10 +59,17 @@ IsClaim text =
 abbrev pub IsOther : ℕ → Type 0
 IsOther character = character ≢ 61
 
--- bytes in hexadecimal, and what is claimed of them, behind the first '=' of the line
+-- text that can spell bytes: there is some, and spaces stand within it alone
+pub record IsSpelling (text : List ℕ) : Type 0 where
+  pub some : 0 < length text
+  pub begins : slice_index text 0 ≢ 32
+  pub ends : slice_index text (length text - 1) ≢ 32
+
+-- bytes in hexadecimal, and what is claimed of them, on both sides of the first '=' of the line
 pub record IsVector (line : List ℕ) (spelled claim : List ℕ) : Type 0 where
-  pub cut : line ≡ spelled ++ codes "= " ++ claim
+  pub cut : line ≡ spelled ++ codes " = " ++ claim
   pub first : All IsOther spelled
+  pub spells : IsSpelling spelled
   pub claims : IsClaim claim
 
 pub data Meaning : Type 0 where

@@ -1,9 +1,23 @@
 //! Texts that have the form of an answer.
 ghost use Rattle.std.specs.Prelude.{◌≡◌, ◌<◌, ◌≤◌, true, false, length, take, slice_index};
 ghost use Rattle.std.specs.List.{All};
-ghost use Rattle.zvt_vectors.specs.Vectors.{IsClaim, IsDigit, IsLetter, IsNumber, IsRefusal, IsWord};
+ghost use Rattle.zvt_vectors.specs.Vectors.{IsClaim, IsDigit, IsNumber, IsReason, IsRefusal};
 
-/// Whether the text is `more`, `whole N` or `refused at P: R`, with numbers N and P and a word R.
+use zvt_spelling::Why;
+
+/// Every reason of a refusal.
+const REASONS: [Why; 8] = [
+    Why::NotShortest,
+    Why::DoesNotFit,
+    Why::LengthForm,
+    Why::TooDeep,
+    Why::TagTooLong,
+    Why::UnknownField,
+    Why::NotDigit,
+    Why::LengthDigit,
+];
+
+/// Whether the text is `more`, `whole N` or `refused at P: R`, with numbers N and P and the name of a reason R.
 pub(crate) fn is_claim(text: &[u8]) -> bool
     ensures yes { result ≡ true → IsClaim text.now }
     ensures no { result ≡ false → IsClaim text.now → ⊥ }
@@ -27,17 +41,20 @@ fn is_refusal(text: &[u8]) -> bool
 {
     let (place, rest) = text.split_at(count_digits(text));
     match rest.strip_prefix(b": ".as_slice()) {
-        Some(reason) => !place.is_empty() && is_word(reason),
+        Some(reason) => is_number(place) && is_reason(reason),
         None => false,
     }
 }
 
-/// Whether the text is decimal digits.
+/// Whether the text is a decimal number without zeros before it.
 fn is_number(text: &[u8]) -> bool
     ensures yes { result ≡ true → IsNumber text.now }
     ensures no { result ≡ false → IsNumber text.now → ⊥ }
 {
-    !text.is_empty() && count_digits(text) == text.len()
+    match text {
+        [] | [b'0', _, ..] => false,
+        _ => count_digits(text) == text.len(),
+    }
 }
 
 /// How many decimal digits stand first.
@@ -53,31 +70,10 @@ fn count_digits(text: &[u8]) -> usize
     count
 }
 
-/// Whether the text is letters.
-fn is_word(text: &[u8]) -> bool
-    ensures yes { result ≡ true → IsWord text.now }
-    ensures no { result ≡ false → IsWord text.now → ⊥ }
+/// Whether the text is the name of a reason.
+fn is_reason(text: &[u8]) -> bool
+    ensures yes { result ≡ true → IsReason text.now }
+    ensures no { result ≡ false → IsReason text.now → ⊥ }
 {
-    !text.is_empty() && count_letters(text) == text.len()
-}
-
-/// How many letters stand first.
-fn count_letters(text: &[u8]) -> usize
-    ensures few { result ≤ length text.now }
-    ensures letters { All IsLetter (take result text.now) }
-    ensures all { result < length text.now → IsLetter (slice_index text.now result) → ⊥ }
-{
-    let mut count = 0;
-    while count < text.len() && is_letter(text[count]) {
-        count += 1;
-    }
-    count
-}
-
-/// Whether the character is a letter.
-fn is_letter(character: u8) -> bool
-    ensures yes { result ≡ true → IsLetter character }
-    ensures no { result ≡ false → IsLetter character → ⊥ }
-{
-    (character >= b'A' && character <= b'Z') || (character >= b'a' && character <= b'z')
+    REASONS.iter().any(|why| why.name().as_bytes() == text)
 }

@@ -1,10 +1,10 @@
 //! One line of a file of vectors.
-ghost use Rattle.std.specs.Prelude.{◌≡◌, ◌<◌, ◌≤◌, ℕ, List, Ok, Err, IfOk, IfSome, IsErr, IsNone, length, slice_index, take};
+ghost use Rattle.std.specs.Prelude.{◌≡◌, ◌<◌, ◌≤◌, ℕ, true, false, List, Ok, Err, IfOk, IfSome, IsErr, IsNone, length, slice_index, take};
 ghost use Rattle.std.specs.List.{All};
 ghost use Rattle.hex.specs.Hex.{decode_of};
 ghost use Rattle.zvt_trace.specs.Meanings.{without_spaces};
 ghost use Rattle.zvt_trace.specs.declared.fault.What.{What};
-ghost use Rattle.zvt_vectors.specs.Vectors.{IsOther, IsVector, Means, meant_by, vector};
+ghost use Rattle.zvt_vectors.specs.Vectors.{IsOther, IsSpelling, IsVector, Means, meant_by, vector};
 
 use crate::claims::is_claim;
 use hex::FromHexError;
@@ -56,12 +56,24 @@ fn cut(line: &[u8]) -> Option<(&[u8], &[u8])>
     ensures some { IfSome result (λ parts. IsVector line.now parts.0.now parts.1.now) }
     ensures none { IsNone result → (spelled claim : List ℕ) → IsVector line.now spelled claim → ⊥ }
 {
-    let (spelled, rest) = line.split_at(count_before(line));
+    let (front, rest) = line.split_at(count_before(line));
+    let spelled = front.strip_suffix(b" ".as_slice())?;
     let claim = rest.strip_prefix(b"= ".as_slice())?;
-    if is_claim(claim) {
+    if is_spelling(spelled) && is_claim(claim) {
         Some((spelled, claim))
     } else {
         None
+    }
+}
+
+/// Whether there is text, and neither its first nor its last character is a space.
+fn is_spelling(text: &[u8]) -> bool
+    ensures yes { result ≡ true → IsSpelling text.now }
+    ensures no { result ≡ false → IsSpelling text.now → ⊥ }
+{
+    match text {
+        [] | [b' ', ..] | [.., b' '] => false,
+        _ => true,
     }
 }
 

@@ -1,5 +1,4 @@
 use Rattle.std.proofs.Common.{◌≡◌, ◌++◌, sym, ◌∙◌, ap, refl, List, ℕ}
-use Rattle.std.specs.String.{string_bytes}
 use Rattle.std.proofs.lemmas.Result.{err_from_is_err_and}
 use Rattle.zvt_vectors.specs.Checked.{got_text}
 use Rattle.zvt_vectors.proofs.VectorLemmas.{line_text, other, right, same, unwritten, wrong}

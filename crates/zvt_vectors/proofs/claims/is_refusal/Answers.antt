@@ -1,30 +1,28 @@
-use Rattle.std.proofs.Common.{◌≡◌, ◌<◌, length, sym, ◌∙◌, subst, rules, arith}
+use Rattle.std.proofs.Common.{sym, ◌∙◌, subst}
 use Rattle.std.proofs.lemmas.Bool.Decides.{Decides-eqb}
 use Rattle.std.proofs.lemmas.Slice.Eq.{strip_prefix_is}
-use Rattle.zvt_vectors.specs.Vectors.{IsWord}
+use Rattle.zvt_vectors.specs.Vectors.{IsReason}
 use Rattle.zvt_vectors.proofs.ClaimLemmas.{found, made, same_front, same_rest}
 use Rattle.zvt_vectors.proofs.claims.is_refusal.Goals as goal
 
-pub returns-then-not-is_empty-clause-yes : goal.returns-then-not-is_empty-clause-yes
-returns-then-not-is_empty-clause-yes c h =
+pub returns-then-is_number-clause-yes : goal.returns-then-is_number-clause-yes
+returns-then-is_number-clause-yes c h =
     let told = rw c.in-Some.is at (strip_prefix_is Decides-eqb c.split_at.result.1.now c.as_slice.result.now c.strip_prefix.result c.strip_prefix.ensures.cases) in
-    let some : 0 < length c.split_at.result.0.now = search rules in
-    made c.args.text.now c.split_at.result.0.now c.split_at.result.1.now c.as_slice.result.now c.in-Some.reason.now c.count_digits.result c.split_at.ensures.front c.split_at.ensures.back c.as_slice.ensures told some c.count_digits.ensures.digits (c.is_word.ensures.yes h)
+    made c.args.text.now c.split_at.result.0.now c.split_at.result.1.now c.as_slice.result.now c.in-Some.reason.now c.count_digits.result c.split_at.ensures.front c.split_at.ensures.back c.as_slice.ensures told (c.is_number.ensures.yes c.if-is_number.true) (c.is_reason.ensures.yes h)
 
-pub returns-then-not-is_empty-clause-no : goal.returns-then-not-is_empty-clause-no
-returns-then-not-is_empty-clause-no c h is =
+pub returns-then-is_number-clause-no : goal.returns-then-is_number-clause-no
+returns-then-is_number-clause-no c h is =
     let told = rw c.in-Some.is at (strip_prefix_is Decides-eqb c.split_at.result.1.now c.as_slice.result.now c.strip_prefix.result c.strip_prefix.ensures.cases) in
-    let f = found c.args.text.now c.split_at.result.1.now c.count_digits.result is c.split_at.ensures.back c.count_digits.ensures.few c.count_digits.ensures.digits c.count_digits.ensures.all in
-    c.is_word.ensures.no h (subst IsWord (sym (same_rest _ _ c.in-Some.reason.now f.reason c.as_slice.ensures (sym told ∙ f.behind))) f.word)
+    let f = found c.args.text.now c.split_at.result.0.now c.split_at.result.1.now c.count_digits.result is c.split_at.ensures.front c.split_at.ensures.back c.count_digits.ensures.few c.count_digits.ensures.digits c.count_digits.ensures.all in
+    c.is_reason.ensures.no h (subst IsReason (sym (same_rest _ _ c.in-Some.reason.now f.reason c.as_slice.ensures (sym told ∙ f.behind))) f.word)
 
-pub returns-else-not-is_empty-clause-no : goal.returns-else-not-is_empty-clause-no
-returns-else-not-is_empty-clause-no c h is =
-    let f = found c.args.text.now c.split_at.result.1.now c.count_digits.result is c.split_at.ensures.back c.count_digits.ensures.few c.count_digits.ensures.digits c.count_digits.ensures.all in
-    let none : length c.split_at.result.0.now ≡ 0 = search rules in
-    omega (arith, none, c.split_at.ensures.front_len, f.some)
+pub returns-else-is_number-clause-no : goal.returns-else-is_number-clause-no
+returns-else-is_number-clause-no c h is =
+    let f = found c.args.text.now c.split_at.result.0.now c.split_at.result.1.now c.count_digits.result is c.split_at.ensures.front c.split_at.ensures.back c.count_digits.ensures.few c.count_digits.ensures.digits c.count_digits.ensures.all in
+    c.is_number.ensures.no h f.number
 
 pub returns-in-None-clause-no : goal.returns-in-None-clause-no
 returns-in-None-clause-no c h is =
     let told = rw c.in-None.is at (strip_prefix_is Decides-eqb c.split_at.result.1.now c.as_slice.result.now c.strip_prefix.result c.strip_prefix.ensures.cases) in
-    let f = found c.args.text.now c.split_at.result.1.now c.count_digits.result is c.split_at.ensures.back c.count_digits.ensures.few c.count_digits.ensures.digits c.count_digits.ensures.all in
+    let f = found c.args.text.now c.split_at.result.0.now c.split_at.result.1.now c.count_digits.result is c.split_at.ensures.front c.split_at.ensures.back c.count_digits.ensures.few c.count_digits.ensures.digits c.count_digits.ensures.all in
     told f.reason (f.behind ∙ sym (same_front _ _ f.reason c.as_slice.ensures))
