@@ -2,13 +2,14 @@
 
 ghost use Rattle.std.specs.Prelude.{◌≢◌, ◌<◌, ◌^◌};
 
-use std::alloc::Global;
+use crate::objects::{show_bytes, shown_objects};
+use std::alloc::{AllocError, Global};
 use std::process::Abort;
 use std::test::Fail;
 use zvt_bcd::{Amount, Currency, Trace};
 use zvt_field::{
-    Field, FieldBody, Fields, PushRefusal, amount, count, currency, only, original, receipt,
-    result, scan, size, trace, write_into,
+    BadField, Field, FieldBody, Fields, PushRefusal, amount, count, currency, only, original,
+    receipt, result, scan, size, trace, write_into,
 };
 use zvt_spelling::Scan;
 use zvt_tlv::{Body, Forest, Tag, Tlv};
@@ -75,6 +76,87 @@ fn fields_that_stand_twice_say_nothing(rt: HostRuntime) {
     assert_eq!(rt; count(&twice, 0x04), 0);
     assert!(rt; trace(&twice).is_none());
     assert!(rt; only(&twice, 0x0B).is_none());
+}
+
+/// Writes a field as its BMP and its content, or its objects.
+fn show_field(alloc: Global, text: &mut String, field: &Field) -> Result<(), AllocError> {
+    let bmp = field.bmp();
+    write!(text, "{bmp:02X}=")?;
+    match field.body() {
+        FieldBody::Bytes(content) => show_bytes(text, content)?,
+        FieldBody::Tree(objects) => {
+            let shown = shown_objects(alloc, objects.objects())?;
+            text.push_str(shown.as_str())?;
+        }
+    }
+    text.push_str(";")
+}
+
+/// What the reader answers.
+fn shown(alloc: Global, answer: &Scan<Fields>) -> Result<String, AllocError> {
+    match answer {
+        Scan::Whole(fields) => {
+            let mut text = String::new(alloc);
+            for field in fields.list() {
+                show_field(alloc, &mut text, field)?;
+            }
+            Ok(text)
+        }
+        Scan::More => String::from_str(alloc, "more"),
+        Scan::Refused { place, why } => format!(in alloc; "{why} at {place}"),
+    }
+}
+
+fn scanned(
+    rt: &impl Abort,
+    alloc: Global,
+    bytes: &[u8],
+    room: usize,
+) -> Result<String, AllocError> {
+    assert!(rt; room < 65_536 && room != 1);
+    let answer = scan(alloc, bytes, room)?;
+    let text = shown(alloc, &answer);
+    drop(answer);
+    text
+}
+
+#[test]
+fn fields_fill_their_room(rt: HostRuntime) -> Result<(), Fail> {
+    let rows: [(&[u8], usize, &str); 12] = [
+        (&[], 0, ""),
+        (&[0x22, 0xF0, 0xF1, 0x55], 4, "22=55;"),
+        (&[0x22, 0xF0, 0xF1], 4, "more"),
+        (&[0x22, 0xF0, 0xF0], 4, "DoesNotFit at 2"),
+        (&[0x3C, 0xF0, 0xF0, 0xF0], 4, "3C=;"),
+        (&[0x06, 0x00], 2, "06=;"),
+        (&[0x06, 0x01], 5, "DoesNotFit at 1"),
+        (&[0x06, 0x03, 0x07, 0x01, 0x41], 5, "06=07=41;;"),
+        (
+            &[0x0B, 0x00, 0x00, 0x17, 0x0B, 0x00, 0x00, 0x17],
+            8,
+            "0B=000017;0B=000017;",
+        ),
+        (
+            &[0x04, 0x00, 0x00, 0x00, 0x00, 0x00, 0x00],
+            7,
+            "04=000000000000;",
+        ),
+        (&[0x87, 0xFF, 0xFF], 3, "87=FFFF;"),
+        (&[0x87, 0xFF, 0xFF, 0xD0], 3, "87=FFFF;"),
+    ];
+    for (bytes, room, wanted) in rows {
+        assert_eq!(rt; scanned(&rt, rt.alloc(), bytes, room)?.as_str(), wanted);
+    }
+    Ok(())
+}
+
+#[test]
+fn bytes_that_are_no_number(rt: HostRuntime) {
+    let zero = [0x04, 0x00, 0x00, 0x00, 0x00, 0x00, 0x00];
+    let fields = read(&rt, rt.alloc(), &zero, 7);
+    assert_eq!(rt; numbers(&fields), (None, None, None, None));
+    let fields = read(&rt, rt.alloc(), &[0x87, 0xFF, 0xFF], 3);
+    assert_eq!(rt; receipt(&fields), Some([0xFF, 0xFF]));
 }
 
 /// The fields that fill a room are written at the front of a buffer as they were read.
@@ -154,5 +236,21 @@ fn a_list_of_many(rt: HostRuntime) -> Result<(), Fail> {
         assert_eq!(rt; comes_back(&rt, &mut fields, next), None);
     }
     assert_eq!(rt; size(&fields), 4_000);
+    Ok(())
+}
+
+/// Why the container of one object with so many bytes of content has no spelling.
+fn fault(alloc: Global, count: usize) -> Result<Option<BadField>, Fail> {
+    match Field::checked(0x06, FieldBody::Tree(forest(alloc, count)?)) {
+        Ok(_) => Ok(None),
+        Err((_, bad)) => Ok(Some(bad)),
+    }
+}
+
+#[test]
+fn a_container_has_as_much_as_a_message_holds(rt: HostRuntime) -> Result<(), Fail> {
+    for (count, wanted) in [(65_527, None), (65_528, Some(BadField::Size))] {
+        assert_eq!(rt; fault(rt.alloc(), count)?, wanted);
+    }
     Ok(())
 }

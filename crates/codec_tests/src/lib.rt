@@ -27,3 +27,5 @@ mod owned;
 mod padded;
 #[cfg(test)]
 mod pieces;
+#[cfg(test)]
+mod rescan;

@@ -3,7 +3,7 @@
 use std::alloc::{AllocError, Global};
 use std::process::Abort;
 use std::test::Fail;
-use zvt_apdu::{Apdu, Message, NoRoom, encode, encode_into, scan, size};
+use zvt_apdu::{Apdu, BadValue, Message, NoRoom, encode, encode_into, scan, size};
 use zvt_field::Fields;
 use zvt_spelling::Scan;
 
@@ -78,13 +78,57 @@ fn puts(
     assert!(rt; *out == *wanted);
 }
 
+/// The message that the bytes spell.
+fn read(rt: &impl Abort, alloc: Global, bytes: &[u8]) -> Result<Apdu, AllocError> {
+    match scan(alloc, bytes)? {
+        Scan::Whole((apdu, _)) => Ok(apdu),
+        _ => panic!(rt; "a message stands first: {bytes:?}"),
+    }
+}
+
 #[test]
-fn a_short_buffer_is_left_alone(rt: HostRuntime) {
-    let Ok(apdu) = Apdu::checked(Message::Completion(Fields::new(rt.alloc()))) else {
-        panic!(rt; "an empty completion has a spelling");
-    };
-    let (mut out, mut short) = ([0x55; 4], [0x55; 2]);
-    puts(&rt, &apdu, &mut out, Ok(3), &[0x06, 0x0F, 0x00, 0x55]);
-    let no_room = Err(NoRoom { need: 3 });
-    puts(&rt, &apdu, &mut short, no_room, &[0x55, 0x55]);
+fn a_short_buffer_is_left_alone(rt: HostRuntime) -> Result<(), Fail> {
+    let payment = [
+        0x06, 0x01, 0x0A, 0x04, 0x00, 0x00, 0x00, 0x00, 0x12, 0x34, 0x49, 0x09, 0x78,
+    ];
+    for bytes in [[0x06, 0x0F, 0x00].as_slice(), &payment] {
+        let apdu = read(&rt, rt.alloc(), bytes)?;
+        let need = bytes.len();
+        let mut short = vec![in rt.alloc(); 0x55; need.saturating_sub(1)]?;
+        let untouched = vec![in rt.alloc(); 0x55; need.saturating_sub(1)]?;
+        puts(&rt, &apdu, &mut short, Err(NoRoom { need }), &untouched);
+        let mut out = vec![in rt.alloc(); 0x55; need]?;
+        puts(&rt, &apdu, &mut out, Ok(need), bytes);
+    }
+    Ok(())
+}
+
+/// Why a message has no spelling.
+fn fault(message: Message) -> Option<BadValue> {
+    match Apdu::checked(message) {
+        Ok(_) => None,
+        Err((_, bad)) => Some(bad),
+    }
+}
+
+#[test]
+fn messages_that_have_no_spelling(rt: HostRuntime) -> Result<(), Fail> {
+    let named = Some(BadValue::NamedControl);
+    let large = Some(BadValue::TooLarge);
+    let rows = [
+        ([0x06, 0x01], 0, named),
+        ([0x84, 0x00], 0, named),
+        ([0x06, 0x02], 65_535, None),
+        ([0x06, 0x02], 65_536, large),
+        ([0x06, 0x01], 65_536, large),
+    ];
+    for (control, count, wanted) in rows {
+        let payload = vec![in rt.alloc(); 0u8; count]?;
+        assert_eq!(rt; fault(Message::Other { control, payload }), wanted);
+    }
+    for (count, wanted) in [(0, None), (65_535, None), (65_536, large)] {
+        let payload = vec![in rt.alloc(); 0u8; count]?;
+        assert_eq!(rt; fault(Message::Ack { payload }), wanted);
+    }
+    Ok(())
 }

@@ -32,7 +32,7 @@ fn show_object(text: &mut String, object: &Tlv) -> Result<(), AllocError> {
     text.push_str(";")
 }
 
-fn show_bytes(text: &mut String, bytes: &[u8]) -> Result<(), AllocError> {
+pub fn show_bytes(text: &mut String, bytes: &[u8]) -> Result<(), AllocError> {
     for &byte in bytes {
         write!(text, "{byte:02X}")?;
     }

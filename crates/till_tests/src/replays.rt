@@ -4,8 +4,8 @@ use std::process::Abort;
 use std::test::Fail;
 use zvt_bcd::{Amount, Currency, Trace};
 use zvt_till::{
-    Cause, CurrencyFact, Entry, Event, Happening, Heard, Order, Original, Outcome, Run, Sent,
-    StatusFacts, replay,
+    Cause, CurrencyFact, Entry, Event, Happening, Heard, Order, OrderRefusal, Original, Outcome,
+    Run, Sent, StatusFacts, replay,
 };
 
 const ACK: [u8; 3] = [0x80, 0x00, 0x00];
@@ -39,6 +39,18 @@ const TAKES_BACK: [u8; 20] = [
 const IN_DOLLARS: [u8; 19] = [
     0x04, 0x0F, 0x10, 0x27, 0x00, 0x04, 0x00, 0x00, 0x00, 0x00, 0x12, 0x34, 0x0B, 0x00, 0x00, 0x17,
     0x49, 0x08, 0x40,
+];
+
+/// An approval of 1234 as number 17, in euros and without a receipt number.
+const IN_EUROS: [u8; 19] = [
+    0x04, 0x0F, 0x10, 0x27, 0x00, 0x04, 0x00, 0x00, 0x00, 0x00, 0x12, 0x34, 0x0B, 0x00, 0x00, 0x17,
+    0x49, 0x09, 0x78,
+];
+
+/// An approval of 1234 as number 18, with the receipt number 6.
+const NEXT_APPROVAL: [u8; 19] = [
+    0x04, 0x0F, 0x10, 0x27, 0x00, 0x04, 0x00, 0x00, 0x00, 0x00, 0x12, 0x34, 0x0B, 0x00, 0x00, 0x18,
+    0x87, 0x00, 0x06,
 ];
 
 /// The price of the payments, in cents.
@@ -126,14 +138,14 @@ fn a_payment_is_booked_once(rt: HostRuntime) -> Result<(), Fail> {
     let book = [entry(&rt, 17, 5)];
     let run = runs(&rt, alloc, &events, &book, &[], paid(&rt, 17, 5))?;
     assert_eq!(rt; run.till.total(), 1234);
-    sends(&rt, alloc, &run)?;
+    let sent: [&[u8]; 7] = [&REGISTRATION, &ACK, &PAYMENT, &ACK, &ACK, &ACK, &ACK];
+    sends(&rt, alloc, &run, &sent)?;
     logs(&rt, &run.log);
     Ok(())
 }
 
-/// The run's till sent a registration and a payment, and acknowledged what came behind each.
-fn sends(rt: &impl Abort, alloc: Global, run: &Run) -> Result<(), Fail> {
-    let messages: [&[u8]; 7] = [&REGISTRATION, &ACK, &PAYMENT, &ACK, &ACK, &ACK, &ACK];
+/// The run's till sent these messages, and nothing else.
+fn sends(rt: &impl Abort, alloc: Global, run: &Run, messages: &[&[u8]]) -> Result<(), Fail> {
     let mut sent = Vec::new(alloc);
     for message in messages {
         sent.extend_from_slice(message)?;
@@ -235,5 +247,66 @@ fn negative_answers(rt: HostRuntime) -> Result<(), Fail> {
     pays(&rt, alloc, &mut events, &messages)?;
     let book = [entry(&rt, 17, 5)];
     runs(&rt, alloc, &events, &book, &[], paid(&rt, 17, 5))?;
+    Ok(())
+}
+
+#[test]
+fn a_trace_number_pays_once(rt: HostRuntime) -> Result<(), Fail> {
+    let alloc = rt.alloc();
+    let book = [entry(&rt, 17, 5), entry(&rt, 18, 6)];
+    let used = Outcome::Unclear(Cause::TraceUsed);
+    let (first, next) = (paid(&rt, 17, 5), paid(&rt, 18, 6));
+    let rows: [(&[u8], &[u8], &[u8], usize, usize, Outcome, u64); 3] = [
+        (&APPROVAL, &APPROVAL, &COMPLETION, 1, 0, first, 1234),
+        (&APPROVAL, &[], &[], 1, 1, used, 1234),
+        (&NEXT_APPROVAL, &[], &[], 2, 1, next, 2468),
+    ];
+    let mut events = Vec::new(alloc);
+    registers(alloc, &mut events)?;
+    for (approval, again, end, booked, unclear, last, total) in rows {
+        let messages: [&[u8]; 5] = [&ACK, approval, again, &COMPLETION, end];
+        pays(&rt, alloc, &mut events, &messages)?;
+        let unclear = &[Cause::TraceUsed][..unclear];
+        let run = runs(&rt, alloc, &events, &book[..booked], unclear, last)?;
+        assert_eq!(rt; run.till.total(), total);
+    }
+    Ok(())
+}
+
+#[test]
+fn an_approval_in_the_currency_of_the_till(rt: HostRuntime) -> Result<(), Fail> {
+    let mut events = Vec::new(rt.alloc());
+    registers(rt.alloc(), &mut events)?;
+    pays(
+        &rt,
+        rt.alloc(),
+        &mut events,
+        &[&ACK, &IN_EUROS, &COMPLETION],
+    )?;
+    let mut row = entry(&rt, 17, 5);
+    row.receipt = None;
+    let last = Outcome::Paid {
+        trace: row.trace,
+        receipt: None,
+    };
+    runs(&rt, rt.alloc(), &events, &[row], &[], last)?;
+    Ok(())
+}
+
+#[test]
+fn nothing_is_paid_on_a_lost_line(rt: HostRuntime) -> Result<(), Fail> {
+    let alloc = rt.alloc();
+    let mut events = Vec::new(alloc);
+    registers(alloc, &mut events)?;
+    pays(&rt, alloc, &mut events, &[&ACK, &APPROVAL[..10]])?;
+    events.push(Event::Lost)?;
+    pays(&rt, alloc, &mut events, &[])?;
+    let lost = Outcome::Unclear(Cause::Line);
+    let mut run = runs(&rt, alloc, &events, &[], &[Cause::Line], lost)?;
+    assert_eq!(rt; run.log.last(), Some(&Happening::Lost));
+    let messages: [&[u8]; 3] = [&REGISTRATION, &ACK, &PAYMENT];
+    sends(&rt, alloc, &run, &messages)?;
+    let refused = run.till.order(Order::Pay(price(&rt)));
+    assert_eq!(rt; refused, Err(OrderRefusal::Offline));
     Ok(())
 }

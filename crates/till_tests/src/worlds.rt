@@ -4,7 +4,7 @@ use std::process::Abort;
 use std::test::Fail;
 use zvt_bcd::{Amount, Currency, Trace};
 use zvt_term::{Move, Row, Verdict, World, run_world};
-use zvt_till::{Cause, Entry, Order};
+use zvt_till::{Cause, Entry, Order, Outcome};
 
 /// A delivery to a terminal that approves.
 const fn to_terminal(index: usize) -> Move {
@@ -98,5 +98,47 @@ fn a_late_approval_is_not_booked_again(rt: HostRuntime) -> Result<(), Fail> {
         world.till.unclear(),
         [(price(&rt), Cause::TraceUsed)].as_slice()
     );
+    Ok(())
+}
+
+/// After the approval these moves leave the payment unclear for want of a line, and this ended last.
+fn breaks(rt: &impl Abort, alloc: Global, rest: &[Move], last: Outcome) -> Result<(), Fail> {
+    let mut moves = approved(rt, alloc)?;
+    moves.extend_from_slice(rest)?;
+    let world = run_world(alloc, moves.as_slice())?;
+    stands(rt, &world, false);
+    assert_eq!(rt; world.till.unclear(), [(price(rt), Cause::Line)].as_slice());
+    assert_eq!(rt; world.till.last_outcome(), Some(last));
+    Ok(())
+}
+
+#[test]
+fn a_line_that_is_lost_behind_an_approval(rt: HostRuntime) -> Result<(), Fail> {
+    // A terminal that knows of the loss takes the next registration; one that does not still prints.
+    let ends: [Move; 1] = [Move::TillLost];
+    let starts_anew = [
+        Move::TillLost,
+        Move::TerminalLost,
+        Move::Connect,
+        Move::Order(Order::Register),
+        to_terminal(3),
+        Move::ToTill(4),
+        Move::ToTill(5),
+    ];
+    let goes_on = [
+        Move::TillLost,
+        Move::Connect,
+        Move::Order(Order::Register),
+        to_terminal(3),
+        Move::ToTill(4),
+    ];
+    let rows: [(&[Move], Outcome); 3] = [
+        (&ends, Outcome::Unclear(Cause::Line)),
+        (&starts_anew, Outcome::Registered),
+        (&goes_on, Outcome::Refused(0x83)),
+    ];
+    for (rest, last) in rows {
+        breaks(&rt, rt.alloc(), rest, last)?;
+    }
     Ok(())
 }
