@@ -9,6 +9,10 @@
  *  - a zvt_till is all zeroes, or what the last call here left in it. It is never copied; it may be moved between calls.
  *    One thread at a time uses it;
  *  - malloc, realloc and free are the program's, and of one allocator.
+ *
+ * What a till on TCP does, in this order: it gives an order, saves the till (zvt_till_save), and only then sends the order's
+ * bytes; it feeds what comes, saves where an outcome is told, and then sends `send` bytes. Set TCP_NODELAY on the socket:
+ * without it the system may hold each acknowledgement back for some 40 ms.
  */
 #ifndef ZVT_H
 #define ZVT_H
@@ -115,13 +119,15 @@ uint32_t zvt_till_new(zvt_till *till, uint32_t password, uint8_t config, uint16_
 void zvt_till_free(zvt_till *till);
 uint32_t zvt_till_connected(zvt_till *till);
 uint32_t zvt_till_lost(zvt_till *till, zvt_step *step);
-/* The number is the amount of ZVT_PAY in cents, or the place in the book, from 0, of ZVT_REVERSE. */
+/* The number is the amount of ZVT_PAY in cents, or the place in the book, from 0, of ZVT_REVERSE. The step has nothing but
+ * `send`; where the answer is not ZVT_OK it has nothing, whatever it had before the call. */
 uint32_t zvt_till_order(zvt_till *till, uint32_t order, uint64_t number, uint8_t *out, size_t out_length, zvt_step *step);
-/* Takes one message. Where it is a print line, its text is not handed out. */
+/* Takes one message. Where it is a print line, its text is not handed out. On ZVT_NO_ROOM, ZVT_CLOSED, ZVT_STOPPED and
+ * ZVT_NO_MEMORY the step has nothing. */
 uint32_t zvt_till_feed(zvt_till *till, const uint8_t *piece, size_t length, uint8_t *out, size_t out_length, zvt_step *step);
 /* Takes all messages of a piece, up to a print line, whose text goes to `line`, or to where `out` has room for fewer than
  * ZVT_ROOM bytes more; feed what was not taken again. Send `step->send` bytes whatever the status is: on ZVT_REFUSED and
- * ZVT_NO_MEMORY the messages before were heard. */
+ * ZVT_NO_MEMORY the messages before were heard. On ZVT_NO_ROOM and ZVT_CLOSED the step has nothing. */
 uint32_t zvt_till_feed_all(zvt_till *till, const uint8_t *piece, size_t length, uint8_t *out, size_t out_length,
                            uint8_t *line, size_t line_length, zvt_step *step);
 uint32_t zvt_till_state(zvt_till *till, zvt_state *state);

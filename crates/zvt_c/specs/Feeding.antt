@@ -74,6 +74,6 @@ pub data FeedsEnd (before : End) (piece : List ℕ) (after : End) (room_before r
 
 -- A handle is fed, and no print line is handed out.
 abbrev pub FeedsHandle : Option End → (piece : List ℕ) → Option End → (room_before room_after : List ℕ) → ZvtStep → (status : ℕ) → Type 0
-FeedsHandle None piece after room_before room_after answer status = (after ≡ None) × (room_after ≡ room_before) × (status ≡ 6)
+FeedsHandle None piece after room_before room_after answer status = (after ≡ None) × (room_after ≡ room_before) × (answer ≡ nothing) × (status ≡ 6)
 FeedsHandle (Some before) piece after room_before room_after answer status =
     (end : End) × (after ≡ Some end) × FeedsEnd before piece end room_before room_after [] [] answer status

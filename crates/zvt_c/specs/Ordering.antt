@@ -12,6 +12,7 @@ use Rattle.zvt_till.specs.Till.{accept, facts_of}
 use Rattle.zvt_till.specs.View.{IsRefusedAs}
 use Rattle.zvt_c.specs.declared.end.End.{End}
 use Rattle.zvt_c.specs.declared.numbers.ZvtStep.{ZvtStep}
+use Rattle.zvt_c.specs.Numbers.{nothing, only_sends}
 
 -- The payment of so much, where it is an amount that a message can hold.
 abbrev pub payment_of : ℕ → Option Order
@@ -34,18 +35,19 @@ status_of AlreadyReversed = 16
 status_of NoReceipt = 17
 status_of Memory = 3
 
--- An order is sent: its message stands at the front of the room, and it runs. Or it is refused, and nothing changes.
+-- An order is sent: its message stands at the front of the room, it runs, and the answer says the message's size alone. Or it is refused:
+-- nothing changes, and the answer is nothing.
 pub data OrdersEnd (before : End) (order : Order) (after : End) (room_before room_after : List ℕ) (answer : ZvtStep) (status : ℕ) : Type 0 where
   sent : (message : Outgoing) → refusal (facts_of before.till.state) order ≡ None → message_of before.till.state.settings before.till.state.book order ≡ Some message
       → after.till.state ≡ accept before.till.state order → after.stream ≡ before.stream
-      → PutsMessage (message_of_brief message.brief) room_before room_after answer.send → status ≡ 0 → OrdersEnd before order after room_before room_after answer status
-  refused : (why : OrderRefusal) → IsRefusedAs (facts_of before.till.state) before.till.spare order why → after ≡ before → room_after ≡ room_before → status ≡ status_of why
+      → PutsMessage (message_of_brief message.brief) room_before room_after answer.send → answer ≡ only_sends answer.send → status ≡ 0 → OrdersEnd before order after room_before room_after answer status
+  refused : (why : OrderRefusal) → IsRefusedAs (facts_of before.till.state) before.till.spare order why → after ≡ before → room_after ≡ room_before → answer ≡ nothing → status ≡ status_of why
       → OrdersEnd before order after room_before room_after answer status
 
--- A handle is given an order by two numbers. Where they name none, or the handle is closed, nothing changes.
+-- A handle is given an order by two numbers. Where they name none, or the handle is closed, nothing changes, and the answer is nothing.
 abbrev pub OrdersHandle : Option End → (kind number : ℕ) → Option End → (room_before room_after : List ℕ) → ZvtStep → (status : ℕ) → Type 0
 OrdersHandle None kind number after room_before room_after answer status =
-    (after ≡ None) × (room_after ≡ room_before) × (status ≡ cond (is_some (order_named kind number)) 6 5)
+    (after ≡ None) × (room_after ≡ room_before) × (answer ≡ nothing) × (status ≡ cond (is_some (order_named kind number)) 6 5)
 OrdersHandle (Some before) kind number after room_before room_after answer status =
-    MatchOption (order_named kind number) ((after ≡ Some before) × (room_after ≡ room_before) × (status ≡ 5))
+    MatchOption (order_named kind number) ((after ≡ Some before) × (room_after ≡ room_before) × (answer ≡ nothing) × (status ≡ 5))
     (λ order. (end : End) × (after ≡ Some end) × OrdersEnd before order end room_before room_after answer status)

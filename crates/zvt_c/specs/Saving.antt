@@ -15,11 +15,15 @@ Written bytes size before after = (size ≡ length bytes) × Writes bytes before
 abbrev pub bare : ℕ → ZvtAnswer
 bare status = record { size = 0; place = 0; reason = 0; status = status }
 
+-- An answer with nothing but a size, of status 0.
+abbrev pub sized : ℕ → ZvtAnswer
+sized size = record { size = size; place = 0; reason = 0; status = 0 }
+
 -- The bytes of the till after its line was lost, which can be loaded; or nothing, where the handle is closed or memory was refused.
 abbrev pub Saves : Option End → (room_before room_after : List ℕ) → ZvtAnswer → Type 0
 Saves None before after answer = (after ≡ before) × (answer ≡ bare 6)
 Saves (Some end) before after answer =
-    ((answer.status ≡ 0) × Written (saved (step end.till.state Lost)) answer.size before after × IsKept (step end.till.state Lost)) ⊎ ((after ≡ before) × (answer ≡ bare 3))
+    ((answer ≡ sized answer.size) × Written (saved (step end.till.state Lost)) answer.size before after × IsKept (step end.till.state Lost)) ⊎ ((after ≡ before) × (answer ≡ bare 3))
 
 -- A till that is saved in these bytes, and a stream at the start of its line.
 abbrev pub Loads : List ℕ → Option End → Type 0

@@ -5,13 +5,13 @@ ghost use Rattle.zvt_till.specs.Till.{step, outcome_at};
 ghost use Rattle.zvt_till.specs.Hearing.{heard_as};
 ghost use Rattle.zvt_c.specs.Feeding.{FeedsEnd, FeedsHandle, Prints, Sends, TellsMessage, replied, status_of_failure};
 ghost use Rattle.zvt_c.specs.FeedingAll.{FeedsAll, FeedsAllHandle, added, goes_on};
-ghost use Rattle.zvt_c.specs.Numbers.{outcome_of, silent};
+ghost use Rattle.zvt_c.specs.Numbers.{nothing, outcome_of, silent};
 
 use crate::answer::reason_code;
 use crate::end::End;
 use crate::handle::ZvtTill;
 use crate::numbers::{ZvtStep, no_step, outcome_numbers};
-use crate::till::write_message;
+use crate::till::{lacks_room, write_message};
 use std::alloc::Global;
 use zvt_apdu::ApduView;
 use zvt_stream::{FedView, FeedError};
@@ -29,11 +29,10 @@ pub extern "C" fn zvt_till_feed(
     out: &mut [u8],
     answer: &mut ZvtStep,
 ) -> u32
-    ensures full { MatchBool (nat_lt (length out.old) 32) ((till.new.shell.held ≡ till.old.shell.held) × (out.new ≡ out.old) × (result ≡ 4))
+    ensures full { MatchBool (nat_lt (length out.old) 32) ((till.new.shell.held ≡ till.old.shell.held) × (out.new ≡ out.old) × (answer.new ≡ nothing) × (result ≡ 4))
         (FeedsHandle till.old.shell.held piece.now till.new.shell.held out.old out.new answer.new result) }
 {
-    *answer = no_step();
-    if out.len() < 32 {
+    if lacks_room(out, answer) {
         return 4;
     }
     let Some(mut end) = till.take(alloc) else {
@@ -56,11 +55,10 @@ pub extern "C" fn zvt_till_feed_all(
     line: &mut [u8],
     answer: &mut ZvtStep,
 ) -> u32
-    ensures { MatchBool (nat_lt (length out.old) 32) ((till.new.shell.held ≡ till.old.shell.held) × (out.new ≡ out.old) × (line.new ≡ line.old) × (result ≡ 4))
+    ensures { MatchBool (nat_lt (length out.old) 32) ((till.new.shell.held ≡ till.old.shell.held) × (out.new ≡ out.old) × (line.new ≡ line.old) × (answer.new ≡ nothing) × (result ≡ 4))
         (FeedsAllHandle till.old.shell.held piece.now till.new.shell.held out.old out.new line.old line.new answer.new result) }
 {
-    *answer = no_step();
-    if out.len() < 32 {
+    if lacks_room(out, answer) {
         return 4;
     }
     let Some(mut end) = till.take(alloc) else {

@@ -1,12 +1,12 @@
-//! The till. Each call answers 0 where it did what it says, else a status, and then nothing changed but the answer's
-//! numbers: 3 out of memory, 4 too little room to write, 5 an argument that names nothing, 6 the handle is closed, 7 the
-//! line brought bytes before that begin no message, 10 to 17 the order is refused.
-ghost use Rattle.std.specs.Prelude.{◌≡◌, ◌≤◌, None, option_map, length, MatchBool, MatchOption, nat_lt, cond, slice_get};
+//! The till. Each call answers 0 where it did what it says, else a status, and then nothing changed, and the step that it
+//! answers, if it answers one, is nothing: 3 out of memory, 4 too little room to write, 5 an argument that names nothing,
+//! 6 the handle is closed, 7 the line brought bytes before that begin no message, 10 to 17 the order is refused.
+ghost use Rattle.std.specs.Prelude.{◌≡◌, ◌≤◌, ◌⊎◌, ◌&&◌, None, option_map, length, MatchBool, MatchOption, nat_le, nat_lt, cond, slice_get};
 ghost use Rattle.zvt_till.specs.Till.{step, outcome_at};
 ghost use Rattle.zvt_apdu.specs.Briefs.{message_of_brief, PutsMessage};
 ghost use Rattle.zvt_stream.specs.StreamState.{at_start};
 ghost use Rattle.zvt_c.specs.States.{state_of, IsNewTill};
-ghost use Rattle.zvt_c.specs.Numbers.{outcome_of, row_of, unclear_row_of, IsStateOf};
+ghost use Rattle.zvt_c.specs.Numbers.{nothing, outcome_of, row_of, silent, unclear_row_of, IsStateOf};
 ghost use Rattle.zvt_c.specs.Ordering.{OrdersEnd, OrdersHandle};
 
 use crate::end::End;
@@ -32,6 +32,7 @@ pub extern "C" fn zvt_till_new(
     currency: u16,
 ) -> u32
     ensures made { result ≡ 0 → IsNewTill password config currency till.new.shell.held }
+    ensures argument { MatchBool (nat_le password 999999 && nat_le currency 9999) ((result ≡ 0) ⊎ (result ≡ 3)) (result ≡ 5) }
     ensures unchanged { (result ≡ 0 → ⊥) → till.new.shell.held ≡ till.old.shell.held }
 {
     let Some(currency) = Currency::new(currency) else {
@@ -69,6 +70,7 @@ pub extern "C" fn zvt_till_free(alloc: Global, till: &mut ZvtTill)
 pub extern "C" fn zvt_till_connected(alloc: Global, till: &mut ZvtTill) -> u32
     ensures state { state_of till.new ≡ option_map (λ state. step state Happening.Connected) (state_of till.old) }
     ensures stream { option_map (λ end. end.stream) till.new.shell.held ≡ option_map (λ _. at_start) till.old.shell.held }
+    ensures said { MatchOption till.old.shell.held (result ≡ 6) (λ _. result ≡ 0) }
 {
     let Some(mut end) = till.take(alloc) else {
         return 6;
@@ -83,7 +85,7 @@ pub extern "C" fn zvt_till_connected(alloc: Global, till: &mut ZvtTill) -> u32
 #[unsafe(no_mangle)]
 pub extern "C" fn zvt_till_lost(alloc: Global, till: &mut ZvtTill, answer: &mut ZvtStep) -> u32
     ensures state { state_of till.new ≡ option_map (λ state. step state Happening.Lost) (state_of till.old) }
-    ensures said { MatchOption till.old.shell.held (result ≡ 6) (λ end. (result ≡ 0) × (answer.new.outcome ≡ outcome_of (outcome_at end.till.state Happening.Lost))) }
+    ensures said { MatchOption till.old.shell.held ((result ≡ 6) × (answer.new ≡ nothing)) (λ end. (result ≡ 0) × (answer.new ≡ silent 0 0 0 (outcome_of (outcome_at end.till.state Happening.Lost)))) }
 {
     *answer = no_step();
     let Some(mut end) = till.take(alloc) else {
@@ -106,6 +108,16 @@ pub(crate) fn write_message(outgoing: &Outgoing, out: &mut [u8]) -> usize
     size
 }
 
+/// Clears the answer, and says whether there is less room than a message may need.
+pub(crate) fn lacks_room(out: &[u8], answer: &mut ZvtStep) -> bool
+    ensures lacks { result ≡ nat_lt (length out.now) 32 }
+    ensures cleared { answer.new ≡ nothing }
+{
+    let lacks = out.len() < 32;
+    *answer = no_step();
+    lacks
+}
+
 /// Gives the till an order. The bytes to send are written to `out`, which is to have room for 32.
 #[unsafe(no_mangle)]
 pub extern "C" fn zvt_till_order(
@@ -116,11 +128,10 @@ pub extern "C" fn zvt_till_order(
     out: &mut [u8],
     answer: &mut ZvtStep,
 ) -> u32
-    ensures { MatchBool (nat_lt (length out.old) 32) ((till.new.shell.held ≡ till.old.shell.held) × (out.new ≡ out.old) × (result ≡ 4))
+    ensures { MatchBool (nat_lt (length out.old) 32) ((till.new.shell.held ≡ till.old.shell.held) × (out.new ≡ out.old) × (answer.new ≡ nothing) × (result ≡ 4))
         (OrdersHandle till.old.shell.held kind number till.new.shell.held out.old out.new answer.new result) }
 {
-    *answer = no_step();
-    if out.len() < 32 {
+    if lacks_room(out, answer) {
         return 4;
     }
     let Some(order) = order_of(kind, number) else {
@@ -134,16 +145,23 @@ pub extern "C" fn zvt_till_order(
     status
 }
 
+/// Gives the till behind a handle an order.
 fn give(end: &mut End, order: Order, out: &mut [u8], answer: &mut ZvtStep) -> u32
     requires { 32 ≤ length out.old }
     ensures { OrdersEnd end.old order end.new out.old out.new answer.new result }
 {
     match end.till.order(order) {
         Ok(outgoing) => {
-            answer.send = write_message(&outgoing, out);
+            *answer = ZvtStep {
+                send: write_message(&outgoing, out),
+                ..no_step()
+            };
             0
         }
-        Err(why) => refusal_status(why),
+        Err(why) => {
+            *answer = no_step();
+            refusal_status(why)
+        }
     }
 }
 
