@@ -5,3 +5,4 @@ pub mod Turns
 pub mod OverTcp
 pub mod Traced
 pub mod ManyTills
+pub mod Gone

@@ -1,6 +1,8 @@
--- Why there is no connection.
+-- Connections, and why there is none.
+use Rattle.std.specs.Prelude.{ℕ}
 use Rattle.std.specs.declared.io.ErrorKind.{ErrorKind}
 use Rattle.std.specs.declared.io.ErrorKind.TheVariants.{AddrInUse, AddrNotAvailable, ConnectionRefused, HostUnreachable, NetworkUnreachable, PermissionDenied, TimedOut}
+use Rattle.zvt_run.specs.declared.connecting.Door.{Door}
 use Rattle.zvt_run.specs.declared.connecting.NetFault.{NetFault}
 use Rattle.zvt_run.specs.declared.connecting.NetFault.TheVariants.{Elsewhere, InUse, NotAllowed, Other, Refused, Silent, Unreachable}
 
@@ -14,3 +16,7 @@ why_of HostUnreachable = Unreachable
 why_of NetworkUnreachable = Unreachable
 why_of TimedOut = Silent
 why_of _ = Other
+
+-- how many connections the door gave
+abbrev pub given_by : Door → ℕ
+given_by door = door.gave.count

@@ -11,4 +11,5 @@ pub mod Settings
 pub mod OverTcp
 pub mod Recording
 pub mod Traced
+pub mod Telling
 pub mod Connecting

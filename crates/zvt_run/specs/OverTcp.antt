@@ -26,7 +26,8 @@ pub record Runs {L : Type 0} (makes : Law L) (begins : L → Type 0) (settings :
   pub plans : Plans ends (words_of ends words) plan
   pub runs : AnswersTraced (RunsPlan makes begins settings plan old new) result
 
--- What a run of these words answers. Where a word names no step or there is no connection nothing is written.
+-- What a run of these words answers. Where a word names no step or there is no connection nothing is written. The words are
+-- read first: there is no connection only where each of them names a step.
 abbrev pub AnswersRun : {L : Type 0} → Law L → (L → Type 0) → Settings → Ends → List (List ℕ) → (old new : Option (List ℕ)) → Result Unit EndFault → Type 0
 AnswersRun makes begins settings ends words old new (Ok done) = Runs makes begins settings ends words old new (Ok done)
 AnswersRun makes begins settings ends words old new (Err (LineBroke fault)) = Runs makes begins settings ends words old new (Err (LineBroke fault))
@@ -34,4 +35,4 @@ AnswersRun makes begins settings ends words old new (Err Trace) = Runs makes beg
 AnswersRun makes begins settings ends words old new (Err Write) = Runs makes begins settings ends words old new (Err Write)
 AnswersRun makes begins settings ends words old new (Err Memory) = Keeps old new ⊎ Runs makes begins settings ends words old new (Err Memory)
 AnswersRun makes begins settings ends words old new (Err (BadStep at)) = StopsAt ends (words_of ends words) at × Keeps old new
-AnswersRun makes begins settings ends words old new (Err (Net why)) = Keeps old new
+AnswersRun makes begins settings ends words old new (Err (Net why)) = (plan : List Planned) × Plans ends (words_of ends words) plan × Keeps old new

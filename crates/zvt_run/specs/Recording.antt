@@ -1,5 +1,5 @@
 -- What a device that is recorded writes to its trace.
-use Rattle.std.specs.Prelude.{◌≡◌, ◌⊎◌, ℕ, Bool, true, false, List, ◌∷◌, ◌++◌, [], codes, take, Option, Result, Ok, Err}
+use Rattle.std.specs.Prelude.{◌≡◌, ◌⊎◌, ◌+◌, ℕ, Bool, true, false, List, ◌∷◌, ◌++◌, [], codes, take, Option, Result, Ok, Err}
 use Rattle.std.specs.Io.KnownBytes.{Appends}
 use Rattle.hex.specs.Hex.{encode_upper}
 use Rattle.zvt_io.specs.Devices.{IsFront}
@@ -29,3 +29,8 @@ RecordsRead way was is old new (Err failed) buffer = (is ≡ was) × (new ≡ ol
 abbrev pub RecordsWrite : {E : Type 0} → Way → (is : Bool) → (old new : Option (List ℕ)) → Result Unit E → List ℕ → Type 0
 RecordsWrite way is old new (Ok done) bytes = (is ≡ false) × Recorded way bytes is old new
 RecordsWrite way is old new (Err failed) bytes = Recorded way bytes is old new
+
+-- A trace was ended. It lacks something where it lacked a piece before or its end could not be written, and else has its end.
+abbrev pub EndsTrace : (lacked : Bool) → (old new : Option (List ℕ)) → (failures_before failures_after : ℕ) → (lacks : Bool) → Type 0
+EndsTrace lacked old new before after true = (lacked ≡ true) ⊎ (after ≡ before + 1)
+EndsTrace lacked old new before after false = (lacked ≡ false) × (after ≡ before) × Appends old new (codes "!" ++ 10 ∷ [])

@@ -1,5 +1,5 @@
 -- What a simulated terminal does on its connections.
-use Rattle.std.specs.Prelude.{◌≡◌, ◌≢◌, ◌≤◌, ℕ, List, [], ◌∷◌, length, Option, Some, None, Result, Ok, Err}
+use Rattle.std.specs.Prelude.{◌≡◌, ◌≢◌, ◌≤◌, ◌+◌, ℕ, List, [], ◌∷◌, length, Option, Some, None, Result, Ok, Err}
 use Rattle.zvt_spelling.specs.Reading.{Reading}
 use Rattle.zvt_stream.specs.StreamState.{start_in}
 use Rattle.zvt_stream.specs.declared.line.LineFault.{LineFault}
@@ -76,6 +76,16 @@ AnswersTills r count old new (Err Trace) = ServesSome r count old new
 AnswersTills r count old new (Err (BadStep at)) = ⊥
 AnswersTills r count old new (Err Write) = ⊥
 AnswersTills r count old new (Err Memory) = ServesSome r count old new
+
+-- The connections that were taken meanwhile: one for each till where all were served, and else no more than that.
+abbrev pub TakesTills : (count before after : ℕ) → Result Unit EndFault → Type 0
+TakesTills count before after (Ok done) = after ≡ before + count
+TakesTills count before after (Err (LineBroke fault)) = after ≡ before + count
+TakesTills count before after (Err (Net why)) = after ≤ before + count
+TakesTills count before after (Err Trace) = after ≤ before + count
+TakesTills count before after (Err (BadStep at)) = ⊥
+TakesTills count before after (Err Write) = ⊥
+TakesTills count before after (Err Memory) = after ≤ before + count
 
 -- by a new terminal of this number and verdict
 abbrev pub AnswersService : Reading → ℕ → ℕ → Verdict → Result Unit EndFault → Type 0

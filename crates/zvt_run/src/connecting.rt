@@ -1,13 +1,15 @@
 //! Sockets, and why there are none.
-ghost use Rattle.std.specs.Prelude.{◌≡◌};
+ghost use Rattle.std.specs.Prelude.{◌≡◌, ◌+◌, IfOk, MatchResult};
+ghost use Rattle.std.specs.Duration.{as_nanos};
 ghost use Rattle.std.specs.IoError.{error_kind};
-ghost use Rattle.zvt_run.specs.Connecting.{why_of};
+ghost use Rattle.zvt_run.specs.Connecting.{given_by, why_of};
 
 use std::io;
 use std::io::ErrorKind;
 use std::net::{HostAddrs, Net, TcpListener, TcpStream, ToSocketAddrs};
 use std::time::Duration;
 use thiserror::Error;
+use zvt_io::GhostCount;
 
 /// For so many seconds a till waits: to be connected, for each read and for each write. A terminal that is silent for
 /// longer counts as a read that failed.
@@ -90,7 +92,7 @@ where
 {
     let mut last = io::Error::from(ErrorKind::NotFound);
     for address in addresses {
-        match TcpStream::connect_timeout(rt, &address, Duration::from_secs(SILENCE_SECONDS)) {
+        match TcpStream::connect_timeout(rt, &address, silence()) {
             Ok(end) => {
                 limit(&end)?;
                 return Ok(end);
@@ -101,12 +103,50 @@ where
     Err(last)
 }
 
+/// Where tills come in. Contracts see how many connections it gave.
+#[derive(Drop)]
+pub(crate) struct Door {
+    pub(crate) listener: TcpListener,
+    gave: GhostCount,
+}
+
+impl Door {
+    ghost use Rattle.zvt_run.specs.Connecting.{given_by};
+
+    /// The door of this listener, which gave none yet.
+    pub(crate) fn of(listener: TcpListener) -> Door
+        ensures { given_by result ≡ 0 }
+    {
+        Door {
+            listener,
+            gave: GhostCount::zero(),
+        }
+    }
+
+    /// The terminal's end of the next connection, for which it waits as long as it takes.
+    pub(crate) fn next(&mut self) -> Result<TcpStream, NetFault>
+        ensures { MatchResult result (λ _. given_by self.new ≡ given_by self.old + 1) (λ _. given_by self.new ≡ given_by self.old) }
+    {
+        match accept_next(&self.listener) {
+            Ok(end) => {
+                self.gave = self.gave.next();
+                Ok(end)
+            }
+            Err(error) => Err(why(&error)),
+        }
+    }
+}
+
 /// Listens at this port of this host, where port 0 is a free one.
-pub(crate) fn listen<R>(rt: &R, host: &str, port: u16) -> Result<TcpListener, NetFault>
+pub(crate) fn listen<R>(rt: &R, host: &str, port: u16) -> Result<Door, NetFault>
 where
     R: Net<Listener = TcpListener, Stream = TcpStream>,
+    ensures { IfOk result (λ door. given_by door ≡ 0) }
 {
-    listen_at(rt, addresses(rt, host, port)?).map_err(|error| why(&error))
+    match listen_at(rt, addresses(rt, host, port)?) {
+        Ok(listener) => Ok(Door::of(listener)),
+        Err(error) => Err(why(&error)),
+    }
 }
 
 /// At the first of these addresses at which that can be done.
@@ -124,11 +164,6 @@ where
     Err(last)
 }
 
-/// The terminal's end of the next connection, for which it waits as long as it takes.
-pub(crate) fn accept(listener: &TcpListener) -> Result<TcpStream, NetFault> {
-    accept_next(listener).map_err(|error| why(&error))
-}
-
 fn accept_next(listener: &TcpListener) -> io::Result<TcpStream> {
     let (end, _) = listener.accept()?;
     end.set_nodelay(true)?;
@@ -143,10 +178,16 @@ fn addresses<R: Net>(rt: &R, host: &str, port: u16) -> Result<HostAddrs, NetFaul
     }
 }
 
+/// How long a till waits.
+fn silence() -> Duration
+    ensures { as_nanos result ≡ 60_000_000_000 }
+{
+    Duration::from_secs(SILENCE_SECONDS)
+}
+
 /// Small messages go out at once, and no read or write waits for longer than the silence.
 fn limit(end: &TcpStream) -> io::Result<()> {
-    let silence = Some(Duration::from_secs(SILENCE_SECONDS));
     end.set_nodelay(true)?;
-    end.set_read_timeout(silence)?;
-    end.set_write_timeout(silence)
+    end.set_read_timeout(Some(silence()))?;
+    end.set_write_timeout(Some(silence()))
 }

@@ -16,6 +16,7 @@ mod service;
 mod settings;
 mod steps;
 mod tcp;
+mod telling;
 mod till_end;
 mod words;
 

@@ -1,7 +1,7 @@
 //! Devices that write what goes through them to a trace.
 ghost use Rattle.std.specs.Prelude.{◌≡◌, ◌++◌, ◌∷◌, [], codes, IfOk, OnOk, false, true};
 ghost use Rattle.zvt_io.specs.Devices.{CountsFailure, Reads, Writes};
-ghost use Rattle.zvt_run.specs.Recording.{RecordsRead, RecordsWrite, piece_text, sign_of};
+ghost use Rattle.zvt_run.specs.Recording.{EndsTrace, RecordsRead, RecordsWrite, piece_text, sign_of};
 
 use std::alloc::{AllocError, Global};
 use zvt_io::{Failed, GhostCount, Sink, Source};
@@ -155,4 +155,12 @@ pub fn end_trace<T: Sink>(trace: &mut T) -> Result<(), Failed>
     ensures failures { CountsFailure (T.failures trace.old) (T.failures trace.new) result }
 {
     trace.write_all(b"!\n")
+}
+
+/// Ends a trace, which lacks a piece already or does not, and answers whether it lacks something: a piece, or its end.
+pub(crate) fn ends_lacking<T: Sink>(lacks: bool, trace: &mut T) -> bool
+    ensures { EndsTrace lacks (T.written trace.old) (T.written trace.new) (T.failures trace.old) (T.failures trace.new) result }
+{
+    let ended = end_trace(trace);
+    lacks || ended.is_err()
 }

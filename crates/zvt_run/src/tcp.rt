@@ -1,23 +1,25 @@
 //! Runs over TCP.
-ghost use Rattle.std.specs.Prelude.{◌≡◌, ◌<◌, ◌≤◌, Err, IfOk, map};
+ghost use Rattle.std.specs.Prelude.{◌≡◌, ◌<◌, ◌≤◌, ◌||◌, true, false, Err, IfOk, map};
 ghost use Rattle.zvt_run.specs.BothEnds.{BeginsHere, MakesHereBy};
 ghost use Rattle.zvt_stream.specs.StreamState.{at_start, start_in};
 ghost use Rattle.zvt_tlv.specs.Lengths.{reading_of};
 ghost use Rattle.zvt_till.specs.Events.{run_settings};
 ghost use Rattle.zvt_run.specs.OverTcp.{AnswersRun};
 ghost use Rattle.zvt_run.specs.Settings.{settings_of};
-ghost use Rattle.zvt_run.specs.Service.{AnswersService, AnswersTill, AnswersTills, IsOffline};
+ghost use Rattle.zvt_run.specs.Connecting.{given_by};
+ghost use Rattle.zvt_run.specs.Service.{AnswersService, AnswersTill, AnswersTills, IsOffline, TakesTills};
 ghost use Rattle.zvt_run.specs.TillEnd.{BeginsThere, MakesThere};
 ghost use Rattle.zvt_term.specs.Terminal.{new_terminal};
 
 use crate::both_ends::{BothEnds, run_both_ends};
-use crate::connecting::{accept, both_ends, connect, listen};
+use crate::connecting::{Door, both_ends, connect, listen};
 use crate::fault::{EndFault, by_trace};
 use crate::line_end::End;
 use crate::plans::{Planned, plan};
-use crate::recording::{Recorded, Way, end_trace};
+use crate::recording::{Recorded, Way, ends_lacking};
 use crate::service::serve;
 use crate::settings::TillSettings;
+use crate::telling::{tell_address, tell_ledger};
 use crate::till_end::run_till_end;
 use crate::words::Ends;
 use std::alloc::{AllocError, Global};
@@ -57,14 +59,7 @@ where
             run_both_ends(alloc, &mut line, &usual, plan, writer)
         }
         Some(file) => {
-            let till = recorded_end(
-                alloc,
-                &till_end,
-                Lengths::Shortest,
-                Way::FromTerminal,
-                Way::FromTill,
-                file,
-            )?;
+            let till = recorded_till_end(alloc, &till_end, Lengths::Shortest, file)?;
             let mut line = both_ends_of(alloc, till, &terminal_end);
             let answer = run_both_ends(alloc, &mut line, &usual, plan, writer);
             by_trace(is_broken(&line.till, file), answer)
@@ -123,14 +118,7 @@ where
             run_till_end(alloc, &mut line, settings, plan.as_slice(), writer)
         }
         Some(file) => {
-            let mut line = recorded_end(
-                alloc,
-                &end,
-                lengths,
-                Way::FromTerminal,
-                Way::FromTill,
-                file,
-            )?;
+            let mut line = recorded_till_end(alloc, &end, lengths, file)?;
             let answer = run_till_end(alloc, &mut line, settings, plan.as_slice(), writer);
             by_trace(is_broken(&line, file), answer)
         }
@@ -164,18 +152,18 @@ where
     requires { tid ≤ 99999999 }
     ensures { AnswersService (reading_of lengths) connections tid verdict result }
 {
-    let listener = match listen(rt, host, port) {
-        Ok(listener) => listener,
+    let mut door = match listen(rt, host, port) {
+        Ok(door) => door,
         Err(why) => return Err(EndFault::Net(why)),
     };
-    tell_address(alloc, &listener, tell)?;
+    tell_address(alloc, &door.listener, tell)?;
     let mut served = Served {
         terminal: Terminal::new(alloc, tid),
         verdict,
     };
     serve_tills(
         alloc,
-        &listener,
+        &mut door,
         lengths,
         connections,
         &mut served,
@@ -184,10 +172,10 @@ where
     )
 }
 
-/// Serves so many tills one after another.
+/// Serves so many tills one after another, each on a connection of its own.
 fn serve_tills<W: Sink>(
     alloc: Global,
-    listener: &TcpListener,
+    door: &mut Door,
     lengths: Lengths,
     connections: u16,
     served: &mut Served,
@@ -195,11 +183,12 @@ fn serve_tills<W: Sink>(
     tell: &mut W,
 ) -> Result<(), EndFault>
     requires { IsOffline served.old.terminal }
-    ensures { AnswersTills (reading_of lengths) connections served.old served.new result }
+    ensures served { AnswersTills (reading_of lengths) connections served.old served.new result }
+    ensures taken { TakesTills connections (given_by door.old) (given_by door.new) result }
 {
     let mut first = None;
     'tills: for gone in 0..connections {
-        let connection = accept(listener).map_err(EndFault::Net)?;
+        let connection = door.next().map_err(EndFault::Net)?;
         let broke = serve_till(alloc, &connection, lengths, served, trace)?;
         tell_ledger(alloc, gone + 1, broke, &served.terminal, tell)?;
         if first.is_none() {
@@ -227,14 +216,7 @@ fn serve_till(
     let Some(file) = trace else {
         return Ok(serve(alloc, &mut plain_end(alloc, connection, lengths), served).err());
     };
-    let mut end = recorded_end(
-        alloc,
-        connection,
-        lengths,
-        Way::FromTill,
-        Way::FromTerminal,
-        file,
-    )?;
+    let mut end = recorded_terminal_end(alloc, connection, lengths, file)?;
     let broke = serve(alloc, &mut end, served).err();
     if is_broken(&end, file) {
         return Err(EndFault::Trace);
@@ -262,7 +244,47 @@ fn plain_end<'a>(alloc: Global, connection: &'a TcpStream, lengths: Lengths) -> 
     }
 }
 
-/// The same, whose reads and writes go these ways in its trace.
+/// The till's end at its start, with its trace: what is read comes from the terminal, and what is written from the till.
+fn recorded_till_end<'a>(
+    alloc: Global,
+    connection: &'a TcpStream,
+    lengths: Lengths,
+    trace: &'a File,
+) -> Result<RecordedEnd<'a>, AllocError>
+    ensures start { IfOk result (λ end. end.stream ≡ start_in (reading_of lengths)) }
+    ensures ways { IfOk result (λ end. (end.reader.way ≡ Way.FromTerminal) × (end.writer.way ≡ Way.FromTill)) }
+{
+    recorded_end(
+        alloc,
+        connection,
+        lengths,
+        Way::FromTerminal,
+        Way::FromTill,
+        trace,
+    )
+}
+
+/// The terminal's end at its start, with its trace: what is read comes from the till, and what is written from the terminal.
+fn recorded_terminal_end<'a>(
+    alloc: Global,
+    connection: &'a TcpStream,
+    lengths: Lengths,
+    trace: &'a File,
+) -> Result<RecordedEnd<'a>, AllocError>
+    ensures start { IfOk result (λ end. end.stream ≡ start_in (reading_of lengths)) }
+    ensures ways { IfOk result (λ end. (end.reader.way ≡ Way.FromTill) × (end.writer.way ≡ Way.FromTerminal)) }
+{
+    recorded_end(
+        alloc,
+        connection,
+        lengths,
+        Way::FromTill,
+        Way::FromTerminal,
+        trace,
+    )
+}
+
+/// An end of a line at its start, whose reads and writes go these ways in its trace, which lacks nothing yet.
 fn recorded_end<'a>(
     alloc: Global,
     connection: &'a TcpStream,
@@ -271,7 +293,9 @@ fn recorded_end<'a>(
     written: Way,
     trace: &'a File,
 ) -> Result<RecordedEnd<'a>, AllocError>
-    ensures { IfOk result (λ end. end.stream ≡ start_in (reading_of lengths)) }
+    ensures start { IfOk result (λ end. end.stream ≡ start_in (reading_of lengths)) }
+    ensures ways { IfOk result (λ end. (end.reader.way ≡ read) × (end.writer.way ≡ written)) }
+    ensures whole { IfOk result (λ end. (end.reader.broken ≡ false) × (end.writer.broken ≡ false)) }
 {
     let trace_of_reads = Over::new(trace);
     let trace_of_writes = Over::new(trace);
@@ -282,47 +306,11 @@ fn recorded_end<'a>(
     })
 }
 
-/// Ends the trace of the line, and answers whether some of it could not be written.
-fn is_broken(end: &RecordedEnd<'_>, trace: &File) -> bool {
-    let ended = end_trace(&mut Over::new(trace));
-    end.reader.broken || end.writer.broken || ended.is_err()
-}
-
-/// Tells where the terminal listens. That its device fails is no fault of the service.
-fn tell_address<W: Sink>(
-    alloc: Global,
-    listener: &TcpListener,
-    tell: &mut W,
-) -> Result<(), AllocError> {
-    let Ok(address) = listener.local_addr() else {
-        return Ok(());
-    };
-    let text = format!(in alloc; "zvt: a terminal listens at {address}\n")?;
-    let _ = tell.write_all(text.as_bytes());
-    Ok(())
-}
-
-/// Tells that the till of this number has gone, how its line broke, if it did, and how many approvals the terminal's
-/// ledger has.
-fn tell_ledger<W: Sink>(
-    alloc: Global,
-    till: u16,
-    broke: Option<LineFault>,
-    terminal: &Terminal,
-    tell: &mut W,
-) -> Result<(), AllocError> {
-    let rows = terminal.ledger().iter();
-    let approvals = rows.filter(|row| row.reverses.is_none()).count();
-    let text = match broke {
-        None => {
-            format!(in alloc; "zvt: till {till} has gone; approvals in the ledger: {approvals}\n")?
-        }
-        Some(fault) => {
-            format!(in alloc;
-                "zvt: the line of till {till} broke: {fault}; approvals in the ledger: {approvals}\n"
-            )?
-        }
-    };
-    let _ = tell.write_all(text.as_bytes());
-    Ok(())
+/// Ends the trace of the line, and answers whether it lacks something: a piece that was read, one that was to be written,
+/// or its end.
+fn is_broken(end: &RecordedEnd<'_>, trace: &File) -> bool
+    ensures { (end.now.reader.broken || end.now.writer.broken) ≡ true → result ≡ true }
+{
+    let lacks = end.reader.broken || end.writer.broken;
+    ends_lacking(lacks, &mut Over::new(trace))
 }

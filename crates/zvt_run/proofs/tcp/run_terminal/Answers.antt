@@ -17,4 +17,4 @@ returns-in_err-tell_address g c =
 
 pub returns : goal.returns
 returns g c =
-    subst (λ (t : TerminalState). (new : Served) × AnswersTills (reading_of c.args.lengths) c.args.connections (record { terminal = t; verdict = c.args.verdict }) new c.serve_tills.result) c.new.ensures (c.serve_tills.new.served, c.serve_tills.ensures)
+    subst (λ (t : TerminalState). (new : Served) × AnswersTills (reading_of c.args.lengths) c.args.connections (record { terminal = t; verdict = c.args.verdict }) new c.serve_tills.result) c.new.ensures (c.serve_tills.new.served, c.serve_tills.ensures.served)

@@ -1,4 +1,6 @@
+use Rattle.std.proofs.Common.{◌≡◌, ◌+◌}
 use Rattle.zvt_tlv.specs.Lengths.{reading_of}
+use Rattle.zvt_run.specs.Connecting.{given_by}
 use Rattle.zvt_run.specs.Service.{IsOffline, ServesMany}
 use Rattle.zvt_run.proofs.tcp.serve_tills.Given as goal
 
@@ -6,4 +8,5 @@ abbrev pub invariant-tills : goal.invariant-tills
 invariant-tills g l = record {
   served : ServesMany (reading_of l.lengths) l.gone l.first l.fn.served l.served;
   offline : IsOffline l.served.terminal;
+  taken : given_by l.door ≡ given_by l.fn.door + l.gone;
 }

@@ -1,0 +1,30 @@
+-- What is told of a terminal.
+use Rattle.std.specs.Prelude.{◌≡◌, ◌⊎◌, ◌+◌, ℕ, List, [], ◌∷◌, ◌++◌, codes, count_by, is_none, Option, Some, None}
+use Rattle.std.specs.Fmt.{decimal}
+use Rattle.std.specs.Io.KnownBytes.{Appends}
+use Rattle.zvt_io.specs.Devices.{IsFront}
+use Rattle.zvt_stream.specs.declared.line.LineFault.{LineFault}
+use Rattle.zvt_term.specs.declared.ledger.Row.{Row}
+
+-- the rows that approve a payment; the others take one back
+abbrev pub approvals : List Row → ℕ
+approvals rows = count_by (λ row. is_none row.reverses) rows
+
+-- how many approvals the ledger has
+abbrev pub ledger_text : ℕ → List ℕ
+ledger_text approved = codes "; approvals in the ledger: " ++ decimal approved ++ 10 ∷ []
+
+-- It is said behind other text that a till has gone: its number, and why its line broke, if it did.
+abbrev pub SaysGone : (till : ℕ) → Option LineFault → (old new : List ℕ) → Type 0
+SaysGone till None old new = new ≡ old ++ codes "zvt: till " ++ decimal till ++ codes " has gone"
+SaysGone till (Some fault) old new = (why : List ℕ) × (new ≡ old ++ codes "zvt: the line of till " ++ decimal till ++ codes " broke: " ++ why)
+
+-- The text was written, or a front of it where the device failed.
+abbrev pub Tells : List ℕ → (old new : Option (List ℕ)) → (failures_before failures_after : ℕ) → Type 0
+Tells text old new before after = ((after ≡ before) × Appends old new text) ⊎ ((after ≡ before + 1) × (part : List ℕ) × IsFront part text × Appends old new part)
+
+-- The line of a till that has gone was told, with the number of approvals.
+pub record TellsGone (till : ℕ) (broke : Option LineFault) (approved : ℕ) (old new : Option (List ℕ)) (failures_before failures_after : ℕ) : Type 0 where
+  pub gone : List ℕ
+  pub says : SaysGone till broke [] gone
+  pub tells : Tells (gone ++ ledger_text approved) old new failures_before failures_after
