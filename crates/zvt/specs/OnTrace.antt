@@ -1,5 +1,5 @@
 -- What the commands on a trace answer.
-use Rattle.std.specs.Prelude.{◌≡◌, ℕ, Bool, List, [], Option, None, Some, Result, Ok, Err, codes}
+use Rattle.std.specs.Prelude.{◌≡◌, ℕ, List, [], Option, None, Some, Result, Ok, Err, codes}
 use Rattle.std.specs.Str.Lines.{lines}
 use Rattle.zvt_spelling.specs.Reading.{Reading, padded, reading, shortest}
 use Rattle.zvt_choice.specs.declared.chosen.Choice.{Choice}

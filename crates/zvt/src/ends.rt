@@ -6,23 +6,12 @@ ghost use Rattle.zvt.specs.OneEnd.{IsTill};
 
 use crate::finish::finish_run;
 use crate::output::Output;
+use crate::settings::{SettingWords, settings, verdict};
 use crate::statuses::{DEVICE, WORDS};
 use std::fs::File;
 use std::io;
 use zvt_io::Over;
-use zvt_term::Verdict;
-use zvt_tool::{
-    Choice, Ends, Lengths, TillSettings, config_of, currency_of, password_of, plan, result_code,
-    run_loop, run_terminal, run_till,
-};
-
-/// The words that a till's settings were given by.
-#[derive(Clone, Copy)]
-struct SettingWords<'a> {
-    password: Option<&'a str>,
-    config: Option<&'a str>,
-    currency: Option<&'a str>,
-}
+use zvt_tool::{Choice, Ends, Lengths, plan, run_loop, run_terminal, run_till};
 
 /// The lengths that are read where a command is loose, or is not.
 pub fn lengths(loose: bool) -> Lengths
@@ -149,48 +138,6 @@ pub fn terminal(
         &mut tell,
     );
     finish_run(rt, &[], false, answer)
-}
-
-/// What a terminal says of payments: that it declines them with the code that the word names, or approves where there is no
-/// word. A wrong word is said.
-fn verdict(rt: &HostRuntime, decline: Option<&str>) -> io::Result<Option<Verdict>> {
-    let Some(word) = decline else {
-        return Ok(Some(Verdict::Approve));
-    };
-    let Some(code) = result_code(word) else {
-        eprintln!(rt;
-            "zvt: '{word}' is no code to decline with: two hexadecimal digits, not 00, as 6C"
-        )?;
-        return Ok(None);
-    };
-    Ok(Some(Verdict::Decline(code)))
-}
-
-/// The settings that the words name, and the usual ones for those that are not given. A wrong word is said.
-fn settings(rt: &HostRuntime, words: &SettingWords<'_>) -> io::Result<Option<TillSettings>> {
-    let mut settings = TillSettings::usual();
-    if let Some(word) = words.password {
-        let Some(password) = password_of(word) else {
-            eprintln!(rt; "zvt: '{word}' is no password: six decimal digits, as 000000")?;
-            return Ok(None);
-        };
-        settings.password = password;
-    }
-    if let Some(word) = words.config {
-        let Some(config) = config_of(word) else {
-            eprintln!(rt; "zvt: '{word}' is no configuration byte: two hexadecimal digits, as BE")?;
-            return Ok(None);
-        };
-        settings.config = config;
-    }
-    if let Some(word) = words.currency {
-        let Some(currency) = currency_of(word) else {
-            eprintln!(rt; "zvt: '{word}' is no currency: four decimal digits, as 0978")?;
-            return Ok(None);
-        };
-        settings.currency = currency;
-    }
-    Ok(Some(settings))
 }
 
 /// The file that a run's trace goes to, if one is asked for. It is left as it was where a step is wrong.

@@ -11,6 +11,7 @@ mod inputs;
 mod notes;
 mod on_trace;
 mod output;
+mod settings;
 mod statuses;
 
 use crate::ends::lengths;

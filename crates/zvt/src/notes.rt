@@ -1,6 +1,8 @@
 //! What is said of a trace on standard error.
-ghost use Rattle.std.specs.Prelude.{◌≤◌, length};
+ghost use Rattle.std.specs.Prelude.{◌≡◌, ◌≤◌, length};
+ghost use Rattle.zvt_tlv.specs.Lengths.{reading_of};
 ghost use Rattle.zvt_trace.specs.Written.{limit};
+ghost use Rattle.zvt.specs.Notes.{lengths_of, scope_of, unread_line};
 
 use crate::ends::lengths;
 use crate::finish::say;
@@ -45,7 +47,9 @@ pub fn say_notes(
 }
 
 /// The line of the trace, counted from 1, that can't be read, if that is why the command ended.
-pub fn unread_line(chosen: &Choice<'_>, answer: &Result<Found, TraceFault>) -> Option<u64> {
+pub fn unread_line(chosen: &Choice<'_>, answer: &Result<Found, TraceFault>) -> Option<u64>
+    ensures { result ≡ unread_line chosen.now answer.now }
+{
     match answer {
         Err(TraceFault::Trace { line, .. }) if scope_of(chosen).is_some() => Some(*line),
         _ => None,
@@ -64,7 +68,9 @@ pub fn say_hint(rt: &HostRuntime, trace: &[u8], line: Option<u64>) -> io::Result
 }
 
 /// What a refusal leaves unread under the command, if it reads messages of a line.
-fn scope_of(chosen: &Choice<'_>) -> Option<Scope> {
+fn scope_of(chosen: &Choice<'_>) -> Option<Scope>
+    ensures { result ≡ scope_of chosen.now }
+{
     match chosen {
         Choice::Show { .. }
         | Choice::Join { .. }
@@ -76,7 +82,9 @@ fn scope_of(chosen: &Choice<'_>) -> Option<Scope> {
 }
 
 /// The lengths that the command reads.
-fn lengths_of(chosen: &Choice<'_>) -> Lengths {
+fn lengths_of(chosen: &Choice<'_>) -> Lengths
+    ensures { reading_of result ≡ lengths_of chosen.now }
+{
     match chosen {
         Choice::Show { loose, .. } | Choice::Audit { loose, .. } | Choice::Receipts { loose, .. } =>
             { lengths(*loose) }

@@ -3,11 +3,12 @@ ghost use Rattle.std.specs.Prelude.{◌≡◌, ◌<◌, ◌≤◌, false, length
 ghost use Rattle.zvt_trace.specs.Written.{limit};
 ghost use Rattle.zvt.specs.OnTrace.{AnswersOnTrace, IsOnTrace, tally_of};
 
+use crate::ends::lengths;
 use std::alloc::Global;
 use zvt_io::{Over, Sink};
 use zvt_tool::{
-    Choice, Found, Tally, TraceFault, audit_loose, audit_trace, join_trace, normalise_trace,
-    receipts_loose, receipts_trace, show_loose, show_trace, vectors,
+    Choice, Found, Lengths, Tally, TraceFault, audit_loose, audit_trace, join_trace,
+    receipts_trace, show_trace, vectors,
 };
 
 /// Does what was chosen with the trace, and writes what comes of it.
@@ -23,14 +24,14 @@ pub fn work_on_trace<W: Sink>(
     ensures write { result ≡ Err TraceFault.Write → W.failures writer.old < W.failures writer.new }
 {
     match chosen {
-        Choice::Show { loose: false, .. } => found(show_trace(alloc, trace, writer)),
-        Choice::Show { loose: true, .. } => found(show_loose(alloc, trace, writer)),
-        Choice::Join { .. } => found(join_trace(alloc, trace, writer)),
-        Choice::Normalise { .. } => found(normalise_trace(alloc, trace, writer)),
+        Choice::Show { loose, .. } => found(show_trace(alloc, lengths(*loose), trace, writer)),
+        Choice::Join { .. } => found(join_trace(alloc, Lengths::Shortest, trace, writer)),
+        Choice::Normalise { .. } => found(join_trace(alloc, Lengths::Padded, trace, writer)),
         Choice::Audit { loose: false, .. } => audit_trace(alloc, trace, writer),
         Choice::Audit { loose: true, .. } => audit_loose(alloc, trace, writer),
-        Choice::Receipts { loose: false, .. } => found(receipts_trace(alloc, trace, writer)),
-        Choice::Receipts { loose: true, .. } => found(receipts_loose(alloc, trace, writer)),
+        Choice::Receipts { loose, .. } => {
+            found(receipts_trace(alloc, lengths(*loose), trace, writer))
+        }
         Choice::Vectors { .. } => found(vectors(alloc, &mut Over::new(trace), writer)),
         Choice::Loop { .. } | Choice::Till { .. } | Choice::Terminal { .. } => unreachable!(),
     }

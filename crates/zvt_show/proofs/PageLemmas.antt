@@ -4,7 +4,7 @@ use Rattle.std.proofs.KnownBytes.{Appends-kept, Appends-trans}
 use Rattle.std.specs.Io.KnownBytes.{Appends}
 use Rattle.std.specs.Prelude.{IfSome}
 use Rattle.std.specs.Str.Lines.{lines}
-use Rattle.zvt_spelling.specs.Reading.{Reading, shortest}
+use Rattle.zvt_spelling.specs.Reading.{Reading}
 use Rattle.zvt_trace.specs.Listening.{AnswersWalkBy, Fails, FailsIn, Hears, HearsAll, Stops}
 use Rattle.zvt_trace.specs.Told.{At}
 use Rattle.zvt_trace.specs.Telling.{BrokenTrace, FrontOf, SideEnds, ToldSoFar, WholeTrace}
@@ -23,7 +23,7 @@ use Rattle.zvt_trace.specs.declared.listener.Scope.{Scope}
 use Rattle.zvt_trace.specs.declared.listener.Scope.TheVariants.{OneSide}
 use Rattle.zvt_trace.proofs.EventLemmas.{front_whole}
 use Rattle.zvt_show.specs.Text.{EventsText}
-use Rattle.zvt_show.specs.Written.{AnswersLinesBy, AnswersTrace, Extends, FailsEvent, Page, WritesEvent, all_of}
+use Rattle.zvt_show.specs.Written.{AnswersLinesBy, AnswersTraceBy, Extends, FailsEvent, Page, WritesEvent, all_of}
 use Rattle.zvt_show.specs.declared.style.Style.{Style}
 use Rattle.zvt_show.proofs.BlockLemmas.{all_written, appends_none, behind_nothing, extends_more, extends_none, keeps_same, last_failed, last_written, short_of, whole_front}
 
@@ -258,10 +258,10 @@ unread : (r : Reading) (style : Style) (lines : List (List ℕ)) (held : Option 
 unread r style lines held = ([], [], none_so_far OneSide lines, refl, appends_none held)
 
 -- the trace could not be read
-pub read_failed : (style : Style) (left held : Option (List ℕ)) (fault : TraceFault) → ReadsTrace left (Err fault) → IfSome left (λ trace. AnswersTrace style trace held held (Err fault))
-read_failed style None held fault reads = tt
-read_failed style (Some trace) held TooLong reads = (reads, keeps_same held)
-read_failed style (Some trace) held Read reads = keeps_same held
-read_failed style (Some trace) held Memory reads = unread shortest style (lines trace) held
-read_failed style (Some trace) held Write never = absurd never
-read_failed style (Some trace) held (Trace number what) never = absurd never
+pub read_failed : (r : Reading) (style : Style) (left held : Option (List ℕ)) (fault : TraceFault) → ReadsTrace left (Err fault) → IfSome left (λ trace. AnswersTraceBy r style trace held held (Err fault))
+read_failed r style None held fault reads = tt
+read_failed r style (Some trace) held TooLong reads = (reads, keeps_same held)
+read_failed r style (Some trace) held Read reads = keeps_same held
+read_failed r style (Some trace) held Memory reads = unread r style (lines trace) held
+read_failed r style (Some trace) held Write never = absurd never
+read_failed r style (Some trace) held (Trace number what) never = absurd never

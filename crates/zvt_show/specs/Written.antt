@@ -95,15 +95,15 @@ AnswersLinesBy r style lines old new (Err Memory) =
 AnswersLinesBy r style lines old new (Err TooLong) = ⊥
 AnswersLinesBy r style lines old new (Err Read) = ⊥
 
--- The same of a strict command.
-abbrev pub AnswersLines : Style → List (List ℕ) → (old new : Option (List ℕ)) → Result Tally TraceFault → Type 0
-AnswersLines style lines old new answer = AnswersLinesBy shortest style lines old new answer
+-- What a command answers for a trace of known bytes, by that reading of lengths.
+abbrev pub AnswersTraceBy : Reading → Style → (trace : List ℕ) → (old new : Option (List ℕ)) → Result Tally TraceFault → Type 0
+AnswersTraceBy r style trace old new (Ok tally) = (length trace ≤ limit) × AnswersLinesBy r style (lines trace) old new (Ok tally)
+AnswersTraceBy r style trace old new (Err (Trace line what)) = (length trace ≤ limit) × AnswersLinesBy r style (lines trace) old new (Err (Trace line what))
+AnswersTraceBy r style trace old new (Err TooLong) = (limit < length trace) × Keeps old new
+AnswersTraceBy r style trace old new (Err Read) = Keeps old new
+AnswersTraceBy r style trace old new (Err Write) = (length trace ≤ limit) × AnswersLinesBy r style (lines trace) old new (Err Write)
+AnswersTraceBy r style trace old new (Err Memory) = AnswersLinesBy r style (lines trace) old new (Err Memory)
 
--- What a strict command answers for a trace of known bytes.
+-- The same of a strict command.
 abbrev pub AnswersTrace : Style → (trace : List ℕ) → (old new : Option (List ℕ)) → Result Tally TraceFault → Type 0
-AnswersTrace style trace old new (Ok tally) = (length trace ≤ limit) × AnswersLines style (lines trace) old new (Ok tally)
-AnswersTrace style trace old new (Err (Trace line what)) = (length trace ≤ limit) × AnswersLines style (lines trace) old new (Err (Trace line what))
-AnswersTrace style trace old new (Err TooLong) = (limit < length trace) × Keeps old new
-AnswersTrace style trace old new (Err Read) = Keeps old new
-AnswersTrace style trace old new (Err Write) = (length trace ≤ limit) × AnswersLines style (lines trace) old new (Err Write)
-AnswersTrace style trace old new (Err Memory) = AnswersLines style (lines trace) old new (Err Memory)
+AnswersTrace style trace old new answer = AnswersTraceBy shortest style trace old new answer

@@ -4,7 +4,7 @@ ghost use Rattle.std.specs.Str.Lines.{lines};
 ghost use Rattle.zvt_spelling.specs.Reading.{padded};
 ghost use Rattle.zvt_tlv.specs.Lengths.{reading_of};
 ghost use Rattle.zvt_trace.specs.Written.{limit};
-ghost use Rattle.zvt_show.specs.Written.{AnswersLines, AnswersLinesBy, AnswersTrace};
+ghost use Rattle.zvt_show.specs.Written.{AnswersLinesBy, AnswersTrace, AnswersTraceBy};
 ghost use Rattle.zvt_show.specs.declared.style.Style.TheVariants.{Join, Receipts, Show};
 
 use crate::pages::{Pages, flush};
@@ -25,8 +25,7 @@ pub fn show<R: Source, W: Sink>(
     ensures read { result ≡ Err TraceFault.Read → R.failures reader.old < R.failures reader.new }
     ensures write { result ≡ Err TraceFault.Write → W.failures writer.old < W.failures writer.new }
 {
-    let trace = read_trace(alloc, reader)?;
-    show_trace(alloc, trace.as_slice(), writer)
+    write_trace(alloc, Style::Show, Lengths::Shortest, reader, writer)
 }
 
 /// Writes each whole message of the trace as one line of a trace, and all else as remarks.
@@ -39,8 +38,7 @@ pub fn join<R: Source, W: Sink>(
     ensures read { result ≡ Err TraceFault.Read → R.failures reader.old < R.failures reader.new }
     ensures write { result ≡ Err TraceFault.Write → W.failures writer.old < W.failures writer.new }
 {
-    let trace = read_trace(alloc, reader)?;
-    join_trace(alloc, trace.as_slice(), writer)
+    write_trace(alloc, Style::Join, Lengths::Shortest, reader, writer)
 }
 
 /// Writes the text of each print line of the terminal as one line, with escapes (`\xHH`) for what is no printing
@@ -54,75 +52,106 @@ pub fn receipts<R: Source, W: Sink>(
     ensures read { result ≡ Err TraceFault.Read → R.failures reader.old < R.failures reader.new }
     ensures write { result ≡ Err TraceFault.Write → W.failures writer.old < W.failures writer.new }
 {
-    let trace = read_trace(alloc, reader)?;
-    receipts_trace(alloc, trace.as_slice(), writer)
+    write_trace(alloc, Style::Receipts, Lengths::Shortest, reader, writer)
 }
 
-/// As [`show`], of a trace that was read.
-pub fn show_trace<W: Sink>(alloc: Global, trace: &[u8], writer: &mut W) -> Result<Tally, TraceFault>
-    requires { length trace.now ≤ limit }
-    ensures writes { AnswersLines Show (lines trace.now) (W.written writer.old) (W.written writer.new) result }
+/// As [`show`], of streams that take lengths in any form that holds them.
+pub fn show_loose<R: Source, W: Sink>(
+    alloc: Global,
+    reader: &mut R,
+    writer: &mut W,
+) -> Result<Tally, TraceFault>
+    ensures writes { IfSome (R.remaining reader.old) (λ trace. AnswersTraceBy padded Show trace (W.written writer.old) (W.written writer.new) result) }
+    ensures read { result ≡ Err TraceFault.Read → R.failures reader.old < R.failures reader.new }
     ensures write { result ≡ Err TraceFault.Write → W.failures writer.old < W.failures writer.new }
 {
-    write_lines(alloc, Style::Show, Lengths::Shortest, trace, writer)
+    write_trace(alloc, Style::Show, Lengths::Padded, reader, writer)
 }
 
-/// As [`join`], of a trace that was read.
-pub fn join_trace<W: Sink>(alloc: Global, trace: &[u8], writer: &mut W) -> Result<Tally, TraceFault>
-    requires { length trace.now ≤ limit }
-    ensures writes { AnswersLines Join (lines trace.now) (W.written writer.old) (W.written writer.new) result }
+/// As [`receipts`], of streams that take lengths in any form that holds them.
+pub fn receipts_loose<R: Source, W: Sink>(
+    alloc: Global,
+    reader: &mut R,
+    writer: &mut W,
+) -> Result<Tally, TraceFault>
+    ensures writes { IfSome (R.remaining reader.old) (λ trace. AnswersTraceBy padded Receipts trace (W.written writer.old) (W.written writer.new) result) }
+    ensures read { result ≡ Err TraceFault.Read → R.failures reader.old < R.failures reader.new }
     ensures write { result ≡ Err TraceFault.Write → W.failures writer.old < W.failures writer.new }
 {
-    write_lines(alloc, Style::Join, Lengths::Shortest, trace, writer)
+    write_trace(alloc, Style::Receipts, Lengths::Padded, reader, writer)
 }
 
-/// As [`receipts`], of a trace that was read.
+/// As [`join`], of streams that take lengths in any form that holds them: each whole message in its one strict
+/// spelling, so that a strict reader reads what is written.
+pub fn normalise_trace<R: Source, W: Sink>(
+    alloc: Global,
+    reader: &mut R,
+    writer: &mut W,
+) -> Result<Tally, TraceFault>
+    ensures writes { IfSome (R.remaining reader.old) (λ trace. AnswersTraceBy padded Join trace (W.written writer.old) (W.written writer.new) result) }
+    ensures read { result ≡ Err TraceFault.Read → R.failures reader.old < R.failures reader.new }
+    ensures write { result ≡ Err TraceFault.Write → W.failures writer.old < W.failures writer.new }
+{
+    write_trace(alloc, Style::Join, Lengths::Padded, reader, writer)
+}
+
+/// As [`show`], of a trace that was read, whose streams take such lengths.
+pub fn show_trace<W: Sink>(
+    alloc: Global,
+    lengths: Lengths,
+    trace: &[u8],
+    writer: &mut W,
+) -> Result<Tally, TraceFault>
+    requires { length trace.now ≤ limit }
+    ensures writes { AnswersLinesBy (reading_of lengths) Show (lines trace.now) (W.written writer.old) (W.written writer.new) result }
+    ensures write { result ≡ Err TraceFault.Write → W.failures writer.old < W.failures writer.new }
+{
+    write_lines(alloc, Style::Show, lengths, trace, writer)
+}
+
+/// As [`join`], of a trace that was read, whose streams take such lengths. Of padded lengths each whole message is
+/// written in its one strict spelling.
+pub fn join_trace<W: Sink>(
+    alloc: Global,
+    lengths: Lengths,
+    trace: &[u8],
+    writer: &mut W,
+) -> Result<Tally, TraceFault>
+    requires { length trace.now ≤ limit }
+    ensures writes { AnswersLinesBy (reading_of lengths) Join (lines trace.now) (W.written writer.old) (W.written writer.new) result }
+    ensures write { result ≡ Err TraceFault.Write → W.failures writer.old < W.failures writer.new }
+{
+    write_lines(alloc, Style::Join, lengths, trace, writer)
+}
+
+/// As [`receipts`], of a trace that was read, whose streams take such lengths.
 pub fn receipts_trace<W: Sink>(
     alloc: Global,
+    lengths: Lengths,
     trace: &[u8],
     writer: &mut W,
 ) -> Result<Tally, TraceFault>
     requires { length trace.now ≤ limit }
-    ensures writes { AnswersLines Receipts (lines trace.now) (W.written writer.old) (W.written writer.new) result }
+    ensures writes { AnswersLinesBy (reading_of lengths) Receipts (lines trace.now) (W.written writer.old) (W.written writer.new) result }
     ensures write { result ≡ Err TraceFault.Write → W.failures writer.old < W.failures writer.new }
 {
-    write_lines(alloc, Style::Receipts, Lengths::Shortest, trace, writer)
+    write_lines(alloc, Style::Receipts, lengths, trace, writer)
 }
 
-/// As [`show_trace`], of streams that take lengths in any form that holds them.
-pub fn show_loose<W: Sink>(alloc: Global, trace: &[u8], writer: &mut W) -> Result<Tally, TraceFault>
-    requires { length trace.now ≤ limit }
-    ensures writes { AnswersLinesBy padded Show (lines trace.now) (W.written writer.old) (W.written writer.new) result }
-    ensures write { result ≡ Err TraceFault.Write → W.failures writer.old < W.failures writer.new }
-{
-    write_lines(alloc, Style::Show, Lengths::Padded, trace, writer)
-}
-
-/// As [`receipts_trace`], of streams that take lengths in any form that holds them.
-pub fn receipts_loose<W: Sink>(
+/// Reads a trace, and writes the text of what its lines tell.
+fn write_trace<R: Source, W: Sink>(
     alloc: Global,
-    trace: &[u8],
+    style: Style,
+    lengths: Lengths,
+    reader: &mut R,
     writer: &mut W,
 ) -> Result<Tally, TraceFault>
-    requires { length trace.now ≤ limit }
-    ensures writes { AnswersLinesBy padded Receipts (lines trace.now) (W.written writer.old) (W.written writer.new) result }
+    ensures writes { IfSome (R.remaining reader.old) (λ trace. AnswersTraceBy (reading_of lengths) style trace (W.written writer.old) (W.written writer.new) result) }
+    ensures read { result ≡ Err TraceFault.Read → R.failures reader.old < R.failures reader.new }
     ensures write { result ≡ Err TraceFault.Write → W.failures writer.old < W.failures writer.new }
 {
-    write_lines(alloc, Style::Receipts, Lengths::Padded, trace, writer)
-}
-
-/// As [`join_trace`], of streams that take lengths in any form that holds them: each whole message in its one strict
-/// spelling, so that a strict reader reads what is written.
-pub fn normalise_trace<W: Sink>(
-    alloc: Global,
-    trace: &[u8],
-    writer: &mut W,
-) -> Result<Tally, TraceFault>
-    requires { length trace.now ≤ limit }
-    ensures writes { AnswersLinesBy padded Join (lines trace.now) (W.written writer.old) (W.written writer.new) result }
-    ensures write { result ≡ Err TraceFault.Write → W.failures writer.old < W.failures writer.new }
-{
-    write_lines(alloc, Style::Join, Lengths::Padded, trace, writer)
+    let trace = read_trace(alloc, reader)?;
+    write_lines(alloc, style, lengths, trace.as_slice(), writer)
 }
 
 /// Writes the text of what the lines of a trace tell. It goes out in blocks, the last one also where the walk fails.
