@@ -13,6 +13,7 @@ import ctypes as c
 import enum
 import select
 import socket
+import time
 from typing import NamedTuple, Optional
 
 ROOM, LINE_ROOM = 8 * 32, 65534
@@ -142,8 +143,13 @@ _TYPES = {
 
 class Till:
     """A till on a socket. `keep`, where it is given, is called with the bytes that the till is saved in: before an order
-    goes out, and after each outcome. What it raises stops the order before anything was sent. `print_line`, where it is
-    given, is called with the bytes of each print line of the terminal, in the terminal's character set."""
+    goes out, and after each outcome. What it raises before an order stops the order: nothing was sent, and the line is
+    given up. `print_line`, where it is given, is called with the bytes of each print line of the terminal, in the
+    terminal's character set.
+
+    A callback that raises loses nothing. What the terminal sent is heard to its end and answered, the order goes on to
+    its outcome, and then the exception goes on; `last()` has the outcome. An exception that is to end the program, as
+    KeyboardInterrupt, gives the line up first, so that no order runs on: a payment is then unclear."""
 
     def __init__(self, library, password=0, config=0xBE, currency=978, keep=None, print_line=None):
         self._library = c.CDLL(library)
@@ -154,6 +160,7 @@ class Till:
         self._handle, self._step = _Handle(), _Step()
         self._out, self._text = c.create_string_buffer(ROOM), c.create_string_buffer(LINE_ROOM)
         self._keep, self._print_line, self._line = keep, print_line, None
+        self._timeout, self._raised, self._outcome = None, None, None
         self._call("new", password, config, currency)
 
     def __enter__(self):
@@ -175,13 +182,26 @@ class Till:
             raise Refused(status)
 
     def connect(self, host, port, timeout=60):
-        """Opens the line. A line that stood before is lost."""
+        """Opens the line. A line that stood before is lost. The terminal may be silent for `timeout` seconds within an
+        order; None waits as long as it takes."""
         self.disconnect()
-        self._line = socket.create_connection((host, port), timeout=timeout)
+        self._line, self._timeout = socket.create_connection((host, port), timeout=timeout), timeout
+        # Each message goes out at once: without this the system may hold an acknowledgement back for 40 ms.
+        self._line.setsockopt(socket.IPPROTO_TCP, socket.TCP_NODELAY, 1)
         self._call("connected")
 
     def disconnect(self):
         """Gives the line up, and answers how the running order ended, if one ran."""
+        if self._line is None:
+            return None
+        self._raised = None
+        outcome = self._give_up()
+        if self._raised is not None:
+            raise self._raised
+        return outcome
+
+    def _give_up(self):
+        """The same, but that what `keep` raises waits."""
         if self._line is None:
             return None
         self._drop()
@@ -222,65 +242,113 @@ class Till:
     def close_day(self):
         return self._run(Order.CLOSE_DAY)
 
+    def _tell(self, callback, *arguments):
+        """Calls a callback. What it raises waits until what the terminal sent is heard and answered; of several the first
+        goes on, or the first that is to end the program."""
+        try:
+            return callback(*arguments)
+        except BaseException as error:
+            if self._raised is None or (self._must_stop(error) and not self._must_stop(self._raised)):
+                self._raised = error
+            return None
+
+    @staticmethod
+    def _must_stop(error):
+        return error is not None and not isinstance(error, Exception)
+
     def _order(self, order, number):
+        """The bytes that give the order. Where the library refuses it, the till is as it was."""
         self._call("order", order, number, self._out, ROOM, c.byref(self._step))
-        send = self._out.raw[:self._step.send]
+        return self._out.raw[:self._step.send]
+
+    def _keep_and_send(self, message):
+        """Saves the till, and only then sends."""
         if self._keep is not None:
-            try:
-                self._keep(self.save())
-            except BaseException:
-                self._drop()
-                raise
-        self._send(send)
+            self._keep(self.save())
+        self._send(message)
 
     def _ended(self):
+        """How the order ended by the last step, if it did: the till is saved then."""
         outcome = self._step.outcome.value()
         if outcome.ending == Ending.NONE:
             return None
+        self._outcome = outcome
         if self._keep is not None:
-            self._keep(self.save())
+            self._tell(lambda: self._keep(self.save()))
         return outcome
 
     def _run(self, order, number=0, wants_cancel=None):
         """One order from end to end. A line that breaks, falls silent or brings what is no message is given up, and the
         outcome says so."""
+        message = self._order(order, number)
+        self._raised = self._outcome = None
         try:
-            self._order(order, number)
-            ended = None
-            while ended is None:
-                if wants_cancel is not None and not select.select([self._line], [], [], 0.2)[0]:
-                    if wants_cancel():
-                        wants_cancel = None
-                        self._order(Order.CANCEL, 0)
-                    continue
-                ended = self._heard(self._receive())
-            return ended
+            self._keep_and_send(message)
+            self._hear_out(wants_cancel)
         except _BrokenLine:
-            return self.disconnect()
+            self._give_up()
+        except BaseException:
+            self._give_up()
+            raise
+        if self._raised is not None:
+            raise self._raised
+        return self._outcome
 
-    def _heard(self, piece):
-        """Feeds a whole piece. How the order ended, if it did."""
-        ended = None
+    def _hear_out(self, wants_cancel):
+        """Hears the terminal until the order has ended, or until something is to end the program."""
+        since = time.monotonic()
+        while self._outcome is None:
+            if self._must_stop(self._raised):
+                raise self._raised
+            if wants_cancel is not None and self._raised is None and not self._brings(since):
+                if self._tell(wants_cancel):
+                    wants_cancel = None
+                    self._keep_and_send(self._order(Order.CANCEL, 0))
+                continue
+            self._hear(self._receive())
+            since = time.monotonic()
+
+    def _brings(self, since):
+        """Whether the terminal sends something within a fifth of a second. It may be silent for the line's time-out."""
+        wait = 0.2
+        if self._timeout is not None:
+            wait = min(wait, since + self._timeout - time.monotonic())
+            if wait <= 0:
+                raise _BrokenLine
+        return bool(select.select([self._line], [], [], wait)[0])
+
+    def _hear(self, piece):
+        """Feeds a whole piece and sends what answers it. Where the line takes no answer, the rest is heard all the same."""
+        broken = None
         while piece:
             status = self._library.zvt_till_feed_all(
                 c.byref(self._handle), piece, len(piece), self._out, ROOM, self._text, LINE_ROOM, c.byref(self._step))
-            ended = self._ended() or ended
-            if self._step.send:
-                self._send(self._out.raw[:self._step.send])
+            self._ended()
+            if self._step.send and broken is None:
+                try:
+                    self._send(self._out.raw[:self._step.send])
+                except _BrokenLine as error:
+                    broken = error
             if self._step.printed and self._print_line is not None:
-                self._print_line(self._text.raw[:self._step.line])
+                self._tell(self._print_line, self._text.raw[:self._step.line])
             if status == Status.REFUSED:
-                return ended or self.disconnect()
+                raise _BrokenLine
             if status != Status.OK:
                 raise Refused(status)
             piece = piece[self._step.taken:]
-        return ended
+        if broken is not None:
+            raise broken
 
     def state(self):
         """The total, the counts of booked and unclear payments, whether the till is registered, the last outcome."""
         state = _State()
         self._call("state", c.byref(state))
         return state
+
+    def last(self):
+        """The last outcome, or None."""
+        outcome = self.state().last.value()
+        return None if outcome.ending == Ending.NONE else outcome
 
     def book(self):
         """The payments that are booked."""

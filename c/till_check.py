@@ -1,0 +1,200 @@
+"""What zvt.py owes a shop: till_check.py LIBRARY. A terminal's bytes are played to a till over a pair of sockets."""
+import select
+import signal
+import socket
+import sys
+import time
+
+import zvt
+
+ACK, DONE = "800000", "060F00"
+APPROVED = "040F1027000400000000" + "12340B00001787" + "0005"
+LINE = "06D1070054" + "68616E6B73"
+REGISTERED, PAID = ACK + DONE, ACK + APPROVED + DONE
+
+
+class Terminal:
+    """The terminal's end of a line, which a till opens as if it were at a host and a port."""
+
+    def __init__(self):
+        self.end, self._till = socket.socketpair()
+
+    def create_connection(self, _address, timeout=None):
+        self._till.settimeout(timeout)
+        return Line(self._till)
+
+    def says(self, digits):
+        self.end.sendall(bytes.fromhex(digits))
+
+    def was_sent(self):
+        """What the till has sent and nobody has read yet."""
+        sent = b""
+        while select.select([self.end], [], [], 0.05)[0]:
+            piece = self.end.recv(4096)
+            if not piece:
+                break
+            sent += piece
+        return sent.hex().upper()
+
+
+class Line:
+    """A till's end of a pair. What is set of TCP is remembered: a pair has no such options."""
+    set = []
+
+    def __init__(self, end):
+        self.end = end
+
+    def setsockopt(self, *option):
+        Line.set.append(option)
+
+    def __getattr__(self, name):
+        return getattr(self.end, name)
+
+
+def till_at(terminal, **callbacks):
+    """A till that is registered at the terminal."""
+    zvt.socket.create_connection = terminal.create_connection
+    till = zvt.Till(sys.argv[1], **callbacks)
+    till.connect("a terminal", 0, timeout=1)
+    terminal.says(REGISTERED)
+    assert till.register().ending == zvt.Ending.REGISTERED
+    terminal.was_sent()
+    return till
+
+
+def raises(call, error):
+    try:
+        call()
+    except BaseException as raised:
+        return raised is error
+    return False
+
+
+def thrower(error, when=lambda *_: True):
+    """A callback that raises whenever it is called so."""
+    def callback(*arguments):
+        if when(*arguments):
+            raise error
+    return callback
+
+
+def messages_go_out_at_once():
+    Line.set.clear()
+    till_at(Terminal())
+    assert (socket.IPPROTO_TCP, socket.TCP_NODELAY, 1) in Line.set
+
+
+def an_order_is_saved_before_it_is_sent():
+    terminal, sent = Terminal(), []
+    till = till_at(terminal, keep=lambda _: sent.append(terminal.was_sent()))
+    terminal.says(PAID)
+    sent.clear()
+    assert till.pay(1234).ending == zvt.Ending.PAID
+    assert sent[0] == "" and sent[1].startswith("06010A0400000000123449"), sent
+
+
+def print_lines_behind_the_completion_hide_no_outcome():
+    terminal, lines = Terminal(), []
+    till = till_at(terminal, print_line=lines.append)
+    terminal.says(PAID + LINE + LINE)
+    paid = till.pay(1234)
+    assert paid == zvt.Outcome(zvt.Ending.PAID, trace=17, receipt=5), paid
+    assert lines == [b"Thanks", b"Thanks"] and terminal.was_sent().endswith(4 * ACK)
+
+
+def a_print_line_that_raises_loses_nothing():
+    terminal, error = Terminal(), RuntimeError("no paper")
+    till = till_at(terminal, print_line=thrower(error))
+    terminal.says(ACK + LINE + APPROVED + DONE)
+    assert raises(lambda: till.pay(1234), error)
+    assert till.last().ending == zvt.Ending.PAID and len(till.book()) == 1
+    assert terminal.was_sent().endswith(3 * ACK)
+    terminal.says(ACK + DONE)
+    assert till.close_day().ending == zvt.Ending.DAY_CLOSED
+
+
+def a_save_that_fails_behind_an_outcome_loses_nothing():
+    terminal, error, saves = Terminal(), OSError("full disk"), []
+
+    def keep(saved):
+        saves.append(saved)
+        if len(saves) == 4:
+            raise error
+    till = till_at(terminal, keep=keep, print_line=lambda _: None)
+    terminal.says(PAID + LINE)
+    assert raises(lambda: till.pay(1234), error)
+    assert till.last().ending == zvt.Ending.PAID and terminal.was_sent().endswith(3 * ACK)
+
+
+def a_save_that_fails_before_an_order_sends_nothing():
+    terminal, error, saves = Terminal(), OSError("full disk"), []
+
+    def keep(saved):
+        saves.append(saved)
+        if len(saves) == 3:
+            raise error
+    till = till_at(terminal, keep=keep)
+    assert raises(lambda: till.pay(1234), error)
+    assert terminal.was_sent() == "" and till.state().running == 0
+    assert [entry.cause for entry in till.unclear()] == [zvt.Cause.LINE]
+
+
+def a_question_that_raises_lets_the_payment_end():
+    terminal, error = Terminal(), ValueError("no such button")
+
+    def ask():
+        terminal.says(PAID)
+        raise error
+    till = till_at(terminal)
+    assert raises(lambda: till.pay(1234, wants_cancel=ask), error)
+    assert till.last().ending == zvt.Ending.PAID
+
+
+def an_interrupt_gives_the_line_up():
+    for place in ("print line", "question"):
+        terminal, error = Terminal(), KeyboardInterrupt()
+        till = till_at(terminal, print_line=thrower(error))
+        began = time.monotonic()
+        if place == "print line":
+            terminal.says(ACK + LINE)
+            assert raises(lambda: till.pay(1234), error)
+            assert terminal.was_sent().endswith(ACK)
+        else:
+            assert raises(lambda: till.pay(1234, wants_cancel=thrower(error)), error)
+        assert time.monotonic() - began < 0.5, "it waits for the terminal first"
+        assert till.state().running == 0 and till.last().cause == zvt.Cause.LINE
+
+
+def a_line_that_takes_no_answer_hides_no_outcome():
+    terminal = Terminal()
+    till = till_at(terminal)
+    terminal.says(PAID)
+    send, counts = till._send, []
+
+    def broken_send(message):
+        counts.append(message)
+        if len(counts) > 1:
+            raise zvt._BrokenLine
+        send(message)
+    till._send = broken_send
+    assert till.pay(1234).ending == zvt.Ending.PAID and len(till.book()) == 1
+
+
+def silence_ends_a_payment_that_may_be_cancelled():
+    for question in (None, lambda: False):
+        till = till_at(Terminal())
+        began = time.monotonic()
+        paid = till.pay(1234, wants_cancel=question)
+        took = time.monotonic() - began
+        assert paid.cause == zvt.Cause.LINE and 0.9 < took < 1.2, (paid, took)
+
+
+# A till that waits for ever fails too.
+signal.alarm(60)
+for check in [it for name, it in list(globals().items()) if callable(it) and getattr(it, "__module__", "") == "__main__"
+              and name not in ("Terminal", "Line", "till_at", "raises", "thrower")]:
+    try:
+        check()
+    except AssertionError:
+        sys.exit(f"till_check: {check.__name__.replace('_', ' ')}: this does not hold")
+print("zvt.py: all callbacks, orders and silences")
