@@ -4,6 +4,7 @@ use Rattle.std.specs.List.{list_any}
 use Rattle.zvt_till.specs.declared.happenings.Happening.{Happening}
 use Rattle.zvt_till.specs.declared.happenings.Sent.{Sent}
 use Rattle.zvt_till.specs.declared.happenings.Sent.TheVariants.{Register, Pay, Reverse, CloseDay, Cancel, Foreign}
+use Rattle.zvt_till.specs.declared.entries.Doubt.TheVariants.{No}
 use Rattle.zvt_till.specs.declared.entries.Entry.{Entry}
 use Rattle.zvt_till.specs.declared.outcomes.Outcome.{Outcome}
 use Rattle.zvt_till.specs.declared.outcomes.Outcome.TheVariants.{Registered, Paid, Declined, Refused, Aborted, Unclear, Reversed, DayClosed}
@@ -31,7 +32,7 @@ books_value found = record { booked = rows_value found.booked.items; unclear = f
 
 -- rows as a book of which nothing was taken back
 abbrev pub as_book : List Booked → List Entry
-as_book rows = map (entry_of false) rows
+as_book rows = map (entry_of false No) rows
 
 -- the trace numbers that are used are those of the rows
 abbrev pub KnowsTraces : BooksFound → Type 0

@@ -1,14 +1,17 @@
--- Which entries of the book were taken back, and what is left of it.
+-- Which entries of the book were taken back, what is open of them, and what is left of the book.
 use Rattle.std.specs.Prelude.{ℕ, ◌+◌, Bool, false, cond, ◌&&◌, ◌==◌, List, [], ◌∷◌, Option, map, sum_by}
 use Rattle.std.specs.List.{list_any}
 use Rattle.zvt_till.specs.declared.happenings.Happening.{Happening}
 use Rattle.zvt_till.specs.declared.happenings.Sent.{Sent}
 use Rattle.zvt_till.specs.declared.happenings.Sent.TheVariants.{Register, Pay, Reverse, CloseDay, Cancel, Foreign}
 use Rattle.zvt_till.specs.declared.messages.StatusFacts.{StatusFacts}
+use Rattle.zvt_till.specs.declared.entries.Doubt.{Doubt}
 use Rattle.zvt_till.specs.declared.entries.Entry.{Entry}
+use Rattle.zvt_till.specs.declared.outcomes.Cause.{Cause}
 use Rattle.zvt_till.specs.Statuses.{Reversal, class_of, is_good}
 use Rattle.zvt_till.specs.Segments.{Opening, Segment, Ended, segments, end_of, completes}
 use Rattle.zvt_till.specs.Books.{Booked, charge_of, books_of}
+use Rattle.zvt_till.specs.Doubts.{doubt_of, unclear_reversals}
 
 -- all statuses, one at least, are good for taking back this row
 abbrev pub takes_back : Opening → Booked → List StatusFacts → Bool
@@ -29,13 +32,13 @@ reverses_end place row opening end = reverses_as opening.order place row opening
 abbrev pub reverses : ℕ → Booked → Segment → Bool
 reverses place row s = reverses_end place row s.opening (end_of s.answers)
 
-abbrev pub entry_of : Bool → Booked → Entry
-entry_of reversed row = record { amount = row.amount; trace = row.trace; receipt = row.receipt; reversed = reversed }
+abbrev pub entry_of : Bool → Doubt → Booked → Entry
+entry_of reversed doubt row = record { amount = row.amount; trace = row.trace; receipt = row.receipt; reversed = reversed; doubt = doubt }
 
--- each row marked where some segment takes it back
+-- each row, marked where some segment takes it back, and what the reversals leave open of it
 abbrev pub mark : List Segment → ℕ → List Booked → List Entry
 mark ss place [] = []
-mark ss place (row ∷ rows) = entry_of (list_any (reverses place row) ss) row ∷ mark ss (place + 1) rows
+mark ss place (row ∷ rows) = entry_of (list_any (reverses place row) ss) (doubt_of place row ss) row ∷ mark ss (place + 1) rows
 
 abbrev pub entries_of : List Segment → List Entry
 entries_of ss = mark ss 0 (books_of ss).booked
@@ -43,6 +46,10 @@ entries_of ss = mark ss 0 (books_of ss).booked
 -- the book with its marks
 abbrev pub entries : List Happening → List Entry
 entries log = entries_of (segments log)
+
+-- the reversals of a log of which it is not known whether they happened: the place of the entry, and the cause
+abbrev pub reversals_left : List Happening → List (ℕ × Cause)
+reversals_left log = unclear_reversals (entries log)
 
 -- the sum of what stands
 abbrev pub standing : Entry → ℕ

@@ -1,5 +1,5 @@
 -- The till as a small machine: what each thing that happens on its line does to it.
-use Rattle.std.specs.Prelude.{ℕ, Bool, true, false, cond, List, [], ◌∷◌, ◌++◌, Option, Some, None, fold, slice_get, slice_set, option_map}
+use Rattle.std.specs.Prelude.{ℕ, ◌==◌, Bool, true, false, cond, List, [], ◌∷◌, ◌++◌, Option, Some, None, fold, slice_get, slice_set, option_map}
 use Rattle.zvt_till.specs.declared.happenings.Happening.{Happening}
 use Rattle.zvt_till.specs.declared.happenings.Happening.TheVariants.{Connected, Sent as SentOut, Heard as HeardIn, Malformed, Lost}
 use Rattle.zvt_till.specs.declared.orders.Order.{Order}
@@ -7,10 +7,13 @@ use Rattle.zvt_till.specs.declared.orders.Order.TheVariants.{Register as Registe
 use Rattle.zvt_till.specs.declared.messages.Heard.{Heard}
 use Rattle.zvt_till.specs.declared.statuses.Running.{Running}
 use Rattle.zvt_till.specs.declared.statuses.Statuses.TheVariants.{Nothing}
+use Rattle.zvt_till.specs.declared.entries.Doubt.{Doubt}
+use Rattle.zvt_till.specs.declared.entries.Doubt.TheVariants.{No, Unclear as UnclearReversal, TakenBack}
 use Rattle.zvt_till.specs.declared.entries.Entry.{Entry}
 use Rattle.zvt_till.specs.declared.outcomes.Cause.{Cause}
 use Rattle.zvt_till.specs.declared.outcomes.Outcome.{Outcome}
-use Rattle.zvt_till.specs.declared.outcomes.Outcome.TheVariants.{Registered, Paid, Unclear, Reversed}
+use Rattle.zvt_till.specs.declared.outcomes.Outcome.TheVariants.{Registered, Paid, Declined, Refused, Aborted, Unclear, Reversed, DayClosed}
+use Rattle.zvt_till.specs.Doubts.{already_reversed}
 use Rattle.zvt_till.specs.Segments.{ends}
 use Rattle.zvt_till.specs.Outcomes.{demand_of, outcome_by, listened}
 use Rattle.zvt_till.specs.Refusals.{Awaited, Facts, sent_as, order_in}
@@ -29,14 +32,29 @@ pub record TillState : Type 0 where
 abbrev pub new_till : Settings → TillState
 new_till settings = record { settings = settings; line_up = false; registered = false; running = None; book = []; unclear = []; last_outcome = None }
 
--- the entry at this place is taken back
-abbrev pub reversed_at : List Entry → ℕ → List Entry
-reversed_at book e = elim (slice_get book e) [ None ↦ book | Some row ↦ slice_set book e (record row { reversed = true }) ]
+-- what a refusal or an abort with this code leaves open
+abbrev pub told_by : ℕ → Doubt → Doubt
+told_by code before = cond (code == already_reversed) TakenBack before
+
+-- the entry after a reversal of it ended so
+abbrev pub entry_after : Entry → Outcome → Entry
+entry_after row Registered = row
+entry_after row (Paid t receipt) = row
+entry_after row (Declined code) = row
+entry_after row (Refused code) = record row { doubt = told_by code row.doubt }
+entry_after row (Aborted code) = record row { doubt = told_by code row.doubt }
+entry_after row (Unclear cause) = record row { doubt = UnclearReversal cause }
+entry_after row Reversed = record row { reversed = true; doubt = No }
+entry_after row DayClosed = row
+
+-- a reversal of the entry at this place ended so
+abbrev pub reversal_ended : List Entry → ℕ → Outcome → List Entry
+reversal_ended book e outcome = elim (slice_get book e) [ None ↦ book | Some row ↦ slice_set book e (entry_after row outcome) ]
 
 -- the book after an order ended so
 abbrev pub book_after : List Entry → Order → Outcome → List Entry
-book_after book (PayOrder a) (Paid t receipt) = book ++ record { amount = a; trace = t; receipt = receipt; reversed = false } ∷ []
-book_after book (ReverseOrder e) Reversed = reversed_at book e
+book_after book (PayOrder a) (Paid t receipt) = book ++ record { amount = a; trace = t; receipt = receipt; reversed = false; doubt = No } ∷ []
+book_after book (ReverseOrder e) outcome = reversal_ended book e outcome
 book_after book _ _ = book
 
 -- the list of unclear payments: of other orders nothing is kept

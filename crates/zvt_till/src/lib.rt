@@ -17,7 +17,7 @@ mod statuses;
 mod till;
 mod used_traces;
 
-pub use entries::Entry;
+pub use entries::{Doubt, Entry};
 pub use events::{Event, Run, replay};
 pub use happenings::{Happening, Sent};
 pub use judging::{Booked, Books};

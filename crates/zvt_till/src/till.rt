@@ -5,7 +5,7 @@ mod ordering;
 mod restoring;
 mod room;
 
-use crate::entries::Entry;
+use crate::entries::{Doubt, Entry};
 use crate::happenings::{Happening, ends};
 use crate::messages::{Heard, reply_to};
 use crate::orders::{Order, Reply};
@@ -56,6 +56,7 @@ impl Till {
     ghost use Rattle.zvt_till.specs.Sending.{reply_to};
     ghost use Rattle.zvt_till.specs.Till.{new_till, meet, step, line_down, finish, outcome_at};
     ghost use Rattle.zvt_till.specs.View.{CanEnd, CanBook, KeepsRoom, claimed_by};
+    ghost use Rattle.zvt_till.specs.Doubts.{unclear_reversals};
     ghost use Rattle.zvt_till.specs.Marks.{total};
     ghost use Rattle.zvt_till.specs.Events.{run_settings};
 
@@ -140,7 +141,21 @@ impl Till {
         self.unclear.as_slice()
     }
 
-    /// The sum of the payments that were not taken back.
+    /// How many entries of the book have an unclear reversal: their `doubt` is `Unclear`.
+    pub fn unclear_reversals(&self) -> usize
+        ensures { result ≡ length (unclear_reversals self.now.state.book) }
+    {
+        let book = self.book();
+        let mut count = 0;
+        'entries: for entry in book {
+            if let Doubt::Unclear(_) = entry.doubt {
+                count += 1;
+            }
+        }
+        count
+    }
+
+    /// The sum of the payments whose reversal was not completed.
     pub fn total(&self) -> u64
         ensures { result ≡ total self.now.state.book }
     {
@@ -187,6 +202,9 @@ impl Till {
     {
         self.running = None;
         self.last_outcome = Some(*outcome);
+        if let Order::Reverse(entry) = order {
+            self.book[*entry].end_reversal(outcome);
+        }
         match outcome {
             Outcome::Registered => self.registered = true,
             Outcome::Paid { trace, receipt } => {
@@ -197,12 +215,8 @@ impl Till {
                         trace: *trace,
                         receipt: *receipt,
                         reversed: false,
+                        doubt: Doubt::No,
                     });
-                }
-            }
-            Outcome::Reversed => {
-                if let Order::Reverse(entry) = order {
-                    self.book[*entry].reversed = true;
                 }
             }
             Outcome::Unclear(cause) => {
