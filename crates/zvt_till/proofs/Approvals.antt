@@ -13,6 +13,7 @@ use Rattle.zvt_till.specs.declared.outcomes.Outcome.TheVariants.{Registered, Pai
 use Rattle.zvt_till.specs.Statuses.{approves, Charge, Demand, Payment, Class, Good, Declining, Doubtful, class_of, agrees, is_declining, is_declined, dissenter, objection}
 use Rattle.zvt_till.specs.Books.{Books, Booked, booked_as, unbooked, charge_of, judge_as, Verdict, Entered, Unclear, Refused, earned, unearned, completed, broken_off, verdict_by, verdict_at, write_down, traces}
 use Rattle.zvt_till.specs.Segments.{Ended, ends, is_positive, end_after, end_of, statuses}
+use Rattle.zvt_till.specs.declared.entries.Doubt.TheVariants.{No}
 use Rattle.zvt_till.specs.Marks.{entry_of}
 use Rattle.zvt_till.specs.Outcomes.{outcome_by}
 use Rattle.zvt_till.specs.Laws.{AddsPayment, NoApprovalDropped}
@@ -83,11 +84,11 @@ ends-at true before hs h e q later s =
     subst (λ (x : Ended). ends (list_any is_positive x.before) x.by ≡ true) same q
 ends-at false before hs h e q later s = later s
 
-ends-after : (before hs : List Happening) (e : Ended) → end_after before hs ≡ Some e → ends (list_any is_positive e.before) e.by ≡ true
+pub ends-after : (before hs : List Happening) (e : Ended) → end_after before hs ≡ Some e → ends (list_any is_positive e.before) e.by ≡ true
 ends-after before [] e s = absurd cc
 ends-after before (h ∷ hs) e s = ends-at (ends (list_any is_positive before) h) before hs h e refl (ends-after (before ++ h ∷ []) hs e) s
 
-same_traces : (rows : List Booked) → map (λ row. row.trace) (map (entry_of false) rows) ≡ traces rows
+same_traces : (rows : List Booked) → map (λ row. row.trace) (map (entry_of false No) rows) ≡ traces rows
 same_traces [] = refl
 same_traces (row ∷ rows) = ap (λ ts. row.trace ∷ ts) (same_traces rows)
 
@@ -104,7 +105,7 @@ adds-by b amount v DayClosed e s n = absurd (n e)
 pub no_approval_dropped : NoApprovalDropped
 no_approval_dropped b s amount trace e paid ended approved =
     let charge : Charge = charge_of s.opening amount in
-    let book : List Entry = map (entry_of false) b.booked in
+    let book : List Entry = map (entry_of false No) b.booked in
     let fs : List StatusFacts = statuses e.before in
     let d : Option Demand = Some (Payment charge) in
     let out : Outcome = outcome_by book (PayOrder amount) (summary d fs) e.by in

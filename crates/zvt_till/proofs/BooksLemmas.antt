@@ -12,6 +12,7 @@ use Rattle.zvt_till.specs.declared.judging.OpenPayment.{OpenPayment}
 use Rattle.zvt_till.specs.Statuses.{Charge}
 use Rattle.zvt_till.specs.Segments.{Opening, Segment, Ended, begun, in_force, segments, ends, is_positive, status_of, statuses, end_of}
 use Rattle.zvt_till.specs.Books.{Books, Booked, charge_of, traces, verdict_by, write_down, judge_as, books_of, books}
+use Rattle.zvt_till.specs.declared.entries.Doubt.TheVariants.{No}
 use Rattle.zvt_till.specs.Marks.{entry_of}
 use Rattle.zvt_till.specs.Outcomes.{note_if, outcome_by}
 use Rattle.zvt_till.specs.Judging.{as_book, written, paying, is_open_as, open_after, ends_open, Runs, Rests, IsJudged, opened}
@@ -116,7 +117,7 @@ verdict-here : (force : Option ℕ) (a : ℕ) (rows : List Booked) (hs : List Ha
     → verdict_by (charge_of (begun_by force (Pay a)) a) (traces rows) (statuses hs) h ≡ verdict_of a (outcome_by (as_book rows) (PayOrder a) (summary (paying force a) (statuses hs)) h)
 verdict-here force a rows hs h =
     let charge : Charge = charge_of (begun_by force (Pay a)) a in
-    ap (λ ts. verdict_by charge ts (statuses hs) h) (sym (map-map (λ (row : Entry). row.trace) (entry_of false) rows))
+    ap (λ ts. verdict_by charge ts (statuses hs) h) (sym (map-map (λ (row : Entry). row.trace) (entry_of false No) rows))
     ∙ payment-verdict charge (as_book rows) (statuses hs) h
 
 pub judged-end : (log : List Happening) (h : Happening) (b : Books) (p : OpenPayment) → begun h ≡ None → ends p.positive h ≡ true → Runs (segments log) b p

@@ -9,6 +9,7 @@ use Rattle.zvt_till.specs.declared.orders.Order.{Order}
 use Rattle.zvt_till.specs.declared.orders.Order.TheVariants.{Register, Pay, Reverse, CloseDay, Cancel}
 use Rattle.zvt_till.specs.declared.statuses.Statuses.{Statuses}
 use Rattle.zvt_till.specs.declared.statuses.Statuses.TheVariants.{Nothing, Good, Declining, Fault}
+use Rattle.zvt_till.specs.declared.entries.Doubt.TheVariants.{No}
 use Rattle.zvt_till.specs.declared.entries.Entry.{Entry}
 use Rattle.zvt_till.specs.declared.outcomes.Cause.TheVariants.{TraceUsed}
 use Rattle.zvt_till.specs.declared.outcomes.Outcome.{Outcome}
@@ -39,7 +40,7 @@ distinct-push (e ∷ book) t d u =
     let parts = or-parts (nat_eq e.trace t) (trace_used t book) u in (apart-push e.trace (map trace_of book) t d.0 parts.0, distinct-push book t d.1 parts.1)
 
 abbrev booked : ℕ → ℕ → Option (List ℕ) → Entry
-booked a t r = record { amount = a; trace = t; receipt = r; reversed = false }
+booked a t r = record { amount = a; trace = t; receipt = r; reversed = false; doubt = No }
 
 paid-apart : (book : List Entry) (a t : ℕ) (r : Option (List ℕ)) → AreApart book → (used : Bool) → trace_used t book ≡ used
     → AreApart (book_after book (Pay a) (cond used (Unclear TraceUsed) (Paid t r)))

@@ -1,29 +1,29 @@
 -- What the end of each order adds to the book and to the unclear list.
-use Rattle.std.proofs.Common.{◌≡◌, ℕ, ◌<◌, ◌≤◌, Bool, true, false, cond, ◌&&◌, List, [], ◌∷◌, ◌++◌, length, Option, Some, refl, sym, ap, subst, ◌∙◌, arith, zero-add, length-append, option_map, le_refl}
+use Rattle.std.proofs.Common.{◌≡◌, ℕ, ◌<◌, ◌≤◌, Bool, true, false, cond, List, [], ◌∷◌, ◌++◌, length, Option, Some, None, slice_set, slice_get, refl, sym, ap, subst, ◌∙◌, arith, zero-add, length-append, option_map, le_refl}
 use Rattle.std.proofs.lemmas.List.Elements.{filter-append}
 use Rattle.zvt_till.specs.declared.happenings.Happening.{Happening}
-use Rattle.zvt_till.specs.declared.happenings.Happening.TheVariants.{Connected, Sent as SentOut, Heard as HeardIn, Malformed, Lost}
 use Rattle.zvt_till.specs.declared.happenings.Sent.{Sent}
 use Rattle.zvt_till.specs.declared.happenings.Sent.TheVariants.{Register, Pay, Reverse, CloseDay, Cancel, Foreign}
 use Rattle.zvt_till.specs.declared.orders.Order.{Order}
 use Rattle.zvt_till.specs.declared.orders.Order.TheVariants.{Register as RegisterOrder, Pay as PayOrder, Reverse as ReverseOrder, CloseDay as CloseDayOrder, Cancel as CancelOrder}
-use Rattle.zvt_till.specs.declared.messages.Heard.TheVariants.{Positive, Negative, Status, Passing, Completion, Abort, Strange}
 use Rattle.zvt_till.specs.declared.statuses.Statuses.{Statuses}
-use Rattle.zvt_till.specs.declared.statuses.Statuses.TheVariants.{Nothing, Good as AllGood, Declining as AllDeclining, Fault}
+use Rattle.zvt_till.specs.declared.entries.Doubt.{Doubt}
 use Rattle.zvt_till.specs.declared.entries.Entry.{Entry}
 use Rattle.zvt_till.specs.declared.outcomes.Cause.{Cause}
 use Rattle.zvt_till.specs.declared.outcomes.Outcome.{Outcome}
 use Rattle.zvt_till.specs.declared.outcomes.Outcome.TheVariants.{Registered, Paid, Declined, Refused as RefusedOutcome, Aborted, Unclear as UnclearOutcome, Reversed, DayClosed}
 use Rattle.zvt_till.specs.Statuses.{Charge, Demand, Payment, Reversal}
-use Rattle.zvt_till.specs.Segments.{Opening, Segment, Ended, ends, is_completion, statuses, end_of}
+use Rattle.zvt_till.specs.Segments.{Opening, Segment, Ended, ends, statuses, end_of}
 use Rattle.zvt_till.specs.Books.{Booked, booked_as, charge_of, Verdict, Entered, Unclear, Refused, verdict_by, verdict_at, Books, traces, write_down, judge_as, judge_end, books_of, is_finished, settled}
-use Rattle.zvt_till.specs.Marks.{takes_back, reverses_end, mark, entries_of}
-use Rattle.zvt_till.specs.Till.{book_after, unclear_after}
-use Rattle.zvt_till.specs.Outcomes.{demand_of, outcome_by, reversal_outcome, broken_outcome}
+use Rattle.zvt_till.specs.Doubts.{doubt_end}
+use Rattle.zvt_till.specs.Marks.{reverses_end, mark, entries_of}
+use Rattle.zvt_till.specs.Till.{entry_after, book_after, unclear_after}
+use Rattle.zvt_till.specs.Outcomes.{demand_of, outcome_by}
 use Rattle.zvt_till.specs.Refusals.{sent_as}
-use Rattle.zvt_till.proofs.Summaries.{summary, is_all_good, good-summary}
+use Rattle.zvt_till.proofs.Summaries.{summary}
 use Rattle.zvt_till.proofs.Payment.{verdict_of, payment-verdict}
-use Rattle.zvt_till.proofs.Marks.{mark-idle, IsPlaced, Placed, mark-snoc, mark-traces, row_at, entry_at, marked_if, mark-reversal}
+use Rattle.zvt_till.proofs.Marks.{mark-idle, IsPlaced, Placed, mark-snoc, mark-traces, row_at, entry_at, after_end, changed_at, mark-reversal}
+use Rattle.zvt_till.proofs.Reversals.{reversal-after}
 use Rattle.zvt_till.proofs.Settled.{IsSettled, sound-summary, settled-outcome}
 use Rattle.zvt_till.proofs.Worth.{seg, opened, begun_by, rows, loose, books-snoc, entries-by}
 
@@ -83,7 +83,7 @@ shut-payment force closed a hs h p e n placed =
       book =
           pay-rows closed a out placed
           ∙ ap (λ x. mark closed 0 (write_down (books_of closed) a x).booked) (sym v)
-          ∙ sym (mark-idle closed s (λ place row. refl) 0 (judge_end (books_of closed) o ended).booked)
+          ∙ sym (mark-idle closed s (λ place row. record { unmarked = refl; stays = λ before. refl }) 0 (judge_end (books_of closed) o ended).booked)
           ∙ sym (entries-shut closed o (hs ++ h ∷ []) ended e);
       unclear =
           pay-loose (books_of closed) a out (settled-outcome (entries_of closed) (PayOrder a) (summary d (statuses hs)) p h n (sound-summary d (statuses hs)))
@@ -93,44 +93,24 @@ shut-payment force closed a hs h p e n placed =
 
 -- an order that books nothing and takes nothing back
 shut-plain : (closed : List Segment) (o : Opening) (hs : List Happening) (end : Option Ended) → end_of hs ≡ end
-    → judge_end (books_of closed) o end ≡ books_of closed → ((place : ℕ) (row : Booked) → reverses_end place row o end ≡ false)
+    → judge_end (books_of closed) o end ≡ books_of closed → ((place : ℕ) (row : Booked) → reverses_end place row o end ≡ false) → ((place : ℕ) (row : Booked) (before : Doubt) → doubt_end place row before o end ≡ before)
     → Shut (closed ++ seg o hs ∷ []) (entries_of closed) (loose closed)
-shut-plain closed o hs end e worth idle =
+shut-plain closed o hs end e worth idle stays =
     record {
       book =
-          sym (mark-idle closed (seg o hs) (λ place row. ap (reverses_end place row o) e ∙ idle place row) 0 (rows closed))
+          sym (mark-idle closed (seg o hs) (λ place row. record { unmarked = ap (reverses_end place row o) e ∙ idle place row; stays = λ before. ap (doubt_end place row before o) e ∙ stays place row before }) 0 (rows closed))
           ∙ ap (λ x. mark (closed ++ seg o hs ∷ []) 0 x.booked) (sym worth)
           ∙ sym (entries-shut closed o hs end e);
       unclear = ap (λ x. settled x.unclear) (sym (books-snoc closed o hs end e ∙ worth));
     }
 
--- a reversal marks its entry exactly where it is completed and good
-broken-book : (book : List Entry) (e : ℕ) (st : Statuses) (o : Outcome) → book_after book (ReverseOrder e) o ≡ book
-    → book_after book (ReverseOrder e) (broken_outcome st o) ≡ book
-broken-book book e Nothing o q = q
-broken-book book e (AllGood t r) o q = refl
-broken-book book e (AllDeclining c) o q = q
-broken-book book e (Fault x) o q = refl
-
-completed-reversal : (book : List Entry) (e : ℕ) (st : Statuses) → book_after book (ReverseOrder e) (reversal_outcome st) ≡ marked_if (is_all_good st) book e
-completed-reversal book e Nothing = refl
-completed-reversal book e (AllGood t r) = refl
-completed-reversal book e (AllDeclining c) = refl
-completed-reversal book e (Fault x) = refl
-
-pub reversal-book : (book : List Entry) (e : ℕ) (st : Statuses) (h : Happening)
-    → book_after book (ReverseOrder e) (outcome_by book (ReverseOrder e) st h) ≡ marked_if (is_completion h && is_all_good st) book e
-reversal-book book e st Connected = refl
-reversal-book book e st (SentOut o) = refl
-reversal-book book e st (HeardIn Positive) = refl
-reversal-book book e st (HeardIn (Negative c)) = broken-book book e st (RefusedOutcome c) refl
-reversal-book book e st (HeardIn (Status s)) = refl
-reversal-book book e st (HeardIn Passing) = refl
-reversal-book book e st (HeardIn Completion) = completed-reversal book e st
-reversal-book book e st (HeardIn (Abort c)) = broken-book book e st (Aborted c) refl
-reversal-book book e st (HeardIn Strange) = refl
-reversal-book book e st Malformed = refl
-reversal-book book e st Lost = refl
+-- a reversal changes its entry
+changed-alike : (f g : Entry → Entry) → ((x : Entry) → f x ≡ g x) → (es : List Entry) (i : ℕ) → changed_at f es i ≡ changed_at g es i
+changed-alike f g same es i = by_entry (slice_get es i)
+  where
+    by_entry : (o : Option Entry) → elim o as (λ x. List Entry) [ None ↦ es | Some x ↦ slice_set es i (f x) ] ≡ elim o as (λ x. List Entry) [ None ↦ es | Some x ↦ slice_set es i (g x) ]
+    by_entry None = refl
+    by_entry (Some x) = ap (λ y. slice_set es i y) (same x)
 
 shut-reversal : (force : Option ℕ) (closed : List Segment) (e : ℕ) (hs : List Happening) (h : Happening)
     → end_of (hs ++ h ∷ []) ≡ Some (record { before = hs; by = h }) → e < length (rows closed)
@@ -144,12 +124,12 @@ shut-reversal force closed e hs h q lt =
     let d : Demand = Reversal (charge_of o row.amount) row.trace in
     let ended : Option Ended = Some (record { before = hs; by = h }) in
     let s : Segment = seg o (hs ++ h ∷ []) in
-    let demand : demand_of force (entries_of closed) (ReverseOrder e) ≡ Some d = ap (λ x. option_map (λ y. Reversal (charge_of o y.amount) y.trace) x) at.1 in
-    let good : is_all_good (summary (demand_of force (entries_of closed) (ReverseOrder e)) (statuses hs)) ≡ takes_back o row (statuses hs) =
-    ap (λ x. is_all_good (summary x (statuses hs))) demand ∙ sym (good-summary d (statuses hs)) in
-    reversal-book (entries_of closed) e (summary (demand_of force (entries_of closed) (ReverseOrder e)) (statuses hs)) h
-    ∙ ap (λ b. marked_if (is_completion h && b) (entries_of closed) e) good
-    ∙ sym (mark-reversal o e ended s (λ place r. ap (reverses_end place r o) q) closed 0 e (rows closed) row (sym (zero-add e)) w.1)
+    let demand : demand_of force (entries_of closed) (ReverseOrder e) ≡ Some d = ap (λ x. option_map (λ y. Reversal (charge_of o y.amount) y.trace) x) at.2 in
+    let es : List Entry = entries_of closed in
+    let out : Outcome = outcome_by es (ReverseOrder e) (summary (Some d) (statuses hs)) h in
+    ap (λ x. book_after es (ReverseOrder e) (outcome_by es (ReverseOrder e) (summary x (statuses hs)) h)) demand
+    ∙ changed-alike (λ x. entry_after x out) (after_end o row ended) (λ x. reversal-after es e o row hs h x) es e
+    ∙ sym (mark-reversal o e ended s (record { marks = λ place r. ap (reverses_end place r o) q; opens = λ place r before. ap (doubt_end place r before o) q }) closed 0 e (rows closed) row (sym (zero-add e)) w.1)
     ∙ sym (entries-shut closed o (hs ++ h ∷ []) ended q)
 
 pub shut : (own : ℕ) (force : Option ℕ) (order : Order) (closed : List Segment) (hs : List Happening) (h : Happening) (p : Bool)
@@ -158,15 +138,15 @@ pub shut : (own : ℕ) (force : Option ℕ) (order : Order) (closed : List Segme
     → let es : List Entry = entries_of closed in
     let out : Outcome = outcome_by es order (summary (demand_of force es order) (statuses hs)) h in
     Shut (closed ++ seg (opened own force order) (hs ++ h ∷ []) ∷ []) (book_after es order out) (unclear_after (loose closed) order out)
-shut own force RegisterOrder closed hs h p e n placed here = shut-plain closed (begun_by force (Register (Some own))) (hs ++ h ∷ []) (Some (record { before = hs; by = h })) e refl (λ place row. refl)
+shut own force RegisterOrder closed hs h p e n placed here = shut-plain closed (begun_by force (Register (Some own))) (hs ++ h ∷ []) (Some (record { before = hs; by = h })) e refl (λ place row. refl) (λ place row before. refl)
 shut own force (PayOrder a) closed hs h p e n placed here = shut-payment force closed a hs h p e n placed
 shut own force (ReverseOrder k) closed hs h p e n placed here =
     record {
       book = shut-reversal force closed k hs h e here;
       unclear = ap (λ x. settled x.unclear) (sym (books-snoc closed (begun_by force (Reverse k)) (hs ++ h ∷ []) (Some (record { before = hs; by = h })) e));
     }
-shut own force CloseDayOrder closed hs h p e n placed here = shut-plain closed (begun_by force CloseDay) (hs ++ h ∷ []) (Some (record { before = hs; by = h })) e refl (λ place row. refl)
-shut own force CancelOrder closed hs h p e n placed here = shut-plain closed (begun_by force Cancel) (hs ++ h ∷ []) (Some (record { before = hs; by = h })) e refl (λ place row. refl)
+shut own force CloseDayOrder closed hs h p e n placed here = shut-plain closed (begun_by force CloseDay) (hs ++ h ∷ []) (Some (record { before = hs; by = h })) e refl (λ place row. refl) (λ place row before. refl)
+shut own force CancelOrder closed hs h p e n placed here = shut-plain closed (begun_by force Cancel) (hs ++ h ∷ []) (Some (record { before = hs; by = h })) e refl (λ place row. refl) (λ place row before. refl)
 
 grows-by : (b : Books) (a : ℕ) (v : Verdict) → length b.booked ≤ length (write_down b a v).booked
 grows-by b a (Entered row) = omega (arith, length-append b.booked (row ∷ []))

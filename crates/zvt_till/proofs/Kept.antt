@@ -7,6 +7,7 @@ use Rattle.zvt_till.specs.declared.happenings.Happening.TheVariants.{Connected, 
 use Rattle.zvt_till.specs.declared.orders.Order.{Order}
 use Rattle.zvt_till.specs.declared.orders.Order.TheVariants.{Register, Pay, Reverse, CloseDay, Cancel}
 use Rattle.zvt_till.specs.declared.statuses.Running.{Running}
+use Rattle.zvt_till.specs.declared.entries.Doubt.TheVariants.{No}
 use Rattle.zvt_till.specs.declared.entries.Entry.{Entry}
 use Rattle.zvt_till.specs.declared.outcomes.Outcome.{Outcome}
 use Rattle.zvt_till.specs.declared.outcomes.Outcome.TheVariants.{Registered, Paid, Declined, Refused, Aborted, Unclear, Reversed, DayClosed}
@@ -15,7 +16,7 @@ use Rattle.zvt_till.specs.Outcomes.{demand_of, outcome_by, listened}
 use Rattle.zvt_till.specs.Refusals.{order_in}
 use Rattle.zvt_till.specs.Books.{Booked, booked_as}
 use Rattle.zvt_till.specs.Sending.{Settings}
-use Rattle.zvt_till.specs.Till.{TillState, new_till, finish, meet_running, meet, accept, step, state_after, book_after}
+use Rattle.zvt_till.specs.Till.{TillState, new_till, finish, meet_running, meet, accept, step, state_after, entry_after, book_after}
 use Rattle.zvt_till.specs.Laws.{row_of, Grows, EntriesStay}
 
 -- the book stays, or the running order ends
@@ -60,20 +61,23 @@ set-rows [] i row v e q = absurd cc
 set-rows (x ∷ book) zero row v e q = let same : x ≡ row = cc in ap (λ y. y ∷ map row_of book) (q ∙ ap row_of (sym same))
 set-rows (x ∷ book) (suc i) row v e q = ap (λ ys. row_of x ∷ ys) (set-rows book i row v e q)
 
-reversed-by : (book : List Entry) (i : ℕ) (o : Option Entry) → slice_get book i ≡ o
-    → map row_of (elim o [ None ↦ book | Some row ↦ slice_set book i (record row { reversed = true }) ]) ≡ map row_of book
-reversed-by book i None e = refl
-reversed-by book i (Some row) e = set-rows book i row (record row { reversed = true }) e refl
+pub same-row : (row : Entry) (out : Outcome) → row_of (entry_after row out) ≡ row_of row
+same-row row Registered = refl
+same-row row (Paid t r) = refl
+same-row row (Declined c) = refl
+same-row row (Refused c) = refl
+same-row row (Aborted c) = refl
+same-row row (Unclear x) = refl
+same-row row Reversed = refl
+same-row row DayClosed = refl
+
+reversed-by : (book : List Entry) (i : ℕ) (out : Outcome) (o : Option Entry) → slice_get book i ≡ o
+    → map row_of (elim o [ None ↦ book | Some row ↦ slice_set book i (entry_after row out) ]) ≡ map row_of book
+reversed-by book i out None e = refl
+reversed-by book i out (Some row) e = set-rows book i row (entry_after row out) e (same-row row out)
 
 pub reversed-rows : (book : List Entry) (i : ℕ) (out : Outcome) → map row_of (book_after book (Reverse i) out) ≡ map row_of book
-reversed-rows book i Registered = refl
-reversed-rows book i (Paid t r) = refl
-reversed-rows book i (Declined c) = refl
-reversed-rows book i (Refused c) = refl
-reversed-rows book i (Aborted c) = refl
-reversed-rows book i (Unclear x) = refl
-reversed-rows book i Reversed = reversed-by book i (slice_get book i) refl
-reversed-rows book i DayClosed = refl
+reversed-rows book i out = reversed-by book i out (slice_get book i) refl
 
 -- and nothing else changes one
 
@@ -82,7 +86,7 @@ unchanged xs ys e = ([], e ∙ sym (append-nil xs))
 
 paid-rows : (book : List Entry) (a : ℕ) (out : Outcome) → Grows (map row_of book) (map row_of (book_after book (Pay a) out))
 paid-rows book a Registered = unchanged (map row_of book) (map row_of book) refl
-paid-rows book a (Paid t r) = (booked_as a t r ∷ [], map_push row_of book (record { amount = a; trace = t; receipt = r; reversed = false }))
+paid-rows book a (Paid t r) = (booked_as a t r ∷ [], map_push row_of book (record { amount = a; trace = t; receipt = r; reversed = false; doubt = No }))
 paid-rows book a (Declined c) = unchanged (map row_of book) (map row_of book) refl
 paid-rows book a (Refused c) = unchanged (map row_of book) (map row_of book) refl
 paid-rows book a (Aborted c) = unchanged (map row_of book) (map row_of book) refl

@@ -6,6 +6,7 @@ pub mod Summaries
 pub mod Payment
 pub mod Marks
 pub mod Settled
+pub mod Reversals
 pub mod Worth
 pub mod Endings
 pub mod Tied
@@ -23,6 +24,7 @@ pub mod Carrying
 pub mod Ordering
 pub mod BooksLemmas
 pub mod Noted
+mod Unclear
 mod Rows
 mod Room
 mod Once

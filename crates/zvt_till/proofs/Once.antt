@@ -1,4 +1,4 @@
--- No trace number stands twice in a book that takes one more payment, or in which an entry is marked.
+-- No trace number stands twice in a book that takes one more payment, or in which an entry changes but for its number.
 use Rattle.std.proofs.Common.{◌≡◌, ℕ, zero, suc, ◌<◌, ◌≤◌, Bool, true, false, cond, ◌||◌, nat_eq, IfSome, List, [], ◌∷◌, ◌++◌, length, length-append, Option, Some, None, take, set, get_or, slice_get, option_map, arith, refl, sym, ap, subst, ◌∙◌, inl, inr}
 use Rattle.std.proofs.lemmas.Bool.{cases_lt}
 use Rattle.std.proofs.lemmas.List.{length-set}
@@ -56,26 +56,23 @@ once-pushed book row unused once k below =
           (ap (λ (b : List Entry). trace_used row.trace b) (front book row (length book) (omega arith) ∙ whole book) ∙ unused))
     ]
 
--- a mark
+-- an entry that changes but for its trace number
 
-abbrev marked : List Entry → ℕ → Entry → List Entry
-marked book i row = set book i (record row { reversed = true })
+changed-row : (book : List Entry) (i : ℕ) (row changed : Entry) → i < length book → row ≡ get_or book i row → changed.trace ≡ row.trace → (k : ℕ)
+    → option_map trace_of (slice_get (set book i changed) k) ≡ option_map trace_of (slice_get book k)
+changed-row [] i row changed within is same k = absurd (omega (arith, within))
+changed-row (x ∷ book) zero row changed within is same zero = ap (λ (t : ℕ). Some t) (same ∙ ap trace_of is)
+changed-row (x ∷ book) zero row changed within is same (suc k) = refl
+changed-row (x ∷ book) (suc i) row changed within is same zero = refl
+changed-row (x ∷ book) (suc i) row changed within is same (suc k) = changed-row book i row changed (omega (arith, within)) is same k
 
-marked-row : (book : List Entry) (i : ℕ) (row : Entry) → i < length book → row ≡ get_or book i row → (k : ℕ)
-    → option_map trace_of (slice_get (marked book i row) k) ≡ option_map trace_of (slice_get book k)
-marked-row [] i row within is k = absurd (omega (arith, within))
-marked-row (x ∷ book) zero row within is zero = ap (λ (e : Entry). Some e.trace) is
-marked-row (x ∷ book) zero row within is (suc k) = refl
-marked-row (x ∷ book) (suc i) row within is zero = refl
-marked-row (x ∷ book) (suc i) row within is (suc k) = marked-row book i row (omega (arith, within)) is k
-
-marked-front : (number : ℕ) (book : List Entry) (i : ℕ) (row : Entry) → i < length book → row ≡ get_or book i row → (k : ℕ)
-    → trace_used number (take k (marked book i row)) ≡ trace_used number (take k book)
-marked-front number [] i row within is k = absurd (omega (arith, within))
-marked-front number (x ∷ book) zero row within is zero = refl
-marked-front number (x ∷ book) zero row within is (suc k) = ap (λ (e : Entry). nat_eq e.trace number || trace_used number (take k book)) is
-marked-front number (x ∷ book) (suc i) row within is zero = refl
-marked-front number (x ∷ book) (suc i) row within is (suc k) = ap (λ (b : Bool). nat_eq x.trace number || b) (marked-front number book i row (omega (arith, within)) is k)
+changed-front : (number : ℕ) (book : List Entry) (i : ℕ) (row changed : Entry) → i < length book → row ≡ get_or book i row → changed.trace ≡ row.trace → (k : ℕ)
+    → trace_used number (take k (set book i changed)) ≡ trace_used number (take k book)
+changed-front number [] i row changed within is same k = absurd (omega (arith, within))
+changed-front number (x ∷ book) zero row changed within is same zero = refl
+changed-front number (x ∷ book) zero row changed within is same (suc k) = ap (λ (t : ℕ). nat_eq t number || trace_used number (take k book)) (same ∙ ap trace_of is)
+changed-front number (x ∷ book) (suc i) row changed within is same zero = refl
+changed-front number (x ∷ book) (suc i) row changed within is same (suc k) = ap (λ (b : Bool). nat_eq x.trace number || b) (changed-front number book i row changed (omega (arith, within)) is same k)
 
 by-trace : (P : ℕ → Type 0) (one other : Option Entry) → option_map trace_of other ≡ option_map trace_of one
     → IfSome one (λ row. P row.trace) → IfSome other (λ row. P row.trace)
@@ -88,13 +85,13 @@ if-more : (P Q : ℕ → Type 0) → ((n : ℕ) → P n → Q n) → (found : Op
 if-more P Q more None p = p
 if-more P Q more (Some x) p = more x.trace p
 
-pub once-marked : (book : List Entry) (i : ℕ) (row : Entry) → i < length book → row ≡ get_or book i row
-    → OnceBelow (length book) book → OnceBelow (length (marked book i row)) (marked book i row)
-once-marked book i row within is once k below =
-    let small : k < length book = omega (arith, below, length-set book i (record row { reversed = true })) in
-    if-more (λ (t : ℕ). trace_used t (take k book) ≡ false) (λ (t : ℕ). trace_used t (take k (marked book i row)) ≡ false)
-    (λ t unused. marked-front t book i row within is k ∙ unused) (slice_get (marked book i row) k)
-    (by-trace (λ (t : ℕ). trace_used t (take k book) ≡ false) (slice_get book k) (slice_get (marked book i row) k) (marked-row book i row within is k) (once k small))
+pub once-changed : (book : List Entry) (i : ℕ) (row changed : Entry) → i < length book → row ≡ get_or book i row → changed.trace ≡ row.trace
+    → OnceBelow (length book) book → OnceBelow (length (set book i changed)) (set book i changed)
+once-changed book i row changed within is same once k below =
+    let small : k < length book = omega (arith, below, length-set book i changed) in
+    if-more (λ (t : ℕ). trace_used t (take k book) ≡ false) (λ (t : ℕ). trace_used t (take k (set book i changed)) ≡ false)
+    (λ t unused. changed-front t book i row changed within is same k ∙ unused) (slice_get (set book i changed) k)
+    (by-trace (λ (t : ℕ). trace_used t (take k book) ≡ false) (slice_get book k) (slice_get (set book i changed) k) (changed-row book i row changed within is same k) (once k small))
 
 -- how an order ends: what is booked has a number that was not used
 

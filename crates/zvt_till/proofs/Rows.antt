@@ -11,10 +11,11 @@ use Rattle.zvt_till.specs.declared.messages.CurrencyFact.{CurrencyFact}
 use Rattle.zvt_till.specs.declared.messages.CurrencyFact.TheVariants.{Absent as NoCurrency, Once as OneCurrency, Many as ManyCurrencies}
 use Rattle.zvt_till.specs.declared.outcomes.Outcome.TheVariants.{Refused, Unclear}
 use Rattle.zvt_till.specs.declared.orders.OrderRefusal.TheVariants.{Offline}
+use Rattle.zvt_till.specs.declared.entries.Doubt.TheVariants.{No, Unclear as UnclearReversal, TakenBack}
 use Rattle.zvt_till.specs.declared.entries.Entry.{Entry}
 use Rattle.zvt_till.specs.declared.outcomes.Cause.TheVariants.{NoStatus, NoTrace, Conflict, AmountDiffers, AbortAfterApproval, TraceUsed, Line as LineCause, Malformed as MalformedCause, WrongCurrency}
 use Rattle.zvt_till.specs.Books.{books}
-use Rattle.zvt_till.specs.Marks.{total, entries}
+use Rattle.zvt_till.specs.Marks.{total, entries, reversals_left}
 use Rattle.zvt_till.specs.Sending.{Settings}
 use Rattle.zvt_till.specs.Till.{facts_of, state_after}
 use Rattle.zvt_till.specs.Refusals.{refusal}
@@ -35,7 +36,7 @@ unfolding start approval
 paid_twice_over = start ++ (SentOut (Pay 1234) ∷ HeardIn Positive ∷ approval ∷ approval ∷ HeardIn Completion ∷ HeardIn Completion ∷ [])
 
 entry : ℕ → ℕ → Entry
-entry trace receipt = record { amount = 1234; trace = trace; receipt = Some (0 ∷ receipt ∷ []); reversed = false }
+entry trace receipt = record { amount = 1234; trace = trace; receipt = Some (0 ∷ receipt ∷ []); reversed = false; doubt = No }
 
 one_entry : (facts_in paid_twice_over).book ≡ entry 17 5 ∷ []
 unfolding start approval paid_twice_over entry
@@ -150,7 +151,7 @@ taken_back original =
     paid_twice_over
     ++ (SentOut (Reverse 0) ∷ HeardIn Positive ∷ HeardIn (Status (record { result = Some 0; amount = Some 1234; trace = Some 18; receipt = None; original = original; currency = NoCurrency })) ∷ HeardIn Completion ∷ [])
 
-marked : (facts_in (taken_back (Once (0 ∷ 0 ∷ 23 ∷ [])))).book ≡ record { amount = 1234; trace = 17; receipt = Some (0 ∷ 5 ∷ []); reversed = true } ∷ []
+marked : (facts_in (taken_back (Once (0 ∷ 0 ∷ 23 ∷ [])))).book ≡ record { amount = 1234; trace = 17; receipt = Some (0 ∷ 5 ∷ []); reversed = true; doubt = No } ∷ []
 unfolding start approval paid_twice_over taken_back
 marked = refl
 
@@ -162,7 +163,7 @@ no_digits : (state_after euro (taken_back (Once (0 ∷ 0 ∷ 17 ∷ [])))).last_
 unfolding euro start approval paid_twice_over taken_back
 no_digits = refl
 
-not_marked : (facts_in (taken_back (Once (0 ∷ 1 ∷ 13 ∷ [])))).book ≡ entry 17 5 ∷ []
+not_marked : (facts_in (taken_back (Once (0 ∷ 1 ∷ 13 ∷ [])))).book ≡ record (entry 17 5) { doubt = UnclearReversal NoTrace } ∷ []
 unfolding start approval paid_twice_over taken_back entry
 not_marked = refl
 
@@ -188,3 +189,70 @@ two_currencies = refl
 -- without a registration that names one any one currency will do
 unnamed : (books (SentOut (Register None) ∷ SentOut (Pay 1234) ∷ HeardIn (Status (record { result = Some 0; amount = Some 1234; trace = Some 17; receipt = None; original = Absent; currency = OneCurrency 840 })) ∷ HeardIn Completion ∷ [])).unclear ≡ []
 unnamed = refl
+
+-- a reversal that ends so: what it leaves of the one entry, and whether it is unclear
+reversing : List Happening → List Happening
+unfolding start approval paid_twice_over
+reversing ends = paid_twice_over ++ (SentOut (Reverse 0) ∷ ends)
+
+-- its line is lost, and a second one ends so
+second_try : List Happening → List Happening
+unfolding start approval paid_twice_over reversing
+second_try ends = reversing (HeardIn Positive ∷ Lost ∷ start ++ (SentOut (Reverse 0) ∷ ends))
+
+taken : Happening
+taken = HeardIn (Status (record { result = Some 0; amount = Some 1234; trace = Some 18; receipt = None; original = Once (0 ∷ 0 ∷ 23 ∷ []); currency = NoCurrency }))
+
+lost_reversal : entries (reversing (HeardIn Positive ∷ taken ∷ Lost ∷ [])) ≡ record (entry 17 5) { doubt = UnclearReversal LineCause } ∷ []
+unfolding start approval paid_twice_over entry reversing taken
+lost_reversal = refl
+
+lost_reversal_is_left : reversals_left (reversing (HeardIn Positive ∷ Lost ∷ [])) ≡ (0, LineCause) ∷ []
+unfolding start approval paid_twice_over reversing
+lost_reversal_is_left = refl
+
+running_reversal : reversals_left (reversing (HeardIn Positive ∷ taken ∷ [])) ≡ []
+unfolding start approval paid_twice_over reversing taken
+running_reversal = refl
+
+-- a decline, a refusal and an abort without an approval leave nothing; an abort behind one, and a completion without a status, do
+declined_reversal : entries (reversing (HeardIn Positive ∷ HeardIn (Abort 108) ∷ [])) ≡ entry 17 5 ∷ []
+unfolding start approval paid_twice_over entry reversing
+declined_reversal = refl
+
+refused_reversal : entries (reversing (HeardIn (Negative 131) ∷ [])) ≡ entry 17 5 ∷ []
+unfolding start approval paid_twice_over entry reversing
+refused_reversal = refl
+
+broken_reversal : reversals_left (reversing (HeardIn Positive ∷ taken ∷ HeardIn (Abort 108) ∷ [])) ≡ (0, AbortAfterApproval) ∷ []
+unfolding start approval paid_twice_over reversing taken
+broken_reversal = refl
+
+unsaid_reversal : reversals_left (reversing (HeardIn Positive ∷ HeardIn Completion ∷ [])) ≡ (0, NoStatus) ∷ []
+unfolding start approval paid_twice_over reversing
+unsaid_reversal = refl
+
+-- the second one: completed, it marks; broken off by B4 the terminal took the payment back before; by another code all stays
+marked_again : entries (second_try (HeardIn Positive ∷ taken ∷ HeardIn Completion ∷ [])) ≡ record (entry 17 5) { reversed = true } ∷ []
+unfolding start approval paid_twice_over entry reversing second_try taken
+marked_again = refl
+
+aborted_again : entries (second_try (HeardIn Positive ∷ HeardIn (Abort 180) ∷ [])) ≡ record (entry 17 5) { doubt = TakenBack } ∷ []
+unfolding start approval paid_twice_over entry reversing second_try
+aborted_again = refl
+
+refused_again : reversals_left (second_try (HeardIn (Negative 180) ∷ [])) ≡ []
+unfolding start approval paid_twice_over reversing second_try
+refused_again = refl
+
+other_code_again : reversals_left (second_try (HeardIn Positive ∷ HeardIn (Abort 181) ∷ [])) ≡ (0, LineCause) ∷ []
+unfolding start approval paid_twice_over reversing second_try
+other_code_again = refl
+
+malformed_again : reversals_left (second_try (Malformed ∷ [])) ≡ (0, MalformedCause) ∷ []
+unfolding start approval paid_twice_over reversing second_try
+malformed_again = refl
+
+doubt_by_steps : (state_after euro (second_try (HeardIn Positive ∷ HeardIn (Abort 180) ∷ []))).book ≡ record (entry 17 5) { doubt = TakenBack } ∷ []
+unfolding euro start approval paid_twice_over entry reversing second_try
+doubt_by_steps = refl

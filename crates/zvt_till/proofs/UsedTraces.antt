@@ -92,12 +92,12 @@ has-inserted words used trace number word same is within held other =
     by_number words number word other within held (eqb_tells number other) (eqb_tells (other / 64) (number / 64))
     ∙ ap₂ (λ t ws. nat_eq t other || has ws other) is same
 
--- a mark at an entry leaves its trace number
-pub used-marked : (number : ℕ) (book : List Entry) (i : ℕ) (row : Entry) → i < length book → row ≡ get_or book i row
-    → trace_used number (set book i (record row { reversed = true })) ≡ trace_used number book
-used-marked number [] i row within is = absurd (omega arith)
-used-marked number (entry ∷ book) zero row within is = ap (λ (e : Entry). nat_eq e.trace number || trace_used number book) is
-used-marked number (entry ∷ book) (suc i) row within is = ap (λ b. nat_eq entry.trace number || b) (used-marked number book i row (omega arith) is)
+-- an entry that changes but for its trace number leaves the numbers
+pub used-changed : (number : ℕ) (book : List Entry) (i : ℕ) (row changed : Entry) → i < length book → row ≡ get_or book i row → changed.trace ≡ row.trace
+    → trace_used number (set book i changed) ≡ trace_used number book
+used-changed number [] i row changed within is same = absurd (omega arith)
+used-changed number (entry ∷ book) zero row changed within is same = ap (λ (t : ℕ). nat_eq t number || trace_used number book) (same ∙ ap (λ (e : Entry). e.trace) is)
+used-changed number (entry ∷ book) (suc i) row changed within is same = ap (λ b. nat_eq entry.trace number || b) (used-changed number book i row changed (omega arith) is same)
 
 -- the entry that is read is the one at its place
 pub read_is : (book : List Entry) (i : ℕ) (row : Entry) → i < length book → row ≡ get_or book i row → slice_get book i ≡ Some row

@@ -11,11 +11,12 @@ use Rattle.zvt_till.specs.declared.outcomes.Cause.{Cause}
 use Rattle.zvt_till.specs.declared.outcomes.Cause.TheVariants.{Unfinished}
 use Rattle.zvt_till.specs.Segments.{Opening, Segment, Ended, ends, is_positive, end_of}
 use Rattle.zvt_till.specs.Books.{Booked, Books, judge_as, judge_end, judge, empty_books, books_of, is_finished, settled}
+use Rattle.zvt_till.specs.Doubts.{doubt_end}
 use Rattle.zvt_till.specs.Marks.{reverses_end, mark, entries_of}
 use Rattle.zvt_till.specs.Refusals.{sent_as}
 use Rattle.zvt_till.specs.Log.{is_break, awaited_by_end, awaited_after, awaited_of}
 use Rattle.zvt_till.proofs.Segments.{end_grown, end_of-snoc, fold-snoc}
-use Rattle.zvt_till.proofs.Marks.{mark-idle, mark-last, reverses_none}
+use Rattle.zvt_till.proofs.Marks.{IsIdle, mark-idle, mark-last, reverses_none, doubt_none}
 
 abbrev pub seg : Opening → List Happening → Segment
 seg o hs = record { opening = o; answers = hs }
@@ -52,7 +53,7 @@ pub entries-alike : (closed : List Segment) (o : Opening) (xs ys : List Happenin
     → entries_of (closed ++ seg o xs ∷ []) ≡ entries_of (closed ++ seg o ys ∷ [])
 entries-alike closed o xs ys e =
     entries-by (closed ++ seg o xs ∷ []) (books_of (closed ++ seg o ys ∷ [])) (books-alike closed o xs ys e)
-    ∙ mark-last closed (seg o xs) (seg o ys) (λ place row. ap (reverses_end place row o) e) 0 (rows (closed ++ seg o ys ∷ []))
+    ∙ mark-last closed (seg o xs) (seg o ys) (λ place row. ap (reverses_end place row o) e) (λ place row before. ap (doubt_end place row before o) e) 0 (rows (closed ++ seg o ys ∷ []))
 
 -- a segment without an end is worth nothing yet
 booked-unended : (b : Books) (opening : Opening) (o : Sent) → (judge_as o b opening None).booked ≡ b.booked
@@ -77,10 +78,17 @@ rows-open closed o hs e = ap (λ x. x.booked) (books-snoc closed o hs None e) �
 pub loose-open : (closed : List Segment) (o : Opening) (hs : List Happening) → end_of hs ≡ None → loose (closed ++ seg o hs ∷ []) ≡ loose closed
 loose-open closed o hs e = ap (λ x. settled x.unclear) (books-snoc closed o hs None e) ∙ unclear-unended (books_of closed) o o.order
 
+idle-open : (o : Opening) (hs : List Happening) → end_of hs ≡ None → (place : ℕ) (row : Booked) → IsIdle (seg o hs) place row
+idle-open o hs e place row =
+    record {
+      unmarked = ap (reverses_end place row o) e ∙ reverses_none place row o o.order;
+      stays = λ before. ap (doubt_end place row before o) e ∙ doubt_none place row before o o.order;
+    }
+
 pub entries-open : (closed : List Segment) (o : Opening) (hs : List Happening) → end_of hs ≡ None → entries_of (closed ++ seg o hs ∷ []) ≡ entries_of closed
 entries-open closed o hs e =
     ap (λ x. mark (closed ++ seg o hs ∷ []) 0 x) (rows-open closed o hs e)
-    ∙ mark-idle closed (seg o hs) (λ place row. ap (reverses_end place row o) e ∙ reverses_none place row o o.order) 0 (rows closed)
+    ∙ mark-idle closed (seg o hs) (λ place row. idle-open o hs e place row) 0 (rows closed)
 
 -- a happening that follows an ended order, or no order at all
 

@@ -1,5 +1,5 @@
 -- What the reversals of a log leave open: whether a payment of the book was taken back.
-use Rattle.std.specs.Prelude.{ℕ, ◌+◌, ◌==◌, cond, List, [], ◌∷◌, Option, Some, None, map, fold}
+use Rattle.std.specs.Prelude.{ℕ, ◌+◌, ◌==◌, Bool, true, false, cond, List, [], ◌∷◌, Option, Some, None, map, fold}
 use Rattle.zvt_till.specs.declared.happenings.Happening.{Happening}
 use Rattle.zvt_till.specs.declared.happenings.Happening.TheVariants.{Connected, Sent as SentOut, Heard as HeardIn, Malformed, Lost}
 use Rattle.zvt_till.specs.declared.happenings.Sent.{Sent}
@@ -73,6 +73,9 @@ doubt_after place row before s = doubt_end place row before s.opening (end_of s.
 -- what all segments leave open of it: the last reversal that changed anything counts
 abbrev pub doubt_of : ℕ → Booked → List Segment → Doubt
 doubt_of place row ss = fold (doubt_after place row) No ss
+
+abbrev pub is_unclear : Entry → Bool
+is_unclear entry = elim entry.doubt [ No ↦ false | Unclear cause ↦ true | TakenBack ↦ false ]
 
 -- the entries whose last reversal is unclear, each by its place in the book and with the cause
 abbrev pub unclear_reversals_from : ℕ → List Entry → List (ℕ × Cause)

@@ -1,13 +1,17 @@
--- What holds of every payment and of every book.
-use Rattle.std.specs.Prelude.{◌≡◌, ℕ, ◌⊎◌, IsTrue, nat_eq, List, [], ◌∷◌, ◌++◌, Some, map}
+-- What holds of every payment, of every reversal and of every book.
+use Rattle.std.specs.Prelude.{◌≡◌, ℕ, ◌⊎◌, true, IsTrue, nat_eq, List, [], ◌∷◌, ◌++◌, Some, None, map}
 use Rattle.std.specs.List.{list_any, IsDistinct}
 use Rattle.zvt_till.specs.declared.happenings.Happening.{Happening}
-use Rattle.zvt_till.specs.declared.happenings.Sent.TheVariants.{Pay}
+use Rattle.zvt_till.specs.declared.happenings.Sent.TheVariants.{Pay, Reverse}
+use Rattle.zvt_till.specs.declared.entries.Doubt.{Doubt}
+use Rattle.zvt_till.specs.declared.entries.Doubt.TheVariants.{No, Unclear, TakenBack}
 use Rattle.zvt_till.specs.declared.entries.Entry.{Entry}
 use Rattle.zvt_till.specs.declared.outcomes.Cause.{Cause}
-use Rattle.zvt_till.specs.Statuses.{approves}
+use Rattle.zvt_till.specs.Statuses.{approves, class_of, is_declined}
 use Rattle.zvt_till.specs.Segments.{Segment, Ended, end_of, statuses}
 use Rattle.zvt_till.specs.Books.{Books, Booked, booked_as, charge_of, judge, is_finished}
+use Rattle.zvt_till.specs.Doubts.{reversing, doubt_after}
+use Rattle.zvt_till.specs.Marks.{reverses}
 use Rattle.zvt_till.specs.Sending.{Settings}
 use Rattle.zvt_till.specs.Till.{state_after}
 
@@ -23,6 +27,26 @@ NoApprovalDropped =
     (b : Books) (s : Segment) (amount trace : ℕ) (e : Ended)
     → s.opening.order ≡ Pay amount → end_of s.answers ≡ Some e → IsTrue (list_any (approves (charge_of s.opening amount) trace) (statuses e.before))
     → AddsPayment amount b (judge b s)
+
+-- What a reversal with an end leaves: its row is marked; or nothing but declines were heard, and what was open stays so
+-- or the terminal said by B4 that it took the payment back before; or it is unclear for good.
+abbrev pub SettlesReversal : ℕ → Booked → Doubt → Segment → Ended → Type 0
+SettlesReversal place row before s e =
+    ((reverses place row s ≡ true) × (doubt_after place row before s ≡ No))
+    ⊎ ((IsTrue (is_declined (map (class_of (reversing s.opening row)) (statuses e.before))) × ((doubt_after place row before s ≡ before) ⊎ (doubt_after place row before s ≡ TakenBack)))
+    ⊎ ((cause : Cause) × IsTrue (is_finished cause) × (doubt_after place row before s ≡ Unclear cause)))
+
+-- no reversal with an end is forgotten: it is marked, or known to have done nothing by itself, or unclear
+abbrev pub NoReversalDropped : Type 0
+NoReversalDropped =
+    (place : ℕ) (row : Booked) (before : Doubt) (s : Segment) (e : Ended)
+    → s.opening.order ≡ Reverse place → end_of s.answers ≡ Some e → SettlesReversal place row before s e
+
+-- what is open of an entry stays so until a reversal of that entry ends
+abbrev pub DoubtsStay : Type 0
+DoubtsStay =
+    (place : ℕ) (row : Booked) (before : Doubt) (s : Segment)
+    → ((s.opening.order ≡ Reverse place → ⊥) ⊎ (end_of s.answers ≡ None)) → doubt_after place row before s ≡ before
 
 abbrev pub trace_of : Entry → ℕ
 trace_of entry = entry.trace

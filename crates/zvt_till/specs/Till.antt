@@ -62,6 +62,10 @@ abbrev pub unclear_after : List (ℕ × Cause) → Order → Outcome → List (�
 unclear_after rows (PayOrder a) (Unclear cause) = rows ++ (a, cause) ∷ []
 unclear_after rows _ _ = rows
 
+-- a payment of this amount ended so
+abbrev pub payment_ended : TillState → ℕ → Outcome → TillState
+payment_ended s amount outcome = record s { book = book_after s.book (PayOrder amount) outcome; unclear = unclear_after s.unclear (PayOrder amount) outcome }
+
 abbrev pub registered_after_outcome : Bool → Outcome → Bool
 registered_after_outcome before Registered = true
 registered_after_outcome before _ = before

@@ -8,7 +8,8 @@ ghost use Rattle.zvt_till.specs.Refusals.{refusal, sent_as};
 ghost use Rattle.zvt_till.specs.Till.{facts_of, new_till, state_after};
 ghost use Rattle.zvt_till.specs.Log.{IsLog, facts_in, line_up};
 ghost use Rattle.zvt_till.specs.Books.{books, settled};
-ghost use Rattle.zvt_till.specs.Marks.{entries};
+ghost use Rattle.zvt_till.specs.Doubts.{unclear_reversals};
+ghost use Rattle.zvt_till.specs.Marks.{entries, reversals_left};
 ghost use Rattle.zvt_spelling.specs.Reading.{shortest};
 ghost use Rattle.zvt_till.specs.Events.{IsTied, HoldsLine, Follows, IsLogOf, run_settings, sent_over, log_after_order, message_out, ReadsPiece};
 
@@ -230,6 +231,8 @@ pub fn replay(alloc: Global, events: &[Event]) -> Result<Run, AllocError>
     // with the book, its marks and the unclear payments that whole orders of the log are worth.
     ensures book { IfOk result (λ run. run.till.state.book ≡ entries run.log.items) }
     ensures unclear { IfOk result (λ run. run.till.state.unclear ≡ settled (books run.log.items).unclear) }
+    // The reversals that it has as unclear are those that the log leaves so.
+    ensures reversals { IfOk result (λ run. unclear_reversals run.till.state.book ≡ reversals_left run.log.items) }
     // What it sent are the accepted orders and the answers, in the order in which they arose.
     ensures sent { IfOk result (λ run. Spelled run.sent.items (sent_over run.log.items) []) }
 {

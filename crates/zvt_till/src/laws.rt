@@ -2,7 +2,7 @@
 ghost use Rattle.zvt_till.specs.Log.{StepsMeetLog};
 ghost use Rattle.zvt_till.specs.Carried.{RunsAreLogged, FaultsAreLogged, UnsentAreLogged, OrdersAreLogged};
 ghost use Rattle.zvt_till.specs.Cuttings.{LogsAreOne, CuttingsAgree};
-ghost use Rattle.zvt_till.specs.Laws.{NoApprovalDropped, TracesStayDistinct, EntriesStay};
+ghost use Rattle.zvt_till.specs.Laws.{NoApprovalDropped, NoReversalDropped, DoubtsStay, TracesStayDistinct, EntriesStay};
 
 /// The state of a till after a log is what the log says, judged by whole orders.
 pub fn steps_meet_log()
@@ -12,6 +12,16 @@ pub fn steps_meet_log()
 /// A payment that some status approved before its end is booked or left unclear.
 pub fn no_approval_dropped()
     ensures { NoApprovalDropped }
+{}
+
+/// A reversal that has an end is marked, or known to have taken nothing back by itself, or left unclear.
+pub fn no_reversal_dropped()
+    ensures { NoReversalDropped }
+{}
+
+/// What is open of an entry stays so until a reversal of that entry ends.
+pub fn doubts_stay()
+    ensures { DoubtsStay }
 {}
 
 /// Whatever happens, no two entries of the book have one trace number.

@@ -54,7 +54,7 @@ impl Model for Till {
 
 impl Till {
     ghost use Rattle.zvt_till.specs.Sending.{reply_to};
-    ghost use Rattle.zvt_till.specs.Till.{new_till, meet, step, line_down, finish, outcome_at};
+    ghost use Rattle.zvt_till.specs.Till.{new_till, meet, step, line_down, finish, payment_ended, outcome_at};
     ghost use Rattle.zvt_till.specs.View.{CanEnd, CanBook, KeepsRoom, claimed_by};
     ghost use Rattle.zvt_till.specs.Doubts.{unclear_reversals};
     ghost use Rattle.zvt_till.specs.Marks.{total};
@@ -202,28 +202,34 @@ impl Till {
     {
         self.running = None;
         self.last_outcome = Some(*outcome);
-        if let Order::Reverse(entry) = order {
-            self.book[*entry].end_reversal(outcome);
+        self.registered = self.registered || matches!(outcome, Outcome::Registered);
+        match order {
+            Order::Pay(amount) => self.end_payment(*amount, outcome),
+            Order::Reverse(entry) => self.book[*entry].end_reversal(outcome),
+            _ => {}
         }
+    }
+
+    /// Writes down what a payment came to that runs no more.
+    fn end_payment(&mut self, amount: Amount, outcome: &Outcome)
+        requires ended { self.old.state.running ≡ None }
+        requires room { CanEnd (Order.Pay amount) (length self.old.state.book) (length self.old.state.unclear) self.old.spare }
+        requires books { CanBook outcome.now self.old.state.book }
+        ensures state { self.new.state ≡ payment_ended self.old.state amount outcome.now }
+        ensures room { self.old.spare ≤ self.new.spare + 1 }
+    {
         match outcome {
-            Outcome::Registered => self.registered = true,
             Outcome::Paid { trace, receipt } => {
-                if let Order::Pay(amount) = order {
-                    self.used.insert(*trace);
-                    self.book.push_reserved(Entry {
-                        amount: *amount,
-                        trace: *trace,
-                        receipt: *receipt,
-                        reversed: false,
-                        doubt: Doubt::No,
-                    });
-                }
+                self.used.insert(*trace);
+                self.book.push_reserved(Entry {
+                    amount,
+                    trace: *trace,
+                    receipt: *receipt,
+                    reversed: false,
+                    doubt: Doubt::No,
+                });
             }
-            Outcome::Unclear(cause) => {
-                if let Order::Pay(amount) = order {
-                    self.unclear.push_reserved((*amount, *cause));
-                }
-            }
+            Outcome::Unclear(cause) => self.unclear.push_reserved((amount, *cause)),
             _ => {}
         }
     }

@@ -1,6 +1,7 @@
 use Rattle.std.proofs.Common.{[], ◌∷◌, ◌++◌, take, ap, sym, ◌∙◌, add-one}
 use Rattle.std.proofs.Math.Seq.{take-suc}
 use Rattle.zvt_till.specs.declared.events.Event.{Event}
+use Rattle.zvt_till.specs.Doubts.{unclear_reversals}
 use Rattle.zvt_till.proofs.Runs.{tied-facts}
 use Rattle.zvt_till.proofs.Lines.{leads-snoc}
 use Rattle.zvt_till.proofs.events.replay.Goals as goal
@@ -26,3 +27,6 @@ returns-clause-book c = ap (λ f. f.book) (tied-facts _ _ _ c.loop-event.invaria
 
 pub returns-clause-unclear : goal.returns-clause-unclear
 returns-clause-unclear c = ap (λ f. f.unclear) (tied-facts _ _ _ c.loop-event.invariant.tied)
+
+pub returns-clause-reversals : goal.returns-clause-reversals
+returns-clause-reversals c = ap (λ f. unclear_reversals f.book) (tied-facts _ _ _ c.loop-event.invariant.tied)
