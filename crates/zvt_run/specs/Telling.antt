@@ -1,10 +1,14 @@
--- What is told of a terminal.
-use Rattle.std.specs.Prelude.{◌≡◌, ◌⊎◌, ◌+◌, ℕ, List, [], ◌∷◌, ◌++◌, codes, count_by, is_none, Option, Some, None}
+-- What is told of a terminal, and of a till's reversals.
+use Rattle.std.specs.Prelude.{◌≡◌, ◌⊎◌, ◌+◌, ℕ, List, [], ◌∷◌, ◌++◌, codes, count_by, flat_map, is_none, Option, Some, None}
 use Rattle.std.specs.Fmt.{decimal}
-use Rattle.std.specs.Io.KnownBytes.{Appends}
+use Rattle.std.specs.Io.KnownBytes.{Appends, Keeps}
 use Rattle.zvt_io.specs.Devices.{IsFront}
 use Rattle.zvt_stream.specs.declared.line.LineFault.{LineFault}
 use Rattle.zvt_term.specs.declared.ledger.Row.{Row}
+use Rattle.zvt_till.specs.Doubts.{unclear_reversals}
+use Rattle.zvt_till.specs.Names.{cause_name}
+use Rattle.zvt_till.specs.declared.entries.Entry.{Entry}
+use Rattle.zvt_till.specs.declared.outcomes.Cause.{Cause}
 
 -- the rows that approve a payment; the others take one back
 abbrev pub approvals : List Row → ℕ
@@ -28,3 +32,21 @@ pub record TellsGone (till : ℕ) (broke : Option LineFault) (approved : ℕ) (o
   pub gone : List ℕ
   pub says : SaysGone till broke [] gone
   pub tells : Tells (gone ++ ledger_text approved) old new failures_before failures_after
+
+-- the line of an unclear reversal of the entry of this number, counted from 1
+abbrev pub reversal_text : ℕ → Cause → List ℕ
+reversal_text number cause =
+    codes "zvt: reverse:" ++ decimal number ++ codes " is unclear (" ++ cause_name cause
+    ++ codes "): the terminal took the payment back or not: look it up there before you give the money back\n"
+
+-- a line for each, by the place in the book
+abbrev pub reversals_text : List (ℕ × Cause) → List ℕ
+reversals_text rows = flat_map (λ row. reversal_text (row.0 + 1) row.1) rows
+
+-- The unclear reversals of this book were told.
+abbrev pub TellsReversals : (old new : Option (List ℕ)) → (failures_before failures_after : ℕ) → List Entry → Type 0
+TellsReversals old new before after book = Tells (reversals_text (unclear_reversals book)) old new before after
+
+-- nothing was told
+abbrev pub TellsNothing : (old new : Option (List ℕ)) → (failures_before failures_after : ℕ) → Type 0
+TellsNothing old new before after = Keeps old new × (after ≡ before)

@@ -4,10 +4,12 @@ ghost use Rattle.zvt_till.specs.Line.{till_loses};
 ghost use Rattle.zvt_run.specs.BothEnds.{Alternates, BeginsHere, BreaksOff, MakesHereBy, here, line_of};
 ghost use Rattle.zvt_run.specs.OverTcp.{RunsPlan};
 ghost use Rattle.zvt_run.specs.Settings.{settings_of};
+ghost use Rattle.zvt_run.specs.Telling.{TellsReversals};
 
 use crate::fault::EndFault;
 use crate::line_end::LineEnd;
 use crate::plans::Planned;
+use crate::reversals::tell_reversals;
 use crate::settings::TillSettings;
 use crate::steps::{StepLine, connected_till, run_steps};
 use crate::words::Step;
@@ -67,19 +69,22 @@ impl<A: LineEnd, B: LineEnd> StepLine for BothEnds<A, B> {
 
 /// Makes the steps one after another, with a new till of these settings on this line, which is at its start. Else see
 /// [`run_till_end`](crate::run_till_end).
-pub fn run_both_ends<A: LineEnd, B: LineEnd, T: Sink>(
+pub fn run_both_ends<A: LineEnd, B: LineEnd, T: Sink, E: Sink>(
     alloc: Global,
     line: &mut BothEnds<A, B>,
     settings: &TillSettings,
     plan: &[Planned],
     writer: &mut T,
+    tell: &mut E,
 ) -> Result<(), EndFault>
     requires { BeginsHere (line_of A.state B.state line.old) }
-    ensures run { RunsPlan MakesHereBy BeginsHere (settings_of settings.now) plan.now (T.written writer.old) (T.written writer.new) result }
+    ensures run { RunsPlan MakesHereBy BeginsHere (settings_of settings.now) plan.now (T.written writer.old) (T.written writer.new) (TellsReversals (E.written tell.old) (E.written tell.new) (E.failures tell.old) (E.failures tell.new)) result }
     ensures write { result ≡ Err EndFault.Write → T.failures writer.old < T.failures writer.new }
 {
     let mut till = connected_till(alloc, settings);
-    run_steps(alloc, line, &mut till, plan, writer)
+    let answer = run_steps(alloc, line, &mut till, plan, writer);
+    tell_reversals(till.book(), tell);
+    answer
 }
 
 /// Tells the till that its line is lost, by this fault.

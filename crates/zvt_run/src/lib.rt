@@ -12,6 +12,7 @@ mod line_end;
 mod outcomes;
 mod plans;
 mod recording;
+mod reversals;
 mod service;
 mod settings;
 mod steps;

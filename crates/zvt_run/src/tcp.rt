@@ -7,6 +7,7 @@ ghost use Rattle.zvt_till.specs.Events.{run_settings};
 ghost use Rattle.zvt_run.specs.OverTcp.{AnswersRun};
 ghost use Rattle.zvt_run.specs.Settings.{settings_of};
 ghost use Rattle.zvt_run.specs.Connecting.{given_by};
+ghost use Rattle.zvt_run.specs.Telling.{TellsNothing, TellsReversals};
 ghost use Rattle.zvt_run.specs.Service.{AnswersService, AnswersTill, AnswersTills, IsOffline, TakesTills};
 ghost use Rattle.zvt_run.specs.TillEnd.{BeginsThere, MakesThere};
 ghost use Rattle.zvt_term.specs.Terminal.{new_terminal};
@@ -34,18 +35,21 @@ use zvt_tlv::Lengths;
 /// terminal take turns. The words name the steps, and no words the usual ones: `register pay:1000 decline:500:6C
 /// reverse:1 close`. The trace has what the till heard and sent.
 ///
-/// `BadStep` comes before anything is opened, and `Net` before anything is written. Else see [`run_both_ends`].
-pub fn run_loop<R, W>(
+/// `BadStep` comes before anything is opened, and `Net` before anything is written or told. Else see
+/// [`run_both_ends`].
+pub fn run_loop<R, W, E>(
     rt: &R,
     alloc: Global,
     steps: &[&str],
     trace: Option<&File>,
     writer: &mut W,
+    tell: &mut E,
 ) -> Result<(), EndFault>
 where
     R: Net<Listener = TcpListener, Stream = TcpStream>,
     W: Sink,
-    ensures run { AnswersRun MakesHereBy BeginsHere run_settings Ends.Both (map (λ step. step.now) steps.now) (W.written writer.old) (W.written writer.new) result }
+    E: Sink,
+    ensures run { AnswersRun MakesHereBy BeginsHere run_settings Ends.Both (map (λ step. step.now) steps.now) (W.written writer.old) (W.written writer.new) (TellsReversals (E.written tell.old) (E.written tell.new) (E.failures tell.old) (E.failures tell.new)) (TellsNothing (E.written tell.old) (E.written tell.new) (E.failures tell.old) (E.failures tell.new)) result }
     ensures write { result ≡ Err EndFault.Write → W.failures writer.old < W.failures writer.new }
 {
     let plan = plan(alloc, Ends::Both, steps)?;
@@ -56,12 +60,12 @@ where
         None => {
             let till = plain_end(alloc, &till_end, Lengths::Shortest);
             let mut line = both_ends_of(alloc, till, &terminal_end);
-            run_both_ends(alloc, &mut line, &usual, plan, writer)
+            run_both_ends(alloc, &mut line, &usual, plan, writer, tell)
         }
         Some(file) => {
             let till = recorded_till_end(alloc, &till_end, Lengths::Shortest, file)?;
             let mut line = both_ends_of(alloc, till, &terminal_end);
-            let answer = run_both_ends(alloc, &mut line, &usual, plan, writer);
+            let answer = run_both_ends(alloc, &mut line, &usual, plan, writer, tell);
             by_trace(is_broken(&line.till, file), answer)
         }
     }
@@ -92,8 +96,8 @@ fn both_ends_of<'a, R: Source, W: Sink>(
 /// close`. It reads such lengths. Each order has 100,000 reads. The trace has what the till heard and sent: each read and
 /// each write a line, and `!` at the end. One that can't be written ends the run with `Trace`.
 ///
-/// `BadStep` comes before anything is opened, and `Net` before anything is written. Else see [`run_till_end`].
-pub fn run_till<R, W>(
+/// `BadStep` comes before anything is opened, and `Net` before anything is written or told. Else see [`run_till_end`].
+pub fn run_till<R, W, E>(
     rt: &R,
     alloc: Global,
     host: &str,
@@ -103,11 +107,13 @@ pub fn run_till<R, W>(
     steps: &[&str],
     trace: Option<&File>,
     writer: &mut W,
+    tell: &mut E,
 ) -> Result<(), EndFault>
 where
     R: Net<Listener = TcpListener, Stream = TcpStream>,
     W: Sink,
-    ensures run { AnswersRun MakesThere (BeginsThere (reading_of lengths)) (settings_of settings.now) Ends.Till (map (λ step. step.now) steps.now) (W.written writer.old) (W.written writer.new) result }
+    E: Sink,
+    ensures run { AnswersRun MakesThere (BeginsThere (reading_of lengths)) (settings_of settings.now) Ends.Till (map (λ step. step.now) steps.now) (W.written writer.old) (W.written writer.new) (TellsReversals (E.written tell.old) (E.written tell.new) (E.failures tell.old) (E.failures tell.new)) (TellsNothing (E.written tell.old) (E.written tell.new) (E.failures tell.old) (E.failures tell.new)) result }
     ensures write { result ≡ Err EndFault.Write → W.failures writer.old < W.failures writer.new }
 {
     let plan = plan(alloc, Ends::Till, steps)?;
@@ -115,11 +121,11 @@ where
     match trace {
         None => {
             let mut line = plain_end(alloc, &end, lengths);
-            run_till_end(alloc, &mut line, settings, plan.as_slice(), writer)
+            run_till_end(alloc, &mut line, settings, plan.as_slice(), writer, tell)
         }
         Some(file) => {
             let mut line = recorded_till_end(alloc, &end, lengths, file)?;
-            let answer = run_till_end(alloc, &mut line, settings, plan.as_slice(), writer);
+            let answer = run_till_end(alloc, &mut line, settings, plan.as_slice(), writer, tell);
             by_trace(is_broken(&line, file), answer)
         }
     }

@@ -3,11 +3,13 @@ ghost use Rattle.std.specs.Prelude.{◌≡◌, ◌<◌, Err};
 ghost use Rattle.zvt_stream.specs.StreamState.{start_in};
 ghost use Rattle.zvt_run.specs.OverTcp.{RunsPlan};
 ghost use Rattle.zvt_run.specs.Settings.{settings_of};
+ghost use Rattle.zvt_run.specs.Telling.{TellsReversals};
 ghost use Rattle.zvt_run.specs.TillEnd.{BeginsThere, MakesThere};
 
 use crate::fault::EndFault;
 use crate::line_end::End;
 use crate::plans::Planned;
+use crate::reversals::tell_reversals;
 use crate::settings::TillSettings;
 use crate::steps::{StepLine, connected_till, run_steps};
 use crate::words::Step;
@@ -43,18 +45,21 @@ impl<R: Source, W: Sink> StepLine for End<R, W> {
 /// A line is written for each step when it ends: its word and what became of it. The last line is the till's total.
 /// After a broken line no further step is made, and the fault is `Line`; an order that is not sent is no fault, but for
 /// want of memory. The other faults are `Write` and `Memory`: no step is made again, and none behind the one whose line
-/// is missing.
-pub fn run_till_end<R: Source, W: Sink, T: Sink>(
+/// is missing. However it ends, `tell` is told of each entry of the book whose last reversal is unclear, a line each.
+pub fn run_till_end<R: Source, W: Sink, T: Sink, E: Sink>(
     alloc: Global,
     end: &mut End<R, W>,
     settings: &TillSettings,
     plan: &[Planned],
     writer: &mut T,
+    tell: &mut E,
 ) -> Result<(), EndFault>
     requires { end.old.stream ≡ start_in end.old.stream.reading }
-    ensures run { RunsPlan MakesThere (BeginsThere end.old.stream.reading) (settings_of settings.now) plan.now (T.written writer.old) (T.written writer.new) result }
+    ensures run { RunsPlan MakesThere (BeginsThere end.old.stream.reading) (settings_of settings.now) plan.now (T.written writer.old) (T.written writer.new) (TellsReversals (E.written tell.old) (E.written tell.new) (E.failures tell.old) (E.failures tell.new)) result }
     ensures write { result ≡ Err EndFault.Write → T.failures writer.old < T.failures writer.new }
 {
     let mut till = connected_till(alloc, settings);
-    run_steps(alloc, end, &mut till, plan, writer)
+    let answer = run_steps(alloc, end, &mut till, plan, writer);
+    tell_reversals(till.book(), tell);
+    answer
 }
