@@ -1,5 +1,5 @@
 -- What the till has still to hear of its order, and how that accounts for each approval.
-use Rattle.std.proofs.Common.{◌≡◌, ℕ, zero, suc, ◌+◌, ◌≤◌, ◌⊎◌, inl, inr, Bool, true, false, not, cond, ◌==◌, List, [], ◌∷◌, ◌++◌, Option, Some, None, filter, sum_by, refl, sym, ap, ◌∙◌, slice_get, slice_set, arith}
+use Rattle.std.proofs.Common.{◌≡◌, ℕ, zero, suc, ◌+◌, ◌≤◌, ◌⊎◌, inl, inr, Bool, true, false, cond, ◌==◌, List, [], ◌∷◌, ◌++◌, Option, Some, None, filter, sum_by, refl, sym, ap, ◌∙◌, slice_get, slice_set, arith}
 use Rattle.std.proofs.lemmas.List.Sums.{sum_by_push, sum_by-cons}
 use Rattle.zvt_till.specs.declared.happenings.Happening.TheVariants.{Heard as HeardIn, Lost}
 use Rattle.zvt_till.specs.declared.messages.Heard.{Heard}
@@ -9,16 +9,18 @@ use Rattle.zvt_till.specs.declared.statuses.Statuses.{Statuses}
 use Rattle.zvt_till.specs.declared.statuses.Statuses.TheVariants.{Good as AllGood, Fault}
 use Rattle.zvt_till.specs.declared.statuses.Running.{Running}
 use Rattle.zvt_till.specs.declared.statuses.Demand.TheVariants.{Payment}
+use Rattle.zvt_till.specs.declared.entries.Doubt.TheVariants.{No}
 use Rattle.zvt_till.specs.declared.entries.Entry.{Entry}
 use Rattle.zvt_till.specs.declared.outcomes.Cause.{Cause}
 use Rattle.zvt_till.specs.declared.outcomes.Cause.TheVariants.{TraceUsed}
 use Rattle.zvt_till.specs.declared.orders.Order.{Order}
 use Rattle.zvt_till.specs.declared.orders.Order.TheVariants.{Register as RegisterOrder, Pay as PayOrder, Reverse as ReverseOrder, CloseDay as CloseDayOrder, Cancel as CancelOrder}
 use Rattle.zvt_till.specs.declared.outcomes.Outcome.{Outcome}
-use Rattle.zvt_till.specs.declared.outcomes.Outcome.TheVariants.{Paid, Refused as RefusedOutcome, Aborted, Unclear as UnclearOutcome, Reversed as ReversedOutcome}
-use Rattle.zvt_till.specs.Segments.{ends}
+use Rattle.zvt_till.specs.declared.outcomes.Outcome.TheVariants.{Paid, Refused as RefusedOutcome, Aborted, Unclear as UnclearOutcome}
+use Rattle.zvt_till.specs.Books.{Booked}
 use Rattle.zvt_till.specs.Outcomes.{charged, note, trace_used, payment_outcome, broken_outcome, outcome_by}
-use Rattle.zvt_till.specs.Till.{reversed_at, book_after, unclear_after}
+use Rattle.zvt_till.specs.Till.{entry_after, book_after, unclear_after}
+use Rattle.zvt_till.proofs.Kept.{same-row}
 use Rattle.zvt_term.specs.declared.messages.Asked.{Asked}
 use Rattle.zvt_term.specs.declared.messages.Asked.TheVariants.{Authorisation, AbortOrder, Answer}
 use Rattle.zvt_term.specs.declared.ledger.Row.{Row}
@@ -75,12 +77,14 @@ entries-set b (x ∷ book) (suc i) row v e q =
     let f : Entry → ℕ = λ (y : Entry). cond (y.amount == b) 1 0 in
     sum_by-cons f x (slice_set book i v) ∙ ap (λ (n : ℕ). f x + n) (entries-set b book i row v e q) ∙ sym (sum_by-cons f x book)
 
-entries-reversed : (b : ℕ) (book : List Entry) (i : ℕ) → entries_of_amount b (reversed_at book i) ≡ entries_of_amount b book
-entries-reversed b book i = by_entry (slice_get book i) refl
+-- a reversal leaves the amounts, however it ends
+entries-reversed : (b : ℕ) (book : List Entry) (i : ℕ) (out : Outcome) → entries_of_amount b (book_after book (ReverseOrder i) out) ≡ entries_of_amount b book
+entries-reversed b book i out = by_entry (slice_get book i) refl
   where
-    by_entry : (o : Option Entry) → slice_get book i ≡ o → entries_of_amount b (elim o [ None ↦ book | Some row ↦ slice_set book i (record row { reversed = true }) ]) ≡ entries_of_amount b book
+    by_entry : (o : Option Entry) → slice_get book i ≡ o
+        → entries_of_amount b (elim o as (λ x. List Entry) [ None ↦ book | Some row ↦ slice_set book i (entry_after row out) ]) ≡ entries_of_amount b book
     by_entry None e = refl
-    by_entry (Some row) e = entries-set b book i row (record row { reversed = true }) e refl
+    by_entry (Some row) e = entries-set b book i row (entry_after row out) e (ap (λ (x : Booked). x.amount) (same-row row out))
 
 -- what holds of the numbers, with a payment running and without
 
@@ -150,20 +154,19 @@ Closes l asked book u o out = Unit {0}
 payment-closed : (l : List Row) (asked : List Asked) (book : List Entry) (u : List (ℕ × Cause)) (a : ℕ) (out : Outcome)
     → ((b : ℕ) → approvals b l + on_the_way b asked ≤ entries_of_amount b book + unclear_of_amount b u + cond (a == b) 1 0) → Leaves out
     → Covered l asked (book_after book (PayOrder a) out) (unclear_after u (PayOrder a) out)
-payment-closed l asked book u a (Paid t r) h k = λ b. let e = entries-push b book (record { amount = a; trace = t; receipt = r; reversed = false }) in let n = h b in omega (arith, e, n)
+payment-closed l asked book u a (Paid t r) h k = λ b. let e = entries-push b book (record { amount = a; trace = t; receipt = r; reversed = false; doubt = No }) in let n = h b in omega (arith, e, n)
 payment-closed l asked book u a (UnclearOutcome x) h k = λ b. let e = unclear-push b u (a, x) in let n = h b in omega (arith, e, n)
 payment-closed l asked book u a out h k = absurd k
 
 covered-closed : (l : List Row) (asked : List Asked) (book : List Entry) (u : List (ℕ × Cause)) (a : ℕ) (out : Outcome) → Covered l asked book u
     → Covered l asked (book_after book (PayOrder a) out) (unclear_after u (PayOrder a) out)
-covered-closed l asked book u a (Paid t r) h = λ b. let e = entries-push b book (record { amount = a; trace = t; receipt = r; reversed = false }) in let n = h b in omega (arith, e, n)
+covered-closed l asked book u a (Paid t r) h = λ b. let e = entries-push b book (record { amount = a; trace = t; receipt = r; reversed = false; doubt = No }) in let n = h b in omega (arith, e, n)
 covered-closed l asked book u a (UnclearOutcome x) h = λ b. let e = unclear-push b u (a, x) in let n = h b in omega (arith, e, n)
 covered-closed l asked book u a out h = h
 
 reversal-closed : (l : List Row) (asked : List Asked) (book : List Entry) (u : List (ℕ × Cause)) (i : ℕ) (out : Outcome) → Covered l asked book u
     → Covered l asked (book_after book (ReverseOrder i) out) (unclear_after u (ReverseOrder i) out)
-reversal-closed l asked book u i ReversedOutcome h = λ b. let e = entries-reversed b book i in let n = h b in omega (arith, e, n)
-reversal-closed l asked book u i out h = h
+reversal-closed l asked book u i out h = λ b. let e = entries-reversed b book i out in let n = h b in omega (arith, e, n)
 
 pub unpaid : (l : List Row) (asked : List Asked) (book : List Entry) (u : List (ℕ × Cause)) → ((b : ℕ) → approvals b l + on_the_way b asked ≤ entries_of_amount b book + unclear_of_amount b u + 0)
     → Covered l asked book u

@@ -29,7 +29,8 @@ use Rattle.zvt_term.specs.Ledger.{approval_by, is_approval_named, is_taken_back}
 use Rattle.zvt_term.specs.Terminal.{TerminalState, has_room, next_number, is_idle, is_ready, aborts, refuses, registers, takes_currency, decides, authorises, takes_back_row, reverses_found, reverses, closes, goes_on, when, turn_of, after, reports_of}
 use Rattle.zvt_term.proofs.TurnLemmas.{AllShort, Short, short-found, taken_back, sound-after, short-of}
 use Rattle.zvt_term.proofs.Facts.{Facts, heard_of, approval_status, asked_out, answer_to, orders, reaches_terminal, reaches_till, move}
-use Rattle.zvt_term.proofs.Matching.{euro, ToldStatus, AllTold, all_told-more, all_told-append, told-at, TillHolds, till-more, accept-holds, heard-holds, lost-holds, approval-told, code-told, reversal-told}
+use Rattle.zvt_term.proofs.Matching.{euro, ToldStatus, AllTold, all_told-more, all_told-append, told-at, TillHolds, till-more, accept-holds, heard-holds, lost-holds}
+use Rattle.zvt_term.proofs.Told.{approval-told, code-told, reversal-told}
 
 -- what a turn says is true of the ledger after it
 abbrev TurnTold : TerminalState → Turn → Type 0

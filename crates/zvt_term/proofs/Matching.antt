@@ -1,8 +1,6 @@
 -- Whatever comes, comes again, comes late or never: the till's entries are approvals of the terminal's ledger.
-use Rattle.std.proofs.Common.{◌≡◌, ℕ, zero, suc, ◌≤◌, Bool, true, false, cond, ◌&&◌, ◌==◌, List, [], ◌∷◌, ◌++◌, length, Option, Some, None, refl, sym, ap, subst, ◌∙◌, slice_get, slice_set, option_map, eqb-true, arith}
+use Rattle.std.proofs.Common.{◌≡◌, ℕ, zero, suc, Bool, true, false, cond, List, [], ◌∷◌, ◌++◌, length, Option, Some, None, refl, subst, slice_get, slice_set, option_map}
 use Rattle.zvt_apdu.specs.Briefs.{digits}
-use Rattle.zvt_bcd.specs.Digits.{is_digit_pair, number_of}
-use Rattle.std.specs.List.{list_all}
 use Rattle.zvt_till.specs.declared.happenings.Happening.{Happening}
 use Rattle.zvt_till.specs.declared.happenings.Happening.TheVariants.{Connected, Sent as SentOut, Heard as HeardIn, Malformed, Lost}
 use Rattle.zvt_till.specs.declared.messages.Heard.{Heard}
@@ -11,30 +9,26 @@ use Rattle.zvt_till.specs.declared.messages.StatusFacts.{StatusFacts}
 use Rattle.zvt_till.specs.declared.statuses.Statuses.{Statuses}
 use Rattle.zvt_till.specs.declared.statuses.Statuses.TheVariants.{Nothing, Good as AllGood, Declining as AllDeclining, Fault}
 use Rattle.zvt_till.specs.declared.statuses.Running.{Running}
+use Rattle.zvt_till.specs.declared.entries.Doubt.TheVariants.{No}
 use Rattle.zvt_till.specs.declared.entries.Entry.{Entry}
 use Rattle.zvt_till.specs.declared.outcomes.Cause.{Cause}
-use Rattle.zvt_till.specs.declared.outcomes.Cause.TheVariants.{Conflict, AmountDiffers, NoTrace, TraceUsed, WrongCurrency}
+use Rattle.zvt_till.specs.declared.outcomes.Cause.TheVariants.{Conflict, TraceUsed}
 use Rattle.zvt_till.specs.declared.orders.Order.{Order}
 use Rattle.zvt_till.specs.declared.orders.Order.TheVariants.{Register as RegisterOrder, Pay as PayOrder, Reverse as ReverseOrder, CloseDay as CloseDayOrder, Cancel as CancelOrder}
 use Rattle.zvt_till.specs.declared.outcomes.Outcome.{Outcome}
-use Rattle.zvt_till.specs.declared.outcomes.Outcome.TheVariants.{Paid, Refused as RefusedOutcome, Aborted, Unclear as UnclearOutcome}
+use Rattle.zvt_till.specs.declared.outcomes.Outcome.TheVariants.{Registered, Paid, Declined, Refused as RefusedOutcome, Aborted, Unclear as UnclearOutcome, Reversed as ReversedOutcome, DayClosed}
 use Rattle.zvt_till.specs.declared.statuses.Demand.TheVariants.{Payment, Reversal as ReversalDemand}
 use Rattle.zvt_till.specs.declared.statuses.Class.{Class}
 use Rattle.zvt_till.specs.declared.statuses.Class.TheVariants.{Good, Declining, Doubtful}
-use Rattle.zvt_till.specs.Statuses.{is_in_currency, class_of, same_trace, spells}
-use Rattle.zvt_till.specs.Segments.{ends, is_completion, status_of}
-use Rattle.zvt_till.specs.Outcomes.{charged, demand_of, note, note_if, note_class, trace_used, payment_outcome, broken_outcome, outcome_by, listened}
+use Rattle.zvt_till.specs.Statuses.{class_of, same_trace}
+use Rattle.zvt_till.specs.Segments.{ends, status_of}
+use Rattle.zvt_till.specs.Outcomes.{charged, demand_of, note, note_if, note_class, trace_used, payment_outcome, reversal_outcome, broken_outcome, outcome_by, listened}
 use Rattle.zvt_till.specs.Sending.{Settings}
 use Rattle.zvt_till.specs.Events.{run_settings}
-use Rattle.zvt_till.specs.Till.{TillState, book_after, finish, meet, accept, step}
-use Rattle.zvt_till.proofs.Endings.{reversal-book}
-use Rattle.zvt_till.proofs.Marks.{marked_if}
-use Rattle.zvt_till.proofs.Summaries.{is_all_good}
+use Rattle.zvt_till.specs.Till.{TillState, entry_after, book_after, finish, meet, accept, step}
 use Rattle.zvt_till.proofs.Tied.{state}
 use Rattle.zvt_term.specs.declared.ledger.Row.{Row}
 use Rattle.zvt_term.specs.World.{IsApproved, IsTakenBack, EntryMatches, AllMatch}
-use Rattle.zvt_term.proofs.DigitLemmas.{number_of-digits}
-use Rattle.zvt_term.proofs.Facts.{fact_of, approval_status, code_status, reversal_status}
 
 -- the currency of the till of a run
 abbrev pub euro : ℕ
@@ -47,7 +41,7 @@ slice_get-front [] ys k x e = absurd cc
 slice_get-front (y ∷ xs) ys zero x e = e
 slice_get-front (y ∷ xs) ys (suc k) x e = slice_get-front xs ys k x e
 
-slice_get-last : {X : Type 0} (xs : List X) (x : X) → slice_get (xs ++ x ∷ []) (length xs) ≡ Some x
+pub slice_get-last : {X : Type 0} (xs : List X) (x : X) → slice_get (xs ++ x ∷ []) (length xs) ≡ Some x
 slice_get-last [] x = refl
 slice_get-last (y ∷ xs) x = slice_get-last xs x
 
@@ -207,7 +201,7 @@ paid-book : (l : List Row) (book : List Entry) (a t : ℕ) (r : Option (List ℕ
     → AllMatch euro l (book_after book (PayOrder a) (cond b (UnclearOutcome TraceUsed) (Paid t r)))
 paid-book l book a t r m p true = m
 paid-book l book a t r m p false =
-    let x : Entry = record { amount = a; trace = t; receipt = r; reversed = false } in
+    let x : Entry = record { amount = a; trace = t; receipt = r; reversed = false; doubt = No } in
     let e : EntryMatches euro l x = record { approved = p.0; receipt = p.1; reversed = λ q. absurd cc } in
     all_match-push l book x m e
 
@@ -249,35 +243,48 @@ all_match-set l [] i v m e = tt
 all_match-set l (x ∷ book) zero v m e = (e, m.1)
 all_match-set l (x ∷ book) (suc i) v m e = (m.0, all_match-set l book i v m.1 e)
 
-reversed-book : (l : List Row) (book : List Entry) (i : ℕ) (o : Option Entry) → slice_get book i ≡ o → AllMatch euro l book → ((row : Entry) → o ≡ Some row → IsTakenBack l row.trace)
-    → AllMatch euro l (elim o [ None ↦ book | Some row ↦ slice_set book i (record row { reversed = true }) ])
-reversed-book l book i None e m k = m
-reversed-book l book i (Some row) e m k =
-    let v : Entry = record row { reversed = true } in
-    let was = match-at l book i row m e in
-    let now : EntryMatches euro l v = record { approved = was.approved; receipt = was.receipt; reversed = λ q. k row refl } in
-    all_match-set l book i v m now
+-- a reversal that ends so leaves the entry an approval; it is marked only where the approval was taken back
+entry-ended : (l : List Row) (row : Entry) (out : Outcome) → EntryMatches euro l row → (out ≡ ReversedOutcome → IsTakenBack l row.trace) → EntryMatches euro l (entry_after row out)
+entry-ended l row Registered w k = w
+entry-ended l row (Paid t r) w k = w
+entry-ended l row (Declined c) w k = w
+entry-ended l row (RefusedOutcome c) w k = record { approved = w.approved; receipt = w.receipt; reversed = w.reversed }
+entry-ended l row (Aborted c) w k = record { approved = w.approved; receipt = w.receipt; reversed = w.reversed }
+entry-ended l row (UnclearOutcome x) w k = record { approved = w.approved; receipt = w.receipt; reversed = w.reversed }
+entry-ended l row ReversedOutcome w k = record { approved = w.approved; receipt = w.receipt; reversed = λ q. k refl }
+entry-ended l row DayClosed w k = w
 
-marked-book : (l : List Row) (book : List Entry) (i : ℕ) (b : Bool) → AllMatch euro l book → (b ≡ true → (row : Entry) → slice_get book i ≡ Some row → IsTakenBack l row.trace) → AllMatch euro l (marked_if b book i)
-marked-book l book i true m k = reversed-book l book i (slice_get book i) refl m (k refl)
-marked-book l book i false m k = m
+reversal-ended : (l : List Row) (book : List Entry) (i : ℕ) (out : Outcome) (o : Option Entry) → slice_get book i ≡ o → AllMatch euro l book
+    → ((row : Entry) → o ≡ Some row → out ≡ ReversedOutcome → IsTakenBack l row.trace)
+    → AllMatch euro l (elim o as (λ x. List Entry) [ None ↦ book | Some row ↦ slice_set book i (entry_after row out) ])
+reversal-ended l book i out None e m k = m
+reversal-ended l book i out (Some row) e m k = all_match-set l book i (entry_after row out) m (entry-ended l row out (match-at l book i row m e) (k row refl))
 
-pub and-right : (a b : Bool) → (a && b) ≡ true → b ≡ true
-and-right true b e = e
-and-right false b e = absurd cc
+-- only a completion after good statuses ends a reversal so
+takes-completed : (l : List Row) (o : Option Entry) (st : Statuses) → TakesFor l o st → (row : Entry) → o ≡ Some row → reversal_outcome st ≡ ReversedOutcome → IsTakenBack l row.trace
+takes-completed l o Nothing s row q e = absurd cc
+takes-completed l o (AllGood t r) s row q e = s row q
+takes-completed l o (AllDeclining c) s row q e = absurd cc
+takes-completed l o (Fault x) s row q e = absurd cc
 
-takes-good : (l : List Row) (o : Option Entry) (st : Statuses) → TakesFor l o st → is_all_good st ≡ true → (row : Entry) → o ≡ Some row → IsTakenBack l row.trace
-takes-good l o Nothing h e = absurd cc
-takes-good l o (AllGood t r) h e = h
-takes-good l o (AllDeclining c) h e = absurd cc
-takes-good l o (Fault x) h e = absurd cc
+unbroken : (st : Statuses) (out : Outcome) → (out ≡ ReversedOutcome → ⊥) → broken_outcome st out ≡ ReversedOutcome → ⊥
+unbroken Nothing out k e = k e
+unbroken (AllGood t r) out k e = cc
+unbroken (AllDeclining c) out k e = k e
+unbroken (Fault x) out k e = cc
+
+takes-ended : (l : List Row) (book : List Entry) (i : ℕ) (o : Option Entry) (st : Statuses) (h : Happening) → TakesFor l o st → (row : Entry) → o ≡ Some row
+    → outcome_by book (ReverseOrder i) st h ≡ ReversedOutcome → IsTakenBack l row.trace
+takes-ended l book i o st (HeardIn Completion) s row q e = takes-completed l o st s row q e
+takes-ended l book i o st (HeardIn (Negative c)) s row q e = absurd (unbroken st (RefusedOutcome c) (λ n. cc) e)
+takes-ended l book i o st (HeardIn (Abort c)) s row q e = absurd (unbroken st (Aborted c) (λ n. cc) e)
+takes-ended l book i o st h s row q e = absurd cc
 
 ended-book : (l : List Row) (book : List Entry) (o : Order) (st : Statuses) (h : Happening) → AllMatch euro l book → SummaryHolds l book o st → AllMatch euro l (book_after book o (outcome_by book o st h))
 ended-book l book RegisterOrder st h m s = m
 ended-book l book (PayOrder a) st h m s = pay-ended l book a st h m s
 ended-book l book (ReverseOrder e) st h m s =
-    subst (λ b. AllMatch euro l b) (sym (reversal-book book e st h))
-    (marked-book l book e (is_completion h && is_all_good st) m (λ q. takes-good l (slice_get book e) st s (and-right (is_completion h) (is_all_good st) q)))
+    reversal-ended l book e (outcome_by book (ReverseOrder e) st h) (slice_get book e) refl m (takes-ended l book e (slice_get book e) st h s)
 ended-book l book CloseDayOrder st h m s = m
 ended-book l book CancelOrder st h m s = m
 
@@ -344,54 +351,3 @@ heard-holds l s m t i = by_line s.line_up
 
 pub lost-holds : (l : List Row) (s : TillState) → TillHolds l s → TillHolds l (step s Lost)
 lost-holds l s i = let k = meet-holds l s Lost (λ x e. absurd cc) i in record { running = k.running; book = k.book }
-
--- what the terminal says of its rows
-
-pub approval-told : (l : List Row) (amount n : ℕ) → ToldStatus (l ++ record { number = n; amount = amount; currency = Some euro; reverses = None } ∷ []) (approval_status amount n (Some euro))
-approval-told l amount n =
-    record {
-      pays = λ force a t e. paid a t (is_in_currency force (fact_of (Some euro))) (amount == a) refl e;
-      takes = λ force a t u e. absurd (not_taken (is_in_currency force (fact_of (Some euro))) (amount == a) u e);
-    }
-  where
-    paid : (a t : ℕ) (own b : Bool) → (amount == a) ≡ b → cond own (cond b (Good (Some n)) (Doubtful AmountDiffers)) (Doubtful WrongCurrency) ≡ Good (Some t)
-        → IsApproved (l ++ record { number = n; amount = amount; currency = Some euro; reverses = None } ∷ []) euro a t × Some (digits 2 n) ≡ Some (digits 2 t)
-    paid a t true true q e =
-        let same : amount ≡ a = eqb-true amount a q in
-        let number : n ≡ t = cc in
-        let row : Row = record { number = n; amount = amount; currency = Some euro; reverses = None } in
-        let last : IsApproved (l ++ row ∷ []) euro amount n = (length l, slice_get-last l row) in (
-          subst (λ x. IsApproved (l ++ row ∷ []) euro a x) number (subst (λ x. IsApproved (l ++ row ∷ []) euro x n) same last),
-          ap (λ x. Some (digits 2 x)) number,
-        )
-    paid a t true false q e = absurd cc
-    paid a t false b q e = absurd cc
-
-    not_taken : (own b : Bool) (u : Option ℕ) → cond own (cond b (Doubtful NoTrace) (Doubtful AmountDiffers)) (Doubtful WrongCurrency) ≡ Good u → ⊥
-    not_taken true true u e = cc
-    not_taken true false u e = cc
-    not_taken false b u e = cc
-
-pub code-told : (l : List Row) (code : ℕ) → ToldStatus l (code_status code)
-code-told l code = record { pays = λ force a t e. absurd (no_class (code == 0) (Some t) e); takes = λ force a t u e. absurd (no_class (code == 0) u e) }
-  where
-    no_class : (b : Bool) (t : Option ℕ) → cond b (Doubtful AmountDiffers) (Declining code) ≡ Good t → ⊥
-    no_class true t e = cc
-    no_class false t e = cc
-
-pub reversal-told : (l : List Row) (amount n original : ℕ) (kept : Option ℕ) → original ≤ 9999
-    → ToldStatus (l ++ record { number = n; amount = amount; currency = kept; reverses = Some original } ∷ []) (reversal_status amount n original kept)
-reversal-told l amount n original kept few =
-    record { pays = λ force a t e. absurd cc; takes = λ force a t u e. taken t u (is_in_currency force (fact_of kept)) (amount == a) (spells (digits 3 original) t) refl e }
-  where
-    taken : (t : ℕ) (u : Option ℕ) (own b c : Bool) → spells (digits 3 original) t ≡ c
-        → cond own (cond b (cond c (Good None) (Doubtful NoTrace)) (Doubtful AmountDiffers)) (Doubtful WrongCurrency) ≡ Good u
-        → IsTakenBack (l ++ record { number = n; amount = amount; currency = kept; reverses = Some original } ∷ []) t
-    taken t u false b c q e = absurd cc
-    taken t u true false c q e = absurd cc
-    taken t u true true false q e = absurd cc
-    taken t u true true true q e =
-        let test : (number_of (digits 3 original) == t) ≡ true = and-right (list_all is_digit_pair (digits 3 original)) (number_of (digits 3 original) == t) q in
-        let same : original ≡ t = sym (number_of-digits 3 original (omega arith)) ∙ eqb-true (number_of (digits 3 original)) t test in
-        let row : Row = record { number = n; amount = amount; currency = kept; reverses = Some original } in
-        (length l, row, slice_get-last l row, ap (λ x. Some x) same)
