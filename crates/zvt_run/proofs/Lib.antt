@@ -6,3 +6,4 @@ pub mod OverTcp
 pub mod Traced
 pub mod ManyTills
 pub mod Gone
+pub mod Unclear

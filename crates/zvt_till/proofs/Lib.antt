@@ -24,7 +24,7 @@ pub mod Carrying
 pub mod Ordering
 pub mod BooksLemmas
 pub mod Noted
-mod Unclear
+pub mod Unclear
 mod Rows
 mod Room
 mod Once

@@ -1,10 +1,11 @@
 -- How many entries of a book have an unclear reversal.
-use Rattle.std.proofs.Common.{◌≡◌, ℕ, suc, ◌+◌, cond, List, [], ◌∷◌, length, refl, sym, ap, ◌∙◌, zero-add, arith}
+use Rattle.std.proofs.Common.{◌≡◌, ℕ, suc, ◌+◌, cond, List, [], ◌∷◌, ◌++◌, length, refl, sym, ap, ◌∙◌, zero-add, add-zero, arith}
 use Rattle.std.specs.List.{count_by}
 use Rattle.std.proofs.lemmas.List.Sums.{sum_by-cons}
 use Rattle.zvt_till.specs.declared.entries.Doubt.{Doubt}
 use Rattle.zvt_till.specs.declared.entries.Doubt.TheVariants.{No, Unclear, TakenBack}
 use Rattle.zvt_till.specs.declared.entries.Entry.{Entry}
+use Rattle.zvt_till.specs.declared.outcomes.Cause.{Cause}
 use Rattle.zvt_till.specs.Doubts.{is_unclear, unclear_reversals_from}
 
 -- one entry before the others, by its doubt
@@ -18,3 +19,19 @@ pub count-from : (place : ℕ) (book : List Entry) → length (unclear_reversals
 count-from place [] = refl
 count-from place (entry ∷ book) =
     one place (count_by is_unclear book) entry.doubt entry book refl (count-from (place + 1) book) ∙ sym (sum_by-cons (λ x. cond (is_unclear x) 1 0) entry book)
+
+-- one entry more, behind the others
+
+by-doubt : (place : ℕ) (more all last : List (ℕ × Cause)) (d : Doubt) → all ≡ more ++ last
+    → elim d [ No ↦ all | Unclear cause ↦ (place, cause) ∷ all | TakenBack ↦ all ] ≡ elim d [ No ↦ more | Unclear cause ↦ (place, cause) ∷ more | TakenBack ↦ more ] ++ last
+by-doubt place more all last No e = e
+by-doubt place more all last (Unclear cause) e = ap (λ rows. (place, cause) ∷ rows) e
+by-doubt place more all last TakenBack e = e
+
+pub unclear-more : (place : ℕ) (book : List Entry) (entry : Entry)
+    → unclear_reversals_from place (book ++ entry ∷ []) ≡ unclear_reversals_from place book ++ unclear_reversals_from (place + length book) (entry ∷ [])
+unclear-more place [] entry = ap (λ n. unclear_reversals_from n (entry ∷ [])) (sym (add-zero place))
+unclear-more place (first ∷ book) entry =
+    let here : (place + 1) + length book ≡ place + length (first ∷ book) = omega arith in
+    by-doubt place (unclear_reversals_from (place + 1) book) (unclear_reversals_from (place + 1) (book ++ entry ∷ [])) (unclear_reversals_from (place + length (first ∷ book)) (entry ∷ [])) first.doubt
+    (unclear-more (place + 1) book entry ∙ ap (λ n. unclear_reversals_from (place + 1) book ++ unclear_reversals_from n (entry ∷ [])) here)
