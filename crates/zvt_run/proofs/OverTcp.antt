@@ -1,6 +1,7 @@
 -- A run over TCP, by what contracts see of its line.
 use Rattle.std.proofs.Common.{◌≡◌, ℕ, List, [], ◌∷◌, Option, Some, None, Result, Ok, Err, ap, inl, inr}
 use Rattle.zvt_stream.specs.declared.line.LineFault.{LineFault}
+use Rattle.zvt_till.specs.declared.entries.Entry.{Entry}
 use Rattle.zvt_till.specs.Sending.{Settings}
 use Rattle.zvt_till.specs.Till.{new_till, step}
 use Rattle.zvt_till.specs.declared.happenings.Happening.TheVariants.{Connected}
@@ -88,13 +89,14 @@ answers_seen seen law plan before after old new (Err Trace) run = absurd run
 -- ---- a run
 
 -- a new till that was connected made the steps
-pub ran : {L S : Type 0} (seen : L → S) (law : Law S) (begins : S → Type 0) (settings : Settings) (plan : List Planned) (before after : Standing L) (old new : Option (List ℕ)) (result : Result Unit EndFault)
+pub ran : {L S : Type 0} (seen : L → S) (law : Law S) (begins : S → Type 0) (settings : Settings) (plan : List Planned) (before after : Standing L) (old new : Option (List ℕ)) (Told : List Entry → Type 0) (result : Result Unit EndFault)
     → begins (seen before.line) → before.till.state ≡ step (new_till settings) Connected
-    → Answers (by seen law) plan before after old new result → RunsPlan law begins settings plan old new result
-ran seen law begins settings plan before after old new result begun connected run = record {
+    → Answers (by seen law) plan before after old new result → Told after.till.state.book → RunsPlan law begins settings plan old new Told result
+ran seen law begins settings plan before after old new Told result begun connected run told = record {
   before = as_seen seen before;
   after = as_seen seen after;
   begun = begun;
   connected = connected;
   answers = answers_seen seen law plan before after old new result run;
+  told = told;
 }

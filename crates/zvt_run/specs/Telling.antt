@@ -7,6 +7,7 @@ use Rattle.zvt_stream.specs.declared.line.LineFault.{LineFault}
 use Rattle.zvt_term.specs.declared.ledger.Row.{Row}
 use Rattle.zvt_till.specs.Doubts.{unclear_reversals}
 use Rattle.zvt_till.specs.Names.{cause_name}
+use Rattle.zvt_till.specs.declared.entries.Doubt.TheVariants.{No, Unclear, TakenBack}
 use Rattle.zvt_till.specs.declared.entries.Entry.{Entry}
 use Rattle.zvt_till.specs.declared.outcomes.Cause.{Cause}
 
@@ -36,8 +37,12 @@ pub record TellsGone (till : ℕ) (broke : Option LineFault) (approved : ℕ) (o
 -- the line of an unclear reversal of the entry of this number, counted from 1
 abbrev pub reversal_text : ℕ → Cause → List ℕ
 reversal_text number cause =
-    codes "zvt: reverse:" ++ decimal number ++ codes " is unclear (" ++ cause_name cause
-    ++ codes "): the terminal took the payment back or not: look it up there before you give the money back\n"
+    codes "zvt: reverse:" ++ (decimal number ++ (codes " is unclear (" ++ (cause_name cause
+    ++ codes "): the terminal took the payment back or not: look it up there before you give the money back\n")))
+
+-- of an entry of this number its line, where its last reversal is unclear
+abbrev pub entry_text : ℕ → Entry → List ℕ
+entry_text number entry = elim entry.doubt [ No ↦ [] | Unclear cause ↦ reversal_text number cause | TakenBack ↦ [] ]
 
 -- a line for each, by the place in the book
 abbrev pub reversals_text : List (ℕ × Cause) → List ℕ

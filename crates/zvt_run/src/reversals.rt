@@ -1,7 +1,6 @@
 //! What is told of a till's unclear reversals.
-ghost use Rattle.std.specs.Prelude.{flat_map};
 ghost use Rattle.zvt_io.specs.Devices.{CountsFailure, Writes};
-ghost use Rattle.zvt_run.specs.Telling.{TellsReversals, reversal_text};
+ghost use Rattle.zvt_run.specs.Telling.{TellsReversals, entry_text, reversal_text};
 
 use itoa::Buffer;
 use zvt_io::{Failed, Sink};
@@ -15,11 +14,20 @@ pub(crate) fn tell_reversals<E: Sink>(book: &[Entry], tell: &mut E)
     let mut number: usize = 0;
     'entries: for entry in book {
         number += 1;
-        if let Doubt::Unclear(cause) = entry.doubt {
-            if tell_reversal(number, cause, tell).is_err() {
-                return;
-            }
+        if let Err(_) = tell_entry(number, entry, tell) {
+            return;
         }
+    }
+}
+
+/// Tells of the entry of this number, counted from 1, where its last reversal is unclear.
+fn tell_entry<E: Sink>(number: usize, entry: &Entry, tell: &mut E) -> Result<(), Failed>
+    ensures bytes { Writes (E.written tell.old) (E.written tell.new) result (entry_text number entry.now) }
+    ensures failures { CountsFailure (E.failures tell.old) (E.failures tell.new) result }
+{
+    match entry.doubt {
+        Doubt::Unclear(cause) => tell_reversal(number, cause, tell),
+        _ => Ok(()),
     }
 }
 
@@ -28,25 +36,9 @@ fn tell_reversal<E: Sink>(number: usize, cause: Cause, tell: &mut E) -> Result<(
     ensures bytes { Writes (E.written tell.old) (E.written tell.new) result (reversal_text number cause) }
     ensures failures { CountsFailure (E.failures tell.old) (E.failures tell.new) result }
 {
-    let mut buffer = Buffer::new();
-    let number = buffer.format(number);
-    let parts = [
-        b"zvt: reverse:".as_slice(),
-        number.as_bytes(),
-        b" is unclear (".as_slice(),
-        cause.name().as_bytes(),
-        b"): the terminal took the payment back or not: look it up there before you give the money back\n".as_slice(),
-    ];
-    tell_parts(&parts, tell)
-}
-
-/// Tells one part behind the other, up to a write that fails.
-fn tell_parts<E: Sink>(parts: &[&[u8]], tell: &mut E) -> Result<(), Failed>
-    ensures bytes { Writes (E.written tell.old) (E.written tell.new) result (flat_map (λ part. part.now) parts.now) }
-    ensures failures { CountsFailure (E.failures tell.old) (E.failures tell.new) result }
-{
-    'parts: for part in parts {
-        tell.write_all(part)?;
-    }
-    Ok(())
+    tell.write_all(b"zvt: reverse:")?;
+    tell.write_all(Buffer::new().format(number).as_bytes())?;
+    tell.write_all(b" is unclear (")?;
+    tell.write_all(cause.name().as_bytes())?;
+    tell.write_all(b"): the terminal took the payment back or not: look it up there before you give the money back\n")
 }

@@ -20,7 +20,7 @@ count-from place [] = refl
 count-from place (entry ∷ book) =
     one place (count_by is_unclear book) entry.doubt entry book refl (count-from (place + 1) book) ∙ sym (sum_by-cons (λ x. cond (is_unclear x) 1 0) entry book)
 
--- one entry more, behind the others
+-- entries behind others
 
 by-doubt : (place : ℕ) (more all last : List (ℕ × Cause)) (d : Doubt) → all ≡ more ++ last
     → elim d [ No ↦ all | Unclear cause ↦ (place, cause) ∷ all | TakenBack ↦ all ] ≡ elim d [ No ↦ more | Unclear cause ↦ (place, cause) ∷ more | TakenBack ↦ more ] ++ last
@@ -28,10 +28,9 @@ by-doubt place more all last No e = e
 by-doubt place more all last (Unclear cause) e = ap (λ rows. (place, cause) ∷ rows) e
 by-doubt place more all last TakenBack e = e
 
-pub unclear-more : (place : ℕ) (book : List Entry) (entry : Entry)
-    → unclear_reversals_from place (book ++ entry ∷ []) ≡ unclear_reversals_from place book ++ unclear_reversals_from (place + length book) (entry ∷ [])
-unclear-more place [] entry = ap (λ n. unclear_reversals_from n (entry ∷ [])) (sym (add-zero place))
-unclear-more place (first ∷ book) entry =
+pub unclear-append : (place : ℕ) (book more : List Entry) → unclear_reversals_from place (book ++ more) ≡ unclear_reversals_from place book ++ unclear_reversals_from (place + length book) more
+unclear-append place [] more = ap (λ n. unclear_reversals_from n more) (sym (add-zero place))
+unclear-append place (first ∷ book) more =
     let here : (place + 1) + length book ≡ place + length (first ∷ book) = omega arith in
-    by-doubt place (unclear_reversals_from (place + 1) book) (unclear_reversals_from (place + 1) (book ++ entry ∷ [])) (unclear_reversals_from (place + length (first ∷ book)) (entry ∷ [])) first.doubt
-    (unclear-more (place + 1) book entry ∙ ap (λ n. unclear_reversals_from (place + 1) book ++ unclear_reversals_from n (entry ∷ [])) here)
+    by-doubt place (unclear_reversals_from (place + 1) book) (unclear_reversals_from (place + 1) (book ++ more)) (unclear_reversals_from (place + length (first ∷ book)) more) first.doubt
+    (unclear-append (place + 1) book more ∙ ap (λ n. unclear_reversals_from (place + 1) book ++ unclear_reversals_from n more) here)

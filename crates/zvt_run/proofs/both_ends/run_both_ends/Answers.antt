@@ -1,9 +1,12 @@
+use Rattle.std.proofs.Common.{List, subst}
+use Rattle.zvt_till.specs.declared.entries.Entry.{Entry}
 use Rattle.zvt_run.specs.BothEnds.{BeginsHere, MakesHereBy, line_of}
 use Rattle.zvt_run.specs.Runs.{standing}
 use Rattle.zvt_run.specs.Settings.{settings_of}
+use Rattle.zvt_run.specs.Telling.{TellsReversals}
 use Rattle.zvt_run.proofs.OverTcp.{ran}
 use Rattle.zvt_run.proofs.both_ends.run_both_ends.Goals as goal
 
 pub returns-clause-run : goal.returns-clause-run
 returns-clause-run g c =
-    ran (line_of g.A.LineEnd.state g.B.LineEnd.state) MakesHereBy BeginsHere (settings_of c.args.settings.now) c.args.plan.now (standing c.args.line.now c.connected_till-till.result) (standing c.run_steps.new.line c.run_steps.new.till) _ _ c.run_steps.result c.requires c.connected_till-till.ensures c.run_steps.ensures.run
+    ran (line_of g.A.LineEnd.state g.B.LineEnd.state) MakesHereBy BeginsHere (settings_of c.args.settings.now) c.args.plan.now (standing c.args.line.now c.connected_till-till.result) (standing c.run_steps-answer.new.line c.run_steps-answer.new.till) _ _ _ c.run_steps-answer.result c.requires c.connected_till-till.ensures c.run_steps-answer.ensures.run (subst (λ (b : List Entry). TellsReversals (g.E.Sink.written c.args.tell.now) (g.E.Sink.written c.tell_reversals.new.tell) (g.E.Sink.failures c.args.tell.now) (g.E.Sink.failures c.tell_reversals.new.tell) b) c.book.ensures.rows c.tell_reversals.ensures)

@@ -8,5 +8,5 @@ use Rattle.zvt_run.proofs.tcp.run_loop.Goals as goal
 
 pub returns-clause-run : goal.returns-clause-run
 returns-clause-run g c =
-    traced_run MakesHereBy BeginsHere run_settings (settings_of c.usual-usual.result) Both (map (λ (step : Bor (List ℕ)). step.now) c.args.steps.now) c.in_ok-plan.plan.items c.as_slice-plan.result.now c.is_broken.result _ _ c.run_both_ends-answer.result c.by_trace.result
+    traced_run MakesHereBy BeginsHere run_settings (settings_of c.usual-usual.result) Both (map (λ (step : Bor (List ℕ)). step.now) c.args.steps.now) c.in_ok-plan.plan.items c.as_slice-plan.result.now c.is_broken.result _ _ _ _ c.run_both_ends-answer.result c.by_trace.result
     c.usual-usual.ensures c.as_slice-plan.ensures.value c.by_trace.ensures c.in_ok-plan.ensures c.run_both_ends-answer.ensures.run

@@ -11,5 +11,5 @@ pub returns-clause-run : goal.returns-clause-run
 returns-clause-run g c =
     let read = ap (λ (s : StreamState). s.reading) c.in_ok-line-in-Some.ensures.start in
     let ran = begun_by read c.run_till_end-answer.ensures.run in
-    traced_run MakesThere (BeginsThere (reading_of c.args.lengths)) (settings_of c.args.settings.now) (settings_of c.args.settings.now) Till (map (λ (step : Bor (List ℕ)). step.now) c.args.steps.now) c.in_ok-plan.plan.items c.as_slice-in-Some.result.now c.is_broken.result _ _ c.run_till_end-answer.result c.by_trace.result
+    traced_run MakesThere (BeginsThere (reading_of c.args.lengths)) (settings_of c.args.settings.now) (settings_of c.args.settings.now) Till (map (λ (step : Bor (List ℕ)). step.now) c.args.steps.now) c.in_ok-plan.plan.items c.as_slice-in-Some.result.now c.is_broken.result _ _ _ _ c.run_till_end-answer.result c.by_trace.result
     refl c.as_slice-in-Some.ensures.value c.by_trace.ensures c.in_ok-plan.ensures ran
