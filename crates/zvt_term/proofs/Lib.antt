@@ -11,4 +11,5 @@ pub mod Accounts
 pub mod Talking
 pub mod Answering
 pub mod Accounting
+pub mod Returning
 mod Rows
