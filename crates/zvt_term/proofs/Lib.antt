@@ -12,4 +12,6 @@ pub mod Talking
 pub mod Answering
 pub mod Accounting
 pub mod Returning
+pub mod Reverting
+pub mod Returned
 mod Rows
