@@ -37,13 +37,13 @@ use Rattle.zvt_term.proofs.Returning.{Known, known-same, WillTell, Awaits, AsksF
 
 -- the row that a turn writes
 
--- what was taken back after a row more was so before, or the row takes it back
 last-row : (l : List Row) (row x : Row) (k : ℕ) → slice_get (l ++ row ∷ []) k ≡ Some x → (slice_get l k ≡ Some x) ⊎ (row ≡ x)
 last-row [] row x zero e = inr cc
 last-row [] row x (suc k) e = absurd cc
 last-row (y ∷ l) row x zero e = inl e
 last-row (y ∷ l) row x (suc k) e = last-row l row x k e
 
+-- what was taken back after a row more was so before, or the row takes it back
 taken-before : (l : List Row) (o : Option Row) (n : ℕ) → IsTakenBack (l ++ option_to_list o) n → IsTakenBack l n ⊎ ((row : Row) × (o ≡ Some row) × (row.reverses ≡ Some n))
 taken-before l None n w = inl (subst (λ (x : List Row). IsTakenBack x n) (append-nil l) w)
 taken-before l (Some row) n (k, x, e, q) = by_place (last-row l row x k e)
