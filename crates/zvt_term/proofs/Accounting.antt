@@ -33,24 +33,24 @@ use Rattle.zvt_term.proofs.WorldMeans.{meaning, Fit, move-means, move-fit, new-f
 
 -- lists of messages, sent and not yet delivered
 
-and-left : (a b : Bool) → (a && b) ≡ true → a ≡ true
+pub and-left : (a b : Bool) → (a && b) ≡ true → a ≡ true
 and-left true b e = refl
 and-left false b e = absurd cc
 
-and-right : (a b : Bool) → (a && b) ≡ true → b ≡ true
+pub and-right : (a b : Bool) → (a && b) ≡ true → b ≡ true
 and-right true b e = e
 and-right false b e = absurd cc
 
-not-true : (b : Bool) → not b ≡ true → b ≡ false
+pub not-true : (b : Bool) → not b ≡ true → b ≡ false
 not-true true e = absurd cc
 not-true false e = refl
 
-record NextOf {X : Type 0} (sent : List X) (k : ℕ) : Type 0 where
-  message : X
-  is_next : slice_get sent k ≡ Some message
-  waiting : drop k sent ≡ message ∷ drop (k + 1) sent
+pub record NextOf {X : Type 0} (sent : List X) (k : ℕ) : Type 0 where
+  pub message : X
+  pub is_next : slice_get sent k ≡ Some message
+  pub waiting : drop k sent ≡ message ∷ drop (k + 1) sent
 
-next-of : {X : Type 0} (sent : List X) (k : ℕ) → k < length sent → NextOf sent k
+pub next-of : {X : Type 0} (sent : List X) (k : ℕ) → k < length sent → NextOf sent k
 next-of [] k lt = absurd (omega arith)
 next-of (x ∷ xs) zero lt = record { message = x; is_next = refl; waiting = refl }
 next-of (x ∷ xs) (suc k) lt =
@@ -58,32 +58,32 @@ next-of (x ∷ xs) (suc k) lt =
     let step : suc k + 1 ≡ suc (k + 1) = omega arith in
     record { message = n.message; is_next = n.is_next; waiting = subst (λ j. drop k xs ≡ n.message ∷ drop j (x ∷ xs)) (sym step) n.waiting }
 
-asked-more : (k : ℕ) (sent more : List Asked) → k ≤ length sent → orders_in (drop k (sent ++ more)) ≡ orders_in (drop k sent) ++ orders_in more
+pub asked-more : (k : ℕ) (sent more : List Asked) → k ≤ length sent → orders_in (drop k (sent ++ more)) ≡ orders_in (drop k sent) ++ orders_in more
 asked-more k sent more le = ap orders_in (drop-append-le k sent more le) ∙ filter-append is_order (drop k sent) more
 
-said-more : (k : ℕ) (sent more : List Heard) (rest : List Heard) → k ≤ length sent → words (drop k (sent ++ more)) ++ rest ≡ words (drop k sent) ++ (words more ++ rest)
+pub said-more : (k : ℕ) (sent more : List Heard) (rest : List Heard) → k ≤ length sent → words (drop k (sent ++ more)) ++ rest ≡ words (drop k sent) ++ (words more ++ rest)
 said-more k sent more rest le =
     ap (λ x. words x ++ rest) (drop-append-le k sent more le) ∙ ap (λ x. x ++ rest) (filter-append is_word (drop k sent) more) ∙ append_assoc (words (drop k sent)) (words more) rest
 
 -- both ends
 
-abbrev asked_on : Facts → Line → List Asked
+abbrev pub asked_on : Facts → Line → List Asked
 asked_on w l = orders_in (drop l.to_terminal w.from_till)
 
-abbrev rest_on : Facts → Line → List Heard
+abbrev pub rest_on : Facts → Line → List Heard
 rest_on w l = words (drop l.to_till w.from_terminal) ++ words (script_of w.terminal.phase)
 
-abbrev Standing : Bool → List Row → List Asked → TillState → List Heard → Type 0
+abbrev pub Standing : Bool → List Row → List Asked → TillState → List Heard → Type 0
 Standing true l asked s rest = Down l asked s
 Standing false l asked s rest = (s.line_up ≡ true) × Talks l asked s rest
 
-record LineHolds (w : Facts) (l : Line) : Type 0 where
-  till_sent : l.to_terminal ≤ length w.from_till
-  terminal_sent : l.to_till ≤ length w.from_terminal
-  silent : l.terminal_lost ≡ true → w.terminal.phase ≡ Idle
-  standing : Standing l.till_lost w.terminal.ledger (asked_on w l) w.till (rest_on w l)
+pub record LineHolds (w : Facts) (l : Line) : Type 0 where
+  pub till_sent : l.to_terminal ≤ length w.from_till
+  pub terminal_sent : l.to_till ≤ length w.from_terminal
+  pub silent : l.terminal_lost ≡ true → w.terminal.phase ≡ Idle
+  pub standing : Standing l.till_lost w.terminal.ledger (asked_on w l) w.till (rest_on w l)
 
-down_of : (b : Bool) (l : List Row) (asked : List Asked) (s : TillState) (rest : List Heard) → b ≡ true → Standing b l asked s rest → Down l asked s
+pub down_of : (b : Bool) (l : List Row) (asked : List Asked) (s : TillState) (rest : List Heard) → b ≡ true → Standing b l asked s rest → Down l asked s
 down_of true l asked s rest e k = k
 down_of false l asked s rest e k = absurd cc
 
@@ -109,18 +109,18 @@ connects w l e i =
       standing = (refl, subst (λ x. Talks ledger x s (words (drop (length w.from_terminal) w.from_terminal) ++ words (script_of w.terminal.phase))) (sym no_asked) (subst (λ x. Talks ledger [] s x) (sym no_rest) talks));
     }
 
-or-else-parts : (first second : Option OrderRefusal) → or_else first second ≡ None → (first ≡ None) × (second ≡ None)
+pub or-else-parts : (first second : Option OrderRefusal) → or_else first second ≡ None → (first ≡ None) × (second ≡ None)
 or-else-parts None second e = (refl, e)
 or-else-parts (Some why) second e = absurd cc
 
-offline : (f : OrderFacts) (o : Order) → f.line_up ≡ false → refusal f o ≡ None → ⊥
+pub offline : (f : OrderFacts) (o : Order) → f.line_up ≡ false → refusal f o ≡ None → ⊥
 offline f o e r = by_line f.line_up e (or-else-parts (line_refusal f o) (asked_refusal f o) r).0
   where
     by_line : (b : Bool) → b ≡ false → cond b (session_refusal f o) (Some Offline) ≡ None → ⊥
     by_line true q r = cc
     by_line false q r = cc
 
-online : (f : OrderFacts) (o : Order) → f.line_up ≡ true → refusal f o ≡ None → session_refusal f o ≡ None
+pub online : (f : OrderFacts) (o : Order) → f.line_up ≡ true → refusal f o ≡ None → session_refusal f o ≡ None
 online f o e r = by_line f.line_up e (or-else-parts (line_refusal f o) (asked_refusal f o) r).0
   where
     by_line : (b : Bool) → b ≡ true → cond b (session_refusal f o) (Some Offline) ≡ None → session_refusal f o ≡ None
@@ -178,7 +178,7 @@ terminal-reached w l v lt up i =
     } in
     subst (λ o. LineHolds (reaches_terminal w v o) (record l { to_terminal = l.to_terminal + 1 })) (sym next.is_next) here
 
-no_orders : (b : Bool) (m : Heard) → orders_in (answer_to b m) ≡ []
+pub no_orders : (b : Bool) (m : Heard) → orders_in (answer_to b m) ≡ []
 no_orders false m = refl
 no_orders true Positive = refl
 no_orders true (Negative code) = refl
@@ -225,36 +225,39 @@ standing-front : (b : Bool) (l : List Row) (asked : List Asked) (s : TillState) 
 standing-front true l asked s xs ys k = k
 standing-front false l asked s xs ys (up, k) = (up, record { accounts = k.accounts; dialogue = dialogue-front l asked s.book s.unclear s.running xs ys k.dialogue })
 
-terminal-delivered : (w : Facts) (l : Line) (k : ℕ) (v : Verdict) → is_orderly (length w.from_till) (length w.from_terminal) l (ToTerminal k v) ≡ true → LineHolds w l
-    → LineHolds (move w (ToTerminal k v)) (line_after (length w.from_till) (length w.from_terminal) l (ToTerminal k v))
-terminal-delivered w l k v e i =
+-- an orderly delivery is of the first message that waits, to an end that has a line
+pub terminal-delivered : (P : Facts → Line → Type 0) (w : Facts) (l : Line) (k : ℕ) (v : Verdict) → is_orderly (length w.from_till) (length w.from_terminal) l (ToTerminal k v) ≡ true
+    → (l.to_terminal < length w.from_till → l.terminal_lost ≡ false → P (reaches_terminal w v (slice_get w.from_till l.to_terminal)) (record l { to_terminal = l.to_terminal + 1 }))
+    → P (move w (ToTerminal k v)) (line_after (length w.from_till) (length w.from_terminal) l (ToTerminal k v))
+terminal-delivered P w l k v e h =
     let named = k == l.to_terminal in
     let sent = nat_lt k (length w.from_till) in
     let first = and-left (named && sent) (not l.terminal_lost) e in
     let same : k ≡ l.to_terminal = eqb-true k l.to_terminal (and-left named sent first) in
     let within : k < length w.from_till = ltb-true k (length w.from_till) (and-right named sent first) in
     let up = not-true l.terminal_lost (and-right (named && sent) (not l.terminal_lost) e) in
-    subst (λ n. LineHolds (reaches_terminal w v (slice_get w.from_till n)) (record l { to_terminal = n + 1 })) (sym same)
-    (terminal-reached w l v (subst (λ n. n < length w.from_till) same within) up i)
+    subst (λ n. P (reaches_terminal w v (slice_get w.from_till n)) (record l { to_terminal = n + 1 })) (sym same)
+    (h (subst (λ n. n < length w.from_till) same within) up)
 
-till-delivered : (w : Facts) (l : Line) (k : ℕ) → is_orderly (length w.from_till) (length w.from_terminal) l (ToTill k) ≡ true → LineHolds w l
-    → LineHolds (move w (ToTill k)) (line_after (length w.from_till) (length w.from_terminal) l (ToTill k))
-till-delivered w l k e i =
+pub till-delivered : (P : Facts → Line → Type 0) (w : Facts) (l : Line) (k : ℕ) → is_orderly (length w.from_till) (length w.from_terminal) l (ToTill k) ≡ true
+    → (l.to_till < length w.from_terminal → l.till_lost ≡ false → P (reaches_till w (slice_get w.from_terminal l.to_till)) (record l { to_till = l.to_till + 1 }))
+    → P (move w (ToTill k)) (line_after (length w.from_till) (length w.from_terminal) l (ToTill k))
+till-delivered P w l k e h =
     let named = k == l.to_till in
     let sent = nat_lt k (length w.from_terminal) in
     let first = and-left (named && sent) (not l.till_lost) e in
     let same : k ≡ l.to_till = eqb-true k l.to_till (and-left named sent first) in
     let within : k < length w.from_terminal = ltb-true k (length w.from_terminal) (and-right named sent first) in
     let up = not-true l.till_lost (and-right (named && sent) (not l.till_lost) e) in
-    subst (λ n. LineHolds (reaches_till w (slice_get w.from_terminal n)) (record l { to_till = n + 1 })) (sym same)
-    (till-reached w l (subst (λ n. n < length w.from_terminal) same within) up i)
+    subst (λ n. P (reaches_till w (slice_get w.from_terminal n)) (record l { to_till = n + 1 })) (sym same)
+    (h (subst (λ n. n < length w.from_terminal) same within) up)
 
-move-holds : (w : Facts) (l : Line) (x : Move) → is_orderly (length w.from_till) (length w.from_terminal) l x ≡ true → LineHolds w l
+pub move-holds : (w : Facts) (l : Line) (x : Move) → is_orderly (length w.from_till) (length w.from_terminal) l x ≡ true → LineHolds w l
     → LineHolds (move w x) (line_after (length w.from_till) (length w.from_terminal) l x)
 move-holds w l Connect e i = connects w l e i
 move-holds w l (Ordered o) e i = orders-hold w l o (refusal (facts_of w.till) o) refl i
-move-holds w l (ToTerminal k v) e i = terminal-delivered w l k v e i
-move-holds w l (ToTill k) e i = till-delivered w l k e i
+move-holds w l (ToTerminal k v) e i = terminal-delivered LineHolds w l k v e (λ lt up. terminal-reached w l v lt up i)
+move-holds w l (ToTill k) e i = till-delivered LineHolds w l k e (λ lt up. till-reached w l lt up i)
 move-holds w l TillLost e i =
     record {
       till_sent = i.till_sent;
@@ -273,31 +276,40 @@ move-holds w l TerminalLost e i =
           (standing-front l.till_lost w.terminal.ledger (asked_on w l) w.till said (words (script_of w.terminal.phase)) i.standing);
     }
 
+-- what each orderly move keeps
+abbrev pub MovesKeep : (Facts → Line → Type 0) → Type 0
+MovesKeep P =
+    (w : Facts) (l : Line) (x : Move) → is_orderly (length w.from_till) (length w.from_terminal) l x ≡ true → P w l
+    → P (move w x) (line_after (length w.from_till) (length w.from_terminal) l x)
+
 -- a move of messages is the move of what they mean
-means-holds : (w : Ends) (l : Line) (x : Move) → FitMove x → Fit w → is_orderly (length w.from_till) (length w.from_terminal) l x ≡ true → LineHolds (meaning w) l
-    → LineHolds (meaning (ends_move w x)) (line_after (length w.from_till) (length w.from_terminal) l x)
-means-holds w l x f k e i =
+means-keeps : (P : Facts → Line → Type 0) → MovesKeep P → (w : Ends) (l : Line) (x : Move) → FitMove x → Fit w → is_orderly (length w.from_till) (length w.from_terminal) l x ≡ true → P (meaning w) l
+    → P (meaning (ends_move w x)) (line_after (length w.from_till) (length w.from_terminal) l x)
+means-keeps P kept w l x f k e i =
     let m : length (map asked_as w.from_till) ≡ length w.from_till = length-map w.from_till asked_as in
     let n : length (map heard_as w.from_terminal) ≡ length w.from_terminal = length-map w.from_terminal heard_as in
     let orderly : is_orderly (length (map asked_as w.from_till)) (length (map heard_as w.from_terminal)) l x ≡ true =
     subst (λ (a : ℕ). is_orderly a (length (map heard_as w.from_terminal)) l x ≡ true) (sym m) (subst (λ (b : ℕ). is_orderly (length w.from_till) b l x ≡ true) (sym n) e) in
-    let held = move-holds (meaning w) l x orderly i in
-    subst (λ (y : Facts). LineHolds y (line_after (length w.from_till) (length w.from_terminal) l x)) (sym (move-means w x f k))
-    (subst (λ (a : ℕ). LineHolds (move (meaning w) x) (line_after a (length w.from_terminal) l x)) m
-    (subst (λ (b : ℕ). LineHolds (move (meaning w) x) (line_after (length (map asked_as w.from_till)) b l x)) n held))
+    let held = kept (meaning w) l x orderly i in
+    subst (λ (y : Facts). P y (line_after (length w.from_till) (length w.from_terminal) l x)) (sym (move-means w x f k))
+    (subst (λ (a : ℕ). P (move (meaning w) x) (line_after a (length w.from_terminal) l x)) m
+    (subst (λ (b : ℕ). P (move (meaning w) x) (line_after (length (map asked_as w.from_till)) b l x)) n held))
 
-moves-account : (w : Ends) (l : Line) (moves : List Move) → FitMoves moves → Fit w → are_orderly_from w l moves ≡ true → LineHolds (meaning w) l
-    → IsAccounted (fold ends_move w moves).till (fold ends_move w moves).terminal.ledger
-moves-account w l [] f k e i =
-    let v = meaning w in
-    λ b. let n = standing-accounts l.till_lost v.terminal.ledger (asked_on v l) v.till (rest_on v l) i.standing b in omega (arith, n)
-moves-account w l (x ∷ moves) f k e i =
+moves-keep : (P : Facts → Line → Type 0) → MovesKeep P → (w : Ends) (l : Line) (moves : List Move) → FitMoves moves → Fit w → are_orderly_from w l moves ≡ true → P (meaning w) l
+    → (end : Line) × P (meaning (fold ends_move w moves)) end
+moves-keep P kept w l [] f k e i = (l, i)
+moves-keep P kept w l (x ∷ moves) f k e i =
     let next = line_after (length w.from_till) (length w.from_terminal) l x in
     let now = is_orderly (length w.from_till) (length w.from_terminal) l x in
     let later = are_orderly_from (ends_move w x) next moves in
-    moves-account (ends_move w x) next moves f.1 (move-fit w x f.0 k) (and-right now later e) (means-holds w l x f.0 k (and-left now later e) i)
+    moves-keep P kept (ends_move w x) next moves f.1 (move-fit w x f.0 k) (and-right now later e) (means-keeps P kept w l x f.0 k (and-left now later e) i)
 
-start : LineHolds (meaning new_ends) no_line
+-- what holds of two new ends and is kept by each orderly move holds of each orderly world
+pub orderly-worlds : (P : Facts → Line → Type 0) → MovesKeep P → P (meaning new_ends) no_line → (moves : List Move) → FitMoves moves → IsTrue (are_orderly moves)
+    → (end : Line) × P (meaning (world moves)) end
+orderly-worlds P kept first moves f e = moves-keep P kept new_ends no_line moves f new-fit e first
+
+pub start : LineHolds (meaning new_ends) no_line
 start =
     record {
       till_sent = omega arith;
@@ -307,7 +319,10 @@ start =
     }
 
 pub orderly_worlds_account : OrderlyWorldsAccount
-orderly_worlds_account moves f e = moves-account new_ends no_line moves f new-fit e start
+orderly_worlds_account moves f e =
+    let held = orderly-worlds LineHolds move-holds start moves f e in
+    let w = meaning (world moves) in
+    λ b. let n = standing-accounts held.0.till_lost w.terminal.ledger (asked_on w held.0) w.till (rest_on w held.0) held.1.standing b in omega (arith, n)
 
 -- after the last move
 pub accounted : (moves : List Move) (i : ℕ) (w : Ends) → length moves ≤ i → w ≡ world (take i moves) → FitMoves (take i moves) → IsTrue (are_orderly moves) → IsAccounted w.till w.terminal.ledger

@@ -153,7 +153,7 @@ goes_on-says s (Aborting code) = refl
 goes_on-says s Ending = refl
 
 -- an acknowledgement lets the script go on
-answer-says : (s : TerminalState) (v : Verdict) → speech (turn_of s Answer v) ≡ words (script_of s.phase)
+pub answer-says : (s : TerminalState) (v : Verdict) → speech (turn_of s Answer v) ≡ words (script_of s.phase)
 answer-says s v = by_phase s.phase refl
   where
     by_phase : (phase : Phase) → s.phase ≡ phase → speech (goes_on s s.phase) ≡ words (script_of s.phase)
@@ -181,11 +181,11 @@ answer-ledger s v = by_phase s.phase
 
 -- a payment taken up: no approval was added, or its status is on the way
 
-abbrev IsDeclining : Class → Type 0
+abbrev pub IsDeclining : Class → Type 0
 IsDeclining (Declining c) = Unit {0}
 IsDeclining c = ⊥
 
-claimed-note : (st : Statuses) (c : Class) (receipt : Option (List ℕ)) → (IsDeclining c → ⊥) → IsClaimed (note_class st c receipt)
+pub claimed-note : (st : Statuses) (c : Class) (receipt : Option (List ℕ)) → (IsDeclining c → ⊥) → IsClaimed (note_class st c receipt)
 claimed-note (AllGood t r) (Good u) receipt k = by_trace (same_trace u t)
   where
     by_trace : (b : Bool) → IsClaimed (cond b (AllGood t r) (Fault Conflict))

@@ -11,4 +11,7 @@ pub mod Accounts
 pub mod Talking
 pub mod Answering
 pub mod Accounting
+pub mod Returning
+pub mod Reverting
+pub mod Returned
 mod Rows

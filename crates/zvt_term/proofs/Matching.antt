@@ -36,7 +36,7 @@ euro = run_settings.currency
 
 -- a ledger that grows
 
-slice_get-front : {X : Type 0} (xs ys : List X) (k : ℕ) (x : X) → slice_get xs k ≡ Some x → slice_get (xs ++ ys) k ≡ Some x
+pub slice_get-front : {X : Type 0} (xs ys : List X) (k : ℕ) (x : X) → slice_get xs k ≡ Some x → slice_get (xs ++ ys) k ≡ Some x
 slice_get-front [] ys k x e = absurd cc
 slice_get-front (y ∷ xs) ys zero x e = e
 slice_get-front (y ∷ xs) ys (suc k) x e = slice_get-front xs ys k x e
@@ -233,7 +233,7 @@ pay-ended l book a st Lost m p = m
 
 -- one more mark
 
-match-at : (l : List Row) (book : List Entry) (i : ℕ) (row : Entry) → AllMatch euro l book → slice_get book i ≡ Some row → EntryMatches euro l row
+pub match-at : (l : List Row) (book : List Entry) (i : ℕ) (row : Entry) → AllMatch euro l book → slice_get book i ≡ Some row → EntryMatches euro l row
 match-at l [] i row m e = absurd cc
 match-at l (x ∷ book) zero row m e = let same : x ≡ row = cc in subst (λ y. EntryMatches euro l y) same m.0
 match-at l (x ∷ book) (suc i) row m e = match-at l book i row m.1 e

@@ -193,11 +193,12 @@ logged-moves : (w : Ends) (moves : List Move) → Logged w.till → Logged (fold
 logged-moves w [] k = k
 logged-moves w (x ∷ moves) k = logged-moves (move w x) moves (logged-move w x k)
 
+pub first-holds : Holds (meaning new_ends)
+first-holds = record { heard = tt; sound = (omega arith, omega arith, tt); till = record { running = tt; book = tt }; settings = refl; named = tt; kept = λ e. absurd cc }
+
 pub worlds_match : WorldsMatch
 worlds_match moves f =
-    let start : Holds (meaning new_ends) =
-    record { heard = tt; sound = (omega arith, omega arith, tt); till = record { running = tt; book = tt }; settings = refl; named = tt; kept = λ e. absurd cc } in
-    let held = moves-hold (meaning new_ends) moves start in
+    let held = moves-hold (meaning new_ends) moves first-holds in
     let w : Facts = fold facts.move (meaning new_ends) moves in
     let log : Logged (world moves).till = logged-moves new_ends moves ([], refl) in
     record {

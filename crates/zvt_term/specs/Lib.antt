@@ -8,3 +8,4 @@ pub mod Served
 pub mod World
 pub mod Simulation
 pub mod Orderly
+pub mod Returned

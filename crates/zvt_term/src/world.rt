@@ -7,6 +7,7 @@ ghost use Rattle.zvt_term.specs.World.{sent_out, new_ends, FitOrder, FitMove, Ma
 ghost use Rattle.zvt_till.specs.Till.{facts_of};
 ghost use Rattle.zvt_till.specs.Refusals.{refusal};
 ghost use Rattle.zvt_term.specs.Orderly.{are_orderly, IsAccounted};
+ghost use Rattle.zvt_term.specs.Returned.{KeepsReversals};
 ghost use Rattle.zvt_term.specs.Simulation.{ends_of};
 
 use crate::asking::asked;
@@ -170,6 +171,8 @@ pub fn run_world(alloc: Global, moves: &[Move]) -> Result<World, AllocError>
     ensures matches { IfOk result (λ both. Matches both.till.state both.terminal.ledger) }
     // Over lines that keep order, each approval of an amount is booked, unclear or still awaited.
     ensures accounted { IfOk result (λ both. IsTrue (are_orderly moves.now) → IsAccounted both.till.state both.terminal.ledger) }
+    // Over such lines, each payment that the terminal took back is marked, unclear, known by B4, or its reversal runs.
+    ensures reversals { IfOk result (λ both. IsTrue (are_orderly moves.now) → KeepsReversals both.till.state both.terminal.ledger) }
 {
     let mut both = World::new(alloc);
     for step in moves {

@@ -1,6 +1,7 @@
 use Rattle.zvt_term.specs.Simulation.{ends_of}
 use Rattle.zvt_term.proofs.WorldMeans.{worlds-more, fit-more, matched}
 use Rattle.zvt_term.proofs.Accounting.{accounted}
+use Rattle.zvt_term.proofs.Returned.{keeps_reversals}
 use Rattle.zvt_term.proofs.world.run_world.Goals as goal
 
 pub loop-step-preserved : goal.loop-step-preserved
@@ -17,3 +18,7 @@ returns-clause-matches c = matched c.args.moves.now c.loop-step.step-index (ends
 pub returns-clause-accounted : goal.returns-clause-accounted
 returns-clause-accounted c =
     accounted c.args.moves.now c.loop-step.step-index (ends_of c.loop-step.both) c.loop-step-test.false c.loop-step.invariant.moved c.loop-step.invariant.fit
+
+pub returns-clause-reversals : goal.returns-clause-reversals
+returns-clause-reversals c =
+    keeps_reversals c.args.moves.now c.loop-step.step-index (ends_of c.loop-step.both) c.loop-step-test.false c.loop-step.invariant.moved c.loop-step.invariant.fit

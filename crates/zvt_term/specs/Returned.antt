@@ -1,0 +1,36 @@
+-- What the till knows of the payments that the terminal took back.
+use Rattle.std.specs.Prelude.{◌≡◌, ℕ, ◌⊎◌, Bool, true, false, ◌||◌, List, Option, Some, None, IsTrue, slice_get}
+use Rattle.zvt_till.specs.declared.entries.Doubt.{Doubt}
+use Rattle.zvt_till.specs.declared.entries.Doubt.TheVariants.{No, Unclear, TakenBack}
+use Rattle.zvt_till.specs.declared.entries.Entry.{Entry}
+use Rattle.zvt_till.specs.declared.orders.Order.TheVariants.{Reverse}
+use Rattle.zvt_till.specs.declared.statuses.Running.{Running}
+use Rattle.zvt_till.specs.Till.{TillState}
+use Rattle.zvt_term.specs.declared.ledger.Row.{Row}
+use Rattle.zvt_term.specs.declared.world.Move.{Move}
+use Rattle.zvt_term.specs.World.{world, FitMoves, IsTakenBack}
+use Rattle.zvt_term.specs.Orderly.{are_orderly}
+
+-- the last reversal is unclear, or the terminal told that it took the payment back before
+abbrev pub is_doubted : Doubt → Bool
+is_doubted No = false
+is_doubted (Unclear cause) = true
+is_doubted TakenBack = true
+
+-- the till knows that the payment was taken back, or that it may have been
+abbrev pub is_told : Entry → Bool
+is_told entry = entry.reversed || is_doubted entry.doubt
+
+-- a reversal of the entry at this place runs
+abbrev pub Reverses : ℕ → Option Running → Type 0
+Reverses place None = ⊥
+Reverses place (Some r) = r.order ≡ Reverse place
+
+-- each approval that the ledger took back is an entry of the book; the till knows of it, or its reversal runs
+abbrev pub KeepsReversals : TillState → List Row → Type 0
+KeepsReversals s ledger =
+    (number : ℕ) → IsTakenBack ledger number
+    → (place : ℕ) × (entry : Entry) × (slice_get s.book place ≡ Some entry) × (entry.trace ≡ number) × (IsTrue (is_told entry) ⊎ Reverses place s.running)
+
+abbrev pub OrderlyWorldsKeepReversals : Type 0
+OrderlyWorldsKeepReversals = (moves : List Move) → FitMoves moves → IsTrue (are_orderly moves) → KeepsReversals (world moves).till (world moves).terminal.ledger
