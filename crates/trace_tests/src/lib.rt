@@ -10,3 +10,5 @@ mod recorded_runs;
 mod run_faults;
 #[cfg(test)]
 mod runs;
+#[cfg(test)]
+mod told_runs;

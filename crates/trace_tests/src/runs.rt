@@ -1,6 +1,7 @@
 //! Runs over TCP, over memory, and over devices that fail.
+use crate::told_runs::Full;
 use std::alloc::{AllocError, Global};
-use std::io::{self, Read, Write};
+use std::io::{self, Read};
 use std::net::TcpListener;
 use std::process::Abort;
 use std::test::Fail;
@@ -40,7 +41,8 @@ total 25
 // caller's proof is dear.
 fn looped(rt: &HostRuntime, words: &[&str]) -> (Result<(), EndFault>, Vec<u8>) {
     let mut writer = Over::new(Vec::new(rt.alloc()));
-    let ended = run_loop(rt, rt.alloc(), words, None, &mut writer);
+    let mut tell = Over::new(Vec::new(rt.alloc()));
+    let ended = run_loop(rt, rt.alloc(), words, None, &mut writer, &mut tell);
     (ended, writer.inner)
 }
 
@@ -75,12 +77,14 @@ fn registers_and_pays(
         stream: Stream::new(alloc),
     };
     let mut writer = Over::new(Vec::new(alloc));
+    let mut tell = Over::new(Vec::new(alloc));
     let ended = run_till_end(
         alloc,
         &mut line,
         &TillSettings::usual(),
         plan.as_slice(),
         &mut writer,
+        &mut tell,
     );
     Ok((ended, writer.inner))
 }
@@ -127,28 +131,6 @@ fn a_terminal_that_sends_no_message(rt: HostRuntime) -> Result<(), Fail> {
     breaks(&rt, rt.alloc(), &impossible, fault, text)
 }
 
-/// A writer that takes nothing.
-#[derive(Drop)]
-struct Full;
-
-impl Write for Full {
-    fn write(&mut self, _bytes: &[u8]) -> io::Result<usize> {
-        Ok(0)
-    }
-
-    fn flush(&mut self) -> io::Result<()> {
-        Ok(())
-    }
-}
-
-#[test]
-fn a_text_that_cannot_be_written(rt: HostRuntime) -> Result<(), Fail> {
-    let mut writer = Over::new(Full);
-    let ended = run_loop(&rt, rt.alloc(), ["close"].as_slice(), None, &mut writer);
-    assert!(rt; matches!(ended, Err(EndFault::Write)));
-    Ok(())
-}
-
 /// A reader that brings the same bytes again and again.
 #[derive(Drop)]
 struct Again<'a>(&'a [u8]);
@@ -184,7 +166,15 @@ fn registers_without_rest(
     };
     let usual = TillSettings::usual();
     let mut writer = Over::new(Vec::new(alloc));
-    let ended = run_both_ends(alloc, &mut line, &usual, plan.as_slice(), &mut writer);
+    let mut tell = Over::new(Vec::new(alloc));
+    let ended = run_both_ends(
+        alloc,
+        &mut line,
+        &usual,
+        plan.as_slice(),
+        &mut writer,
+        &mut tell,
+    );
     let BothEnds { till, terminal, .. } = line;
     let till_sent = till.writer.inner.len();
     let terminal_sent = terminal.writer.inner.len();
@@ -281,6 +271,7 @@ fn closed_port(rt: &HostRuntime) -> Result<u16, Fail> {
 /// A run of a till against this port, and what it writes.
 fn till_at(rt: &HostRuntime, port: u16, steps: &[&str]) -> (Result<(), EndFault>, Vec<u8>) {
     let mut writer = Over::new(Vec::new(rt.alloc()));
+    let mut tell = Over::new(Vec::new(rt.alloc()));
     let ended = run_till(
         rt,
         rt.alloc(),
@@ -291,6 +282,7 @@ fn till_at(rt: &HostRuntime, port: u16, steps: &[&str]) -> (Result<(), EndFault>
         steps,
         None,
         &mut writer,
+        &mut tell,
     );
     (ended, writer.inner)
 }
@@ -331,7 +323,15 @@ fn registers_recorded(
         stream: Stream::new(alloc),
     };
     let mut writer = Over::new(Vec::new(alloc));
-    let ended = run_till_end(alloc, &mut line, settings, plan.as_slice(), &mut writer);
+    let mut tell = Over::new(Vec::new(alloc));
+    let ended = run_till_end(
+        alloc,
+        &mut line,
+        settings,
+        plan.as_slice(),
+        &mut writer,
+        &mut tell,
+    );
     let sent = Vec::from_slice(alloc, line.writer.device.inner.as_slice())?;
     let mut trace = Vec::from_slice(alloc, line.writer.trace.inner.as_slice())?;
     trace.extend_from_slice(line.reader.trace.inner.as_slice())?;

@@ -31,7 +31,9 @@ pub fn both_ends(rt: &HostRuntime, trace: Option<&str>, steps: &[&str]) -> io::R
         Err(status) => return Ok(status),
     };
     let mut writer = Over::new(Output::new(io::writer(rt)));
-    let answer = run_loop(rt, rt.alloc(), steps, file.as_ref(), &mut writer);
+    let mut tell = Over::new(rt.stderr());
+    let file = file.as_ref();
+    let answer = run_loop(rt, rt.alloc(), steps, file, &mut writer, &mut tell);
     finish_run(rt, steps, writer.inner.has_gone, answer)
 }
 
@@ -85,6 +87,7 @@ fn till_with(
     };
     let file = file.as_ref();
     let mut writer = Over::new(Output::new(io::writer(rt)));
+    let mut tell = Over::new(rt.stderr());
     let answer = run_till(
         rt,
         rt.alloc(),
@@ -95,6 +98,7 @@ fn till_with(
         steps,
         file,
         &mut writer,
+        &mut tell,
     );
     finish_run(rt, steps, writer.inner.has_gone, answer)
 }

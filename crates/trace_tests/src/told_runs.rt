@@ -1,0 +1,98 @@
+//! What a run tells of reversals that are unclear, and devices that take no text.
+use std::alloc::Global;
+use std::io::{self, Write};
+use std::test::Fail;
+use zvt_io::Over;
+use zvt_run::{End, EndFault, Ends, TillSettings, plan, run_loop, run_till_end};
+use zvt_stream::{LineFault, Stream};
+
+/// A writer that takes nothing.
+#[derive(Drop)]
+pub(crate) struct Full;
+
+impl Write for Full {
+    fn write(&mut self, _bytes: &[u8]) -> io::Result<usize> {
+        Ok(0)
+    }
+
+    fn flush(&mut self) -> io::Result<()> {
+        Ok(())
+    }
+}
+
+#[test]
+fn a_text_that_cannot_be_written(rt: HostRuntime) -> Result<(), Fail> {
+    let mut writer = Over::new(Full);
+    let mut tell = Over::new(Vec::new(rt.alloc()));
+    let words = ["close"];
+    let ended = run_loop(&rt, rt.alloc(), &words, None, &mut writer, &mut tell);
+    assert!(rt; matches!(ended, Err(EndFault::Write)));
+    Ok(())
+}
+
+/// A registration and a payment of 12.34 under trace number 17, and that the terminal takes a reversal up.
+const TAKEN_UP: [u8; 34] = [
+    0x80, 0x00, 0x00, 0x06, 0x0F, 0x00, 0x80, 0x00, 0x00, 0x04, 0x0F, 0x10, 0x27, 0x00, 0x04, 0x00,
+    0x00, 0x00, 0x00, 0x12, 0x34, 0x0B, 0x00, 0x00, 0x17, 0x87, 0x00, 0x05, 0x06, 0x0F, 0x00, 0x80,
+    0x00, 0x00,
+];
+
+/// The steps of these tests.
+const STEPS: [&str; 3] = ["register", "pay:1234", "reverse:1"];
+
+/// How a till ends that registers, pays and reverses where these bytes come, and what it writes. It tells this device.
+fn reverses<E: Write>(
+    alloc: Global,
+    coming: &[u8],
+    tell: &mut Over<E>,
+) -> Result<(Result<(), EndFault>, Vec<u8>), EndFault> {
+    let plan = plan(alloc, Ends::Till, &STEPS)?;
+    let mut line = End {
+        reader: Over::new(coming),
+        writer: Over::new(Vec::new(alloc)),
+        stream: Stream::new(alloc),
+    };
+    let mut writer = Over::new(Vec::new(alloc));
+    let usual = TillSettings::usual();
+    let ended = run_till_end(alloc, &mut line, &usual, plan.as_slice(), &mut writer, tell);
+    Ok((ended, writer.inner))
+}
+
+const WRITTEN: &str = r#"register -> registered
+pay:1234 -> paid trace 000017 receipt 0005
+reverse:1 -> unclear Line
+total 1234
+"#;
+
+const TOLD: &str = "zvt: reverse:1 is unclear (Line): the terminal took the payment back or not: look it up there before you give the money back\n";
+
+#[test]
+fn a_reversal_whose_line_breaks_is_told(rt: HostRuntime) -> Result<(), Fail> {
+    let mut tell = Over::new(Vec::new(rt.alloc()));
+    let (ended, written) = reverses(rt.alloc(), &TAKEN_UP, &mut tell)?;
+    assert!(rt; matches!(ended, Err(EndFault::Line(LineFault::Ended { have: 0 }))));
+    assert_eq!(rt; written.as_slice(), WRITTEN.as_bytes());
+    assert_eq!(rt; tell.inner.as_slice(), TOLD.as_bytes());
+    Ok(())
+}
+
+#[test]
+fn a_device_that_takes_no_text_changes_nothing_else(rt: HostRuntime) -> Result<(), Fail> {
+    let mut tell = Over::new(Full);
+    let (ended, written) = reverses(rt.alloc(), &TAKEN_UP, &mut tell)?;
+    assert!(rt; matches!(ended, Err(EndFault::Line(LineFault::Ended { have: 0 }))));
+    assert_eq!(rt; written.as_slice(), WRITTEN.as_bytes());
+    Ok(())
+}
+
+#[test]
+fn a_reversal_with_an_end_is_not_told(rt: HostRuntime) -> Result<(), Fail> {
+    let mut coming = Vec::from_slice(rt.alloc(), &TAKEN_UP)?;
+    // the terminal aborts it: nothing was taken back
+    coming.extend_from_slice(&[0x06, 0x1E, 0x01, 0x6C])?;
+    let mut tell = Over::new(Vec::new(rt.alloc()));
+    let (ended, _) = reverses(rt.alloc(), coming.as_slice(), &mut tell)?;
+    ended?;
+    assert!(rt; tell.inner.is_empty());
+    Ok(())
+}
