@@ -4,7 +4,7 @@ use std::process::Abort;
 use std::test::Fail;
 use zvt_bcd::{Amount, Currency, Trace};
 use zvt_term::{Move, Row, Verdict, World, run_world};
-use zvt_till::{Cause, Entry, Order, Outcome};
+use zvt_till::{Cause, Doubt, Entry, Order, Outcome};
 
 /// A delivery to a terminal that approves.
 const fn to_terminal(index: usize) -> Move {
@@ -60,6 +60,7 @@ fn stands(rt: &impl Abort, world: &World, booked: bool) {
             trace: Trace::new(1).expect(rt, "a trace number"),
             receipt: Some([0x00, 0x01]),
             reversed: false,
+            doubt: Doubt::No,
         };
         assert_eq!(rt; world.till.book(), [entry].as_slice());
     } else {
