@@ -4,8 +4,8 @@ use std::process::Abort;
 use zvt_apdu::Brief;
 use zvt_bcd::{Amount, Currency, Trace};
 use zvt_till::{
-    Cause, CurrencyFact, Entry, Heard, Order, OrderRefusal, Original, Outcome, Outgoing, Reply,
-    StatusFacts, Till,
+    Cause, CurrencyFact, Doubt, Entry, Heard, Order, OrderRefusal, Original, Outcome, Outgoing,
+    Reply, StatusFacts, Till,
 };
 
 const PASSWORD: [u8; 3] = [0; 3];
@@ -77,9 +77,8 @@ fn connected_till(rt: &impl Abort, alloc: Global) -> Till {
     till
 }
 
-/// A till that is registered on its line.
-fn registered_till(rt: &impl Abort, alloc: Global) -> Till {
-    let mut till = connected_till(rt, alloc);
+/// The till registers on its line.
+fn registers(rt: &impl Abort, till: &mut Till) {
     let register = Brief::Register {
         password: PASSWORD,
         config: 0xBE,
@@ -91,8 +90,14 @@ fn registered_till(rt: &impl Abort, alloc: Global) -> Till {
         Told::Heard(Heard::Positive, None, None),
         acknowledged(Heard::Completion, Some(Outcome::Registered)),
     ];
-    goes(rt, &mut till, &course);
+    goes(rt, till, &course);
     assert!(rt; till.registered());
+}
+
+/// A till that is registered on its line.
+fn registered_till(rt: &impl Abort, alloc: Global) -> Till {
+    let mut till = connected_till(rt, alloc);
+    registers(rt, &mut till);
     till
 }
 
@@ -125,6 +130,7 @@ fn entry(rt: &impl Abort, number: u32, receipt: u8) -> Entry {
         trace: trace(rt, number),
         receipt: Some([0, receipt]),
         reversed: false,
+        doubt: Doubt::No,
     }
 }
 
@@ -139,6 +145,15 @@ fn paid(rt: &impl Abort, number: u32, receipt: u8) -> Outcome {
 /// The order to pay the worked price is sent.
 fn pay(rt: &impl Abort) -> Told {
     Told::Sent(Order::Pay(price(rt)), Brief::Pay(price(rt), euro(rt)))
+}
+
+/// The order to take the first payment of the book back is sent.
+fn reverse() -> Told {
+    let message = Brief::Reverse {
+        password: PASSWORD,
+        receipt: [0, 5],
+    };
+    Told::Sent(Order::Reverse(0), message)
 }
 
 /// Pays the worked price, hears the messages, and answers the last outcome that one of them had.
@@ -215,16 +230,10 @@ fn each_trace_number_serves_once(rt: HostRuntime) {
 
 #[test]
 fn a_payment_is_taken_back_once(rt: HostRuntime) {
-    let mut till = registered_till(&rt, rt.alloc());
-    let payment = [Heard::Positive, approval(PRICE, 17, 5), Heard::Completion];
-    pays(&rt, &mut till, &payment);
-    let message = Brief::Reverse {
-        password: PASSWORD,
-        receipt: [0, 5],
-    };
+    let mut till = paid_till(&rt, rt.alloc());
     let course = [
         Told::Refused(Order::Reverse(1), OrderRefusal::UnknownEntry),
-        Told::Sent(Order::Reverse(0), message),
+        reverse(),
         acknowledged(reversal(Some([0, 6])), None),
         acknowledged(Heard::Completion, Some(Outcome::Reversed)),
         Told::Refused(Order::Reverse(0), OrderRefusal::AlreadyReversed),
@@ -236,7 +245,106 @@ fn a_payment_is_taken_back_once(rt: HostRuntime) {
     };
     stands(&rt, &till, &[row], &[], 0, Outcome::Reversed);
     let used = Outcome::Unclear(Cause::TraceUsed);
+    let payment = [Heard::Positive, approval(PRICE, 17, 5), Heard::Completion];
     assert_eq!(rt; pays(&rt, &mut till, &payment), Some(used));
+}
+
+/// A till that is registered and has one payment.
+fn paid_till(rt: &impl Abort, alloc: Global) -> Till {
+    let mut till = registered_till(rt, alloc);
+    let payment = [Heard::Positive, approval(PRICE, 17, 5), Heard::Completion];
+    pays(rt, &mut till, &payment);
+    till
+}
+
+/// A till that is registered again, after it lost its line while its only payment was taken back.
+fn doubting_till(rt: &impl Abort, alloc: Global) -> Till {
+    let mut till = paid_till(rt, alloc);
+    goes(rt, &mut till, &[reverse()]);
+    let lost = till.lost();
+    assert_eq!(rt; lost, Some(Outcome::Unclear(Cause::Line)));
+    till.connected();
+    registers(rt, &mut till);
+    till
+}
+
+/// The till's only payment was not taken back, and has this doubt. So many reversals are unclear.
+fn doubts(rt: &impl Abort, till: &Till, doubt: Doubt, unclear: usize) {
+    let row = Entry {
+        doubt,
+        ..entry(rt, 17, 5)
+    };
+    assert_eq!(rt; till.book(), [row].as_slice());
+    assert_eq!(rt; till.unclear_reversals(), unclear);
+    assert_eq!(rt; (till.total(), till.running()), (1234, None));
+}
+
+#[test]
+fn a_reversal_whose_line_is_lost_is_unclear(rt: HostRuntime) {
+    let mut till = doubting_till(&rt, rt.alloc());
+    doubts(&rt, &till, Doubt::Unclear(Cause::Line), 1);
+    let course = [
+        reverse(),
+        acknowledged(Heard::Abort(0xB4), Some(Outcome::Aborted(0xB4))),
+    ];
+    goes(&rt, &mut till, &course);
+    doubts(&rt, &till, Doubt::TakenBack, 0);
+}
+
+#[test]
+fn a_later_reversal_ends_the_doubt(rt: HostRuntime) {
+    let mut till = doubting_till(&rt, rt.alloc());
+    let course = [
+        reverse(),
+        acknowledged(reversal(Some([0, 6])), None),
+        acknowledged(Heard::Completion, Some(Outcome::Reversed)),
+    ];
+    goes(&rt, &mut till, &course);
+    let row = Entry {
+        reversed: true,
+        ..entry(&rt, 17, 5)
+    };
+    assert_eq!(rt; row.doubt, Doubt::No);
+    stands(&rt, &till, &[row], &[], 0, Outcome::Reversed);
+    assert_eq!(rt; till.unclear_reversals(), 0);
+}
+
+/// A status of a payment or a reversal that is declined.
+fn decline() -> Heard {
+    Heard::Status(StatusFacts {
+        result: Some(0x6C),
+        amount: None,
+        trace: None,
+        receipt: None,
+        original: Original::Absent,
+        currency: CurrencyFact::Absent,
+    })
+}
+
+#[test]
+fn what_changes_nothing_leaves_the_doubt(rt: HostRuntime) {
+    let declined = [
+        reverse(),
+        acknowledged(decline(), None),
+        acknowledged(Heard::Completion, Some(Outcome::Declined(0x6C))),
+    ];
+    let aborted = [
+        reverse(),
+        acknowledged(Heard::Abort(0x6C), Some(Outcome::Aborted(0x6C))),
+    ];
+    let refused = [
+        reverse(),
+        Told::Heard(Heard::Negative(0x6C), None, Some(Outcome::Refused(0x6C))),
+    ];
+    let courses: [&[Told]; 3] = [&declined, &aborted, &refused];
+    for course in courses {
+        let mut clear = paid_till(&rt, rt.alloc());
+        goes(&rt, &mut clear, course);
+        doubts(&rt, &clear, Doubt::No, 0);
+        let mut unclear = doubting_till(&rt, rt.alloc());
+        goes(&rt, &mut unclear, course);
+        doubts(&rt, &unclear, Doubt::Unclear(Cause::Line), 1);
+    }
 }
 
 #[test]

@@ -4,8 +4,8 @@ use std::process::Abort;
 use std::test::Fail;
 use zvt_bcd::{Amount, Currency, Trace};
 use zvt_till::{
-    Cause, CurrencyFact, Entry, Event, Happening, Heard, Order, OrderRefusal, Original, Outcome,
-    Run, Sent, StatusFacts, replay,
+    Cause, CurrencyFact, Doubt, Entry, Event, Happening, Heard, Order, OrderRefusal, Original,
+    Outcome, Run, Sent, StatusFacts, replay,
 };
 
 const ACK: [u8; 3] = [0x80, 0x00, 0x00];
@@ -69,6 +69,7 @@ fn entry(rt: &impl Abort, number: u32, receipt: u8) -> Entry {
         trace: trace(rt, number),
         receipt: Some([0, receipt]),
         reversed: false,
+        doubt: Doubt::No,
     }
 }
 
@@ -308,5 +309,34 @@ fn nothing_is_paid_on_a_lost_line(rt: HostRuntime) -> Result<(), Fail> {
     sends(&rt, alloc, &run, &messages)?;
     let refused = run.till.order(Order::Pay(price(&rt)));
     assert_eq!(rt; refused, Err(OrderRefusal::Offline));
+    Ok(())
+}
+
+#[test]
+fn a_reversal_from_the_bytes_of_its_line(rt: HostRuntime) -> Result<(), Fail> {
+    let alloc = rt.alloc();
+    let mut events = Vec::new(alloc);
+    registers(alloc, &mut events)?;
+    pays(&rt, alloc, &mut events, &[&ACK, &APPROVAL, &COMPLETION])?;
+    events.push(Event::Order(Order::Reverse(0)))?;
+    comes(alloc, &mut events, &[&ACK, &TAKES_BACK])?;
+    events.push(Event::Lost)?;
+    let unclear = Entry {
+        doubt: Doubt::Unclear(Cause::Line),
+        ..entry(&rt, 17, 5)
+    };
+    let lost = Outcome::Unclear(Cause::Line);
+    let run = runs(&rt, alloc, &events, &[unclear], &[], lost)?;
+    assert_eq!(rt; run.till.unclear_reversals(), 1);
+    registers(alloc, &mut events)?;
+    events.push(Event::Order(Order::Reverse(0)))?;
+    comes(alloc, &mut events, &[&ACK, &[0x06, 0x1E, 0x01, 0xB4]])?;
+    let taken_back = Entry {
+        doubt: Doubt::TakenBack,
+        ..entry(&rt, 17, 5)
+    };
+    let aborted = Outcome::Aborted(0xB4);
+    let run = runs(&rt, alloc, &events, &[taken_back], &[], aborted)?;
+    assert_eq!(rt; run.till.unclear_reversals(), 0);
     Ok(())
 }

@@ -307,8 +307,8 @@ fn put_sums(bytes: &mut Vec<u8>) -> Result<(), AllocError>
     put_number(bytes, 4, second)
 }
 
-/// The bytes of this layout that are of the till after its line was lost. In the first layout they lose what the
-/// reversals of its entries leave open.
+/// The bytes of the till after its line was lost, in this layout. The first layout says nothing of what the reversals
+/// leave open.
 pub fn save_in(alloc: Global, layout: Layout, till: &Till) -> Result<Vec<u8>, AllocError>
     ensures bytes { IfOk result (λ bytes. bytes.items ≡ saved_in layout (step till.now.state Happening.Lost)) }
     ensures kept { OnOk result (IsKept (step till.now.state Happening.Lost)) }
@@ -319,9 +319,8 @@ pub fn save_in(alloc: Global, layout: Layout, till: &Till) -> Result<Vec<u8>, Al
     Ok(bytes)
 }
 
-/// The bytes that the till is saved in, at any moment: those of the till after its line was lost. So a payment that runs
-/// is unclear in them, and so is a reversal that runs. That state is one that `load` takes. The only error is want of
-/// memory.
+/// The bytes that the till is saved in, at any moment: those of the till after its line was lost. So a payment or a
+/// reversal that runs is unclear in them. That state is one that `load` takes. The only error is want of memory.
 pub fn save(alloc: Global, till: &Till) -> Result<Vec<u8>, AllocError>
     ensures bytes { IfOk result (λ bytes. bytes.items ≡ saved (step till.now.state Happening.Lost)) }
     ensures kept { OnOk result (IsKept (step till.now.state Happening.Lost)) }
