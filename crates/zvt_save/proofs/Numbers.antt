@@ -1,5 +1,5 @@
 -- Digits and their number.
-use Rattle.std.proofs.Common.{◌≡◌, Option, Some, None, IsSome, IfSome, is_some, unwrap_or, ℕ, zero, suc, ◌+◌, ◌*◌, ◌/◌, ◌%◌, ◌^◌, ◌<◌, List, length, refl, ap, ◌∙◌, arith, lit<}
+use Rattle.std.proofs.Common.{◌≡◌, Option, Some, None, IsSome, IfSome, is_some, unwrap_or, ℕ, zero, suc, ◌+◌, ◌*◌, ◌/◌, ◌%◌, ◌^◌, ◌<◌, length, refl, ap, ◌∙◌, arith, lit<}
 use Rattle.std.proofs.lemmas.Bool.{false≢true}
 use Rattle.std.proofs.Math.Nat.{pow-suc, mod-lt, div-lt_iff_lt-mul, div-add-mod, mul_comm}
 use Rattle.std.proofs.lemmas.List.Elements.{All-cons, All-nil}

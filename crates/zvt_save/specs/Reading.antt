@@ -1,9 +1,16 @@
 -- What codes stand for.
-use Rattle.std.specs.Prelude.{ℕ, ◌==◌, List, [], ◌∷◌, Option, Some, None, find, option_map}
+use Rattle.std.specs.Prelude.{◌≡◌, ℕ, ◌==◌, cond, List, [], ◌∷◌, Option, Some, None, find, option_map}
+use Rattle.zvt_till.specs.declared.entries.Doubt.{Doubt}
+use Rattle.zvt_till.specs.declared.entries.Doubt.TheVariants.{No, Unclear as UnclearReversal, TakenBack}
+use Rattle.zvt_till.specs.declared.entries.Entry.{Entry}
 use Rattle.zvt_till.specs.declared.outcomes.Cause.{Cause}
 use Rattle.zvt_till.specs.declared.outcomes.Cause.TheVariants.{NoStatus, Conflict, AmountDiffers, NoTrace, TraceUsed, AbortAfterApproval, Line, Malformed, Unfinished, WrongCurrency}
 use Rattle.zvt_till.specs.declared.outcomes.Outcome.{Outcome}
 use Rattle.zvt_till.specs.declared.outcomes.Outcome.TheVariants.{Registered, Paid, Declined, Refused, Aborted, Unclear, Reversed, DayClosed}
+use Rattle.zvt_till.specs.Till.{TillState}
+use Rattle.zvt_save.specs.declared.layouts.Layout.{Layout}
+use Rattle.zvt_save.specs.declared.layouts.Layout.TheVariants.{First, Second}
+use Rattle.zvt_save.specs.Saved.{HasNoDoubts, IsEntry}
 
 -- the causes by their numbers
 abbrev pub causes : List (ℕ × Cause)
@@ -13,6 +20,23 @@ causes =
 
 abbrev pub cause_from : ℕ → Option Cause
 cause_from code = option_map (λ row. row.1) (find (λ row. row.0 == code) causes)
+
+abbrev pub doubt_from : ℕ → Option Doubt
+doubt_from code = cond (code == 0) (Some No) (cond (code == 11) (Some TakenBack) (option_map UnclearReversal (cause_from code)))
+
+-- a doubt that the layout holds
+abbrev pub HasDoubtOf : Layout → Doubt → Type 0
+HasDoubtOf First doubt = doubt ≡ No
+HasDoubtOf Second doubt = Unit {0}
+
+-- an entry that the layout holds
+abbrev pub HasRowOf : Layout → Entry → Type 0
+HasRowOf layout entry = IsEntry entry × HasDoubtOf layout entry.doubt
+
+-- the states that the layout holds
+abbrev pub IsOfLayout : Layout → TillState → Type 0
+IsOfLayout First s = HasNoDoubts s
+IsOfLayout Second s = Unit {0}
 
 -- the outcomes by their kinds, with what they have; where the code is no cause's, none is unclear
 abbrev pub outcomes : (code trace : ℕ) → Option (List ℕ) → List (ℕ × Option (Option Outcome))

@@ -1,6 +1,7 @@
 //! A till that outlives its process: its bytes, and the till that they are of.
 #![tactic(auto)]
 
+mod layouts;
 mod loading;
 mod reading;
 mod saving;

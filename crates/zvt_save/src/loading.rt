@@ -8,11 +8,13 @@ ghost use Rattle.zvt_till.specs.Restoring.{CanStand};
 ghost use Rattle.zvt_till.specs.Sending.{Settings};
 ghost use Rattle.zvt_till.specs.Till.{TillState, step};
 ghost use Rattle.zvt_apdu.specs.Briefs.{digits};
-ghost use Rattle.zvt_save.specs.Loading.{IsMade, IsLoaded, LeadsTo};
-ghost use Rattle.zvt_save.specs.Saved.{body_bytes, entry_bytes, saved, settings_bytes, unclear_bytes, IsEntry, IsKept, IsOutcome, IsUnclear};
+ghost use Rattle.zvt_save.specs.Loading.{IsMade, IsLoaded, LeadsTo, OfLayout, RestsOn};
+ghost use Rattle.zvt_save.specs.Reading.{HasDoubtOf, HasRowOf, IsOfLayout};
+ghost use Rattle.zvt_save.specs.Saved.{body_bytes, entry_bytes, saved, saved_first, saved_in, settings_bytes, unclear_bytes, HasNoDoubts, IsKept, IsOutcome, IsSavedAs, IsUnclear};
 
+use crate::layouts::{Layout, entry_size, layout_of};
 use crate::reading::{read_entry, read_number, read_outcome, read_unclear};
-use crate::saving::save;
+use crate::saving::{save, save_in};
 use std::alloc::Global;
 use zvt_bcd::{Amount, Currency};
 use zvt_till::{Cause, Entry, Happening, Outcome, RestoreError, Till};
@@ -27,14 +29,16 @@ pub enum LoadError {
 }
 
 /// The rows of a book.
-fn read_book(alloc: Global, bytes: &[u8]) -> Result<Vec<Entry>, LoadError>
-    ensures { (book : List Entry) → All IsEntry book → bytes.now ≡ flat_map entry_bytes book → MatchResult result (λ rows. rows.items ≡ book) (λ why. why ≡ LoadError.Memory) }
+fn read_book(alloc: Global, layout: Layout, bytes: &[u8]) -> Result<Vec<Entry>, LoadError>
+    ensures value { (book : List Entry) → All (HasRowOf layout) book → bytes.now ≡ flat_map (entry_bytes layout) book → MatchResult result (λ rows. rows.items ≡ book) (λ why. why ≡ LoadError.Memory) }
+    ensures held { IfOk result (λ rows. All (λ entry. HasDoubtOf layout entry.doubt) rows.items) }
 {
+    let size = entry_size(layout);
     let mut rows = Vec::new(alloc);
     let mut rest = bytes;
-    'rows: while 13 <= rest.len() {
-        let (row, after) = rest.split_at(13);
-        let Some(entry) = read_entry(row) else {
+    'rows: while size <= rest.len() {
+        let (row, after) = rest.split_at(size);
+        let Some(entry) = read_entry(layout, row) else {
             return Err(LoadError::Damaged);
         };
         if rows.push(entry).is_err() {
@@ -119,7 +123,8 @@ fn restore(
     book: Vec<Entry>,
     unclear: Vec<(Amount, Cause)>,
 ) -> Result<Till, LoadError>
-    ensures { CanStand book.items unclear.items → IsLoaded result made book.items unclear.items }
+    ensures value { CanStand book.items unclear.items → IsLoaded result made book.items unclear.items }
+    ensures rests { RestsOn result book.items }
 {
     let till = Till::new(alloc, made.password, made.config, made.currency);
     match till.restored(alloc, book, unclear, made.last) {
@@ -130,17 +135,18 @@ fn restore(
 }
 
 /// The till whose header and rows these are.
-fn read_body(alloc: Global, bytes: &[u8]) -> Result<Till, LoadError>
+fn read_body(alloc: Global, layout: Layout, bytes: &[u8]) -> Result<Till, LoadError>
     requires { 24 ≤ length bytes.now }
-    ensures { (s : TillState) → IsKept s → bytes.now ≡ body_bytes s → LeadsTo result s }
+    ensures value { (s : TillState) → IsKept s → IsOfLayout layout s → bytes.now ≡ body_bytes layout s → LeadsTo result s }
+    ensures held { OfLayout result layout }
 {
     let (_, rows) = bytes.split_at(24);
-    let size = (13 * booked_of(&bytes[4..7])).min(rows.len());
+    let size = (entry_size(layout) * booked_of(&bytes[4..7])).min(rows.len());
     let (entries, others) = rows.split_at(size);
     let Some(made) = read_made(&bytes[10..24]) else {
         return Err(LoadError::Damaged);
     };
-    let book = match read_book(alloc, entries) {
+    let book = match read_book(alloc, layout, entries) {
         Ok(book) => book,
         Err(why) => return Err(why),
     };
@@ -151,28 +157,29 @@ fn read_body(alloc: Global, bytes: &[u8]) -> Result<Till, LoadError>
     restore(alloc, made, book, unclear)
 }
 
-/// The till that the bytes were saved of, before its check sums are looked at.
-fn read_till(alloc: Global, bytes: &[u8]) -> Result<Till, LoadError>
-    ensures { (s : TillState) → IsKept s → bytes.now ≡ saved s → LeadsTo result s }
+/// The till that the bytes of this layout were saved of, before its check sums are looked at.
+fn read_till(alloc: Global, layout: Layout, bytes: &[u8]) -> Result<Till, LoadError>
+    ensures value { (s : TillState) → IsKept s → IsOfLayout layout s → bytes.now ≡ saved_in layout s → LeadsTo result s }
+    ensures held { OfLayout result layout }
 {
     if bytes.len() < 32 {
         return Err(LoadError::Damaged);
     }
     let (body, _) = bytes.split_at(bytes.len() - 8);
-    read_body(alloc, body)
+    read_body(alloc, layout, body)
 }
 
-/// The till that the bytes were saved of: its line is down, and no order runs. Err where they are no till's, or memory
-/// was refused.
-pub fn load(alloc: Global, bytes: &[u8]) -> Result<Till, LoadError>
-    ensures whole { (s : TillState) → IsKept s → bytes.now ≡ saved s → LeadsTo result s }
-    ensures only { IfOk result (λ till. bytes.now ≡ saved (step till.state Happening.Lost)) }
+/// The till that the bytes of this layout were saved of.
+fn load_in(alloc: Global, layout: Layout, bytes: &[u8]) -> Result<Till, LoadError>
+    ensures value { (s : TillState) → IsKept s → IsOfLayout layout s → bytes.now ≡ saved_in layout s → LeadsTo result s }
+    ensures only { IfOk result (λ till. bytes.now ≡ saved_in layout (step till.state Happening.Lost)) }
+    ensures held { OfLayout result layout }
 {
-    let till = match read_till(alloc, bytes) {
+    let till = match read_till(alloc, layout, bytes) {
         Ok(till) => till,
         Err(why) => return Err(why),
     };
-    let again = match save(alloc, &till) {
+    let again = match save_in(alloc, layout, &till) {
         Ok(again) => again,
         Err(_) => return Err(LoadError::Memory),
     };
@@ -181,6 +188,16 @@ pub fn load(alloc: Global, bytes: &[u8]) -> Result<Till, LoadError>
     } else {
         Err(LoadError::Damaged)
     }
+}
+
+/// The till that the bytes were saved of, in either layout: its line is down, and no order runs. Err where they are no
+/// till's, or memory was refused.
+pub fn load(alloc: Global, bytes: &[u8]) -> Result<Till, LoadError>
+    ensures whole { (s : TillState) → IsKept s → bytes.now ≡ saved s → LeadsTo result s }
+    ensures first { (s : TillState) → IsKept s → HasNoDoubts s → bytes.now ≡ saved_first s → LeadsTo result s }
+    ensures only { IfOk result (λ till. IsSavedAs bytes.now (step till.state Happening.Lost)) }
+{
+    load_in(alloc, layout_of(bytes), bytes)
 }
 
 /// The till that comes of what this one is saved in, at any moment. Its contract is a law: what was saved of a till can be

@@ -2,13 +2,15 @@
 //! since what was loaded is saved again and compared.
 ghost use Rattle.std.specs.Prelude.{◌≡◌, ℕ, ◌^◌, ◌<◌, ◌≤◌, List, Option, Some, IfSome, length};
 ghost use Rattle.zvt_apdu.specs.Briefs.{digits};
+ghost use Rattle.zvt_till.specs.declared.entries.Doubt.{Doubt};
 ghost use Rattle.zvt_till.specs.declared.entries.Entry.{Entry};
 ghost use Rattle.zvt_till.specs.declared.outcomes.Cause.{Cause};
-ghost use Rattle.zvt_save.specs.Saved.{cause_code, receipt_bytes, entry_bytes, unclear_bytes, outcome_row, outcome_bytes, IsAmount, IsReceipt, IsEntry, IsUnclear, IsOutcome};
-ghost use Rattle.zvt_save.specs.Reading.{cause_from, outcome_from};
+ghost use Rattle.zvt_save.specs.Saved.{cause_code, doubt_bytes, doubt_code, receipt_bytes, entry_bytes, entry_size, unclear_bytes, outcome_row, outcome_bytes, IsAmount, IsReceipt, IsEntry, IsUnclear, IsOutcome};
+ghost use Rattle.zvt_save.specs.Reading.{cause_from, doubt_from, outcome_from, HasDoubtOf, HasRowOf};
 
+use crate::layouts::Layout;
 use zvt_bcd::{Amount, Trace, is_digits, number};
-use zvt_till::{Cause, Entry, Outcome};
+use zvt_till::{Cause, Doubt, Entry, Outcome};
 
 /// The number that these digits spell.
 pub fn read_number(bytes: &[u8]) -> Option<u64>
@@ -76,12 +78,42 @@ fn read_receipt(bytes: &[u8]) -> Option<[u8; 2]>
     }
 }
 
-/// The row of the book in 13 bytes.
-pub fn read_entry(row: &[u8]) -> Option<Entry>
-    requires { length row.now ≡ 13 }
-    ensures { (entry : Entry) → IsEntry entry → row.now ≡ entry_bytes entry → result ≡ Some entry }
+/// The doubt of this number.
+fn doubt_of(code: u8) -> Option<Doubt>
+    ensures { result ≡ doubt_from code }
 {
-    let receipt = read_receipt(&row[10..]);
+    match code {
+        0 => Some(Doubt::No),
+        11 => Some(Doubt::TakenBack),
+        _ => match read_cause(code) {
+            Some(cause) => Some(Doubt::Unclear(cause)),
+            None => None,
+        },
+    }
+}
+
+/// What the reversals of an entry leave open, behind its receipt number. The first layout says nothing of it.
+fn read_doubt(layout: Layout, bytes: &[u8]) -> Option<Doubt>
+    ensures value { (doubt : Doubt) → HasDoubtOf layout doubt → bytes.now ≡ doubt_bytes layout doubt → result ≡ Some doubt }
+    ensures held { IfSome result (HasDoubtOf layout) }
+{
+    match layout {
+        Layout::First => Some(Doubt::No),
+        Layout::Second => match bytes.first() {
+            Some(code) => doubt_of(*code),
+            None => None,
+        },
+    }
+}
+
+/// The row of the book in the bytes of one.
+pub fn read_entry(layout: Layout, row: &[u8]) -> Option<Entry>
+    requires { length row.now ≡ entry_size layout }
+    ensures value { (entry : Entry) → HasRowOf layout entry → row.now ≡ entry_bytes layout entry → result ≡ Some entry }
+    ensures held { IfSome result (λ entry. HasDoubtOf layout entry.doubt) }
+{
+    let doubt = read_doubt(layout, &row[13..])?;
+    let receipt = read_receipt(&row[10..13]);
     let reversed = row[9] == 1;
     let trace = read_trace(&row[6..9])?;
     let amount = read_amount(&row[..6])?;
@@ -90,6 +122,7 @@ pub fn read_entry(row: &[u8]) -> Option<Entry>
         trace,
         receipt,
         reversed,
+        doubt,
     })
 }
 

@@ -2,16 +2,17 @@
 ghost use Rattle.std.specs.Prelude.{◌≡◌, ◌++◌, ◌^◌, ◌<◌, ◌≤◌, length, Some, IfOk, OnOk, flat_map};
 ghost use Rattle.std.specs.List.{All};
 ghost use Rattle.zvt_apdu.specs.Briefs.{digits};
-ghost use Rattle.zvt_save.specs.Saved.{cause_code, receipt_bytes, entry_bytes, unclear_bytes, outcome_row, outcome_bytes, body_bytes, counts_bytes, open_rows, saved, settings_bytes, summed, IsEntry, IsKept, IsOutcome, IsReceipt, IsUnclear};
+ghost use Rattle.zvt_save.specs.Saved.{cause_code, receipt_bytes, doubt_bytes, doubt_code, entry_bytes, unclear_bytes, outcome_row, outcome_bytes, body_bytes, counts_bytes, left_book, open_rows, saved, saved_in, settings_bytes, summed, IsEntry, IsKept, IsOutcome, IsReceipt, IsUnclear};
 ghost use Rattle.zvt_till.specs.Till.{step};
 
+use crate::layouts::{Layout, version};
 use crate::sums::sums_of;
 use std::alloc::{AllocError, Global};
 use zvt_bcd::{Amount, Trace, put};
-use zvt_till::{Cause, Entry, Happening, Order, Outcome, Till};
+use zvt_till::{Cause, Doubt, Entry, Happening, Order, Outcome, Till};
 
-/// What stands first: ZVT, and the version.
-pub const MARK: [u8; 4] = [0x5A, 0x56, 0x54, 0x01];
+/// What stands first: ZVT.
+const MARK: [u8; 3] = [0x5A, 0x56, 0x54];
 
 /// Writes a number in so many bytes of digits.
 fn put_number(bytes: &mut Vec<u8>, count: usize, number: u64) -> Result<(), AllocError>
@@ -57,15 +58,37 @@ fn put_receipt(bytes: &mut Vec<u8>, receipt: Option<[u8; 2]>) -> Result<(), Allo
     }
 }
 
+/// The number of what the reversals of an entry leave open.
+fn doubt_code(doubt: Doubt) -> u8
+    ensures { result ≡ doubt_code doubt }
+{
+    match doubt {
+        Doubt::No => 0,
+        Doubt::Unclear(cause) => cause_code(cause),
+        Doubt::TakenBack => 11,
+    }
+}
+
+/// Writes what the reversals of an entry leave open, where the layout has it.
+fn put_doubt(bytes: &mut Vec<u8>, layout: Layout, doubt: Doubt) -> Result<(), AllocError>
+    ensures { OnOk result (bytes.new.items ≡ bytes.old.items ++ doubt_bytes layout doubt) }
+{
+    match layout {
+        Layout::First => Ok(()),
+        Layout::Second => bytes.extend_from_slice(&[doubt_code(doubt)]),
+    }
+}
+
 /// Writes a row of the book.
-fn put_entry(bytes: &mut Vec<u8>, entry: &Entry) -> Result<(), AllocError>
-    ensures bytes { OnOk result (bytes.new.items ≡ bytes.old.items ++ entry_bytes entry.now) }
+fn put_entry(bytes: &mut Vec<u8>, layout: Layout, entry: &Entry) -> Result<(), AllocError>
+    ensures bytes { OnOk result (bytes.new.items ≡ bytes.old.items ++ entry_bytes layout entry.now) }
     ensures fits { OnOk result (IsEntry entry.now) }
 {
     put_number(bytes, 6, entry.amount.get())?;
     put_number(bytes, 3, u64::from(entry.trace.get()))?;
     bytes.extend_from_slice(&[u8::from(entry.reversed)])?;
-    put_receipt(bytes, entry.receipt)
+    put_receipt(bytes, entry.receipt)?;
+    put_doubt(bytes, layout, entry.doubt)
 }
 
 /// Writes an unclear payment.
@@ -120,11 +143,14 @@ fn put_paid(bytes: &mut Vec<u8>, trace: Trace, receipt: Option<[u8; 2]>) -> Resu
     put_outcome_row(bytes, 2, 0, trace.get(), receipt)
 }
 
-/// What the loss of its line makes of a till: the payment that is unclear then besides those that are, and the last
-/// outcome.
+/// What the loss of its line makes of a till.
 #[derive(Clone, Copy)]
 struct Settled {
+    /// The payment that is unclear then besides those that are.
     left: Option<Amount>,
+    /// The place of the entry whose last reversal is unclear then.
+    doubted: Option<usize>,
+    /// The last outcome.
     last: Option<Outcome>,
 }
 
@@ -132,33 +158,47 @@ struct Settled {
 fn settle(till: &Till) -> Settled
     ensures unclear { (step till.now.state Happening.Lost).unclear ≡ till.now.state.unclear ++ open_rows result.left }
     ensures last { (step till.now.state Happening.Lost).last_outcome ≡ result.last }
-    ensures book { (step till.now.state Happening.Lost).book ≡ till.now.state.book }
+    ensures book { (step till.now.state Happening.Lost).book ≡ left_book till.now.state.book result.doubted }
     ensures settings { (step till.now.state Happening.Lost).settings ≡ till.now.state.settings }
 {
     let line = Some(Outcome::Unclear(Cause::Line));
     match &till.running() {
         None => Settled {
             left: None,
+            doubted: None,
             last: till.last_outcome(),
         },
         Some(Order::Pay(amount)) => Settled {
             left: Some(*amount),
+            doubted: None,
+            last: line,
+        },
+        Some(Order::Reverse(place)) => Settled {
+            left: None,
+            doubted: Some(*place),
             last: line,
         },
         Some(_) => Settled {
             left: None,
+            doubted: None,
             last: line,
         },
     }
 }
 
 /// Writes what stands first, and how many rows follow.
-fn put_counts(bytes: &mut Vec<u8>, booked: usize, unclear: usize) -> Result<(), AllocError>
+fn put_counts(
+    bytes: &mut Vec<u8>,
+    layout: Layout,
+    booked: usize,
+    unclear: usize,
+) -> Result<(), AllocError>
     requires booked { booked ≤ 10001 }
     requires unclear { unclear ≤ 10001 }
-    ensures { OnOk result (bytes.new.items ≡ bytes.old.items ++ counts_bytes booked unclear) }
+    ensures { OnOk result (bytes.new.items ≡ bytes.old.items ++ counts_bytes layout booked unclear) }
 {
     bytes.extend_from_slice(&MARK)?;
+    bytes.extend_from_slice(&[version(layout)])?;
     put_number(bytes, 3, booked as u64)?;
     put_number(bytes, 3, unclear as u64)
 }
@@ -177,14 +217,36 @@ fn put_settings(bytes: &mut Vec<u8>, till: &Till, last: Option<Outcome>) -> Resu
 }
 
 /// Writes the rows of a book.
-fn put_book(bytes: &mut Vec<u8>, book: &[Entry]) -> Result<(), AllocError>
-    ensures bytes { OnOk result (bytes.new.items ≡ bytes.old.items ++ flat_map entry_bytes book.now) }
+fn put_book(bytes: &mut Vec<u8>, layout: Layout, book: &[Entry]) -> Result<(), AllocError>
+    ensures bytes { OnOk result (bytes.new.items ≡ bytes.old.items ++ flat_map (entry_bytes layout) book.now) }
     ensures fit { OnOk result (All IsEntry book.now) }
 {
     'rows: for entry in book {
-        put_entry(bytes, entry)?;
+        put_entry(bytes, layout, entry)?;
     }
     Ok(())
+}
+
+/// Writes the rows of a book, where a reversal of this entry is open when the line is lost.
+fn put_left_book(
+    bytes: &mut Vec<u8>,
+    layout: Layout,
+    book: &[Entry],
+    doubted: Option<usize>,
+) -> Result<(), AllocError>
+    ensures bytes { OnOk result (bytes.new.items ≡ bytes.old.items ++ flat_map (entry_bytes layout) (left_book book.now doubted)) }
+    ensures fit { OnOk result (All IsEntry (left_book book.now doubted)) }
+{
+    let Some(place) = doubted else {
+        return put_book(bytes, layout, book);
+    };
+    let Some(entry) = book.get(place) else {
+        return put_book(bytes, layout, book);
+    };
+    let doubt = Doubt::Unclear(Cause::Line);
+    put_book(bytes, layout, &book[..place])?;
+    put_entry(bytes, layout, &Entry { doubt, ..*entry })?;
+    put_book(bytes, layout, &book[place + 1..])
 }
 
 /// Writes unclear payments.
@@ -221,17 +283,17 @@ fn rows_left(left: Option<Amount>) -> usize
 }
 
 /// Writes the header and the rows of the till after its line was lost.
-fn put_body(bytes: &mut Vec<u8>, till: &Till) -> Result<(), AllocError>
-    ensures bytes { OnOk result (bytes.new.items ≡ bytes.old.items ++ body_bytes (step till.now.state Happening.Lost)) }
+fn put_body(bytes: &mut Vec<u8>, layout: Layout, till: &Till) -> Result<(), AllocError>
+    ensures bytes { OnOk result (bytes.new.items ≡ bytes.old.items ++ body_bytes layout (step till.now.state Happening.Lost)) }
     ensures kept { OnOk result (IsKept (step till.now.state Happening.Lost)) }
 {
     // by this law the rows are some that a till can have
     till.can_be_restored();
     let settled = settle(till);
     let unclear = till.unclear().len() + rows_left(settled.left);
-    put_counts(bytes, till.book().len(), unclear)?;
+    put_counts(bytes, layout, till.book().len(), unclear)?;
     put_settings(bytes, till, settled.last)?;
-    put_book(bytes, till.book())?;
+    put_left_book(bytes, layout, till.book(), settled.doubted)?;
     put_rows(bytes, till.unclear())?;
     put_open(bytes, settled.left)
 }
@@ -245,14 +307,24 @@ fn put_sums(bytes: &mut Vec<u8>) -> Result<(), AllocError>
     put_number(bytes, 4, second)
 }
 
-/// The bytes that the till is saved in, at any moment: those of the till after its line was lost, so a payment that runs
-/// is unclear in them. That state is one that `load` takes. The only error is want of memory.
+/// The bytes of this layout that are of the till after its line was lost. In the first layout they lose what the
+/// reversals of its entries leave open.
+pub fn save_in(alloc: Global, layout: Layout, till: &Till) -> Result<Vec<u8>, AllocError>
+    ensures bytes { IfOk result (λ bytes. bytes.items ≡ saved_in layout (step till.now.state Happening.Lost)) }
+    ensures kept { OnOk result (IsKept (step till.now.state Happening.Lost)) }
+{
+    let mut bytes = Vec::new(alloc);
+    put_body(&mut bytes, layout, till)?;
+    put_sums(&mut bytes)?;
+    Ok(bytes)
+}
+
+/// The bytes that the till is saved in, at any moment: those of the till after its line was lost. So a payment that runs
+/// is unclear in them, and so is a reversal that runs. That state is one that `load` takes. The only error is want of
+/// memory.
 pub fn save(alloc: Global, till: &Till) -> Result<Vec<u8>, AllocError>
     ensures bytes { IfOk result (λ bytes. bytes.items ≡ saved (step till.now.state Happening.Lost)) }
     ensures kept { OnOk result (IsKept (step till.now.state Happening.Lost)) }
 {
-    let mut bytes = Vec::new(alloc);
-    put_body(&mut bytes, till)?;
-    put_sums(&mut bytes)?;
-    Ok(bytes)
+    save_in(alloc, Layout::Second, till)
 }

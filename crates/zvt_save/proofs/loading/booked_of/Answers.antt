@@ -1,4 +1,4 @@
-use Rattle.std.proofs.Common.{◌≡◌, ℕ, ◌<◌, ◌^◌, sym, ap, length, ◌∙◌, arith}
+use Rattle.std.proofs.Common.{ℕ, ◌<◌, ◌^◌, sym, ap, length, ◌∙◌, arith}
 use Rattle.zvt_apdu.specs.Briefs.{digits}
 use Rattle.zvt_save.proofs.Numbers.{none-some, some-same}
 use Rattle.zvt_save.proofs.loading.booked_of.Goals as goal

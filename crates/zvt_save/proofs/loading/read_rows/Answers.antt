@@ -1,4 +1,4 @@
-use Rattle.std.proofs.Common.{◌≡◌, ℕ, ◌≤◌, ◌<◌, ◌++◌, ◌∷◌, [], Option, Some, length, drop, sym, ap, unwrap_or, ◌∙◌, arith, rules, lit<}
+use Rattle.std.proofs.Common.{◌≡◌, ℕ, ◌≤◌, ◌<◌, ◌++◌, ◌∷◌, [], Option, length, sym, ap, unwrap_or, ◌∙◌, rules, lit<}
 use Rattle.zvt_till.specs.declared.outcomes.Cause.{Cause}
 use Rattle.zvt_save.specs.Saved.{unclear_bytes, IsUnclear}
 use Rattle.zvt_save.proofs.Numbers.{none-some}

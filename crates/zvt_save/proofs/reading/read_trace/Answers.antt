@@ -1,4 +1,4 @@
-use Rattle.std.proofs.Common.{◌≡◌, ℕ, ◌<◌, ◌^◌, sym, ap, length, ◌∙◌, Some, arith, rules}
+use Rattle.std.proofs.Common.{◌≡◌, ℕ, ◌<◌, ◌^◌, sym, ap, length, ◌∙◌, arith, rules}
 use Rattle.zvt_apdu.specs.Briefs.{digits}
 use Rattle.zvt_save.proofs.Numbers.{given-value, none-some, some-same}
 use Rattle.zvt_save.proofs.reading.read_trace.Goals as goal

@@ -6,6 +6,6 @@ use Rattle.zvt_save.proofs.saving.put_book.Given as goal
 
 abbrev pub invariant-rows : goal.invariant-rows
 invariant-rows l = record {
-  bytes : l.bytes.items ≡ l.initial.bytes.items ++ flat_map entry_bytes (take l.entry-index l.book);
+  bytes : l.bytes.items ≡ l.initial.bytes.items ++ flat_map (entry_bytes l.layout) (take l.entry-index l.book);
   fit : All IsEntry (take l.entry-index l.book);
 }

@@ -1,5 +1,4 @@
-use Rattle.std.proofs.Common.{◌≡◌, ℕ, ◌∙◌, ap, ap₂, length, rules, arith}
-use Rattle.zvt_bcd.specs.Digits.{number_of}
+use Rattle.std.proofs.Common.{◌≡◌, ℕ, ◌∙◌, ap₂, length, rules}
 use Rattle.zvt_apdu.specs.Briefs.{digits}
 use Rattle.zvt_apdu.proofs.BriefLemmas.{digits_are}
 use Rattle.zvt_save.proofs.saving.put_number.Goals as goal
