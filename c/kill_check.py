@@ -148,12 +148,12 @@ def pay_and_reverse(library, port, path, seed):
     till.connect("127.0.0.1", int(port), timeout=10)
     till.register()
     while True:
-        unclear = [place for place, _ in till.unclear_reversals()]
-        if not unclear or chance.random() < 0.7:
+        places = [place for place, _ in till.unclear_reversals()]
+        if not places or chance.random() < 0.7:
             till.pay(chance.randint(1, 999999))
             book = till.book()
-            unclear = [place for place in range(max(0, len(book) - 5), len(book)) if not book[place].reversed]
-        place = chance.choice(unclear)
+            places = [place for place in range(max(0, len(book) - 5), len(book)) if not book[place].reversed]
+        place = chance.choice(places)
         print("begins", place, flush=True)
         began = time.monotonic()
         till.reverse(place)
