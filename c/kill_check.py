@@ -1,13 +1,14 @@
-"""Kills a till during reversals, and starts it again from what it saved: kill_check.py LIBRARY [KILLS [SEED]].
+"""Kills a till during reversals, and starts it again from what it saved: kill_check.py LIBRARY [KILLS [SEED [PROGRAM]]].
 
 The till is a process of its own, over zvt.py. It pays and reverses at a terminal in this process, which keeps its own ledger
-and knows nothing of the library. After each kill the saved till is held against the ledger: what the terminal took back is
+and knows nothing of the library; or, where the program `zvt` is given, at the terminal of that program. After each kill the saved till is held against the ledger: what the terminal took back is
 marked, unclear, or taken back by B4; nothing else is marked; no number stands twice; each approval is booked or unclear.
 At the end a till reverses what is unclear again, until nothing is. The status is 1 where anything does not hold.
 """
 import collections
 import os
 import random
+import select
 import socket
 import statistics
 import subprocess
@@ -55,12 +56,15 @@ class Terminal(threading.Thread):
             line.setsockopt(socket.IPPROTO_TCP, socket.TCP_NODELAY, 1)
             with line:
                 try:
-                    while True:
-                        self.serve(line, self.hears(line))
+                    self.talks(line)
                 except (EOFError, OSError):
                     pass
             self.stage = WAITS
             self.ended.release()
+
+    def talks(self, line):
+        while True:
+            self.serve(line, self.hears(line))
 
     def hears(self, line):
         """The next message: two control bytes and a length, which is short here, stand before its data."""
@@ -126,6 +130,67 @@ class Terminal(threading.Thread):
         self.stage = WAITS
 
 
+class Relay(Terminal):
+    """Stands between the tills and the terminal of the program `zvt`. The ledger is what that terminal says."""
+    SIZES = {0x27: 1, 0x04: 6, 0x49: 2, 0x0B: 3, 0x37: 3, 0x87: 2, 0x0C: 3, 0x0D: 2, 0x29: 4}
+
+    def __init__(self, seed, program, tills):
+        super().__init__(seed)
+        with socket.create_server(("127.0.0.1", 0)) as free:
+            self.behind = free.getsockname()[1]
+        words = [program, "terminal", "--port", str(self.behind), "--connections", str(tills)]
+        self.program = subprocess.Popen(words, stderr=subprocess.DEVNULL)
+
+    def dial(self):
+        for _ in range(100):
+            try:
+                return socket.create_connection(("127.0.0.1", self.behind))
+            except ConnectionRefusedError:
+                time.sleep(0.05)
+        raise RuntimeError("the program listens at no port")
+
+    def talks(self, line):
+        with self.dial() as terminal:
+            terminal.setsockopt(socket.IPPROTO_TCP, socket.TCP_NODELAY, 1)
+            try:
+                while True:
+                    if terminal in select.select([line, terminal], [], [])[0]:
+                        message = self.hears(terminal)
+                        self.notes(message)
+                        self.says(line, message)
+                    else:
+                        message = self.hears(line)
+                        self.stage = HEARD if message[:2] == REVERSAL else WAITS if self.stage == COMPLETED else self.stage
+                        terminal.sendall(message)
+            except (EOFError, OSError):
+                line.close()
+            # What the till sent last is heard and written down all the same.
+            terminal.shutdown(socket.SHUT_WR)
+            while True:
+                self.notes(self.hears(terminal))
+
+    def notes(self, message):
+        """Writes down what the terminal approved and took back."""
+        if message[:2] in (b"\x06\x1E", DONE[:2]) or message[0] == 0x84:
+            self.stage = COMPLETED if self.stage == TAKEN and message == DONE else WAITS
+        if message[:2] != b"\x04\x0F":
+            return
+        fields, at = {}, 3
+        while at < len(message):
+            size = self.SIZES[message[at]]
+            fields[message[at]] = int(message[at + 1:at + 1 + size].hex())
+            at += 1 + size
+        if fields[0x27] != 0:
+            return
+        if 0x37 not in fields:
+            self.ledger.append(Row(fields[0x0B], fields[0x04]))
+            return
+        next(row for row in self.ledger if row.number == fields[0x37]).taken_back, self.stage = True, TAKEN
+        if self.breaks:
+            self.breaks = False
+            raise EOFError
+
+
 def open_till(library, path):
     """A till that saves itself in the file, and goes on from what stands there."""
     def keep(saved):
@@ -161,9 +226,9 @@ def pay_and_reverse(library, port, path, seed):
 
 
 class Check:
-    def __init__(self, library, seed, folder):
+    def __init__(self, library, seed, folder, terminal):
         self.library, self.seed, self.path = library, seed, os.path.join(folder, "till")
-        self.chance, self.terminal, self.times = random.Random(seed), Terminal(seed), []
+        self.chance, self.terminal, self.times = random.Random(seed), terminal, []
         self.stages, self.left, self.violations = collections.Counter(), collections.Counter(), 0
         self.terminal.start()
 
@@ -270,22 +335,35 @@ class Check:
                 self.violates("the entry says so, and so does what is saved:", entry)
 
 
-def main(library, kills=500, seed=1):
+def run(check, kills):
+    """The kills, and the line that breaks; and what stands at the end."""
+    check.kills(0, 20)  # how long a reversal takes
+    check.stages.clear()
+    check.left.clear()
+    for number in range(kills):
+        check.kills(number + 1, check.chance.randint(0, 2))
+    check.breaks_one_line()
+    return check.settle()
+
+
+def main(library, kills=500, seed=1, program=None):
+    kills, seed = int(kills), int(seed)
+    # a till for each kill, and one before and three behind them
+    terminal = Terminal(seed) if program is None else Relay(seed, program, kills + 4)
     with tempfile.TemporaryDirectory() as folder:
-        check = Check(library, int(seed), folder)
-        check.kills(0, 20)  # how long a reversal takes
-        check.stages.clear()
-        check.left.clear()
-        for number in range(int(kills)):
-            check.kills(number + 1, check.chance.randint(0, 2))
-        check.breaks_one_line()
-        marked, by_b4, taken = check.settle()
+        check = Check(library, seed, folder, terminal)
+        try:
+            marked, by_b4, taken = run(check, kills)
+            if program is not None and terminal.program.wait(timeout=10) not in (0, 4):
+                check.violates("the program serves each till:", terminal.program.returncode)
+        finally:
+            if program is not None:
+                terminal.program.kill()
     told = ", ".join(f"{check.stages[stage]} {stage}" for stage in STAGES)
     left = ", ".join(f"{count} {how}" for how, count in sorted(check.left.items()))
     print(f"kill_check: {kills} kills, {sum(check.stages.values())} in a reversal that ran: {told}")
     print(f"kill_check: the saved till then had its payment: {left}")
-    approved = len(check.terminal.ledger)
-    print(f"kill_check: at the end {approved} approved, {taken} taken back: {marked} marked, {by_b4} known by B4; "
+    print(f"kill_check: at the end {len(terminal.ledger)} approved, {taken} taken back: {marked} marked, {by_b4} known by B4; "
           f"{check.violations} violations")
     sys.exit(1 if check.violations else 0)
 
