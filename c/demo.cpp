@@ -1,4 +1,4 @@
-// Pays in memory, saves while a second payment runs, and goes on from what was saved. c++ -std=c++17 demo.cpp -lzvt
+// Pays in memory, saves while a second payment runs, and goes on from what was saved: reverses until the line is lost, and again. c++ -std=c++17 demo.cpp -lzvt
 #include "zvt.hpp"
 #include <cstdio>
 
@@ -14,6 +14,7 @@ int main() {
     const uint8_t approved[] = {0x80, 0x00, 0x00, 0x06, 0xD1, 0x07, 0x00, 'T', 'h', 'a', 'n', 'k', 's', 0x04, 0x0F, 0x10, 0x27, 0x00, 0x04, 0x00, 0x00, 0x00, 0x00,
                                 0x12, 0x34, 0x0B, 0x00, 0x00, 0x17, 0x87, 0x00, 0x05, 0x06, 0x0F, 0x00,
                                 0x06, 0xD1, 0x04, 0x00, 'B', 'y', 'e', 0x06, 0xD1, 0x04, 0x00, 'B', 'y', 'e'};
+    const uint8_t reversed_before[] = {0x84, 0xB4, 0x00};
     zvt::Till till;
     till.connected();
     till.order(ZVT_REGISTER);
@@ -32,5 +33,21 @@ int main() {
     for (const zvt_entry &entry : again.unclear())
         std::printf("unclear %llu for cause %u\n", (unsigned long long)entry.amount, entry.cause);
     till = std::move(again);
+    till.connected();
+    till.order(ZVT_REGISTER);
+    till.feed(registered, sizeof registered);
+    till.order(ZVT_REVERSE, 0);
+    const zvt_outcome lost = till.lost();
+    std::printf("the line is lost: outcome %u for cause %u\n", lost.kind, lost.code);
+    zvt::Till saved = zvt::Till::loaded(till.save());
+    std::printf("unclear reversals: %zu\n", saved.state().unclear_reversals);
+    for (const zvt_entry &entry : saved.book())
+        if (entry.doubt == ZVT_UNCLEAR_REVERSAL) std::printf("%06u may be taken back, for cause %u\n", entry.trace, entry.cause);
+    saved.connected();
+    saved.order(ZVT_REGISTER);
+    saved.feed(registered, sizeof registered);
+    saved.order(ZVT_REVERSE, 0);
+    say("reversed again", saved.feed(reversed_before, sizeof reversed_before));
+    std::printf("unclear reversals: %zu, doubt %u\n", saved.state().unclear_reversals, saved.book()[0].doubt);
     std::printf("total %llu\n", (unsigned long long)till.state().total);
 }

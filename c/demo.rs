@@ -1,4 +1,5 @@
-//! Reads a message, pays in memory, saves while a second payment runs, and goes on from what was saved:
+//! Reads a message, pays in memory, saves while a second payment runs, and goes on from what was saved: reverses until the
+//! line is lost, and again.
 //! rustc demo.rs -L out -l dylib=zvt
 #[allow(dead_code)] // a part of it is used here
 mod zvt;
@@ -30,5 +31,17 @@ fn main() -> Result<(), Refused> {
     let mut again = Till::load(&till.save()?)?;
     println!("{:?}\n{:?}\ntotal {}", again.book()?, again.unclear()?, again.total()?);
     println!("{:?}", Till::load(&[0; 8]).err());
+    for heard in [None, Some([0x84, 0xB4, 0])] {
+        again.connected()?;
+        again.order(Order::Register)?;
+        again.feed(REGISTERED)?;
+        again.order(Order::Reverse(0))?;
+        let outcome = match heard {
+            None => again.lost()?,
+            Some(answer) => again.feed(&answer)?.outcome,
+        };
+        again = Till::load(&again.save()?)?;
+        println!("{outcome:?}, {} unclear: {:?}", again.unclear_reversals()?, again.book()?[0].doubt);
+    }
     Ok(())
 }

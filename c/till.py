@@ -14,13 +14,17 @@ def main():
             till.reverse(7)
         except zvt.Refused as refused:
             print(f"reverse:7 -> refused: {refused}")
+        print(f"pay:500 -> {till.pay(500)}")
+        print(f"reverse:1 -> {till.reverse(1)}")
         print(f"close -> {till.close_day()}")
         report(till)
         print(f"saved {len(saves)} times")
-    # As after a restart of the process, from what stood on the disk before the payment went out: it is unclear.
-    with zvt.Till(sys.argv[1]) as till:
-        till.load(saves[2])
-        report(till)
+    # As after a restart of the process, from what stood on the disk before the payment went out, and before the reversal
+    # went out: it is unclear.
+    for saved in saves[2], saves[6]:
+        with zvt.Till(sys.argv[1]) as till:
+            till.load(saved)
+            report(till)
 
 
 def show(line):

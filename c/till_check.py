@@ -1,4 +1,6 @@
-"""What zvt.py owes a shop: till_check.py LIBRARY. A terminal's bytes are played to a till over a pair of sockets."""
+"""What zvt.py owes a shop: till_check.py LIBRARY LAYOUTS. A terminal's bytes are played to a till over a pair of sockets.
+LAYOUTS is the file that layouts.c writes."""
+import ctypes
 import select
 import signal
 import socket
@@ -11,6 +13,7 @@ ACK, DONE = "800000", "060F00"
 APPROVED = "040F1027000400000000" + "12340B00001787" + "0005"
 LINE = "06D1070054" + "68616E6B73"
 REGISTERED, PAID = ACK + DONE, ACK + APPROVED + DONE
+REVERSED = "040F112700040000000012340B00001837000017"
 
 
 class Terminal:
@@ -53,13 +56,36 @@ class Line:
 
 def till_at(terminal, **callbacks):
     """A till that is registered at the terminal."""
-    zvt.socket.create_connection = terminal.create_connection
     till = zvt.Till(sys.argv[1], **callbacks)
+    goes_to(terminal, till)
+    return till
+
+
+def goes_to(terminal, till):
+    """The till registers at the terminal."""
+    zvt.socket.create_connection = terminal.create_connection
     till.connect("a terminal", 0, timeout=1)
     terminal.says(REGISTERED)
     assert till.register().ending == zvt.Ending.REGISTERED
     terminal.was_sent()
-    return till
+
+
+def till_that_paid(**callbacks):
+    """A terminal, and a till that paid 1234 at it."""
+    terminal = Terminal()
+    till = till_at(terminal, **callbacks)
+    terminal.says(PAID)
+    assert till.pay(1234).ending == zvt.Ending.PAID
+    return terminal, till
+
+
+def has_doubt(till, doubt, cause=None):
+    """Whether the one payment has this doubt, in what is saved too, and is not marked."""
+    with zvt.Till(sys.argv[1]) as again:
+        again.load(till.save())
+        return all(it.book() == [zvt.Entry(1234, 17, 5, False, cause, doubt)]
+                   and it.state().unclear_reversals == len(it.unclear_reversals()) == (doubt == zvt.Doubt.UNCLEAR_REVERSAL)
+                   for it in (till, again))
 
 
 def raises(call, error):
@@ -180,6 +206,61 @@ def a_line_that_takes_no_answer_hides_no_outcome():
     assert till.pay(1234).ending == zvt.Ending.PAID and len(till.book()) == 1
 
 
+def a_reversal_whose_line_breaks_is_unclear():
+    # before anything is heard, behind the acknowledgement, and behind the status
+    for heard in ("", ACK, ACK + REVERSED):
+        terminal, till = till_that_paid()
+        assert has_doubt(till, None)
+        terminal.says(heard)
+        terminal.end.shutdown(socket.SHUT_WR)
+        assert till.reverse(0) == zvt.Outcome(zvt.Ending.UNCLEAR, cause=zvt.Cause.LINE)
+        assert has_doubt(till, zvt.Doubt.UNCLEAR_REVERSAL, zvt.Cause.LINE)
+        assert str(till.book()[0]) == "1234, trace 000017, receipt 0005, unclear reversal: line"
+        assert till.unclear_reversals() == [(0, till.book()[0])] and till.unclear() == []
+
+
+def a_second_reversal_ends_the_doubt():
+    # B4 as a refusal and as an abort, a completion, and a decline, which tells nothing
+    for answer, ending, doubt in (("84B400", "ORDER_REFUSED", zvt.Doubt.TAKEN_BACK), (ACK + "061E01B4", "ABORTED", zvt.Doubt.TAKEN_BACK),
+                                  (ACK + REVERSED + DONE, "REVERSED", None), ("840500", "ORDER_REFUSED", zvt.Doubt.UNCLEAR_REVERSAL)):
+        _, till = till_that_paid()
+        terminal = Terminal()
+        till.disconnect()
+        goes_to(terminal, till)
+        terminal.end.shutdown(socket.SHUT_WR)
+        till.reverse(0)
+        terminal = Terminal()
+        goes_to(terminal, till)
+        terminal.says(answer)
+        assert till.reverse(0).ending == zvt.Ending[ending]
+        if ending == "REVERSED":
+            assert till.book() == [zvt.Entry(1234, 17, 5, True)] and till.state().unclear_reversals == 0
+        else:
+            assert has_doubt(till, doubt, zvt.Cause.LINE if doubt == zvt.Doubt.UNCLEAR_REVERSAL else None)
+
+
+def a_reversal_is_saved_as_unclear_before_it_is_sent():
+    saves = []
+    terminal, till = till_that_paid(keep=saves.append)
+    saves.clear()
+    terminal.says(ACK + REVERSED + DONE)
+    assert till.reverse(0).ending == zvt.Ending.REVERSED
+    for saved, wanted in zip(saves, (zvt.Entry(1234, 17, 5, False, zvt.Cause.LINE, zvt.Doubt.UNCLEAR_REVERSAL), zvt.Entry(1234, 17, 5, True))):
+        with zvt.Till(sys.argv[1]) as again:
+            again.load(saved)
+            assert again.book() == [wanted] and len(saves) == 2
+
+
+def structs_are_those_of_the_header():
+    with open(sys.argv[2]) as file:
+        wanted = {line.split()[0]: [int(word) for word in line.split()[1:]] for line in file}
+    found = {}
+    for struct in (zvt._Handle, zvt._Answer, zvt._Outcome, zvt._Step, zvt._State, zvt._Entry):
+        names = [name for name, _ in struct._fields_]
+        found[struct.__name__] = [ctypes.sizeof(struct)] + [getattr(struct, name).offset for name in names]
+    assert found == wanted, (found, wanted)
+
+
 def silence_ends_a_payment_that_may_be_cancelled():
     for question in (None, lambda: False):
         till = till_at(Terminal())
@@ -192,9 +273,9 @@ def silence_ends_a_payment_that_may_be_cancelled():
 # A till that waits for ever fails too.
 signal.alarm(60)
 for check in [it for name, it in list(globals().items()) if callable(it) and getattr(it, "__module__", "") == "__main__"
-              and name not in ("Terminal", "Line", "till_at", "raises", "thrower")]:
+              and name not in ("Terminal", "Line", "till_at", "goes_to", "till_that_paid", "has_doubt", "raises", "thrower")]:
     try:
         check()
     except AssertionError:
         sys.exit(f"till_check: {check.__name__.replace('_', ' ')}: this does not hold")
-print("zvt.py: all callbacks, orders and silences")
+print("zvt.py: all callbacks, orders, reversals and silences")

@@ -68,10 +68,21 @@ enum {
     ZVT_DAY_CLOSED
 };
 
-/* Causes of an unclear payment. */
+/* Causes of an unclear payment or reversal. */
 enum {
     ZVT_NO_STATUS = 1, ZVT_CONFLICT, ZVT_AMOUNT_DIFFERS, ZVT_NO_TRACE, ZVT_TRACE_USED, ZVT_ABORT_AFTER_APPROVAL,
     ZVT_LINE, ZVT_MALFORMED, ZVT_UNFINISHED, ZVT_WRONG_CURRENCY
+};
+
+/* What the reversals of a booked payment leave open, beside `reversed`. */
+enum {
+    ZVT_NO_DOUBT = 0,
+    /* The last reversal took the payment back or not: nobody knows; `cause` says why. Reverse it again when the line is
+     * back: a completion marks it, and B4 says that it was taken back. */
+    ZVT_UNCLEAR_REVERSAL = 1,
+    /* The terminal answered a reversal with B4: it took the payment back before. Nothing is left to do. `reversed` stays 0,
+     * and zvt_state's `total` still counts it. */
+    ZVT_TAKEN_BACK = 2
 };
 
 typedef struct zvt_outcome {
@@ -94,8 +105,9 @@ typedef struct zvt_step {
 } zvt_step;
 
 typedef struct zvt_state {
-    uint64_t total;   /* of the payments that were not taken back */
+    uint64_t total;   /* of the payments that no completed reversal took back */
     size_t booked, unclear;
+    size_t unclear_reversals; /* booked payments whose `doubt` is ZVT_UNCLEAR_REVERSAL */
     size_t held;      /* bytes of an unfinished message */
     uint32_t registered;
     uint32_t running; /* 0, or ZVT_REGISTER .. ZVT_CLOSE_DAY */
@@ -104,8 +116,10 @@ typedef struct zvt_state {
 
 typedef struct zvt_entry {
     uint64_t amount;
-    uint32_t trace, receipt, has_receipt, reversed;
-    uint32_t cause; /* of an unclear payment */
+    uint32_t trace, receipt, has_receipt;
+    uint32_t reversed; /* 1: a completed reversal took it back */
+    uint32_t cause;    /* of an unclear payment, or of an unclear reversal; else 0 */
+    uint32_t doubt;    /* ZVT_NO_DOUBT .. ZVT_TAKEN_BACK; of an unclear payment ZVT_NO_DOUBT */
 } zvt_entry;
 
 /* The room that `out` is to have. */
@@ -135,11 +149,11 @@ uint32_t zvt_till_entry(zvt_till *till, size_t place, zvt_entry *entry);
 uint32_t zvt_till_unclear(zvt_till *till, size_t place, zvt_entry *entry);
 
 /* Writes the bytes that the till is saved in, at any moment: those of the till after its line was lost, so a payment
- * that runs is unclear in them. Save before an order is sent and after each outcome. The answer's size is theirs; where
- * the room is less, nothing is written. Its status is ZVT_OK, ZVT_NO_MEMORY or ZVT_CLOSED. */
+ * or a reversal that runs is unclear in them. Save before an order is sent and after each outcome. The answer's size is
+ * theirs; where the room is less, nothing is written. Its status is ZVT_OK, ZVT_NO_MEMORY or ZVT_CLOSED. */
 void zvt_till_save(zvt_till *till, uint8_t *room, size_t room_length, zvt_answer *answer);
-/* The till that the bytes were saved of. A till that was there is freed. ZVT_REFUSED: the bytes are cut, altered, or no
- * till's; the handle is then as it was. */
+/* The till that the bytes were saved of. Bytes of the first layout, which had no `doubt`, are taken too. A till that was
+ * there is freed. ZVT_REFUSED: the bytes are cut, altered, or no till's; the handle is then as it was. */
 uint32_t zvt_till_load(zvt_till *till, const uint8_t *bytes, size_t length);
 
 /* Names of numbers, as the program writes them (ASCII, no final zero). Each call answers the name's size; where the room

@@ -9,6 +9,10 @@
 
 namespace zvt {
 
+/* The library lays its structs out so. */
+static_assert(sizeof(void *) != 8 || (sizeof(zvt_till) == 16 && sizeof(zvt_answer) == 24 && sizeof(zvt_step) == 64));
+static_assert(sizeof(void *) != 8 || (sizeof(zvt_state) == 72 && sizeof(zvt_entry) == 32));
+
 /* A call that was refused; the till is as it was. */
 class Refused : public std::runtime_error {
 public:
@@ -25,7 +29,7 @@ struct Reply {
     uint32_t status = ZVT_OK; /* ZVT_REFUSED: no message: give the line up, and call lost(). ZVT_NO_MEMORY: feed what was not taken again. */
 };
 
-/* A till. It is moved, never copied, and stays on the thread that made it. */
+/* A till. It is moved, never copied. One thread at a time uses it. */
 class Till {
 public:
     explicit Till(uint32_t password = 0, uint8_t config = 0xBE, uint16_t currency = 978) {
@@ -79,6 +83,7 @@ public:
         check(zvt_till_state(&handle, &state));
         return state;
     }
+    /* `doubt` says what the reversals of a payment leave open; state().unclear_reversals counts those that are unclear. */
     std::vector<zvt_entry> book() { return entries(state().booked, zvt_till_entry); }
     std::vector<zvt_entry> unclear() { return entries(state().unclear, zvt_till_unclear); }
     std::vector<uint8_t> save() {

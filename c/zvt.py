@@ -7,7 +7,7 @@
         till.register()
         print(till.pay(1000))          # paid, trace 000001, receipt 0001
 
-Amounts are in the smallest unit of the currency. A Till stays on the thread that made it.
+Amounts are in the smallest unit of the currency. One thread at a time uses a Till.
 """
 import ctypes as c
 import enum
@@ -29,8 +29,15 @@ class Ending(enum.IntEnum):
 
 
 class Cause(enum.IntEnum):
-    """Why a payment is unclear: ask the terminal's journal, and book nothing by guess."""
+    """Why a payment or a reversal is unclear: ask the terminal's journal, and book nothing by guess."""
     NO_STATUS, CONFLICT, AMOUNT_DIFFERS, NO_TRACE, TRACE_USED, ABORT_AFTER_APPROVAL, LINE, MALFORMED, UNFINISHED, WRONG_CURRENCY = range(1, 11)
+
+
+class Doubt(enum.IntEnum):
+    """What the reversals of a booked payment leave open, beside `reversed`. UNCLEAR_REVERSAL: the last one took the payment
+    back or not, nobody knows, and the cause says why. Reverse it again when the line is back: a completion marks it, and B4
+    says that it was taken back. TAKEN_BACK: B4 said so."""
+    UNCLEAR_REVERSAL, TAKEN_BACK = range(1, 3)
 
 
 class Status(enum.IntEnum):
@@ -53,7 +60,7 @@ class _BrokenLine(Exception):
 class Outcome(NamedTuple):
     ending: Ending
     code: Optional[int] = None       # the terminal's, where it declined, refused or aborted
-    cause: Optional[Cause] = None    # where the payment is unclear
+    cause: Optional[Cause] = None    # where the payment or the reversal is unclear
     trace: Optional[int] = None      # where it is paid
     receipt: Optional[int] = None    # where it is paid and the terminal gave one
 
@@ -71,14 +78,19 @@ class Entry(NamedTuple):
     amount: int
     trace: Optional[int] = None
     receipt: Optional[int] = None
-    reversed: bool = False
-    cause: Optional[Cause] = None
+    reversed: bool = False           # a completed reversal took it back
+    cause: Optional[Cause] = None    # why the payment is unclear, or its last reversal
+    doubt: Optional[Doubt] = None    # what the reversals of a booked payment leave open
 
     def __str__(self):
         text = f"{self.amount}" + numbers(self.trace, self.receipt)
-        if self.cause is not None:
-            text += f": {words(self.cause)}"
-        return text + (", taken back" if self.reversed else "")
+        if self.reversed:
+            text += ", taken back"
+        if self.doubt == Doubt.TAKEN_BACK:
+            text += ", taken back before, said the terminal"
+        if self.doubt == Doubt.UNCLEAR_REVERSAL:
+            text += ", unclear reversal"
+        return text if self.cause is None else text + f": {words(self.cause)}"
 
 
 def words(name):
@@ -110,12 +122,14 @@ class _Step(c.Structure):
 
 
 class _State(c.Structure):
-    _fields_ = [("total", c.c_uint64), ("booked", c.c_size_t), ("unclear", c.c_size_t), ("held", c.c_size_t),
+    _fields_ = [("total", c.c_uint64), ("booked", c.c_size_t), ("unclear", c.c_size_t),
+                ("unclear_reversals", c.c_size_t), ("held", c.c_size_t),
                 ("registered", c.c_uint32), ("running", c.c_uint32), ("last", _Outcome)]
 
 
 class _Entry(c.Structure):
-    _fields_ = [("amount", c.c_uint64)] + [(n, c.c_uint32) for n in ("trace", "receipt", "has_receipt", "reversed", "cause")]
+    _fields_ = ([("amount", c.c_uint64)]
+                + [(n, c.c_uint32) for n in ("trace", "receipt", "has_receipt", "reversed", "cause", "doubt")])
 
 
 class _Answer(c.Structure):
@@ -149,7 +163,7 @@ class Till:
 
     A callback that raises loses nothing. What the terminal sent is heard to its end and answered, the order goes on to
     its outcome, and then the exception goes on; `last()` has the outcome. An exception that is to end the program, as
-    KeyboardInterrupt, gives the line up first, so that no order runs on: a payment is then unclear."""
+    KeyboardInterrupt, gives the line up first, so that no order runs on: a payment or a reversal is then unclear."""
 
     def __init__(self, library, password=0, config=0xBE, currency=978, keep=None, print_line=None):
         self._library = c.CDLL(library)
@@ -236,7 +250,8 @@ class Till:
         return self._run(Order.PAY, amount, wants_cancel)
 
     def reverse(self, place):
-        """Takes back the payment at that place of the book, from 0."""
+        """Takes back the payment at that place of the book, from 0. Where the outcome is UNCLEAR, nobody knows whether it
+        did: `unclear_reversals` has the payment until a later reversal of it tells."""
         return self._run(Order.REVERSE, place)
 
     def close_day(self):
@@ -340,7 +355,8 @@ class Till:
             raise broken
 
     def state(self):
-        """The total, the counts of booked and unclear payments, whether the till is registered, the last outcome."""
+        """The total, the counts of booked and unclear payments and of unclear reversals, whether the till is registered, the
+        last outcome."""
         state = _State()
         self._call("state", c.byref(state))
         return state
@@ -358,12 +374,18 @@ class Till:
         """The payments that are neither booked nor known not to be."""
         return [self._entry("unclear", place) for place in range(self.state().unclear)]
 
+    def unclear_reversals(self):
+        """The booked payments whose last reversal is unclear, each behind its place in the book: reverse it again."""
+        return [(place, entry) for place, entry in enumerate(self.book()) if entry.doubt == Doubt.UNCLEAR_REVERSAL]
+
     def _entry(self, kind, place):
         entry = _Entry()
         self._call(kind, place, c.byref(entry))
         if kind == "unclear":
             return Entry(entry.amount, cause=Cause(entry.cause))
-        return Entry(entry.amount, entry.trace, entry.receipt if entry.has_receipt else None, bool(entry.reversed))
+        doubt = Doubt(entry.doubt) if entry.doubt else None
+        return Entry(entry.amount, entry.trace, entry.receipt if entry.has_receipt else None, bool(entry.reversed),
+                     Cause(entry.cause) if doubt == Doubt.UNCLEAR_REVERSAL else None, doubt)
 
     def save(self):
         """The bytes that the till is saved in: those of the till after its line was lost."""

@@ -2,6 +2,7 @@
 //! and link libzvt. It needs Rust alone.
 use std::fmt;
 use std::marker::PhantomData;
+use std::mem::size_of;
 use std::ptr::null_mut;
 
 const ROOM: usize = 32;
@@ -43,6 +44,7 @@ struct State {
     total: u64,
     booked: usize,
     unclear: usize,
+    unclear_reversals: usize,
     held: usize,
     registered: u32,
     running: u32,
@@ -58,6 +60,7 @@ struct EntryNumbers {
     has_receipt: u32,
     reversed: u32,
     cause: u32,
+    doubt: u32,
 }
 
 #[repr(C)]
@@ -68,6 +71,16 @@ struct Answer {
     reason: u32,
     status: u32,
 }
+
+// The library lays its structs out so.
+#[cfg(target_pointer_width = "64")]
+const _: () = assert!(
+    size_of::<Handle>() == 16
+        && size_of::<Step>() == 64
+        && size_of::<State>() == 72
+        && size_of::<EntryNumbers>() == 32
+        && size_of::<Answer>() == 24
+);
 
 unsafe extern "C" {
     fn zvt_text(bytes: *const u8, length: usize, room: *mut u8, room_length: usize, answer: *mut Answer) -> usize;
@@ -166,7 +179,7 @@ pub enum Order {
     Cancel,
 }
 
-/// Why a payment is unclear: ask the terminal's journal, and book nothing by guess.
+/// Why a payment or a reversal is unclear: ask the terminal's journal, and book nothing by guess.
 #[derive(Clone, Copy, Debug, PartialEq, Eq)]
 pub enum Cause {
     NoStatus,
@@ -234,12 +247,38 @@ impl OutcomeNumbers {
     }
 }
 
+/// What the reversals of a booked payment leave open, beside `reversed`.
+#[derive(Clone, Copy, Debug, PartialEq, Eq)]
+pub enum Doubt {
+    No,
+    /// The last reversal took the payment back or not: nobody knows. Reverse it again when the line is back: a completion
+    /// marks it, and B4 says that it was taken back.
+    Unclear(Cause),
+    /// The terminal answered a reversal with B4: it took the payment back before. `reversed` stays false.
+    TakenBack,
+    /// A number that zvt.h does not name.
+    Other(u32),
+}
+
+impl Doubt {
+    fn of(entry: &EntryNumbers) -> Doubt {
+        match entry.doubt {
+            0 => Doubt::No,
+            1 => Doubt::Unclear(Cause::of(entry.cause)),
+            2 => Doubt::TakenBack,
+            number => Doubt::Other(number),
+        }
+    }
+}
+
 #[derive(Clone, Copy, Debug, PartialEq, Eq)]
 pub struct Entry {
     pub amount: u64,
     pub trace: u32,
     pub receipt: Option<u16>,
+    /// Whether a completed reversal took it back.
     pub reversed: bool,
+    pub doubt: Doubt,
 }
 
 #[derive(Clone, Copy, Debug, PartialEq, Eq)]
@@ -372,7 +411,12 @@ impl Till {
         Ok(state)
     }
 
-    /// What the payments that were not taken back come to.
+    /// How many booked payments have a reversal that is unclear: their `doubt` is [`Doubt::Unclear`].
+    pub fn unclear_reversals(&mut self) -> Result<usize, Refused> {
+        Ok(self.state()?.unclear_reversals)
+    }
+
+    /// What the payments that no completed reversal took back come to.
     pub fn total(&mut self) -> Result<u64, Refused> {
         Ok(self.state()?.total)
     }
@@ -384,7 +428,8 @@ impl Till {
                 let mut entry = EntryNumbers::default();
                 checked(unsafe { zvt_till_entry(&mut self.handle, place, &mut entry) })?;
                 let receipt = receipt((entry.receipt, entry.has_receipt));
-                Ok(Entry { amount: entry.amount, trace: entry.trace, receipt, reversed: entry.reversed == 1 })
+                let doubt = Doubt::of(&entry);
+                Ok(Entry { amount: entry.amount, trace: entry.trace, receipt, reversed: entry.reversed == 1, doubt })
             })
             .collect()
     }

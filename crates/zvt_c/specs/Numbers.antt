@@ -1,11 +1,14 @@
 -- Outcomes and rows in numbers.
 use Rattle.std.specs.Prelude.{◌≡◌, ℕ, ◌+◌, ◌*◌, cond, List, length, Option, Some, None, option_map, slice_index_or}
+use Rattle.zvt_till.specs.declared.entries.Doubt.{Doubt}
+use Rattle.zvt_till.specs.declared.entries.Doubt.TheVariants.{No, Unclear as UnclearReversal, TakenBack}
 use Rattle.zvt_till.specs.declared.entries.Entry.{Entry}
 use Rattle.zvt_till.specs.declared.outcomes.Cause.{Cause}
 use Rattle.zvt_till.specs.declared.outcomes.Outcome.{Outcome}
 use Rattle.zvt_till.specs.declared.outcomes.Outcome.TheVariants.{Registered, Paid, Declined, Refused, Aborted, Unclear, Reversed, DayClosed}
 use Rattle.zvt_till.specs.declared.orders.Order.{Order}
 use Rattle.zvt_till.specs.declared.orders.Order.TheVariants.{Register, Pay, Reverse, CloseDay, Cancel}
+use Rattle.zvt_till.specs.Doubts.{unclear_reversals}
 use Rattle.zvt_till.specs.Marks.{total}
 use Rattle.zvt_save.specs.Saved.{cause_code}
 use Rattle.zvt_c.specs.declared.end.End.{End}
@@ -53,6 +56,12 @@ nothing = silent 0 0 0 (outcome_of None)
 abbrev pub only_sends : ℕ → ZvtStep
 only_sends send = record { taken = 0; send = send; place = 0; line = 0; reason = 0; message = 0; printed = 0; outcome = outcome_of None }
 
+-- What the reversals of a payment leave open, and the cause where the last is unclear.
+abbrev pub doubt_of : Doubt → ℕ × ℕ
+doubt_of No = (0, 0)
+doubt_of (UnclearReversal cause) = (1, cause_code cause)
+doubt_of TakenBack = (2, 0)
+
 -- A row of the book.
 abbrev pub row_of : Entry → ZvtEntry
 row_of entry =
@@ -62,12 +71,13 @@ row_of entry =
       receipt = (receipt_of entry.receipt).0;
       has_receipt = (receipt_of entry.receipt).1;
       reversed = cond entry.reversed 1 0;
-      cause = 0;
+      cause = (doubt_of entry.doubt).1;
+      doubt = (doubt_of entry.doubt).0;
     }
 
 -- A row of the unclear payments.
 abbrev pub unclear_row_of : ℕ × Cause → ZvtEntry
-unclear_row_of row = record { amount = row.0; trace = 0; receipt = 0; has_receipt = 0; reversed = 0; cause = cause_code row.1 }
+unclear_row_of row = record { amount = row.0; trace = 0; receipt = 0; has_receipt = 0; reversed = 0; cause = cause_code row.1; doubt = 0 }
 
 -- The kind of the running order: 0 where none runs.
 abbrev pub kind_of_running : Option Order → ℕ
@@ -83,6 +93,7 @@ pub record IsStateOf (end : End) (state : ZvtState) : Type 0 where
   pub sum : state.total ≡ total end.till.state.book
   pub booked : state.booked ≡ length end.till.state.book
   pub unclear : state.unclear ≡ length end.till.state.unclear
+  pub unclear_reversals : state.unclear_reversals ≡ length (unclear_reversals end.till.state.book)
   pub held : state.held ≡ length end.stream.held
   pub running : state.running ≡ kind_of_running (option_map (λ running. running.order) end.till.state.running)
   pub registered : state.registered ≡ cond end.till.state.registered 1 0

@@ -1,11 +1,11 @@
 //! Orders, outcomes and rows of the book in numbers.
 ghost use Rattle.std.specs.Prelude.{◌≡◌, None};
-ghost use Rattle.zvt_c.specs.Numbers.{coded, ended, kind_of_running, nothing, outcome_of, paid, receipt_of, row_of, unclear_row_of};
+ghost use Rattle.zvt_c.specs.Numbers.{coded, doubt_of, ended, kind_of_running, nothing, outcome_of, paid, receipt_of, row_of, unclear_row_of};
 ghost use Rattle.zvt_c.specs.Ordering.{order_named, payment_of, status_of};
 
 use zvt_bcd::{Amount, Trace};
 use zvt_save::cause_code;
-use zvt_till::{Cause, Entry, Order, OrderRefusal, Outcome};
+use zvt_till::{Cause, Doubt, Entry, Order, OrderRefusal, Outcome};
 
 /// How an order ended. What a kind does not have is 0.
 #[repr(C)]
@@ -52,6 +52,8 @@ pub struct ZvtState {
     pub total: u64,
     pub booked: usize,
     pub unclear: usize,
+    /// The entries of the book whose last reversal is unclear.
+    pub unclear_reversals: usize,
     /// The bytes of an unfinished message that are held.
     pub held: usize,
     pub registered: u32,
@@ -69,10 +71,13 @@ pub struct ZvtEntry {
     pub trace: u32,
     pub receipt: u32,
     pub has_receipt: u32,
-    /// 1 where it was taken back.
+    /// 1 where a completed reversal took it back.
     pub reversed: u32,
-    /// The cause of an unclear payment, 0 in the book.
+    /// The cause of an unclear payment, or of an unclear reversal; else 0.
     pub cause: u32,
+    /// What its other reversals leave open: 0 nothing, 1 the last one is unclear, 2 the terminal said with B4 that it took
+    /// the payment back before. 0 of an unclear payment.
+    pub doubt: u32,
 }
 
 /// No outcome.
@@ -184,18 +189,31 @@ pub fn outcome_numbers(outcome: Option<Outcome>) -> ZvtOutcome
     }
 }
 
+/// What the reversals of a payment leave open, and the cause where the last is unclear.
+fn doubt_numbers(doubt: Doubt) -> (u32, u32)
+    ensures { result ≡ doubt_of doubt }
+{
+    match doubt {
+        Doubt::No => (0, 0),
+        Doubt::Unclear(cause) => (1, u32::from(cause_code(cause))),
+        Doubt::TakenBack => (2, 0),
+    }
+}
+
 /// A row of the book in numbers.
 pub fn entry_numbers(entry: &Entry) -> ZvtEntry
     ensures { result ≡ row_of entry.now }
 {
     let (receipt, has_receipt) = receipt_numbers(entry.receipt);
+    let (doubt, cause) = doubt_numbers(entry.doubt);
     ZvtEntry {
         amount: entry.amount.get(),
         trace: entry.trace.get(),
         receipt,
         has_receipt,
         reversed: u32::from(entry.reversed),
-        cause: 0,
+        cause,
+        doubt,
     }
 }
 
@@ -211,6 +229,7 @@ pub fn unclear_numbers(row: &(Amount, Cause)) -> ZvtEntry
         has_receipt: 0,
         reversed: 0,
         cause: u32::from(cause_code(*cause)),
+        doubt: 0,
     }
 }
 

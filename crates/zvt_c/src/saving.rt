@@ -1,6 +1,6 @@
 //! A till that outlives its process.
 ghost use Rattle.std.specs.Prelude.{◌≡◌, ◌≤◌, ◌⊎◌, IfSome, IfNone, None, length, MatchOption};
-ghost use Rattle.zvt_c.specs.Saving.{Loads, Restores, Saves, Written};
+ghost use Rattle.zvt_c.specs.Saving.{Loads, Restores, RestoresFirst, Saves, Written};
 ghost use Rattle.zvt_save.specs.Saved.{saved, IsKept};
 ghost use Rattle.zvt_till.specs.Till.{step};
 
@@ -61,6 +61,7 @@ pub extern "C" fn zvt_till_save(
 pub extern "C" fn zvt_till_load(alloc: Global, till: &mut ZvtTill, bytes: &[u8]) -> u32
     ensures made { result ≡ 0 → Loads bytes.now till.new.shell.held }
     ensures restores { Restores bytes.now till.new.shell.held result }
+    ensures first { RestoresFirst bytes.now till.new.shell.held result }
     ensures status { (result ≡ 0) ⊎ ((result ≡ 2) ⊎ (result ≡ 3)) }
     ensures unchanged { (result ≡ 0 → ⊥) → till.new.shell.held ≡ till.old.shell.held }
 {

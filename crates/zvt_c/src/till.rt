@@ -178,6 +178,7 @@ pub extern "C" fn zvt_till_state(alloc: Global, till: &mut ZvtTill, state: &mut 
         total: end.till.total(),
         booked: end.till.book().len(),
         unclear: end.till.unclear().len(),
+        unclear_reversals: end.till.unclear_reversals(),
         held: end.stream.held(),
         registered: u32::from(end.till.registered()),
         running: running_number(end.till.running()),
