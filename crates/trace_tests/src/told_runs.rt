@@ -1,6 +1,6 @@
 //! What a run tells of reversals that are unclear, and devices that take no text.
 use std::alloc::Global;
-use std::io::{self, Write};
+use std::io::{self, Read, Write};
 use std::test::Fail;
 use zvt_io::Over;
 use zvt_run::{End, EndFault, Ends, TillSettings, plan, run_loop, run_till_end};
@@ -30,25 +30,56 @@ fn a_text_that_cannot_be_written(rt: HostRuntime) -> Result<(), Fail> {
     Ok(())
 }
 
-/// A registration and a payment of 12.34 under trace number 17, and that the terminal takes a reversal up.
-const TAKEN_UP: [u8; 34] = [
-    0x80, 0x00, 0x00, 0x06, 0x0F, 0x00, 0x80, 0x00, 0x00, 0x04, 0x0F, 0x10, 0x27, 0x00, 0x04, 0x00,
-    0x00, 0x00, 0x00, 0x12, 0x34, 0x0B, 0x00, 0x00, 0x17, 0x87, 0x00, 0x05, 0x06, 0x0F, 0x00, 0x80,
-    0x00, 0x00,
+/// A reader that brings one chunk with each read.
+#[derive(Drop)]
+struct Chunks<'a> {
+    chunks: &'a [&'a [u8]],
+    next: usize,
+}
+
+impl Read for Chunks<'_> {
+    fn read(&mut self, buffer: &mut [u8]) -> io::Result<usize> {
+        let Some(chunk) = self.chunks.get(self.next) else {
+            return Ok(0);
+        };
+        self.next += 1;
+        let mut bytes = *chunk;
+        bytes.read(buffer)
+    }
+}
+
+/// The terminal takes an order up.
+const TAKEN_UP: [u8; 3] = [0x80, 0x00, 0x00];
+
+/// It takes a registration up, and completes it.
+const REGISTERED: [u8; 6] = [0x80, 0x00, 0x00, 0x06, 0x0F, 0x00];
+
+/// It takes a payment of 12.34 up, approves it under trace number 17, and completes it.
+const PAID: [u8; 25] = [
+    0x80, 0x00, 0x00, 0x04, 0x0F, 0x10, 0x27, 0x00, 0x04, 0x00, 0x00, 0x00, 0x00, 0x12, 0x34, 0x0B,
+    0x00, 0x00, 0x17, 0x87, 0x00, 0x05, 0x06, 0x0F, 0x00,
 ];
+
+/// It takes an order up, and aborts it: nothing was taken back.
+const ABORTED: [u8; 7] = [0x80, 0x00, 0x00, 0x06, 0x1E, 0x01, 0x6C];
 
 /// The steps of these tests.
 const STEPS: [&str; 3] = ["register", "pay:1234", "reverse:1"];
 
-/// How a till ends that registers, pays and reverses where these bytes come, and what it writes. It tells this device.
+/// How a till ends that registers, pays and reverses, where these bytes come for the reversal, and what it writes. It
+/// tells this device.
 fn reverses<E: Write>(
     alloc: Global,
     coming: &[u8],
     tell: &mut Over<E>,
 ) -> Result<(Result<(), EndFault>, Vec<u8>), EndFault> {
     let plan = plan(alloc, Ends::Till, &STEPS)?;
+    let chunks = [REGISTERED.as_slice(), PAID.as_slice(), coming];
     let mut line = End {
-        reader: Over::new(coming),
+        reader: Over::new(Chunks {
+            chunks: &chunks,
+            next: 0,
+        }),
         writer: Over::new(Vec::new(alloc)),
         stream: Stream::new(alloc),
     };
@@ -87,11 +118,8 @@ fn a_device_that_takes_no_text_changes_nothing_else(rt: HostRuntime) -> Result<(
 
 #[test]
 fn a_reversal_with_an_end_is_not_told(rt: HostRuntime) -> Result<(), Fail> {
-    let mut coming = Vec::from_slice(rt.alloc(), &TAKEN_UP)?;
-    // the terminal aborts it: nothing was taken back
-    coming.extend_from_slice(&[0x06, 0x1E, 0x01, 0x6C])?;
     let mut tell = Over::new(Vec::new(rt.alloc()));
-    let (ended, _) = reverses(rt.alloc(), coming.as_slice(), &mut tell)?;
+    let (ended, _) = reverses(rt.alloc(), &ABORTED, &mut tell)?;
     ended?;
     assert!(rt; tell.inner.is_empty());
     Ok(())
