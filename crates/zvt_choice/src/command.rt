@@ -8,7 +8,7 @@ use crate::{help, options};
 use clap::{Arg, Command};
 use std::alloc::{AllocError, Global};
 
-const VERSION: &str = "0.1.0";
+const VERSION: &str = "0.2.0";
 
 /// The program's command line.
 pub fn zvt<'a>(alloc: Global) -> Result<Command<'a>, AllocError>

@@ -2,63 +2,63 @@
 
 /// What the program is for.
 pub const PROGRAM: &str =
-    "Reads traces of the line between a till and its card terminal, and runs either end of it over TCP.
+    "Read traces of the line between a till and its card terminal, or run either end of it over TCP.
 The line speaks ZVT (PA00P015).";
 
-pub const SHOW: &str = "Writes each message of a trace with its fields; the same as no command";
+pub const SHOW: &str = "Write each message of a trace with its fields; the default command";
 
-pub const JOIN: &str = "Writes each message of a trace as one line of a trace";
+pub const JOIN: &str = "Write each message of a trace as one line of a trace";
 
 pub const NORMALISE: &str =
-    "Writes each message of a trace as one line of a trace, each length in its shortest form";
+    "Write each message of a trace as one line of a trace, each length in its shortest form";
 
 pub const AUDIT: &str =
-    "Writes which payments of a trace are booked, which are unclear, and the total";
+    "Write which payments of a trace are booked, which are unclear, and the total";
 
-pub const RECEIPTS: &str = "Writes the text of each print line of the terminal";
+pub const RECEIPTS: &str = "Write the text of each print line of the terminal";
 
-pub const LOOP: &str = "Runs steps between a till and a terminal that are both in this process";
+pub const LOOP: &str = "Run steps between a till and a simulated terminal, both in this process";
 
-pub const TILL: &str = "Connects to a terminal and runs steps as its till";
+pub const TILL: &str = "Connect to a terminal and run steps as its till";
 
 pub const TERMINAL: &str =
-    "Listens as a simulated terminal and serves tills, one unless told otherwise";
+    "Simulate a terminal: listen, and serve one till, or N one after another";
 
 pub const VECTORS: &str =
-    "Checks the reader of messages against test vectors, and writes those that it answers otherwise";
+    "Check the reader of messages against test vectors, and write those that differ";
 
 pub const FILE: &str =
-    "The file that the trace is read from; without it, or with '-', standard input";
+    "The trace to read; standard input without it, or with '-'";
 
 /// The names of the commands, as a usage line shows them.
 pub const NAMES: &str = "show|join|normalise|audit|receipts|vectors|loop|till|terminal";
 
 /// What follows the commands.
 pub const MORE: &str =
-    "show, join, normalise, audit and receipts read a trace from a file, or from standard input where none or '-' is named.
+    "show, join, normalise, audit and receipts read a trace from FILE, or from standard input without FILE or with '-'.
 
-Steps, which run in the order in which they are given:
-  register      Registers the till at the terminal
-  pay:N         Pays the amount N
-  decline:N:XX  Pays the amount N, which the terminal declines with the code XX (for loop alone)
-  reverse:N     Takes back the payment of entry N of the till's book, counted from 1
-  close         Closes the day
+Steps run in the order given:
+  register      Register the till at the terminal
+  pay:N         Pay the amount N
+  decline:N:XX  Pay the amount N, which the terminal declines with the code XX (loop only)
+  reverse:N     Take back the payment of entry N of the till's book, counted from 1
+  close         Close the day
 N has one to twelve digits and is not 0; an amount is in the smallest unit of the currency.
 XX is two hexadecimal digits, not 00.
 
 Lines of a trace:
   > HEX   Bytes from the till, in hexadecimal
   < HEX   Bytes from the terminal
-  !       The line was lost, and both sides start anew
-  # TEXT  A remark; an empty line says nothing either
+  !       Connection lost; both directions restart
+  # TEXT  Comment. Empty lines are ignored.
 
 Exit status:
   0  Done, or help was asked for
   1  A stream of the trace was refused or cut off
   2  The command line or a step is wrong
-  3  The trace can't be read as one, or is too long
+  3  The input is no trace, or is too long
   4  A read, a write, the line or the connection failed
-  5  There was too little memory
+  5  Out of memory
 
 Example:
   echo '> 06 01 0A 04 00 00 00 00 12 34 49 09 78' | zvt show";
@@ -70,7 +70,7 @@ pub const JOIN_EXAMPLE: &str = "Example:
   zvt join payment.trace";
 
 pub const NORMALISE_EXAMPLE: &str =
-    "Lengths are read in any form that holds them, as with --loose: what is written can be read without it.
+    "Accepts non-minimal length encodings, as with --loose. What it writes has minimal lengths only.
 
 Example:
   zvt normalise padded.trace";
@@ -82,18 +82,18 @@ pub const RECEIPTS_EXAMPLE: &str = "Example:
   zvt receipts payment.trace";
 
 pub const VECTORS_EXAMPLE: &str = "Lines of vectors:
-  HEX = ANSWER  Bytes, and what a reader answers to them: whole N, more, or refused at P: REASON
-  # TEXT        A remark; an empty line says nothing either
+  HEX = ANSWER  Bytes, and the answer of a reader: whole N, more, or refused at P: REASON
+  # TEXT        Comment. Empty lines are ignored.
 
 Example:
   zvt vectors examples/vectors.txt";
 
-pub const LOOP_EXAMPLE: &str = "Without a step: register pay:1000 decline:500:6C reverse:1 close
+pub const LOOP_EXAMPLE: &str = "Default steps: register pay:1000 decline:500:6C reverse:1 close
 
 Example:
   zvt loop register pay:1234 close";
 
-pub const TILL_EXAMPLE: &str = "Without a step: register close
+pub const TILL_EXAMPLE: &str = "Default steps: register close
 
 Example:
   zvt till --port 20007 register pay:1234 close";
@@ -107,33 +107,33 @@ pub const TILL_STEP: &str = "register, pay:N, reverse:N or close (see zvt --help
 
 pub const TILL_PORT: &str = "The TCP port of the terminal";
 
-pub const TERMINAL_PORT: &str = "The TCP port to listen on; 0 takes a free one and says which";
+pub const TERMINAL_PORT: &str = "The TCP port to listen on; 0 takes a free one and prints it";
 
 pub const TILL_HOST: &str = "The name or address of the terminal's host";
 
 pub const TERMINAL_HOST: &str = "The address to listen on";
 
-pub const PASSWORD: &str = "The password, six digits; without it 000000";
+pub const PASSWORD: &str = "The password, six decimal digits (default 000000)";
 
-pub const CONFIG: &str = "The configuration byte, two hexadecimal digits; without it BE";
+pub const CONFIG: &str = "The configuration byte, two hexadecimal digits (default BE)";
 
-pub const CURRENCY: &str = "The currency's number, four digits; without it 0978";
+pub const CURRENCY: &str = "The currency's number, four decimal digits (default 0978)";
 
 pub const TRACE: &str =
-    "Writes a trace of the line to this file while it runs, as the till sees it; what the file had is lost";
+    "Write a trace of the line to this file, as the till sees it; the file is overwritten";
 
 pub const LOOSE: &str =
-    "Also reads lengths in longer forms than they need, as some terminals write them";
+    "Accept non-minimal length encodings, as some terminals send them";
 
 pub const TILL_LOOSE: &str =
-    "Also reads lengths in longer forms than they need: for a terminal that is known to write them alone, since a till that pays reads strictly";
+    "Accept non-minimal length encodings. Use only with terminals known to send them.";
 
 pub const TERMINAL_LOOSE: &str =
-    "Also reads lengths in longer forms than they need, as some tills write them";
+    "Accept non-minimal length encodings, as some tills send them";
 
 pub const TID: &str = "The terminal's number, at most 99999999";
 
 pub const CONNECTIONS: &str =
-    "Serves so many tills one after another before it ends, at most 65535; the ledger goes on from till to till";
+    "Serve N tills one after another, then end: 1 to 65535. The ledger is kept between tills.";
 
-pub const DECLINE: &str = "Declines every payment with this code: two hexadecimal digits, not 00";
+pub const DECLINE: &str = "Decline every payment with this code: two hexadecimal digits, not 00";
