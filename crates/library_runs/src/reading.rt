@@ -133,7 +133,7 @@ fn ends(fed: &Option<Fed>, bytes: &[u8], wanted: usize) -> bool {
     }
 }
 
-/// The same, where the stream lends its messages.
+/// Cuts an approval at each byte, and compares the messages that the stream lends.
 pub fn feeds_views(alloc: Global) -> bool {
     for cut in 0..APPROVAL.len() {
         let mut stream = Stream::new(alloc);

@@ -22,7 +22,7 @@ pub fn work_on(rt: &HostRuntime, chosen: &Choice<'_>, file: Option<&str>) -> io:
     }
 }
 
-/// With the trace on standard input. Whoever sits there is told that one is awaited.
+/// Runs the command on the trace of standard input. A terminal device is told that a trace is expected.
 fn work_on_input(rt: &HostRuntime, chosen: &Choice<'_>) -> io::Result<u8>
     requires { IsOnTrace chosen.now }
 {
@@ -35,7 +35,7 @@ fn work_on_input(rt: &HostRuntime, chosen: &Choice<'_>) -> io::Result<u8>
     work_with(rt, chosen, None, &mut Over::new(input))
 }
 
-/// With the trace in this file.
+/// Runs the command on the trace in this file.
 fn work_on_file(rt: &HostRuntime, chosen: &Choice<'_>, path: &str) -> io::Result<u8>
     requires { IsOnTrace chosen.now }
 {
@@ -49,8 +49,9 @@ fn work_on_file(rt: &HostRuntime, chosen: &Choice<'_>, path: &str) -> io::Result
     work_with(rt, chosen, Some(path), &mut Over::new(file))
 }
 
-/// With the trace that the reader brings, of this file perhaps. What is bad in it is said on standard error, before the
-/// fault that ends the command. Where memory is wanted for that alone, the command ends as one that wanted memory.
+/// Runs the command on the trace that the reader brings, and names the file in its messages, if there is one. Standard
+/// error reports what is bad in the trace, then the fault that ends the command. If there is no memory for such a report,
+/// the command ends as one that is out of memory.
 fn work_with<R: Source>(
     rt: &HostRuntime,
     chosen: &Choice<'_>,

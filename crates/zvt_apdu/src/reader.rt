@@ -24,7 +24,7 @@ pub fn scan(alloc: Global, bytes: &[u8]) -> Result<Scan<(Apdu, usize)>, AllocErr
     scan_message(alloc, bytes, Lengths::Shortest)
 }
 
-/// The same, where each length may stand in any form that holds it.
+/// Reads the message that stands first, where each length may stand in any form that holds it.
 pub fn scan_loose(alloc: Global, bytes: &[u8]) -> Result<Scan<(Apdu, usize)>, AllocError>
     ensures { MatchResult result (Answers padded bytes.now) (λ _. TakesMemory padded bytes.now) }
 {

@@ -48,7 +48,7 @@ pub fn audit<R: Source, W: Sink>(
     Ok(audited.tally)
 }
 
-/// As [`audit`], of a trace that was read.
+/// Audits a trace in memory, and writes what [`audit`] writes of it.
 pub fn audit_trace<W: Sink>(
     alloc: Global,
     trace: &[u8],
@@ -61,7 +61,7 @@ pub fn audit_trace<W: Sink>(
     audit_by(alloc, Lengths::Shortest, trace, writer)
 }
 
-/// As [`audit_trace`], of streams that take lengths in any form that holds them.
+/// Audits a trace in memory, whose lengths may stand in any form that holds them, as [`audit_trace`] does.
 pub fn audit_loose<W: Sink>(
     alloc: Global,
     trace: &[u8],

@@ -68,7 +68,7 @@ fn first_bad_pair(bytes: &[u8]) -> Option<usize>
         .position(|byte| !(byte / 16 <= 9 && byte % 16 <= 9))
 }
 
-/// The same where digits are demanded.
+/// The first byte that is no pair of digits, where digits are demanded.
 fn first_bad(bytes: &[u8], digits: bool) -> Option<usize>
     ensures { result ≡ (if digits then position (λ byte. not (is_digit_pair byte)) bytes.now else None) }
 {
@@ -194,7 +194,7 @@ pub fn scan(alloc: Global, bytes: &[u8], room: usize) -> Result<Scan<Fields>, Al
     scan_fields(alloc, bytes, room, Lengths::Shortest)
 }
 
-/// The same, where each length of objects may stand in any form that holds it.
+/// Reads the fields of a room, where each length of objects may stand in any form that holds it.
 pub fn scan_loose(alloc: Global, bytes: &[u8], room: usize) -> Result<Scan<Fields>, AllocError>
     requires small { room < 2 ^ 16 }
     requires filled { room ≢ 1 }
@@ -203,7 +203,7 @@ pub fn scan_loose(alloc: Global, bytes: &[u8], room: usize) -> Result<Scan<Field
     scan_fields(alloc, bytes, room, Lengths::Padded)
 }
 
-/// The same, of the lengths that the caller asks for.
+/// Reads the fields of a room, by the lengths that the caller asks for.
 #[inline(always)]
 pub fn scan_fields(
     alloc: Global,

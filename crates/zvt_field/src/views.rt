@@ -78,7 +78,7 @@ impl<'a> FieldsView<'a> {
         FieldsView { bytes }
     }
 
-    /// The same fields again.
+    /// Another view of the same fields.
     pub fn again(&self) -> FieldsView<'a>
         ensures { result ≡ self.now }
     {

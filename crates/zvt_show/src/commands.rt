@@ -55,7 +55,7 @@ pub fn receipts<R: Source, W: Sink>(
     write_trace(alloc, Style::Receipts, Lengths::Shortest, reader, writer)
 }
 
-/// As [`show`], of streams that take lengths in any form that holds them.
+/// Writes what [`show`] writes, of a trace whose lengths may stand in any form that holds them.
 pub fn show_loose<R: Source, W: Sink>(
     alloc: Global,
     reader: &mut R,
@@ -68,7 +68,7 @@ pub fn show_loose<R: Source, W: Sink>(
     write_trace(alloc, Style::Show, Lengths::Padded, reader, writer)
 }
 
-/// As [`receipts`], of streams that take lengths in any form that holds them.
+/// Writes what [`receipts`] writes, of a trace whose lengths may stand in any form that holds them.
 pub fn receipts_loose<R: Source, W: Sink>(
     alloc: Global,
     reader: &mut R,
@@ -81,8 +81,8 @@ pub fn receipts_loose<R: Source, W: Sink>(
     write_trace(alloc, Style::Receipts, Lengths::Padded, reader, writer)
 }
 
-/// As [`join`], of streams that take lengths in any form that holds them: each whole message in its one strict
-/// spelling, so that a strict reader reads what is written.
+/// Writes what [`join`] writes, of a trace whose lengths may stand in any form that holds them. Each whole message is
+/// written in its one strict spelling, so that a strict reader reads it.
 pub fn normalise_trace<R: Source, W: Sink>(
     alloc: Global,
     reader: &mut R,
@@ -95,7 +95,7 @@ pub fn normalise_trace<R: Source, W: Sink>(
     write_trace(alloc, Style::Join, Lengths::Padded, reader, writer)
 }
 
-/// As [`show`], of a trace that was read, whose streams take such lengths.
+/// Writes what [`show`] writes, of a trace in memory with such lengths.
 pub fn show_trace<W: Sink>(
     alloc: Global,
     lengths: Lengths,
@@ -109,8 +109,8 @@ pub fn show_trace<W: Sink>(
     write_lines(alloc, Style::Show, lengths, trace, writer)
 }
 
-/// As [`join`], of a trace that was read, whose streams take such lengths. Of padded lengths each whole message is
-/// written in its one strict spelling.
+/// Writes what [`join`] writes, of a trace in memory with such lengths. Of padded lengths each whole message is written
+/// in its one strict spelling.
 pub fn join_trace<W: Sink>(
     alloc: Global,
     lengths: Lengths,
@@ -124,7 +124,7 @@ pub fn join_trace<W: Sink>(
     write_lines(alloc, Style::Join, lengths, trace, writer)
 }
 
-/// As [`receipts`], of a trace that was read, whose streams take such lengths.
+/// Writes what [`receipts`] writes, of a trace in memory with such lengths.
 pub fn receipts_trace<W: Sink>(
     alloc: Global,
     lengths: Lengths,

@@ -24,7 +24,7 @@ pub(crate) struct Pages {
 }
 
 impl Pages {
-    /// No text yet.
+    /// Pages in this style, without text.
     pub(crate) fn new(alloc: Global, style: Style) -> Pages
         ensures style { result.style ≡ style }
         ensures empty { result.block ≡ [] }

@@ -41,7 +41,7 @@ pub enum FedView {
     Message { taken: usize },
     /// The whole piece was taken, and no message ended in it.
     More,
-    /// As `Fed::Refused`.
+    /// The bytes begin no message, as in `Fed::Refused`.
     Refused { place: usize, why: Why },
 }
 
@@ -225,8 +225,8 @@ impl Stream {
         }
     }
 
-    /// As `feed`, with the message lent by the stream until its next feed: none is built. Memory is asked for only where
-    /// the longest message that the piece may end has no room.
+    /// Takes bytes as `feed` does, and lends the message until the next feed instead of building it. It asks for memory
+    /// only where the longest message that the piece may end has no room.
     #[inline(always)]
     pub fn feed_view(&mut self, piece: &[u8]) -> Result<FedView, FeedError>
         ensures fed { IfOk result (λ fed. Lends self.old piece.now fed self.new) }

@@ -151,7 +151,7 @@ impl Judge {
         self.lengths
     }
 
-    /// The same judge again.
+    /// Another judge at the same position.
     pub fn again(&self) -> Judge
         ensures { result ≡ self.now }
     {

@@ -37,7 +37,7 @@ const SYSTEM_ERROR: u8 = 0xFF;
 pub enum Input<'a> {
     /// A message of the till.
     Message(&'a Apdu),
-    /// The same, by a view of its bytes.
+    /// A message of the till, by a view of its bytes.
     View(&'a ApduView<'a>),
     /// The line was lost.
     Lost,

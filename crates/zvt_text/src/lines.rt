@@ -55,7 +55,7 @@ fn named(room: &mut [u8], at: usize, bmp: u8) -> Result<usize, Full>
     }
 }
 
-/// Those of the table below 40 in one word each.
+/// Writes the name of a BMP of the table below 40, in one word.
 #[inline(always)]
 #[tactic(auto, unfolding(hex::specs::Hex::encode_with))]
 fn named_low(room: &mut [u8], at: usize, bmp: u8) -> Result<usize, Full>
@@ -92,7 +92,7 @@ fn named_low(room: &mut [u8], at: usize, bmp: u8) -> Result<usize, Full>
     }
 }
 
-/// Those of the table from 40 on in one word each.
+/// Writes the name of a BMP of the table from 40 on, in one word.
 #[inline(always)]
 #[tactic(auto, unfolding(hex::specs::Hex::encode_with))]
 fn named_high(room: &mut [u8], at: usize, bmp: u8) -> Result<usize, Full>

@@ -32,7 +32,7 @@ impl Model for Text {
 }
 
 impl Text {
-    /// No text.
+    /// An empty text.
     pub fn new(alloc: Global) -> Text
         ensures { result ≡ [] }
     {
@@ -42,7 +42,7 @@ impl Text {
         }
     }
 
-    /// No text, and room for so many bytes, which ask for no memory.
+    /// An empty text with room for so many bytes, which ask for no memory.
     pub fn with_room(alloc: Global, size: usize) -> Result<Text, AllocError>
         ensures { IfOk result (λ text. text ≡ []) }
     {

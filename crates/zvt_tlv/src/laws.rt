@@ -15,7 +15,7 @@ pub fn tests_decide()
     ensures one { PositionsAreOne }
 {}
 
-/// The same for a length and its objects.
+/// Of a length and its objects, too, the next byte's tests decide, and each beginning stands at one position.
 pub fn sized_tests_decide()
     ensures decide { SizedTestsDecide }
     ensures some { EachSizedBeginningStands }

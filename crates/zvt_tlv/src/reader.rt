@@ -33,7 +33,7 @@ pub fn scan(
     scan_forest(alloc, bytes, room, depth, Lengths::Shortest)
 }
 
-/// The same, where each length may stand in any form that holds it.
+/// Reads the objects of a room, where each length may stand in any form that holds it.
 pub fn scan_loose(
     alloc: Global,
     bytes: &[u8],
@@ -65,7 +65,7 @@ pub fn scan_sized(
     scan_sized_forest(alloc, bytes, room, Lengths::Shortest)
 }
 
-/// The same, where each length may stand in any form that holds it. In a room of two stands `81 00`.
+/// Reads a length and its objects, where each length may stand in any form that holds it. A room of two may hold `81 00`.
 pub fn scan_sized_loose(
     alloc: Global,
     bytes: &[u8],
@@ -98,7 +98,7 @@ fn scan_forest(
     })
 }
 
-/// The same, of the lengths that the caller asks for: some such bytes fit the room.
+/// Reads a length and its objects, by the lengths that the caller asks for. Some such bytes fit the room.
 pub fn scan_sized_forest(
     alloc: Global,
     bytes: &[u8],

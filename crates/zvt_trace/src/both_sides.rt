@@ -26,7 +26,7 @@ pub(crate) struct BothSides {
 }
 
 impl BothSides {
-    /// Those of a new line.
+    /// Both sides of a new line.
     pub(crate) fn new(alloc: Global, lengths: Lengths) -> BothSides
         ensures follows { FollowBoth (reading_of lengths) result new_line }
         ensures reading { TakeBy (reading_of lengths) result }

@@ -53,7 +53,7 @@ fn stopped(messages: u64, bad: u64) -> Hearing
     }
 }
 
-/// The same behind so many messages.
+/// Adds this many messages to a later hearing.
 fn behind_messages(messages: u64, later: Hearing) -> Hearing
     requires { messages + later.tally.messages < 18446744073709551616 }
     ensures { (result.tally.messages ≡ messages + later.tally.messages) × (result.tally.bad ≡ later.tally.bad) × (result.stopped ≡ later.stopped) }
@@ -213,7 +213,7 @@ fn tell_whole_piece<D, L: Listener<D>>(
     }
 }
 
-/// The same of a long piece: its text is read as it is told, so that it takes no memory.
+/// Tells a long piece. Its text is decoded as it is told, so it takes no memory.
 fn tell_long_piece<D, L: Listener<D>>(
     listener: &mut L,
     device: &mut D,

@@ -32,7 +32,7 @@ pub fn walk<D, L: Listener<D>>(
     walk_by(listener, device, alloc, scope, Lengths::Shortest, trace)
 }
 
-/// As [`walk`], of streams that take such lengths.
+/// Walks over a trace as [`walk`] does, by streams that take such lengths.
 pub fn walk_by<D, L: Listener<D>>(
     listener: &mut L,
     device: &mut D,
