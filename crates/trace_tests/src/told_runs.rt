@@ -95,7 +95,8 @@ reverse:1 -> unclear Line
 total 1234
 "#;
 
-const TOLD: &str = "zvt: reverse:1 is unclear (Line): the terminal took the payment back or not: look it up there before you give the money back\n";
+const TOLD: &str =
+    "zvt: reverse:1 is unclear (Line): the terminal took the payment back or not: look it up there before you give the money back\n";
 
 #[test]
 fn a_reversal_whose_line_breaks_is_told(rt: HostRuntime) -> Result<(), Fail> {

@@ -27,8 +27,7 @@ pub const TERMINAL: &str =
 pub const VECTORS: &str =
     "Check the reader of messages against test vectors, and write those that differ";
 
-pub const FILE: &str =
-    "The trace to read; standard input without it, or with '-'";
+pub const FILE: &str = "The trace to read; standard input without it, or with '-'";
 
 /// The names of the commands, as a usage line shows them.
 pub const NAMES: &str = "show|join|normalise|audit|receipts|vectors|loop|till|terminal";
@@ -122,14 +121,12 @@ pub const CURRENCY: &str = "The currency's number, four decimal digits (default 
 pub const TRACE: &str =
     "Write a trace of the line to this file, as the till sees it; the file is overwritten";
 
-pub const LOOSE: &str =
-    "Accept non-minimal length encodings, as some terminals send them";
+pub const LOOSE: &str = "Accept non-minimal length encodings, as some terminals send them";
 
 pub const TILL_LOOSE: &str =
     "Accept non-minimal length encodings. Use only with terminals known to send them.";
 
-pub const TERMINAL_LOOSE: &str =
-    "Accept non-minimal length encodings, as some tills send them";
+pub const TERMINAL_LOOSE: &str = "Accept non-minimal length encodings, as some tills send them";
 
 pub const TID: &str = "The terminal's number, at most 99999999";
 

@@ -58,12 +58,11 @@ adds_entry book i number entry old now new below is named so_far adds =
 more_follow : (book : List Entry) (k : ℕ) → (rest : List ℕ) × (reversals_text (unclear_reversals book) ≡ reversals_text (unclear_reversals (take k book)) ++ rest)
 more_follow book k =
     let first = take k book in
-    let others = unclear_reversals_from (0 + length first) (drop k book) in
-    (
+    let others = unclear_reversals_from (0 + length first) (drop k book) in (
       reversals_text others,
       ap (λ b. reversals_text (unclear_reversals b)) (sym (take-append-drop k book))
-      ∙ ap reversals_text (unclear-append 0 first (drop k book))
-      ∙ flat_map-append (λ row. reversal_text (row.0 + 1) row.1) (unclear_reversals first) others,
+          ∙ ap reversals_text (unclear-append 0 first (drop k book))
+          ∙ flat_map-append (λ row. reversal_text (row.0 + 1) row.1) (unclear_reversals first) others,
     )
 
 pub stops_at_entry : (book : List Entry) (i number : ℕ) (entry : Entry) (old now new : Option (List ℕ)) → i < length book → entry ≡ get_or book i entry → number ≡ i + 1

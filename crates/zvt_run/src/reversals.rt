@@ -40,5 +40,7 @@ fn tell_reversal<E: Sink>(number: usize, cause: Cause, tell: &mut E) -> Result<(
     tell.write_all(Buffer::new().format(number).as_bytes())?;
     tell.write_all(b" is unclear (")?;
     tell.write_all(cause.name().as_bytes())?;
-    tell.write_all(b"): the terminal took the payment back or not: look it up there before you give the money back\n")
+    tell.write_all(
+        b"): the terminal took the payment back or not: look it up there before you give the money back\n",
+    )
 }
