@@ -1,0 +1,58 @@
+# Completion of zvt for bash.
+
+_zvt() {
+    local word=${COMP_WORDS[COMP_CWORD]} before=${COMP_WORDS[COMP_CWORD - 1]} command= position options= steps= words= i
+    COMPREPLY=()
+    # The command is the first word that is no option.
+    for ((i = 1; i < COMP_CWORD; i++)); do
+        case ${COMP_WORDS[i]} in
+        -*) ;;
+        *) command=${COMP_WORDS[i]} position=$i; break ;;
+        esac
+    done
+    case $command in
+    show | audit | receipts) options='--loose' ;;
+    join | normalise | vectors) ;;
+    loop) options='--trace' steps='register pay: decline: reverse: close' ;;
+    till) options='--port --host --password --config --currency --trace --loose' steps='register pay: reverse: close' ;;
+    terminal) options='--port --host --tid --connections --decline --trace --loose' ;;
+    '') options='--version -V' words='show join normalise audit receipts vectors loop till terminal help' ;;
+    help)
+        [ "$COMP_CWORD" -ne $((position + 1)) ] || COMPREPLY=($(compgen -W 'show join normalise audit receipts vectors loop till terminal' -- "$word"))
+        return
+        ;;
+    *) return ;;
+    esac
+    case $before in
+    --trace)
+        compopt -o filenames 2> /dev/null
+        COMPREPLY=($(compgen -f -- "$word"))
+        return
+        ;;
+    --host)
+        COMPREPLY=($(compgen -A hostname -- "$word"))
+        return
+        ;;
+    --port | --password | --config | --currency | --tid | --connections | --decline) return ;;
+    esac
+    case $word in
+    -*) COMPREPLY=($(compgen -W "$options --help -h" -- "$word")); return ;;
+    esac
+    case $command in
+    show | join | normalise | audit | receipts | vectors)
+        compopt -o filenames 2> /dev/null
+        COMPREPLY=($(compgen -f -- "$word"))
+        return
+        ;;
+    esac
+    # bash splits words at a colon: behind one stands a number, which nothing completes.
+    case $before$word in
+    *:*) return ;;
+    esac
+    COMPREPLY=($(compgen -W "$words $steps" -- "$word"))
+    case ${COMPREPLY[*]} in
+    *:) compopt -o nospace 2> /dev/null ;;
+    esac
+}
+
+complete -F _zvt zvt

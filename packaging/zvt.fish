@@ -1,0 +1,42 @@
+# Completion of zvt for fish.
+
+complete -c zvt -f
+
+complete -c zvt -n __fish_use_subcommand -a show -d 'Write each message of a trace with its fields'
+complete -c zvt -n __fish_use_subcommand -a join -d 'Write each message of a trace as one line of a trace'
+complete -c zvt -n __fish_use_subcommand -a normalise -d 'Write each message of a trace, each length in its shortest form'
+complete -c zvt -n __fish_use_subcommand -a audit -d 'Write which payments of a trace are booked and which are unclear'
+complete -c zvt -n __fish_use_subcommand -a receipts -d 'Write the text of each print line of the terminal'
+complete -c zvt -n __fish_use_subcommand -a vectors -d 'Check the reader of messages against test vectors'
+complete -c zvt -n __fish_use_subcommand -a loop -d 'Run steps between a till and a terminal in this process'
+complete -c zvt -n __fish_use_subcommand -a till -d 'Connect to a terminal and run steps as its till'
+complete -c zvt -n __fish_use_subcommand -a terminal -d 'Listen as a simulated terminal'
+complete -c zvt -n __fish_use_subcommand -a help -d 'Print the help of a command'
+
+complete -c zvt -s h -l help -d 'Print help'
+complete -c zvt -n __fish_use_subcommand -s V -l version -d 'Print the version'
+
+complete -c zvt -n '__fish_seen_subcommand_from show audit receipts' -l loose -d 'Also read lengths in longer forms than they need'
+complete -c zvt -n '__fish_seen_subcommand_from show join normalise audit receipts vectors' -F
+
+complete -c zvt -n '__fish_seen_subcommand_from loop' -l trace -rF -d 'Write a trace of the line to this file'
+complete -c zvt -n '__fish_seen_subcommand_from loop' -a 'register pay: decline: reverse: close'
+
+complete -c zvt -n '__fish_seen_subcommand_from till' -l port -x -d 'The TCP port of the terminal'
+complete -c zvt -n '__fish_seen_subcommand_from till' -l host -x -a '(__fish_print_hostnames)' -d 'The name or address of the host'
+complete -c zvt -n '__fish_seen_subcommand_from till' -l password -x -d 'The password, six digits'
+complete -c zvt -n '__fish_seen_subcommand_from till' -l config -x -d 'The configuration byte, two hexadecimal digits'
+complete -c zvt -n '__fish_seen_subcommand_from till' -l currency -x -d 'The number of the currency, four digits'
+complete -c zvt -n '__fish_seen_subcommand_from till' -l trace -rF -d 'Write a trace of the line to this file'
+complete -c zvt -n '__fish_seen_subcommand_from till' -l loose -d 'Also read lengths in longer forms than they need'
+complete -c zvt -n '__fish_seen_subcommand_from till' -a 'register pay: reverse: close'
+
+complete -c zvt -n '__fish_seen_subcommand_from terminal' -l port -x -d 'The TCP port to listen on'
+complete -c zvt -n '__fish_seen_subcommand_from terminal' -l host -x -d 'The address to listen on'
+complete -c zvt -n '__fish_seen_subcommand_from terminal' -l tid -x -d 'The number of the terminal'
+complete -c zvt -n '__fish_seen_subcommand_from terminal' -l connections -x -d 'Serve so many tills one after another'
+complete -c zvt -n '__fish_seen_subcommand_from terminal' -l decline -x -d 'Decline every payment with this code'
+complete -c zvt -n '__fish_seen_subcommand_from terminal' -l trace -rF -d 'Write a trace of the line to this file'
+complete -c zvt -n '__fish_seen_subcommand_from terminal' -l loose -d 'Also read lengths in longer forms than they need'
+
+complete -c zvt -n '__fish_seen_subcommand_from help' -a 'show join normalise audit receipts vectors loop till terminal'

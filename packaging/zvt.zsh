@@ -1,0 +1,74 @@
+#compdef zvt
+# Completion of zvt for zsh.
+
+_zvt() {
+    local curcontext=$curcontext state line
+    typeset -A opt_args
+    _arguments -C \
+        '(- *)'{-h,--help}'[print help]' \
+        '(- *)'{-V,--version}'[print the version]' \
+        '1:command:_zvt_commands' \
+        '*::argument:->arguments'
+    [[ $state = arguments ]] || return
+    local -a help
+    help=('(- *)'{-h,--help}'[print help]')
+    case $words[1] in
+    show|audit|receipts)
+        _arguments $help \
+            '--loose[also read lengths in longer forms than they need]' \
+            '1:trace:_files'
+        ;;
+    join|normalise|vectors)
+        _arguments $help \
+            '1:trace:_files'
+        ;;
+    loop)
+        _arguments $help \
+            '--trace[write a trace of the line to this file]:file:_files' \
+            '*:step:(register pay\:1000 decline\:500\:6C reverse\:1 close)'
+        ;;
+    till)
+        _arguments $help \
+            '--port[the TCP port of the terminal]:port:' \
+            "--host[the name or address of the terminal's host]:host:_hosts" \
+            '--password[the password, six digits]:password:' \
+            '--config[the configuration byte, two hexadecimal digits]:byte:' \
+            "--currency[the currency's number, four digits]:number:" \
+            '--trace[write a trace of the line to this file]:file:_files' \
+            '--loose[also read lengths in longer forms than they need]' \
+            '*:step:(register pay\:1000 reverse\:1 close)'
+        ;;
+    terminal)
+        _arguments $help \
+            '--port[the TCP port to listen on]:port:' \
+            '--host[the address to listen on]:host:_hosts' \
+            "--tid[the terminal's number]:number:" \
+            '--connections[serve so many tills one after another]:number:' \
+            '--decline[decline every payment with this code]:code:' \
+            '--trace[write a trace of the line to this file]:file:_files' \
+            '--loose[also read lengths in longer forms than they need]'
+        ;;
+    help)
+        _arguments '1:command:_zvt_commands'
+        ;;
+    esac
+}
+
+_zvt_commands() {
+    local -a commands
+    commands=(
+        'show:write each message of a trace with its fields'
+        'join:write each message of a trace as one line of a trace'
+        'normalise:write each message of a trace, each length in its shortest form'
+        'audit:write which payments of a trace are booked and which are unclear'
+        'receipts:write the text of each print line of the terminal'
+        'vectors:check the reader of messages against test vectors'
+        'loop:run steps between a till and a terminal in this process'
+        'till:connect to a terminal and run steps as its till'
+        'terminal:listen as a simulated terminal'
+        'help:print the help of a command'
+    )
+    _describe command commands
+}
+
+_zvt "$@"
