@@ -1,5 +1,5 @@
 //! Runs of the libraries without the program `zvt`. In most of them each call that wants memory is made again: where one
-//! request for memory of the whole program is refused, which `examples/refused-memory` sees to, the first call has to leave
+//! request for memory of the whole program is refused, which `tests/fault_injection.py` sees to, the first call has to leave
 //! all as it was, and the second has to answer what the call answers with all its memory. It makes the run that its word
 //! names, or all, and says of each whether it went so. Its status is 0 then, 1 where one went otherwise, 2 where none is
 //! called so, and 5 where memory was wanted for the words or for what a run is made of.

@@ -1,4 +1,4 @@
-//! The terminal's ledger. What it answers, message by message, is compared by `examples/dialogues`.
+//! The terminal's ledger. What it answers, message by message, is compared by `tests/dialogue.py`.
 use std::alloc::Global;
 use std::process::Abort;
 use std::test::Fail;

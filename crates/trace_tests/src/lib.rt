@@ -1,5 +1,5 @@
 //! The tests of what the program is made of: of devices that fail, and of runs. What it reads and writes is compared by
-//! `examples/commands`, and its command line by `examples/words`.
+//! `tests/cli_output.py`, and its command line by `tests/cli_help.py`.
 #![tactic(auto)]
 
 #[cfg(test)]

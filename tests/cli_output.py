@@ -1,7 +1,7 @@
 #!/usr/bin/env python3
 """Gives the program traces, vectors and words, and compares what it writes and the status that it ends with.
 
-    examples/commands [PROGRAM]
+    tests/cli_output.py [PROGRAM]
 
 PROGRAM is the one that `rt ci` built, unless another is named. The cases stand in commands.txt, worked by hand: behind `==`
 the name of a case, behind `$` a command and its words, then what it reads, behind `--` what it writes, behind `++` what it
@@ -97,7 +97,7 @@ def check(name, found, wanted):
 
 def cases():
     """The cases of commands.txt."""
-    with open(os.path.join(HERE, "commands.txt"), encoding="ascii") as file:
+    with open(os.path.join(HERE, "data", "commands.txt"), encoding="ascii") as file:
         text = file.read()
     for case in re.split(r"^== ", text, flags=re.M)[1:]:
         name, words, rest = case.split("\n", 2)
@@ -145,7 +145,7 @@ def table_is_read():
 
 def main():
     if not os.access(PROGRAM, os.X_OK):
-        print(f"commands: no program at {PROGRAM}: build it by 'rt run' in crates/zvt, or by 'rt ci'", file=sys.stderr)
+        print(f"cli_output: no program at {PROGRAM}: build it by 'rt run' in crates/zvt, or by 'rt ci'", file=sys.stderr)
         return 2
     for name, words, given, output, errors, status in cases():
         found = run(words, given.encode())
@@ -159,8 +159,8 @@ def main():
         given = b"# a remark\n80 00 = whole 2\n" + line + b"\n80 = whole 1\n"
         found = run(["vectors"], given)
         check(f"the vector {line}", (*found[:2], b"line 3 " in found[2]), (3, b"line 2: got more\n", True))
-    with open(os.path.join(HERE, "messages.txt"), "rb") as file:
-        check("every message", run(["show", os.path.join(HERE, "messages.trace")], b"")[1], file.read())
+    with open(os.path.join(HERE, "..", "examples", "messages.txt"), "rb") as file:
+        check("every message", run(["show", os.path.join(HERE, "..", "examples", "messages.trace")], b"")[1], file.read())
     table_is_read()
     print("ok: the cases of commands.txt, traces and vectors that can't be read, and the table of fields" if not failed else f"{len(failed)} not as expected")
     return 1 if failed else 0

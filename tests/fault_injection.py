@@ -107,11 +107,11 @@ ssize_t send(int file, const void *bytes, size_t size, int flags) {
 def main():
     compiler = shutil.which("gcc")
     if compiler is None:
-        print("refused-memory: gcc is missing, which builds the library that refuses: nothing was tried", file=sys.stderr)
+        print("fault_injection: gcc is missing, which builds the library that refuses: nothing was tried", file=sys.stderr)
         return 0
     for program in (ZVT, CALLS):
         if not os.access(program, os.X_OK):
-            print(f"refused-memory: no program at {program}: build it by 'rt run' in its crate, or by 'rt ci'", file=sys.stderr)
+            print(f"fault_injection: no program at {program}: build it by 'rt run' in its crate, or by 'rt ci'", file=sys.stderr)
             return 2
     with tempfile.TemporaryDirectory() as folder:
         work = pathlib.Path(folder)
@@ -142,7 +142,7 @@ class Trial:
 
     def make_traces(self):
         """A trace that is small, and one whose text goes beyond a block."""
-        small = (HERE / "payment.trace").read_bytes() + b"!\n" + (HERE / "messages.trace").read_bytes()
+        small = (HERE.parent / "examples/payment.trace").read_bytes() + b"!\n" + (HERE.parent / "examples/messages.trace").read_bytes()
         payments = []
         for number in range(1, 1001):
             payments.append(
@@ -159,7 +159,7 @@ class Trial:
         for trace, given in self.traces.items():
             for command in ("show", "join", "audit", "receipts"):
                 listed[f"{command} of the {trace} trace"] = ([command], given)
-        vectors = b"".join((HERE / "vectors.txt").read_bytes().splitlines(True)[:100])
+        vectors = b"".join((HERE.parent / "examples/vectors.txt").read_bytes().splitlines(True)[:100])
         listed["vectors"] = (["vectors"], vectors + b"80 00 00 = more\n")
         listed["show of a file"] = (["show", str(self.work / "small.trace")], b"")
         listed["help"] = (["--help"], b"")

@@ -5,7 +5,7 @@
 # Give the program's path, or none for the one that `rt ci` built.
 here=$(CDPATH= cd -- "$(dirname -- "$0")/.." && pwd) || exit 4
 zvt=${1:-$here/crates/zvt/out/zvt}
-[ -x "$zvt" ] || { echo "bad-input: no program at $zvt: build it by 'rt run' in crates/zvt, or by 'rt ci'" >&2; exit 2; }
+[ -x "$zvt" ] || { echo "cli_errors: no program at $zvt: build it by 'rt run' in crates/zvt, or by 'rt ci'" >&2; exit 2; }
 work=$(mktemp -d) || exit 4
 trap 'rm -rf "$work"' EXIT
 : > "$work/failed"

@@ -1,7 +1,7 @@
 #!/usr/bin/env python3
 """Makes captures, lets examples/from-capture make traces of them, and compares these with what was said on the line.
 
-    examples/captures
+    tests/captures.py
 
 The captures are written here, byte by byte: no network is listened to. One begins in the middle of an open line, so that
 its first packet is the terminal's. Where tshark is missing nothing is compared, and that is said.
@@ -89,7 +89,7 @@ def convert(folder, connections, port=PORT):
     path, traces = f"{folder}/line.pcap", f"{folder}/traces"
     shutil.rmtree(traces, ignore_errors=True)
     capture(path, connections)
-    done = subprocess.run([f"{HERE}/from-capture", path, str(port), traces], capture_output=True, text=True)
+    done = subprocess.run([f"{HERE}/../examples/from-capture", path, str(port), traces], capture_output=True, text=True)
     return done, traces
 
 
@@ -120,7 +120,7 @@ def main():
         done, _ = convert(folder, [Connection(0).opens().pays()], PORT + 1)
         if done.returncode != 1 or "no connection to port" not in done.stderr:
             sys.exit(f"captures: another port ended with {done.returncode}: {done.stderr}")
-        done = subprocess.run([f"{HERE}/from-capture", "line.pcap", "a", folder], capture_output=True, text=True)
+        done = subprocess.run([f"{HERE}/../examples/from-capture", "line.pcap", "a", folder], capture_output=True, text=True)
         if done.returncode != 2:
             sys.exit(f"captures: a wrong port ended with {done.returncode}")
     print(f"ok: traces of captures, 200 connections in {took:.1f} s")

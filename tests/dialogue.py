@@ -2,7 +2,7 @@
 """Plays dialogues of a till with `zvt terminal` over TCP on this machine, and compares what the terminal answers, byte for
 byte, with what it must answer.
 
-    examples/dialogues [PROGRAM]
+    tests/dialogue.py [PROGRAM]
 
 PROGRAM is the one that `rt ci` built, unless another is named. The dialogues stand in dialogues.txt, whose first lines say
 how to read them. One more fills the ledger. The status is 1 where anything is not as expected. It takes some seconds.
@@ -103,7 +103,7 @@ def full_ledger():
 
 
 def main():
-    with open(os.path.join(HERE, "dialogues.txt"), encoding="ascii") as file:
+    with open(os.path.join(HERE, "data", "dialogues.txt"), encoding="ascii") as file:
         texts = re.split(r"^== ", file.read(), flags=re.M)[1:]
     named = [(text.splitlines()[0], dialogue(text.partition("\n")[2])) for text in texts]
     named.append(("a full ledger takes no row", full_ledger()))

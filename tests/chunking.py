@@ -1,7 +1,7 @@
 #!/usr/bin/env python3
 """Gives the program lines cut into pieces, and compares what it reads of them with what it reads of the same lines uncut.
 
-    examples/cuttings [PROGRAM]
+    tests/chunking.py [PROGRAM]
 
 PROGRAM is the one that `rt ci` built, unless another is named. The lines are those of vectors.txt, and each of them with
 each of its bytes replaced by others: whole messages, several, cut off and refused ones. Each is a connection of its own.
@@ -39,7 +39,7 @@ def run(words, given):
 
 def lines():
     """The bytes of each vector, and what is answered to them."""
-    with open(os.path.join(HERE, "vectors.txt"), encoding="ascii") as file:
+    with open(os.path.join(HERE, "..", "examples", "vectors.txt"), encoding="ascii") as file:
         for line in file:
             if line.strip() and not line.startswith("#"):
                 spelled, answer = line.split("=")
@@ -126,7 +126,7 @@ def unlike_in_pieces(rows, given):
 
 def main():
     if not os.access(PROGRAM, os.X_OK):
-        print(f"cuttings: no program at {PROGRAM}: build it by 'rt run' in crates/zvt, or by 'rt ci'", file=sys.stderr)
+        print(f"chunking: no program at {PROGRAM}: build it by 'rt run' in crates/zvt, or by 'rt ci'", file=sys.stderr)
         return 2
     given = [(row, answer) for row, answer in lines() if row]
     rows = [row for row, _ in given] + sorted({other for row, _ in given if len(row) < 40 for other in changed(row)})

@@ -1,7 +1,7 @@
 #!/usr/bin/env python3
 """Gives the program command lines, and compares what it says of them and the status that it ends with.
 
-    examples/words [PROGRAM]
+    tests/cli_help.py [PROGRAM]
 
 PROGRAM is the one that `rt ci` built, unless another is named. The status is 1 where anything is not as expected. It takes
 some seconds.
@@ -82,7 +82,7 @@ def has_words(words, wanted):
 
 def main():
     if not os.access(PROGRAM, os.X_OK):
-        print(f"words: no program at {PROGRAM}: build it by 'rt run' in crates/zvt, or by 'rt ci'", file=sys.stderr)
+        print(f"cli_help: no program at {PROGRAM}: build it by 'rt run' in crates/zvt, or by 'rt ci'", file=sys.stderr)
         return 2
     for line, said in REFUSED:
         is_refused(line.split(), said)
