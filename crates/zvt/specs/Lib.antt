@@ -1,5 +1,5 @@
 pub mod Statuses
+pub mod Commands
 pub mod OnTrace
-pub mod OneEnd
 pub mod Settings
 pub mod Notes

@@ -1,28 +1,15 @@
 //! The runs of either end of a line, as the command line asks for them.
-ghost use Rattle.std.specs.Prelude.{◌≡◌, ◌≤◌};
-ghost use Rattle.zvt_spelling.specs.Reading.{reading};
-ghost use Rattle.zvt_tlv.specs.Lengths.{reading_of};
-ghost use Rattle.zvt.specs.OneEnd.{IsTill};
+ghost use Rattle.std.specs.Prelude.{◌≤◌};
 
+use crate::command::{TerminalOptions, TillOptions};
 use crate::finish::finish_run;
 use crate::output::Output;
-use crate::settings::{SettingWords, settings, verdict};
+use crate::settings::{settings, verdict};
 use crate::statuses::{DEVICE, WORDS};
 use std::fs::File;
 use std::io;
 use zvt_io::Over;
-use zvt_tool::{Choice, Ends, Lengths, plan, run_loop, run_terminal, run_till};
-
-/// The lengths that are read where a command is loose, or is not.
-pub fn lengths(loose: bool) -> Lengths
-    ensures { reading_of result ≡ reading loose }
-{
-    if loose {
-        Lengths::Padded
-    } else {
-        Lengths::Shortest
-    }
-}
+use zvt_tool::{Ends, plan, run_loop, run_terminal, run_till};
 
 /// Runs both ends in this process, and answers the exit status.
 pub fn both_ends(rt: &HostRuntime, trace: Option<&str>, steps: &[&str]) -> io::Result<u8> {
@@ -37,51 +24,16 @@ pub fn both_ends(rt: &HostRuntime, trace: Option<&str>, steps: &[&str]) -> io::R
     finish_run(rt, steps, writer.inner.has_gone, answer)
 }
 
-/// Runs the till that was chosen, and answers the exit status.
-pub fn till(rt: &HostRuntime, chosen: &Choice<'_>) -> io::Result<u8>
-    requires { IsTill chosen.now }
-{
-    match chosen {
-        Choice::Till {
-            port,
-            host,
-            password,
-            config,
-            currency,
-            trace,
-            loose,
-            steps,
-        } => {
-            let words = SettingWords {
-                password: *password,
-                config: *config,
-                currency: *currency,
-            };
-            let lengths = lengths(*loose);
-            till_with(rt, host, *port, &words, lengths, *trace, steps.as_slice())
-        }
-        _ => unreachable!(),
-    }
-}
-
-/// Runs a till with these settings, and answers the exit status.
-fn till_with(
-    rt: &HostRuntime,
-    host: &str,
-    port: u16,
-    words: &SettingWords<'_>,
-    lengths: Lengths,
-    trace: Option<&str>,
-    steps: &[&str],
-) -> io::Result<u8> {
-    let Some(settings) = settings(rt, words)? else {
+/// Runs a till, and answers the exit status.
+pub fn till(rt: &HostRuntime, options: &TillOptions<'_>) -> io::Result<u8> {
+    let Some(settings) = settings(rt, &options.words)? else {
         return Ok(WORDS);
     };
-    if port == 0 {
+    if options.port == 0 {
         eprintln!(rt; "zvt: no terminal listens at port 0: give the port that it says")?;
         return Ok(WORDS);
     }
-    let file = match trace_file(rt, Ends::Till, trace, steps)? {
+    let file = match trace_file(rt, Ends::Till, options.trace, options.steps)? {
         Ok(file) => file,
         Err(status) => return Ok(status),
     };
@@ -91,39 +43,30 @@ fn till_with(
     let answer = run_till(
         rt,
         rt.alloc(),
-        host,
-        port,
+        options.host,
+        options.port,
         &settings,
-        lengths,
-        steps,
+        options.lengths,
+        options.steps,
         file,
         &mut writer,
         &mut tell,
     );
-    finish_run(rt, steps, writer.inner.has_gone, answer)
+    finish_run(rt, options.steps, writer.inner.has_gone, answer)
 }
 
 /// Serves so many tills as a terminal, and answers the exit status.
-pub fn terminal(
-    rt: &HostRuntime,
-    host: &str,
-    port: u16,
-    tid: u32,
-    lengths: Lengths,
-    connections: u16,
-    decline: Option<&str>,
-    trace: Option<&str>,
-) -> io::Result<u8>
-    requires { tid ≤ 99999999 }
+pub fn terminal(rt: &HostRuntime, options: &TerminalOptions<'_>) -> io::Result<u8>
+    requires { options.now.tid ≤ 99999999 }
 {
-    if connections == 0 {
+    if options.connections == 0 {
         eprintln!(rt; "zvt: '0' is no number of connections: one from 1 to 65535")?;
         return Ok(WORDS);
     }
-    let Some(verdict) = verdict(rt, decline)? else {
+    let Some(verdict) = verdict(rt, options.decline)? else {
         return Ok(WORDS);
     };
-    let file = match opened(rt, trace)? {
+    let file = match opened(rt, options.trace)? {
         Ok(file) => file,
         Err(status) => return Ok(status),
     };
@@ -132,12 +75,12 @@ pub fn terminal(
     let answer = run_terminal(
         rt,
         rt.alloc(),
-        host,
-        port,
-        tid,
+        options.host,
+        options.port,
+        options.tid,
         verdict,
-        lengths,
-        connections,
+        options.lengths,
+        options.connections,
         file,
         &mut tell,
     );

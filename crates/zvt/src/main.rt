@@ -5,6 +5,7 @@ ghost use Rattle.std.specs.Prelude.{Option, List};
 ghost use Rattle.clap.specs.Words.{Row, Text};
 ghost use Rattle.zvt_choice.specs.Chosen.{IsChoiceOf};
 
+mod command;
 mod ends;
 mod finish;
 mod inputs;
@@ -14,7 +15,7 @@ mod output;
 mod settings;
 mod statuses;
 
-use crate::ends::lengths;
+use crate::command::{Command, command_of};
 use crate::statuses::{DEVICE, DONE, MEMORY, WORDS};
 use std::io::ErrorKind;
 use std::process::ExitCode;
@@ -73,32 +74,10 @@ fn without_memory(rt: &HostRuntime) -> io::Result<u8> {
 fn execute(rt: &HostRuntime, chosen: &Choice<'_>) -> io::Result<u8>
     requires { (reading : Option (Text × List Row)) × IsChoiceOf reading chosen.now }
 {
-    match chosen {
-        Choice::Show { file, .. }
-        | Choice::Join { file }
-        | Choice::Normalise { file }
-        | Choice::Audit { file, .. }
-        | Choice::Receipts { file, .. }
-        | Choice::Vectors { file } => inputs::work_on(rt, chosen, *file),
-        Choice::Loop { trace, steps } => ends::both_ends(rt, *trace, steps.as_slice()),
-        Choice::Till { .. } => ends::till(rt, chosen),
-        Choice::Terminal {
-            port,
-            host,
-            tid,
-            connections,
-            decline,
-            trace,
-            loose,
-        } => ends::terminal(
-            rt,
-            host,
-            *port,
-            *tid,
-            lengths(*loose),
-            *connections,
-            *decline,
-            *trace,
-        ),
+    match command_of(chosen) {
+        Command::OnTrace(work, file) => inputs::work_on(rt, &work, file),
+        Command::Loop(trace, steps) => ends::both_ends(rt, trace, steps),
+        Command::Till(options) => ends::till(rt, &options),
+        Command::Terminal(options) => ends::terminal(rt, &options),
     }
 }

@@ -1,28 +1,25 @@
 //! What is said of a trace on standard error.
 ghost use Rattle.std.specs.Prelude.{◌≡◌, ◌≤◌, length};
-ghost use Rattle.zvt_tlv.specs.Lengths.{reading_of};
 ghost use Rattle.zvt_trace.specs.Written.{limit};
-ghost use Rattle.zvt.specs.Notes.{lengths_of, scope_of, unread_line};
+ghost use Rattle.zvt.specs.Notes.{scope_of, unread_line};
 
-use crate::ends::lengths;
+use crate::command::{TraceCommand, TraceWork};
 use crate::finish::say;
 use std::io::{self, ErrorKind};
 use zvt_io::Over;
-use zvt_tool::{
-    Choice, Failure, Found, Lengths, Scope, ToolFault, TraceFault, hint_on, write_notes,
-};
+use zvt_tool::{Failure, Found, Lengths, Scope, ToolFault, TraceFault, hint_on, write_notes};
 
 /// Says which streams of the trace are bad, that it has no message, or that its directions may be swapped, and answers
 /// whether there was memory for that.
 pub fn say_notes(
     rt: &HostRuntime,
-    chosen: &Choice<'_>,
+    command: &TraceCommand,
     trace: &[u8],
     answer: &Result<Found, TraceFault>,
 ) -> io::Result<bool>
     requires { length trace.now ≤ limit }
 {
-    let Some(scope) = scope_of(chosen) else {
+    let Some(scope) = scope_of(command) else {
         return Ok(true);
     };
     let is_bad = match answer {
@@ -30,7 +27,7 @@ pub fn say_notes(
         Err(TraceFault::Trace { .. }) => true,
         Err(_) => false,
     };
-    if is_bad && !say_bad(rt, scope, lengths_of(chosen), trace)? {
+    if is_bad && !say_bad(rt, scope, command.lengths, trace)? {
         return Ok(false);
     }
     if let Ok(found) = answer {
@@ -47,11 +44,11 @@ pub fn say_notes(
 }
 
 /// The line of the trace, counted from 1, that can't be read, if that is why the command ended.
-pub fn unread_line(chosen: &Choice<'_>, answer: &Result<Found, TraceFault>) -> Option<u64>
-    ensures { result ≡ unread_line chosen.now answer.now }
+pub fn unread_line(command: &TraceCommand, answer: &Result<Found, TraceFault>) -> Option<u64>
+    ensures { result ≡ unread_line command.now answer.now }
 {
     match answer {
-        Err(TraceFault::Trace { line, .. }) if scope_of(chosen).is_some() => Some(*line),
+        Err(TraceFault::Trace { line, .. }) if scope_of(command).is_some() => Some(*line),
         _ => None,
     }
 }
@@ -68,28 +65,13 @@ pub fn say_hint(rt: &HostRuntime, trace: &[u8], line: Option<u64>) -> io::Result
 }
 
 /// What a refusal leaves unread under the command, if it reads messages of a line.
-fn scope_of(chosen: &Choice<'_>) -> Option<Scope>
-    ensures { result ≡ scope_of chosen.now }
+fn scope_of(command: &TraceCommand) -> Option<Scope>
+    ensures { result ≡ scope_of command.now }
 {
-    match chosen {
-        Choice::Show { .. }
-        | Choice::Join { .. }
-        | Choice::Normalise { .. }
-        | Choice::Receipts { .. } => Some(Scope::OneSide),
-        Choice::Audit { .. } => Some(Scope::WholeLine),
-        _ => None,
-    }
-}
-
-/// The lengths that the command reads.
-fn lengths_of(chosen: &Choice<'_>) -> Lengths
-    ensures { reading_of result ≡ lengths_of chosen.now }
-{
-    match chosen {
-        Choice::Show { loose, .. } | Choice::Audit { loose, .. } | Choice::Receipts { loose, .. } =>
-            { lengths(*loose) }
-        Choice::Normalise { .. } => Lengths::Padded,
-        _ => Lengths::Shortest,
+    match command.work {
+        TraceWork::Show | TraceWork::Join | TraceWork::Receipts => Some(Scope::OneSide),
+        TraceWork::Audit => Some(Scope::WholeLine),
+        TraceWork::Vectors => None,
     }
 }
 

@@ -1,0 +1,43 @@
+-- The commands of the program, by what it does for them.
+use Rattle.std.specs.Prelude.{◌≤◌, Bool, true, false, Option, Some, None}
+use Rattle.zvt_choice.specs.declared.chosen.Choice.{Choice}
+use Rattle.zvt_choice.specs.declared.chosen.Choice.TheVariants as choice
+use Rattle.zvt_tlv.specs.declared.lengths.Lengths.{Lengths}
+use Rattle.zvt_tlv.specs.declared.lengths.Lengths.TheVariants.{Shortest, Padded}
+use Rattle.zvt.specs.declared.command.Command.{Command}
+use Rattle.zvt.specs.declared.command.Command.TheVariants.{OnTrace, Loop, Till, Terminal}
+use Rattle.zvt.specs.declared.command.TraceCommand.{TraceCommand}
+use Rattle.zvt.specs.declared.command.TraceWork.{TraceWork}
+use Rattle.zvt.specs.declared.command.TraceWork.TheVariants.{Show, Join, Audit, Receipts, Vectors}
+
+abbrev pub lengths_by : (loose : Bool) → Lengths
+lengths_by false = Shortest
+lengths_by true = Padded
+
+abbrev pub working : TraceWork → Lengths → Option TraceCommand
+working work lengths = Some (record { work = work; lengths = lengths })
+
+-- what is written of a trace, and by which lengths, if the choice is a command on one; `normalise` joins what it reads loosely
+abbrev pub chosen_on_trace : Choice → Option TraceCommand
+chosen_on_trace (choice.Show file loose) = working Show (lengths_by loose)
+chosen_on_trace (choice.Join file) = working Join Shortest
+chosen_on_trace (choice.Normalise file) = working Join Padded
+chosen_on_trace (choice.Audit file loose) = working Audit (lengths_by loose)
+chosen_on_trace (choice.Receipts file loose) = working Receipts (lengths_by loose)
+chosen_on_trace (choice.Vectors file) = working Vectors Shortest
+chosen_on_trace (choice.Loop trace steps) = None
+chosen_on_trace (choice.Till port host password config currency trace loose steps) = None
+chosen_on_trace (choice.Terminal port host tid connections decline trace loose) = None
+
+abbrev pub on_trace : Command → Option TraceCommand
+on_trace (OnTrace command file) = Some command
+on_trace (Loop trace steps) = None
+on_trace (Till options) = None
+on_trace (Terminal options) = None
+
+-- a terminal's number has eight digits at most
+abbrev pub HasTerminalNumber : Command → Type 0
+HasTerminalNumber (OnTrace command file) = Unit {0}
+HasTerminalNumber (Loop trace steps) = Unit {0}
+HasTerminalNumber (Till options) = Unit {0}
+HasTerminalNumber (Terminal options) = options.tid ≤ 99999999

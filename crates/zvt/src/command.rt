@@ -1,0 +1,133 @@
+//! The command that was chosen, by what the program does for it.
+ghost use Rattle.std.specs.Prelude.{◌≡◌, Option, List};
+ghost use Rattle.clap.specs.Words.{Row, Text};
+ghost use Rattle.zvt_choice.specs.Chosen.{IsChoiceOf};
+ghost use Rattle.zvt.specs.Commands.{HasTerminalNumber, chosen_on_trace, lengths_by, on_trace, working};
+
+use crate::settings::SettingWords;
+use zvt_tool::{Choice, Lengths};
+
+/// What is written of a trace, or of vectors.
+#[derive(Clone, Copy, Debug, PartialEq, Eq)]
+pub enum TraceWork {
+    Show,
+    Join,
+    Audit,
+    Receipts,
+    Vectors,
+}
+
+/// A command on a trace: what it writes, and the lengths that it reads.
+#[derive(Clone, Copy)]
+pub struct TraceCommand {
+    pub work: TraceWork,
+    pub lengths: Lengths,
+}
+
+/// A till's run. The words are those of the command line: their form is not checked yet.
+#[derive(Clone, Copy)]
+pub struct TillOptions<'a> {
+    pub port: u16,
+    pub host: &'a str,
+    pub words: SettingWords<'a>,
+    pub lengths: Lengths,
+    pub trace: Option<&'a str>,
+    pub steps: &'a [&'a str],
+}
+
+/// A terminal's service. The words are those of the command line: their form is not checked yet.
+#[derive(Clone, Copy)]
+pub struct TerminalOptions<'a> {
+    pub port: u16,
+    pub host: &'a str,
+    /// The terminal's number, at most 99,999,999.
+    pub tid: u32,
+    pub connections: u16,
+    pub decline: Option<&'a str>,
+    pub lengths: Lengths,
+    pub trace: Option<&'a str>,
+}
+
+/// A command of the program. A file is named, or none or `-` for standard input.
+#[derive(Clone, Copy)]
+pub enum Command<'a> {
+    OnTrace(TraceCommand, Option<&'a str>),
+    /// Both ends in this process, with a trace perhaps.
+    Loop(Option<&'a str>, &'a [&'a str]),
+    Till(TillOptions<'a>),
+    Terminal(TerminalOptions<'a>),
+}
+
+/// The lengths that are read where a command is loose, or is not.
+fn lengths_by(loose: bool) -> Lengths
+    ensures { result ≡ lengths_by loose }
+{
+    if loose {
+        Lengths::Padded
+    } else {
+        Lengths::Shortest
+    }
+}
+
+/// A command that does this with the trace in that file.
+fn working<'a>(work: TraceWork, lengths: Lengths, file: Option<&'a str>) -> Command<'a>
+    ensures on_trace { on_trace result ≡ working work lengths }
+    ensures number { HasTerminalNumber result }
+{
+    Command::OnTrace(TraceCommand { work, lengths }, file)
+}
+
+/// The command that was chosen.
+pub fn command_of<'a>(chosen: &'a Choice<'a>) -> Command<'a>
+    requires { (reading : Option (Text × List Row)) × IsChoiceOf reading chosen.now }
+    ensures on_trace { on_trace result ≡ chosen_on_trace chosen.now }
+    ensures number { HasTerminalNumber result }
+{
+    match chosen {
+        Choice::Show { file, loose } => working(TraceWork::Show, lengths_by(*loose), *file),
+        Choice::Join { file } => working(TraceWork::Join, Lengths::Shortest, *file),
+        Choice::Normalise { file } => working(TraceWork::Join, Lengths::Padded, *file),
+        Choice::Audit { file, loose } => working(TraceWork::Audit, lengths_by(*loose), *file),
+        Choice::Receipts { file, loose } => working(TraceWork::Receipts, lengths_by(*loose), *file),
+        Choice::Vectors { file } => working(TraceWork::Vectors, Lengths::Shortest, *file),
+        Choice::Loop { trace, steps } => Command::Loop(*trace, steps.as_slice()),
+        Choice::Till {
+            port,
+            host,
+            password,
+            config,
+            currency,
+            trace,
+            loose,
+            steps,
+        } => Command::Till(TillOptions {
+            port: *port,
+            host,
+            words: SettingWords {
+                password: *password,
+                config: *config,
+                currency: *currency,
+            },
+            lengths: lengths_by(*loose),
+            trace: *trace,
+            steps: steps.as_slice(),
+        }),
+        Choice::Terminal {
+            port,
+            host,
+            tid,
+            connections,
+            decline,
+            trace,
+            loose,
+        } => Command::Terminal(TerminalOptions {
+            port: *port,
+            host,
+            tid: *tid,
+            connections: *connections,
+            decline: *decline,
+            lengths: lengths_by(*loose),
+            trace: *trace,
+        }),
+    }
+}
