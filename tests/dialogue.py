@@ -20,7 +20,7 @@ REGISTRATION, REGISTERED = "06 00 06 00 00 00 BE 09 78", "80 00 00 06 0F 08 29 1
 AUTHORISATION, ACK = "06 01 07 04 00 00 00 00 10 00", "80 00 00"
 APPROVED_LINE = "06 D1 0E 00" + b"APPROVED 1000".hex()
 # How many rows a ledger has at most.
-MOST_ROWS = 9_999
+MAX_LEDGER_ROWS = 9_999
 failed = []
 
 
@@ -95,11 +95,11 @@ def dialogue(text):
 def full_ledger():
     """So many payments that no more row fits: then a payment is refused, and a reversal is given up."""
     trace = [f"> {REGISTRATION}", f"< {REGISTERED}", f"> {ACK}"]
-    for number in range(1, MOST_ROWS + 1):
+    for number in range(1, MAX_LEDGER_ROWS + 1):
         row = f"27 00 04 00 00 00 00 10 00 0B {number:06} 87 {number:04} 49 09 78"
         trace += [f"> {AUTHORISATION}", f"< {ACK} 04 0F 13 {row}", f"> {ACK}", f"< {APPROVED_LINE}", f"> {ACK}", "< 06 0F 00", f"> {ACK}"]
     trace += [f"> {AUTHORISATION}", "< 84 FF 00", "> 06 30 06 00 00 00 87 00 01", f"< {ACK} 06 1E 01 FF", f"> {ACK}"]
-    return [], trace, (MOST_ROWS, 0)
+    return [], trace, (MAX_LEDGER_ROWS, 0)
 
 
 def main():

@@ -6,7 +6,7 @@ standard error, and what it wrote has to be whole lines, a front of what it writ
 ever, where it gets by with less, as std does for a list whose length it knows; or all but the notes on what is bad in a
 trace, of which it says that there is too little memory for them. Where a till has a payment approved by a
 terminal over TCP, the till's book has it, or its unclear payments do, whichever end was refused something. The program of
-crates/library_runs sees to the calls of the libraries: each that wants memory leaves all as it was, and goes well when made
+crates/harness sees to the calls of the libraries: each that wants memory leaves all as it was, and goes well when made
 again.
 
 The same with each read and each write failing, where the status is 4, and with writes of one byte at a time, where all is as
@@ -26,7 +26,7 @@ import tempfile
 
 HERE = pathlib.Path(__file__).resolve().parent
 ZVT = sys.argv[1] if len(sys.argv) > 1 else str(HERE.parent / "crates/zvt/out/zvt")
-CALLS = str(HERE.parent / "crates/library_runs/out/library_runs")
+CALLS = str(HERE.parent / "crates/harness/out/harness")
 SECONDS = 30
 MOST = 5000
 STEPS = ["register", "pay:1000", "pay:20", "pay:3", "close"]
@@ -210,7 +210,7 @@ class Trial:
                 self.differs(here, "nothing was refused:", ended, text, errors)
             elif ended != 5 or not errors.startswith((b"zvt: ", b"error: ")) or not errors.endswith(b"\n"):
                 self.differs(here, "status", ended, errors)
-            if not is_front(text, full):
+            if not is_prefix(text, full):
                 self.differs(here, "is no front of the full text:", text[-200:])
             return refused
 
@@ -227,7 +227,7 @@ class Trial:
                     return False
                 if ended != 4:
                     self.differs(here, "status", ended, errors)
-                if not (full.startswith(text) or is_front(text, full)):
+                if not (full.startswith(text) or is_prefix(text, full)):
                     self.differs(here, "is no front of the full text:", text[-200:])
                 return True
 
@@ -326,7 +326,7 @@ class Trial:
                 self.differs(name, "the till:", till_status, text, errors)
             if "terminal" in settings and (terminal.returncode != status or not re.search(rb"(zvt|error): .*\n\Z", says)):
                 self.differs(name, "the terminal:", terminal.returncode, says)
-        if not PAID.startswith(text) and not is_front(text, PAID):
+        if not PAID.startswith(text) and not is_prefix(text, PAID):
             self.differs(name, "the till's lines:", text)
         self.compare_books(name, of_terminal, of_till, text, as_ever)
         return refused
@@ -357,7 +357,7 @@ class Trial:
         return re.findall(r"^< Status\n  27 result 00 success\n  04 amount (\d+)$", text, re.M)
 
 
-def is_front(text, full):
+def is_prefix(text, full):
     """Whole lines at the front of the full text; where a line broke, that of the order that ran, and the total."""
     if text and not text.endswith(b"\n"):
         return False

@@ -6,8 +6,8 @@ use std::alloc::{AllocError, Global};
 use std::io::{self, Read};
 use std::test::Fail;
 use zvt_apdu::ApduView;
-use zvt_io::{Failed, GhostCount, Over, Sink, Source};
-use zvt_spelling::Why;
+use zvt_grammar::Why;
+use zvt_io::{Counted, Failed, GhostCount, Sink, Source};
 use zvt_stream::{Answers, LineFault, Machine, Stream, Until, pump, send};
 
 const ACK: [u8; 3] = [0x80, 0x00, 0x00];
@@ -123,10 +123,10 @@ fn lines_go_as_far_as_they_are_to(rt: HostRuntime) -> Result<(), Fail> {
             if reserved {
                 stream = Stream::reserved(rt.alloc())?;
             }
-            let mut writer = Over::new(Vec::new(rt.alloc()));
+            let mut writer = Counted::new(Vec::new(rt.alloc()));
             let found = run(
                 rt.alloc(),
-                Over::new(coming),
+                Counted::new(coming),
                 &mut writer,
                 &mut stream,
                 course,
@@ -140,7 +140,7 @@ fn lines_go_as_far_as_they_are_to(rt: HostRuntime) -> Result<(), Fail> {
 
 #[test]
 fn a_refused_line_stays_stopped(rt: HostRuntime) {
-    let mut writer = Over::new(Vec::new(rt.alloc()));
+    let mut writer = Counted::new(Vec::new(rt.alloc()));
     let mut stream = Stream::new(rt.alloc());
     let malformed = LineFault::Malformed {
         place: 3,
@@ -151,7 +151,7 @@ fn a_refused_line_stays_stopped(rt: HostRuntime) {
     for (coming, fault) in rows {
         let found = run(
             rt.alloc(),
-            Over::new(coming),
+            Counted::new(coming),
             &mut writer,
             &mut stream,
             REST,
@@ -163,7 +163,7 @@ fn a_refused_line_stays_stopped(rt: HostRuntime) {
 
 #[test]
 fn bytes_are_sent(rt: HostRuntime) {
-    let mut writer = Over::new(Vec::new(rt.alloc()));
+    let mut writer = Counted::new(Vec::new(rt.alloc()));
     assert_eq!(rt; send(&mut writer, &ACK), Ok(()));
     assert_eq!(rt; writer.inner.as_slice(), ACK.as_slice());
 }
@@ -180,11 +180,11 @@ impl Read for Broken {
 
 #[test]
 fn read_fails(rt: HostRuntime) {
-    let mut writer = Over::new(Vec::new(rt.alloc()));
+    let mut writer = Counted::new(Vec::new(rt.alloc()));
     let mut stream = Stream::new(rt.alloc());
     let found = run(
         rt.alloc(),
-        Over::new(Broken),
+        Counted::new(Broken),
         &mut writer,
         &mut stream,
         REST,
@@ -195,7 +195,7 @@ fn read_fails(rt: HostRuntime) {
 /// A writer that takes some writes whole, and fails from then on.
 #[derive(Drop)]
 struct Failing {
-    taken: Over<Vec<u8>>,
+    taken: Counted<Vec<u8>>,
     left: u8,
     failed: GhostCount,
 }
@@ -220,12 +220,12 @@ impl Sink for Failing {
 #[test]
 fn second_write_fails(rt: HostRuntime) {
     let mut writer = Failing {
-        taken: Over::new(Vec::new(rt.alloc())),
+        taken: Counted::new(Vec::new(rt.alloc())),
         left: 1,
         failed: GhostCount::zero(),
     };
     let mut stream = Stream::new(rt.alloc());
-    let reader = Over::new([ACK, ACK, ACK].as_flattened());
+    let reader = Counted::new([ACK, ACK, ACK].as_flattened());
     let course = Course { left: 9, ..REST };
     let found = run(rt.alloc(), reader, &mut writer, &mut stream, course);
     assert_eq!(rt; found, (Err(LineFault::Write), [7, 1, 0]));

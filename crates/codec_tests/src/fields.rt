@@ -11,7 +11,7 @@ use zvt_field::{
     BadField, Field, FieldBody, Fields, PushRefusal, amount, count, currency, only, original,
     receipt, result, scan, size, trace, write_into,
 };
-use zvt_spelling::Scan;
+use zvt_grammar::Scan;
 use zvt_tlv::{Body, Forest, Tag, Tlv};
 
 /// The fields of a payment's status, as a terminal sends them, and three bytes behind them.

@@ -4,7 +4,7 @@ use crate::objects::shown_objects;
 use std::alloc::{AllocError, Global};
 use std::process::Abort;
 use std::test::Fail;
-use zvt_spelling::Scan;
+use zvt_grammar::Scan;
 use zvt_tlv::{Body, Forest, Tag, Tlv, length_size, put_sized, reader, size, write_into};
 
 fn tag(rt: &impl Abort, bytes: &[u8]) -> Tag {

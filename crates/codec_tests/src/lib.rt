@@ -4,8 +4,6 @@
 #![tactic(auto)]
 
 #[cfg(test)]
-mod briefs;
-#[cfg(test)]
 mod digits;
 #[cfg(test)]
 mod engine;
@@ -29,3 +27,5 @@ mod padded;
 mod pieces;
 #[cfg(test)]
 mod rescan;
+#[cfg(test)]
+mod till_messages;

@@ -5,7 +5,7 @@ use std::process::Abort;
 use std::test::Fail;
 use zvt_apdu::{ApduView, Kind, scan, view};
 use zvt_bcd::Currency;
-use zvt_spelling::Scan;
+use zvt_grammar::Scan;
 
 /// The view of the message that the reader found in the bytes.
 pub fn viewed<'a>(rt: &impl Abort, alloc: Global, bytes: &'a [u8]) -> Result<ApduView<'a>, Fail> {

@@ -5,7 +5,7 @@ use std::process::Abort;
 use std::test::Fail;
 use zvt_apdu::{Apdu, BadValue, Message, NoRoom, encode, encode_into, scan, size};
 use zvt_field::Fields;
-use zvt_spelling::Scan;
+use zvt_grammar::Scan;
 
 // These two say nothing of what they answer: beside it each step of a caller's proof is dear.
 pub fn spelling(alloc: Global, apdu: &Apdu) -> Result<Vec<u8>, AllocError> {

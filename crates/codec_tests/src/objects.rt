@@ -3,8 +3,8 @@
 use std::alloc::{AllocError, Global};
 use std::process::Abort;
 use std::test::Fail;
-use zvt_spelling::Scan;
-use zvt_tlv::{Body, Forest, Lengths, Tlv, reader};
+use zvt_grammar::{Lengths, Scan};
+use zvt_tlv::{Body, Forest, Tlv, reader};
 
 /// Writes each object as its tag and its content, a constructed one's in parentheses.
 #[cycle(show)]
@@ -197,7 +197,7 @@ fn padded_lengths_are_read_by_the_loose_readers(rt: HostRuntime) -> Result<(), F
 }
 
 #[test]
-fn lengths_count_the_objects_behind_them(rt: HostRuntime) -> Result<(), Fail> {
+fn lengths_count_the_objects_after_them(rt: HostRuntime) -> Result<(), Fail> {
     let mut counted = [0x0C; 13];
     counted[1..].copy_from_slice(&NESTED);
     let rows: [SizedRow; 15] = [

@@ -4,7 +4,7 @@ use std::alloc::{AllocError, Global};
 use std::process::Abort;
 use std::test::Fail;
 use zvt_apdu::{normalise, scan_loose};
-use zvt_spelling::{Scan, Why};
+use zvt_grammar::{Scan, Why};
 
 /// The message of so many bytes that stands first has that strict spelling.
 fn is_normal(

@@ -4,9 +4,8 @@ use std::alloc::{AllocError, Global};
 use std::process::Abort;
 use std::test::Fail;
 use zvt_apdu::Kind;
-use zvt_spelling::Why;
-use zvt_stream::{Fed, FedView, FeedError, Head, Held, LONGEST, Stream, Truncated};
-use zvt_tlv::Lengths;
+use zvt_grammar::{Lengths, Why};
+use zvt_stream::{Fed, FedView, FeedError, Head, Held, MAX_APDU_LEN, Stream, Truncated};
 
 const STATUS: [u8; 19] = [
     0x04, 0x0F, 0x10, 0x27, 0x00, 0x04, 0x00, 0x00, 0x00, 0x00, 0x12, 0x34, 0x0B, 0x00, 0x00, 0x17,
@@ -135,7 +134,7 @@ fn the_first_message_of_bytes_has_a_size(rt: HostRuntime) -> Result<(), Fail> {
         (Lengths::Shortest, &nested[..7], None),
         (Lengths::Shortest, &padded, None),
         (Lengths::Padded, &padded, Some(9)),
-        (Lengths::Shortest, line.as_slice(), Some(LONGEST)),
+        (Lengths::Shortest, line.as_slice(), Some(MAX_APDU_LEN)),
     ];
     for (lengths, bytes, size) in rows {
         assert_eq!(rt; sized(rt.alloc(), lengths, bytes), size);
@@ -144,7 +143,7 @@ fn the_first_message_of_bytes_has_a_size(rt: HostRuntime) -> Result<(), Fail> {
 }
 
 /// The control bytes of what is begun behind the piece.
-fn head_behind(stream: &mut Stream, piece: &[u8]) -> Head {
+fn head_after(stream: &mut Stream, piece: &[u8]) -> Head {
     let _ = viewed(stream, piece);
     stream.head()
 }
@@ -162,7 +161,7 @@ fn the_control_bytes_of_an_unfinished_message(rt: HostRuntime) {
     ];
     let mut stream = Stream::new(rt.alloc());
     for (piece, head) in rows {
-        assert_eq!(rt; head_behind(&mut stream, piece), head);
+        assert_eq!(rt; head_after(&mut stream, piece), head);
     }
 }
 
@@ -185,11 +184,14 @@ fn the_longest_message(rt: HostRuntime) -> Result<(), Fail> {
         let (first, second) = line.split_at(cut);
         assert_eq!(rt; built(alloc, &mut stream, first), MORE);
         assert_eq!(rt; viewed(&mut reserved, first), MORE);
-        assert_eq!(rt; built(alloc, &mut stream, second), ended(LONGEST - cut));
-        assert_eq!(rt; viewed(&mut reserved, second), ended(LONGEST - cut));
+        assert_eq!(rt;
+            built(alloc, &mut stream, second),
+            ended(MAX_APDU_LEN - cut)
+        );
+        assert_eq!(rt; viewed(&mut reserved, second), ended(MAX_APDU_LEN - cut));
         assert!(rt;
             lent(&reserved).is_some_and(|(kind, bytes)| kind == Kind::PrintLine
-                && bytes.len() == LONGEST)
+                && bytes.len() == MAX_APDU_LEN)
         );
     }
     Ok(())
@@ -198,7 +200,7 @@ fn the_longest_message(rt: HostRuntime) -> Result<(), Fail> {
 #[test]
 fn held_bytes(rt: HostRuntime) -> Result<(), Fail> {
     let mut held = Held::reserved(rt.alloc())?;
-    held.make_room(LONGEST)?;
+    held.reserve_for(MAX_APDU_LEN)?;
     held.add(0x04)?;
     held.add_all(&STATUS[1..])?;
     held.cut(2);

@@ -8,7 +8,7 @@ use std::alloc::Global;
 use std::process::Abort;
 use std::test::Fail;
 use zvt_apdu::scan;
-use zvt_spelling::Scan;
+use zvt_grammar::Scan;
 use zvt_stream::{FedView, FeedError, Stream, Truncated};
 
 /// The bytes of a line that are unfinished, or nothing behind a refusal.
@@ -189,14 +189,14 @@ fn each_container_and_object_opens_a_level(rt: HostRuntime) {
 }
 
 /// What a stream answers to the front of a line, and what it holds then.
-fn cut_off(alloc: Global, front: &[u8]) -> (Answer, (usize, Result<(), Truncated>)) {
+fn cut_off(alloc: Global, prefix: &[u8]) -> (Answer, (usize, Result<(), Truncated>)) {
     let mut stream = Stream::new(alloc);
-    let answer = viewed(&mut stream, front);
+    let answer = viewed(&mut stream, prefix);
     (answer, left(&stream))
 }
 
 #[test]
-fn the_front_of_a_message_is_cut_off(rt: HostRuntime) {
+fn the_prefix_of_a_message_is_cut_off(rt: HostRuntime) {
     for line in MESSAGES {
         for have in 1..line.len() {
             let wanted = (MORE, (have, Err(Truncated { have })));

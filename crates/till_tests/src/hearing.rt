@@ -2,10 +2,10 @@
 use std::alloc::Global;
 use std::process::Abort;
 use std::test::Fail;
-use zvt_apdu::{Brief, scan, view};
+use zvt_apdu::{TillMessage, scan, view};
 use zvt_bcd::{Amount, Currency, Trace};
-use zvt_spelling::Scan;
-use zvt_till::hearing::{heard, heard_view};
+use zvt_grammar::Scan;
+use zvt_till::heard::{heard, heard_view};
 use zvt_till::{CurrencyFact, Heard, Original, Outgoing, StatusFacts};
 
 const APPROVAL: [u8; 19] = [
@@ -103,9 +103,9 @@ fn hears_the_other_messages(rt: HostRuntime) -> Result<(), Fail> {
 }
 
 #[test]
-fn sends_what_its_brief_says(rt: HostRuntime) -> Result<(), Fail> {
+fn sends_what_its_till_message_says(rt: HostRuntime) -> Result<(), Fail> {
     let refusal = Outgoing {
-        brief: Brief::Nack(0x83),
+        till_message: TillMessage::Nack(0x83),
     };
     let mut buffer = [0x55; 32];
     assert_eq!(rt; refusal.put(&mut buffer), 3);
@@ -118,11 +118,11 @@ fn sends_what_its_brief_says(rt: HostRuntime) -> Result<(), Fail> {
 #[test]
 fn prints_no_password(rt: HostRuntime) -> Result<(), Fail> {
     let closes = Outgoing {
-        brief: Brief::CloseDay {
+        till_message: TillMessage::CloseDay {
             password: [0x12, 0x34, 0x56],
         },
     };
     let printed = format!(in rt.alloc(); "{closes:?}")?;
-    assert_eq!(rt; printed.as_str(), "Outgoing { brief: CloseDay }");
+    assert_eq!(rt; printed.as_str(), "Outgoing { till_message: CloseDay }");
     Ok(())
 }

@@ -4,8 +4,8 @@ use std::io::{self, Read, Write};
 use std::process::Abort;
 use std::test::Fail;
 use zvt_bcd::{Amount, Currency, Trace};
-use zvt_io::Over;
-use zvt_spelling::Why;
+use zvt_grammar::Why;
+use zvt_io::Counted;
 use zvt_stream::{LineFault, Stream};
 use zvt_till::{Cause, Order, OrderRefusal, Outcome, RunFault, Till, run_order, send_order};
 
@@ -30,8 +30,8 @@ fn registers(
     wanted: Result<Outcome, RunFault>,
     last: Outcome,
 ) -> Vec<u8> {
-    let mut reader = Over::new(coming);
-    let mut writer = Over::new(Vec::new(alloc));
+    let mut reader = Counted::new(coming);
+    let mut writer = Counted::new(Vec::new(alloc));
     let mut till = connected_till(rt, alloc);
     let result = run_order(
         alloc,
@@ -92,7 +92,7 @@ fn an_order_whose_line_breaks(rt: HostRuntime) {
 
 #[test]
 fn an_order_that_is_sent(rt: HostRuntime) {
-    let mut writer = Over::new(Vec::new(rt.alloc()));
+    let mut writer = Counted::new(Vec::new(rt.alloc()));
     let mut till = connected_till(&rt, rt.alloc());
     let refused = RunFault::Order(OrderRefusal::NotRegistered);
     for (order, sent) in [(Order::CloseDay, Err(refused)), (Order::Register, Ok(()))] {
@@ -119,8 +119,8 @@ impl Write for Full {
 #[test]
 fn an_order_that_cannot_be_sent(rt: HostRuntime) {
     let alloc = rt.alloc();
-    let mut reader = Over::new([0x80, 0x00, 0x00].as_slice());
-    let mut writer = Over::new(Full);
+    let mut reader = Counted::new([0x80, 0x00, 0x00].as_slice());
+    let mut writer = Counted::new(Full);
     let mut stream = Stream::new(alloc);
     let mut till = connected_till(&rt, alloc);
     let refused = RunFault::Order(OrderRefusal::NotRegistered);
@@ -197,8 +197,8 @@ impl Write for Failing {
 
 /// Registers a till over a line on which nothing fails.
 fn register(rt: &impl Abort, alloc: Global, stream: &mut Stream, till: &mut Till) {
-    let mut completed = Over::new([0x80, 0x00, 0x00, 0x06, 0x0F, 0x00].as_slice());
-    let mut sent = Over::new(Vec::new(alloc));
+    let mut completed = Counted::new([0x80, 0x00, 0x00, 0x06, 0x0F, 0x00].as_slice());
+    let mut sent = Counted::new(Vec::new(alloc));
     let registered = run_order(
         alloc,
         &mut completed,
@@ -222,12 +222,12 @@ fn pays_over(
     let mut stream = Stream::new(alloc);
     let mut till = connected_till(rt, alloc);
     register(rt, alloc, &mut stream, &mut till);
-    let mut reader = Over::new(Dripping {
+    let mut reader = Counted::new(Dripping {
         bytes: &APPROVED,
         reads: 0,
         fails: read,
     });
-    let mut writer = Over::new(Failing {
+    let mut writer = Counted::new(Failing {
         writes: 0,
         fails: write,
     });

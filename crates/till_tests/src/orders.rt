@@ -1,7 +1,7 @@
 //! Whole orders, heard message by message.
 use std::alloc::Global;
 use std::process::Abort;
-use zvt_apdu::Brief;
+use zvt_apdu::TillMessage;
 use zvt_bcd::{Amount, Currency, Trace};
 use zvt_till::{
     Cause, CurrencyFact, Doubt, Entry, Heard, Order, OrderRefusal, Original, Outcome, Outgoing,
@@ -29,11 +29,11 @@ fn euro(rt: &impl Abort) -> Currency {
 #[derive(Clone, Copy)]
 enum Told {
     /// An order that is sent.
-    Sent(Order, Brief),
+    Sent(Order, TillMessage),
     /// An order that is refused.
     Refused(Order, OrderRefusal),
     /// A message, what answers it, and the outcome where it ends the order.
-    Heard(Heard, Option<Brief>, Option<Outcome>),
+    Heard(Heard, Option<TillMessage>, Option<Outcome>),
 }
 
 // These two say nothing of what they answer: beside it each step of a caller's proof is dear.
@@ -49,12 +49,12 @@ fn hear(till: &mut Till, heard: Heard) -> Reply {
 fn goes(rt: &impl Abort, till: &mut Till, course: &[Told]) {
     for told in course {
         match *told {
-            Told::Sent(sent, brief) => {
-                assert_eq!(rt; order(till, sent), Ok(Outgoing { brief }));
+            Told::Sent(sent, till_message) => {
+                assert_eq!(rt; order(till, sent), Ok(Outgoing { till_message }));
             }
             Told::Refused(sent, refusal) => assert_eq!(rt; order(till, sent), Err(refusal)),
             Told::Heard(heard, answer, outcome) => {
-                let send = answer.map(|brief| Outgoing { brief });
+                let send = answer.map(|till_message| Outgoing { till_message });
                 assert_eq!(rt; hear(till, heard), Reply { send, outcome });
             }
         }
@@ -63,7 +63,7 @@ fn goes(rt: &impl Abort, till: &mut Till, course: &[Told]) {
 
 /// A message that is acknowledged, and ends the running order so, if it does.
 fn acknowledged(heard: Heard, outcome: Option<Outcome>) -> Told {
-    Told::Heard(heard, Some(Brief::Ack), outcome)
+    Told::Heard(heard, Some(TillMessage::Ack), outcome)
 }
 
 /// A till whose line is up.
@@ -79,7 +79,7 @@ fn connected_till(rt: &impl Abort, alloc: Global) -> Till {
 
 /// The till registers on its line.
 fn registers(rt: &impl Abort, till: &mut Till) {
-    let register = Brief::Register {
+    let register = TillMessage::Register {
         password: PASSWORD,
         config: 0xBE,
         currency: euro(rt),
@@ -144,12 +144,12 @@ fn paid(rt: &impl Abort, number: u32, receipt: u8) -> Outcome {
 
 /// The order to pay the worked price is sent.
 fn pay(rt: &impl Abort) -> Told {
-    Told::Sent(Order::Pay(price(rt)), Brief::Pay(price(rt), euro(rt)))
+    Told::Sent(Order::Pay(price(rt)), TillMessage::Pay(price(rt), euro(rt)))
 }
 
 /// The order to take the first payment of the book back is sent.
 fn reverse() -> Told {
-    let message = Brief::Reverse {
+    let message = TillMessage::Reverse {
         password: PASSWORD,
         receipt: [0, 5],
     };
@@ -350,14 +350,14 @@ fn what_changes_nothing_leaves_the_doubt(rt: HostRuntime) {
 #[test]
 fn other_orders_end_too(rt: HostRuntime) {
     let mut till = registered_till(&rt, rt.alloc());
-    let closes = Brief::CloseDay { password: PASSWORD };
+    let closes = TillMessage::CloseDay { password: PASSWORD };
     let course = [
         Told::Refused(Order::Cancel, OrderRefusal::NothingToCancel),
         Told::Sent(Order::CloseDay, closes),
         Told::Refused(Order::Cancel, OrderRefusal::NothingToCancel),
         Told::Heard(Heard::Positive, None, None),
-        Told::Sent(Order::Cancel, Brief::AbortOrder),
-        Told::Heard(Heard::Strange, Some(Brief::Nack(0x83)), None),
+        Told::Sent(Order::Cancel, TillMessage::AbortOrder),
+        Told::Heard(Heard::Strange, Some(TillMessage::Nack(0x83)), None),
         acknowledged(Heard::Completion, Some(Outcome::DayClosed)),
     ];
     goes(&rt, &mut till, &course);
@@ -379,7 +379,10 @@ fn a_full_book_takes_no_payment(rt: HostRuntime) {
     assert_eq!(rt; till.total(), 12_340_000);
     let course = [
         Told::Refused(Order::Pay(price(&rt)), OrderRefusal::BookFull),
-        Told::Sent(Order::CloseDay, Brief::CloseDay { password: PASSWORD }),
+        Told::Sent(
+            Order::CloseDay,
+            TillMessage::CloseDay { password: PASSWORD },
+        ),
     ];
     goes(&rt, &mut till, &course);
 }

@@ -1,6 +1,6 @@
 //! The terminal on a line, and what it writes without memory.
 use zvt_bcd::Amount;
-use zvt_io::Over;
+use zvt_io::Counted;
 use zvt_stream::{LineFault, Machine, Stream, Until, pump};
 use zvt_term::{Line, Report, Served, Terminal, Verdict, put_report};
 
@@ -16,8 +16,8 @@ fn serves_a_line_until_it_ends(rt: HostRuntime) {
         0x06, 0x00, 0x04, 0x00, 0x00, 0x00, 0xBE, 0x80, 0x00, 0x00, 0x06, 0x01, 0x07, 0x04, 0x00,
         0x00, 0x00, 0x00, 0x10, 0x00, 0x80, 0x00, 0x00,
     ];
-    let mut reader = Over::new(heard.as_slice());
-    let mut writer = Over::new(Vec::new(alloc));
+    let mut reader = Counted::new(heard.as_slice());
+    let mut writer = Counted::new(Vec::new(alloc));
     let mut stream = Stream::new(alloc);
     let fault = pump(
         alloc,

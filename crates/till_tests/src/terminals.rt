@@ -4,7 +4,7 @@ use std::process::Abort;
 use std::test::Fail;
 use zvt_apdu::scan;
 use zvt_bcd::{Amount, Currency};
-use zvt_spelling::Scan;
+use zvt_grammar::Scan;
 use zvt_stream::{Answers, FedView, Stream};
 use zvt_term::{Input, Row, Terminal, Verdict};
 

@@ -114,7 +114,7 @@ fn breaks(rt: &impl Abort, alloc: Global, rest: &[Move], last: Outcome) -> Resul
 }
 
 #[test]
-fn a_line_that_is_lost_behind_an_approval(rt: HostRuntime) -> Result<(), Fail> {
+fn a_line_that_is_lost_after_an_approval(rt: HostRuntime) -> Result<(), Fail> {
     // A terminal that knows of the loss takes the next registration; one that does not still prints.
     let ends: [Move; 1] = [Move::TillLost];
     let starts_anew = [

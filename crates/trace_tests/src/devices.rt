@@ -2,29 +2,29 @@
 use std::alloc::{AllocError, Global};
 use std::test::Fail;
 use zvt_audit::audit;
-use zvt_io::{Failed, GhostCount, Over, Sink, Source};
-use zvt_notes::write_notes;
+use zvt_diagnostics::write_notes;
+use zvt_grammar::Lengths;
+use zvt_io::{Counted, Failed, GhostCount, Sink, Source};
 use zvt_show::show;
-use zvt_tlv::Lengths;
-use zvt_trace::{Failure, Scope, TraceFault};
+use zvt_trace::{ListenerError, Scope, TraceFault};
 
 /// Gives so many bytes of a remark, and then fails or ends.
 #[derive(Drop)]
-struct Remark {
+struct Comment {
     bytes_left: usize,
     breaks: bool,
     failures: GhostCount,
     reads: GhostCount,
 }
 
-impl Source for Remark {
+impl Source for Comment {
     ghost use Rattle.std.specs.Prelude.{None};
 
     ghost remaining = { λ _. None };
 
-    ghost failures = { λ remark. remark.failures.count };
+    ghost failures = { λ comment. comment.failures.count };
 
-    ghost reads = { λ remark. remark.reads.count };
+    ghost reads = { λ comment. comment.reads.count };
 
     fn read(&mut self, buffer: &mut [u8]) -> Result<usize, Failed> {
         self.reads = self.reads.next();
@@ -40,8 +40,8 @@ impl Source for Remark {
 }
 
 /// A remark of so many bytes.
-fn remark_of(bytes_left: usize, breaks: bool) -> Remark {
-    Remark {
+fn comment_of(bytes_left: usize, breaks: bool) -> Comment {
+    Comment {
         bytes_left,
         breaks,
         failures: GhostCount::zero(),
@@ -51,31 +51,31 @@ fn remark_of(bytes_left: usize, breaks: bool) -> Remark {
 
 // This function and those below that call the library say nothing of what it answers: beside that each step of a
 // caller's proof is dear.
-fn shown_remark(alloc: Global, bytes: usize, breaks: bool) -> (Option<TraceFault>, usize) {
-    let mut writer = Over::new(Vec::new(alloc));
-    let answer = show(alloc, &mut remark_of(bytes, breaks), &mut writer);
+fn shown_comment(alloc: Global, bytes: usize, breaks: bool) -> (Option<TraceFault>, usize) {
+    let mut writer = Counted::new(Vec::new(alloc));
+    let answer = show(alloc, &mut comment_of(bytes, breaks), &mut writer);
     (answer.err(), writer.inner.len())
 }
 
-fn audited_remark(alloc: Global, bytes: usize) -> (Option<TraceFault>, usize) {
-    let mut writer = Over::new(Vec::new(alloc));
-    let answer = audit(alloc, &mut remark_of(bytes, true), &mut writer);
+fn audited_comment(alloc: Global, bytes: usize) -> (Option<TraceFault>, usize) {
+    let mut writer = Counted::new(Vec::new(alloc));
+    let answer = audit(alloc, &mut comment_of(bytes, true), &mut writer);
     (answer.err(), writer.inner.len())
 }
 
 #[test]
 fn traces_have_a_limit(rt: HostRuntime) {
-    let longest = shown_remark(rt.alloc(), 16_777_216, false);
+    let longest = shown_comment(rt.alloc(), 16_777_216, false);
     assert!(rt; matches!(longest, (None, 0)));
-    let longer = shown_remark(rt.alloc(), 16_777_217, false);
+    let longer = shown_comment(rt.alloc(), 16_777_217, false);
     assert!(rt; matches!(longer, (Some(TraceFault::TooLong), 0)));
 }
 
 #[test]
-fn a_read_that_fails_is_told(rt: HostRuntime) {
-    let shown = shown_remark(rt.alloc(), 5, true);
+fn a_read_that_fails_is_reported(rt: HostRuntime) {
+    let shown = shown_comment(rt.alloc(), 5, true);
     assert!(rt; matches!(shown, (Some(TraceFault::Read), 0)));
-    let audited = audited_remark(rt.alloc(), 5);
+    let audited = audited_comment(rt.alloc(), 5);
     assert!(rt; matches!(audited, (Some(TraceFault::Read), 0)));
 }
 
@@ -115,10 +115,10 @@ fn takes(writes_left: usize) -> Full {
 }
 
 fn shown(alloc: Global, trace: &[u8], writes_left: usize) -> Option<TraceFault> {
-    show(alloc, &mut Over::new(trace), &mut takes(writes_left)).err()
+    show(alloc, &mut Counted::new(trace), &mut takes(writes_left)).err()
 }
 
-fn noted(alloc: Global, trace: &[u8; 13], writes_left: usize) -> Option<Failure> {
+fn noted(alloc: Global, trace: &[u8; 13], writes_left: usize) -> Option<ListenerError> {
     let mut writer = takes(writes_left);
     write_notes(alloc, Scope::OneSide, Lengths::Shortest, trace, &mut writer).err()
 }
@@ -133,7 +133,7 @@ fn long_trace(alloc: Global) -> Result<String, AllocError> {
 }
 
 #[test]
-fn a_write_that_fails_is_told(rt: HostRuntime) -> Result<(), Fail> {
+fn a_write_that_fails_is_reported(rt: HostRuntime) -> Result<(), Fail> {
     let trace = long_trace(rt.alloc())?;
     for writes_left in 0..2 {
         let fault = shown(rt.alloc(), trace.as_str().as_bytes(), writes_left);
@@ -143,15 +143,15 @@ fn a_write_that_fails_is_told(rt: HostRuntime) -> Result<(), Fail> {
 }
 
 #[test]
-fn notes_that_cannot_be_written_are_told(rt: HostRuntime) {
+fn notes_that_cannot_be_written_are_reported(rt: HostRuntime) {
     let fault = noted(rt.alloc(), b"> 06 01 02 D0", 0);
-    assert!(rt; matches!(fault, Some(Failure::Write)));
+    assert!(rt; matches!(fault, Some(ListenerError::Write)));
 }
 
 /// What an audit answers, and how often it writes.
 fn audited(alloc: Global, trace: &[u8], writes_left: usize) -> (Option<TraceFault>, usize) {
     let mut writer = takes(writes_left);
-    let answer = audit(alloc, &mut Over::new(trace), &mut writer);
+    let answer = audit(alloc, &mut Counted::new(trace), &mut writer);
     (answer.err(), writer.writes)
 }
 

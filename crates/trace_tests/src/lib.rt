@@ -7,8 +7,8 @@ mod devices;
 #[cfg(test)]
 mod recorded_runs;
 #[cfg(test)]
+mod reported_runs;
+#[cfg(test)]
 mod run_faults;
 #[cfg(test)]
 mod runs;
-#[cfg(test)]
-mod told_runs;

@@ -8,8 +8,8 @@ use std::process::Abort;
 use std::test::Fail;
 use zvt_audit::audit;
 use zvt_bcd::{Amount, Currency};
-use zvt_io::{Failed, GhostCount, Over, Source};
-use zvt_run::{End, Recorded, Way, end_trace};
+use zvt_io::{Counted, Failed, GhostCount, Source};
+use zvt_session::{Endpoint, Recorded, Way, end_trace};
 use zvt_show::show;
 use zvt_stream::Stream;
 use zvt_till::{Entry, Order, Till, run_order};
@@ -159,16 +159,16 @@ fn next_answers(chance: &mut Chance, made: u32) -> [&'static [u8]; 4] {
     }
 }
 
-type Heard<'a> = Recorded<Pieces, Over<Shared<'a>>>;
+type Heard<'a> = Recorded<Pieces, Counted<Shared<'a>>>;
 
-type Sent<'a> = Recorded<Over<Vec<u8>>, Over<Shared<'a>>>;
+type Sent<'a> = Recorded<Counted<Vec<u8>>, Counted<Shared<'a>>>;
 
 /// A till's end of a new line, which writes its trace there.
 fn new_line(
     alloc: Global,
     chance: Chance,
     trace: Shared<'_>,
-) -> Result<End<Heard<'_>, Sent<'_>>, AllocError> {
+) -> Result<Endpoint<Heard<'_>, Sent<'_>>, AllocError> {
     let pieces = Pieces {
         bytes: Vec::new(alloc),
         given: 0,
@@ -176,10 +176,10 @@ fn new_line(
         failures: GhostCount::zero(),
         reads: GhostCount::zero(),
     };
-    let sent = Over::new(Vec::new(alloc));
-    let writer = Recorded::new(alloc, Way::FromTill, sent, Over::new(trace))?;
-    Ok(End {
-        reader: Recorded::new(alloc, Way::FromTerminal, pieces, Over::new(trace))?,
+    let sent = Counted::new(Vec::new(alloc));
+    let writer = Recorded::new(alloc, Way::FromTill, sent, Counted::new(trace))?;
+    Ok(Endpoint {
+        reader: Recorded::new(alloc, Way::FromTerminal, pieces, Counted::new(trace))?,
         writer,
         stream: Stream::new(alloc),
     })
@@ -194,8 +194,8 @@ fn hear(bytes: &mut Vec<u8>, messages: [&[u8]; 4]) -> Result<(), AllocError> {
 }
 
 // Says nothing of what becomes of the order: beside that each step of a caller's proof is dear.
-fn run(alloc: Global, line: &mut End<Heard<'_>, Sent<'_>>, till: &mut Till, order: Order) {
-    let End {
+fn run(alloc: Global, line: &mut Endpoint<Heard<'_>, Sent<'_>>, till: &mut Till, order: Order) {
+    let Endpoint {
         reader,
         writer,
         stream,
@@ -218,7 +218,7 @@ fn make_orders(
         run(alloc, &mut line, till, order);
     }
     till.lost();
-    if end_trace(&mut Over::new(trace)).is_err() {
+    if end_trace(&mut Counted::new(trace)).is_err() {
         return Err(Fail::from("the trace does not end"));
     }
     Ok(())
@@ -266,14 +266,14 @@ fn recorded(alloc: Global, seed: u64) -> Result<(Till, Vec<u8>), Fail> {
 
 // This one and the next say nothing of what they answer: beside that each step of a caller's proof is dear.
 fn audited(alloc: Global, trace: &[u8]) -> Result<Vec<u8>, Fail> {
-    let mut writer = Over::new(Vec::new(alloc));
-    audit(alloc, &mut Over::new(trace), &mut writer)?;
+    let mut writer = Counted::new(Vec::new(alloc));
+    audit(alloc, &mut Counted::new(trace), &mut writer)?;
     Ok(writer.inner)
 }
 
 fn shown(alloc: Global, trace: &[u8]) -> Result<Vec<u8>, Fail> {
-    let mut writer = Over::new(Vec::new(alloc));
-    show(alloc, &mut Over::new(trace), &mut writer)?;
+    let mut writer = Counted::new(Vec::new(alloc));
+    show(alloc, &mut Counted::new(trace), &mut writer)?;
     Ok(writer.inner)
 }
 

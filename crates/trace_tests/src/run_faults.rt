@@ -2,8 +2,8 @@
 use std::alloc::Global;
 use std::process::Abort;
 use std::test::Fail;
-use zvt_run::{EndFault, NetFault};
-use zvt_spelling::Why;
+use zvt_grammar::Why;
+use zvt_session::{EndFault, NetFault};
 use zvt_stream::LineFault;
 
 /// The fault has the text beside it.

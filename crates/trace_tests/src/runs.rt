@@ -1,19 +1,19 @@
 //! Runs over TCP, over memory, and over devices that fail.
-use crate::told_runs::Full;
+use crate::reported_runs::Full;
 use std::alloc::{AllocError, Global};
 use std::io::{self, Read};
 use std::net::TcpListener;
 use std::process::Abort;
 use std::test::Fail;
-use zvt_io::{Over, Sink, Source};
-use zvt_run::{
-    BothEnds, End, EndFault, Ends, NetFault, Recorded, TillSettings, Way, config_of, currency_of,
-    password_of, plan, run_both_ends, run_loop, run_terminal, run_till, run_till_end, serve,
+use zvt_grammar::{Lengths, Why};
+use zvt_io::{Counted, Sink, Source};
+use zvt_session::{
+    BothEnds, EndFault, Endpoint, Ends, NetFault, Recorded, TillSettings, Way, config_of,
+    currency_of, password_of, plan, run_both_ends, run_loop, run_terminal, run_till, run_till_end,
+    serve,
 };
-use zvt_spelling::Why;
 use zvt_stream::{LineFault, Stream};
 use zvt_term::{Served, Terminal, Verdict};
-use zvt_tlv::Lengths;
 
 const USUAL: &str = r#"register -> registered
 pay:1000 -> paid trace 000001 receipt 0001
@@ -40,9 +40,9 @@ total 25
 // This function and those below that call the library say nothing of what it answers: beside that each step of a
 // caller's proof is dear.
 fn looped(rt: &HostRuntime, words: &[&str]) -> (Result<(), EndFault>, Vec<u8>) {
-    let mut writer = Over::new(Vec::new(rt.alloc()));
-    let mut tell = Over::new(Vec::new(rt.alloc()));
-    let ended = run_loop(rt, rt.alloc(), words, None, &mut writer, &mut tell);
+    let mut writer = Counted::new(Vec::new(rt.alloc()));
+    let mut report = Counted::new(Vec::new(rt.alloc()));
+    let ended = run_loop(rt, rt.alloc(), words, None, &mut writer, &mut report);
     (ended, writer.inner)
 }
 
@@ -71,20 +71,20 @@ fn registers_and_pays(
     coming: &[u8],
 ) -> Result<(Result<(), EndFault>, Vec<u8>), EndFault> {
     let plan = plan(alloc, Ends::Till, ["register", "pay:1000"].as_slice())?;
-    let mut line = End {
-        reader: Over::new(coming),
-        writer: Over::new(Vec::new(alloc)),
+    let mut line = Endpoint {
+        reader: Counted::new(coming),
+        writer: Counted::new(Vec::new(alloc)),
         stream: Stream::new(alloc),
     };
-    let mut writer = Over::new(Vec::new(alloc));
-    let mut tell = Over::new(Vec::new(alloc));
+    let mut writer = Counted::new(Vec::new(alloc));
+    let mut report = Counted::new(Vec::new(alloc));
     let ended = run_till_end(
         alloc,
         &mut line,
         &TillSettings::usual(),
         plan.as_slice(),
         &mut writer,
-        &mut tell,
+        &mut report,
     );
     Ok((ended, writer.inner))
 }
@@ -149,14 +149,14 @@ fn registers_without_rest(
 ) -> Result<(Result<(), EndFault>, Vec<u8>, usize, usize), EndFault> {
     let plan = plan(alloc, Ends::Both, ["register"].as_slice())?;
     let mut line = BothEnds {
-        till: End {
-            reader: Over::new(Again([0x04, 0xFF, 0x01, 0x00].as_slice())),
-            writer: Over::new(Vec::new(alloc)),
+        till: Endpoint {
+            reader: Counted::new(Again([0x04, 0xFF, 0x01, 0x00].as_slice())),
+            writer: Counted::new(Vec::new(alloc)),
             stream: Stream::new(alloc),
         },
-        terminal: End {
-            reader: Over::new(Again([0x06, 0xB0, 0x00].as_slice())),
-            writer: Over::new(Vec::new(alloc)),
+        terminal: Endpoint {
+            reader: Counted::new(Again([0x06, 0xB0, 0x00].as_slice())),
+            writer: Counted::new(Vec::new(alloc)),
             stream: Stream::new(alloc),
         },
         served: Served {
@@ -165,15 +165,15 @@ fn registers_without_rest(
         },
     };
     let usual = TillSettings::usual();
-    let mut writer = Over::new(Vec::new(alloc));
-    let mut tell = Over::new(Vec::new(alloc));
+    let mut writer = Counted::new(Vec::new(alloc));
+    let mut report = Counted::new(Vec::new(alloc));
     let ended = run_both_ends(
         alloc,
         &mut line,
         &usual,
         plan.as_slice(),
         &mut writer,
-        &mut tell,
+        &mut report,
     );
     let BothEnds { till, terminal, .. } = line;
     let till_sent = till.writer.inner.len();
@@ -193,9 +193,9 @@ fn ends_that_never_rest(rt: HostRuntime) -> Result<(), Fail> {
 
 /// What a terminal of the number 87654321, which declines with 6C, writes where these bytes come, and how it ends.
 fn serves(alloc: Global, coming: &[u8]) -> (Result<(), LineFault>, Vec<u8>) {
-    let mut end = End {
-        reader: Over::new(coming),
-        writer: Over::new(Vec::new(alloc)),
+    let mut end = Endpoint {
+        reader: Counted::new(coming),
+        writer: Counted::new(Vec::new(alloc)),
         stream: Stream::new(alloc),
     };
     let mut served = Served {
@@ -223,7 +223,7 @@ fn a_terminal_serves_its_line(rt: HostRuntime) {
 }
 
 #[test]
-fn a_terminal_tells_how_its_line_broke(rt: HostRuntime) {
+fn a_terminal_reports_how_its_line_broke(rt: HostRuntime) {
     let (ended, _) = serves(rt.alloc(), [0x06, 0x01, 0x0A, 0x04].as_slice());
     assert!(rt; matches!(ended, Err(LineFault::Ended { have: 4 })));
     let (ended, _) = serves(rt.alloc(), [0x06, 0x01, 0x02, 0xD0].as_slice());
@@ -236,7 +236,7 @@ fn a_terminal_tells_how_its_line_broke(rt: HostRuntime) {
 
 /// A run of a terminal at this port, and what it tells.
 fn terminal_at(rt: &HostRuntime, port: u16) -> (Result<(), EndFault>, Vec<u8>) {
-    let mut tell = Over::new(Vec::new(rt.alloc()));
+    let mut report = Counted::new(Vec::new(rt.alloc()));
     let ended = run_terminal(
         rt,
         rt.alloc(),
@@ -247,18 +247,18 @@ fn terminal_at(rt: &HostRuntime, port: u16) -> (Result<(), EndFault>, Vec<u8>) {
         Lengths::Shortest,
         1,
         None,
-        &mut tell,
+        &mut report,
     );
-    (ended, tell.inner)
+    (ended, report.inner)
 }
 
 #[test]
 fn no_till_connects(rt: HostRuntime) -> Result<(), Fail> {
     let listener = TcpListener::bind(&rt, "127.0.0.1:0")?;
     let port = listener.local_addr()?.port();
-    let (ended, told) = terminal_at(&rt, port);
+    let (ended, reported) = terminal_at(&rt, port);
     assert!(rt; matches!(ended, Err(EndFault::Net(NetFault::InUse))));
-    assert!(rt; told.is_empty());
+    assert!(rt; reported.is_empty());
     Ok(())
 }
 
@@ -270,8 +270,8 @@ fn closed_port(rt: &HostRuntime) -> Result<u16, Fail> {
 
 /// A run of a till against this port, and what it writes.
 fn till_at(rt: &HostRuntime, port: u16, steps: &[&str]) -> (Result<(), EndFault>, Vec<u8>) {
-    let mut writer = Over::new(Vec::new(rt.alloc()));
-    let mut tell = Over::new(Vec::new(rt.alloc()));
+    let mut writer = Counted::new(Vec::new(rt.alloc()));
+    let mut report = Counted::new(Vec::new(rt.alloc()));
     let ended = run_till(
         rt,
         rt.alloc(),
@@ -282,7 +282,7 @@ fn till_at(rt: &HostRuntime, port: u16, steps: &[&str]) -> (Result<(), EndFault>
         steps,
         None,
         &mut writer,
-        &mut tell,
+        &mut report,
     );
     (ended, writer.inner)
 }
@@ -297,7 +297,7 @@ fn no_terminal_listens(rt: HostRuntime) -> Result<(), Fail> {
 }
 
 #[test]
-fn wrong_words_are_told_first(rt: HostRuntime) -> Result<(), Fail> {
+fn wrong_words_are_reported_first(rt: HostRuntime) -> Result<(), Fail> {
     let port = closed_port(&rt)?;
     let (ended, written) = till_at(&rt, port, &["register", "decline:1:6C"]);
     assert!(rt; matches!(ended, Err(EndFault::BadStep { at: 1 })));
@@ -315,22 +315,22 @@ fn registers_recorded(
     coming: &[u8],
 ) -> Result<(Result<(), EndFault>, Vec<u8>, Vec<u8>), EndFault> {
     let plan = plan(alloc, Ends::Till, ["register"].as_slice())?;
-    let sent = Over::new(Vec::new(alloc));
-    let reads = Over::new(Vec::new(alloc));
-    let mut line = End {
-        reader: Recorded::new(alloc, Way::FromTerminal, Over::new(coming), reads)?,
-        writer: Recorded::new(alloc, Way::FromTill, sent, Over::new(Vec::new(alloc)))?,
+    let sent = Counted::new(Vec::new(alloc));
+    let reads = Counted::new(Vec::new(alloc));
+    let mut line = Endpoint {
+        reader: Recorded::new(alloc, Way::FromTerminal, Counted::new(coming), reads)?,
+        writer: Recorded::new(alloc, Way::FromTill, sent, Counted::new(Vec::new(alloc)))?,
         stream: Stream::new(alloc),
     };
-    let mut writer = Over::new(Vec::new(alloc));
-    let mut tell = Over::new(Vec::new(alloc));
+    let mut writer = Counted::new(Vec::new(alloc));
+    let mut report = Counted::new(Vec::new(alloc));
     let ended = run_till_end(
         alloc,
         &mut line,
         settings,
         plan.as_slice(),
         &mut writer,
-        &mut tell,
+        &mut report,
     );
     let sent = Vec::from_slice(alloc, line.writer.device.inner.as_slice())?;
     let mut trace = Vec::from_slice(alloc, line.writer.trace.inner.as_slice())?;
@@ -359,16 +359,16 @@ fn a_line_is_recorded(rt: HostRuntime) -> Result<(), Fail> {
 
 /// Whether a byte is sent whose trace can't be written, and how many are.
 fn sends_untraced(alloc: Global) -> Result<(bool, usize), AllocError> {
-    let sent = Over::new(Vec::new(alloc));
-    let mut writer = Recorded::new(alloc, Way::FromTill, sent, Over::new(Full))?;
+    let sent = Counted::new(Vec::new(alloc));
+    let mut writer = Recorded::new(alloc, Way::FromTill, sent, Counted::new(Full))?;
     let is_sent = writer.write_all([1].as_slice()).is_ok();
     Ok((is_sent, writer.device.inner.len()))
 }
 
 /// How many bytes come in the first read and in the second, where the trace of the first can't be written.
 fn reads_untraced(alloc: Global) -> Result<[Option<usize>; 2], AllocError> {
-    let coming = Over::new([1, 2].as_slice());
-    let mut reader = Recorded::new(alloc, Way::FromTerminal, coming, Over::new(Full))?;
+    let coming = Counted::new([1, 2].as_slice());
+    let mut reader = Recorded::new(alloc, Way::FromTerminal, coming, Counted::new(Full))?;
     let mut buffer = [0];
     let first = Source::read(&mut reader, &mut buffer).ok();
     let second = Source::read(&mut reader, &mut buffer).ok();

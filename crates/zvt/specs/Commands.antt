@@ -1,9 +1,9 @@
 -- The commands of the program, by what it does for them.
 use Rattle.std.specs.Prelude.{◌≤◌, Bool, true, false, Option, Some, None}
-use Rattle.zvt_choice.specs.declared.chosen.Choice.{Choice}
-use Rattle.zvt_choice.specs.declared.chosen.Choice.TheVariants as choice
-use Rattle.zvt_tlv.specs.declared.lengths.Lengths.{Lengths}
-use Rattle.zvt_tlv.specs.declared.lengths.Lengths.TheVariants.{Shortest, Padded}
+use Rattle.zvt_cli.specs.declared.choice.Choice.{Choice}
+use Rattle.zvt_cli.specs.declared.choice.Choice.TheVariants as choice
+use Rattle.zvt_grammar.specs.declared.lengths.Lengths.{Lengths}
+use Rattle.zvt_grammar.specs.declared.lengths.Lengths.TheVariants.{Shortest, Padded}
 use Rattle.zvt.specs.declared.command.Command.{Command}
 use Rattle.zvt.specs.declared.command.Command.TheVariants.{OnTrace, Loop, Till, Terminal}
 use Rattle.zvt.specs.declared.command.TraceCommand.{TraceCommand}

@@ -1,6 +1,6 @@
 -- Of which commands notes and hints are said.
 use Rattle.std.specs.Prelude.{ℕ, cond, is_some, Option, Some, None, Result, Ok, Err}
-use Rattle.zvt_audit.specs.declared.auditing.Found.{Found}
+use Rattle.zvt_audit.specs.declared.summary.AuditSummary.{AuditSummary}
 use Rattle.zvt_trace.specs.declared.fault.TraceFault.{TraceFault}
 use Rattle.zvt_trace.specs.declared.fault.TraceFault.TheVariants as fault
 use Rattle.zvt_trace.specs.declared.listener.Scope.{Scope}
@@ -21,7 +21,7 @@ abbrev pub scope_of : TraceCommand → Option Scope
 scope_of command = scope_by command.work
 
 -- the line that can't be read, where a command on a line's messages ended for that
-abbrev pub unread_line : TraceCommand → Result Found TraceFault → Option ℕ
+abbrev pub unread_line : TraceCommand → Result AuditSummary TraceFault → Option ℕ
 unread_line command (Ok found) = None
 unread_line command (Err (fault.Trace line what)) = cond (is_some (scope_of command)) (Some line) None
 unread_line command (Err fault.TooLong) = None

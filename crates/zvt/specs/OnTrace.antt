@@ -1,20 +1,20 @@
 -- What the commands on a trace answer.
 use Rattle.std.specs.Prelude.{◌≡◌, ℕ, List, [], Option, None, Some, Result, Ok, Err, codes}
 use Rattle.std.specs.Str.Lines.{lines}
-use Rattle.zvt_spelling.specs.Reading.{Reading}
-use Rattle.zvt_tlv.specs.Lengths.{reading_of}
+use Rattle.zvt_grammar.specs.Reading.{Reading}
+use Rattle.zvt_grammar.specs.Lengths.{reading_of}
 use Rattle.zvt.specs.declared.command.TraceCommand.{TraceCommand}
 use Rattle.zvt.specs.declared.command.TraceWork.{TraceWork}
 use Rattle.zvt.specs.declared.command.TraceWork.TheVariants.{Show, Join, Audit, Receipts, Vectors}
 use Rattle.zvt_audit.specs.Audited.{AnswersReadBy}
-use Rattle.zvt_audit.specs.declared.auditing.Found.{Found}
+use Rattle.zvt_audit.specs.declared.summary.AuditSummary.{AuditSummary}
 use Rattle.zvt_vectors.specs.Checked.{AnswersVectors}
 use Rattle.zvt_show.specs.Lines.{mark_of}
 use Rattle.zvt_show.specs.Written.{AnswersLinesBy}
 use Rattle.zvt_trace.specs.declared.fault.Tally.{Tally}
 use Rattle.zvt_trace.specs.declared.fault.TraceFault.{TraceFault}
 
-abbrev pub tally_of : Result Found TraceFault → Result Tally TraceFault
+abbrev pub tally_of : Result AuditSummary TraceFault → Result Tally TraceFault
 tally_of (Ok found) = Ok found.tally
 tally_of (Err fault) = Err fault
 
@@ -24,7 +24,7 @@ AnswersMarked r mark trace old new result = (style : _) × (mark_of style ≡ ma
 
 -- What is answered and written of a trace by these lengths. Of the three styles `show` writes its faults as they are, `join`
 -- as remarks, and `receipts` none.
-abbrev pub AnswersWork : TraceWork → Reading → (trace : List ℕ) → (old new : Option (List ℕ)) → Result Found TraceFault → Type 0
+abbrev pub AnswersWork : TraceWork → Reading → (trace : List ℕ) → (old new : Option (List ℕ)) → Result AuditSummary TraceFault → Type 0
 AnswersWork Show r trace old new result = AnswersMarked r (Some []) trace old new (tally_of result)
 AnswersWork Join r trace old new result = AnswersMarked r (Some (codes "# ")) trace old new (tally_of result)
 AnswersWork Receipts r trace old new result = AnswersMarked r None trace old new (tally_of result)
@@ -32,5 +32,5 @@ AnswersWork Audit r trace old new result = AnswersReadBy r trace old new result
 AnswersWork Vectors r trace old new result = AnswersVectors trace old new (tally_of result)
 
 -- what the command answers for a trace that was read
-abbrev pub AnswersOnTrace : TraceCommand → (trace : List ℕ) → (old new : Option (List ℕ)) → Result Found TraceFault → Type 0
+abbrev pub AnswersOnTrace : TraceCommand → (trace : List ℕ) → (old new : Option (List ℕ)) → Result AuditSummary TraceFault → Type 0
 AnswersOnTrace command trace old new result = AnswersWork command.work (reading_of command.lengths) trace old new result

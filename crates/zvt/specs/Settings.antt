@@ -4,9 +4,9 @@ use Rattle.std.specs.Borrow.{Bor}
 use Rattle.zvt_till.specs.Events.{run_settings}
 use Rattle.zvt_term.specs.declared.turns.Verdict.{Verdict}
 use Rattle.zvt_term.specs.declared.turns.Verdict.TheVariants.{Approve, Decline}
-use Rattle.zvt_run.specs.Settings.{config_of, currency_of, password_of}
-use Rattle.zvt_run.specs.Words.{code_in}
-use Rattle.zvt_run.specs.declared.settings.TillSettings.{TillSettings}
+use Rattle.zvt_session.specs.Settings.{config_of, currency_of, password_of}
+use Rattle.zvt_session.specs.Words.{code_in}
+use Rattle.zvt_session.specs.declared.settings.TillSettings.{TillSettings}
 use Rattle.zvt.specs.declared.settings.SettingWords.{SettingWords}
 
 -- what a word names, or the usual where there is no word

@@ -5,8 +5,8 @@ use Rattle.zvt_stream.specs.declared.line.LineFault.TheVariants.{Read as ReadBro
 use Rattle.zvt_trace.specs.declared.fault.Tally.{Tally}
 use Rattle.zvt_trace.specs.declared.fault.TraceFault.{TraceFault}
 use Rattle.zvt_trace.specs.declared.fault.TraceFault.TheVariants as on_trace
-use Rattle.zvt_run.specs.declared.fault.EndFault.{EndFault}
-use Rattle.zvt_run.specs.declared.fault.EndFault.TheVariants as at_end
+use Rattle.zvt_session.specs.declared.fault.EndFault.{EndFault}
+use Rattle.zvt_session.specs.declared.fault.EndFault.TheVariants as at_end
 
 -- 1 where a stream of the trace was refused or cut off
 abbrev pub status_of_bad : ℕ → ℕ

@@ -1,7 +1,7 @@
 //! The command that was chosen, by what the program does for it.
 ghost use Rattle.std.specs.Prelude.{◌≡◌, Option, List};
 ghost use Rattle.clap.specs.Words.{Row, Text};
-ghost use Rattle.zvt_choice.specs.Chosen.{IsChoiceOf};
+ghost use Rattle.zvt_cli.specs.Chosen.{IsChoiceOf};
 ghost use Rattle.zvt.specs.Commands.{HasTerminalNumber, chosen_on_trace, lengths_by, on_trace, working};
 
 use crate::settings::SettingWords;

@@ -8,7 +8,7 @@ use crate::settings::{settings, verdict};
 use crate::statuses::{DEVICE, WORDS};
 use std::fs::File;
 use std::io;
-use zvt_io::Over;
+use zvt_io::Counted;
 use zvt_tool::{Ends, plan, run_loop, run_terminal, run_till};
 
 /// Runs both ends in this process, and answers the exit status.
@@ -17,11 +17,11 @@ pub fn both_ends(rt: &HostRuntime, trace: Option<&str>, steps: &[&str]) -> io::R
         Ok(file) => file,
         Err(status) => return Ok(status),
     };
-    let mut writer = Over::new(Output::new(io::writer(rt)));
-    let mut tell = Over::new(rt.stderr());
+    let mut writer = Counted::new(Output::new(io::writer(rt)));
+    let mut report = Counted::new(rt.stderr());
     let file = file.as_ref();
-    let answer = run_loop(rt, rt.alloc(), steps, file, &mut writer, &mut tell);
-    finish_run(rt, steps, writer.inner.has_gone, answer)
+    let answer = run_loop(rt, rt.alloc(), steps, file, &mut writer, &mut report);
+    finish_run(rt, steps, writer.inner.broken_pipe, answer)
 }
 
 /// Runs a till, and answers the exit status.
@@ -38,8 +38,8 @@ pub fn till(rt: &HostRuntime, options: &TillOptions<'_>) -> io::Result<u8> {
         Err(status) => return Ok(status),
     };
     let file = file.as_ref();
-    let mut writer = Over::new(Output::new(io::writer(rt)));
-    let mut tell = Over::new(rt.stderr());
+    let mut writer = Counted::new(Output::new(io::writer(rt)));
+    let mut report = Counted::new(rt.stderr());
     let answer = run_till(
         rt,
         rt.alloc(),
@@ -50,9 +50,9 @@ pub fn till(rt: &HostRuntime, options: &TillOptions<'_>) -> io::Result<u8> {
         options.steps,
         file,
         &mut writer,
-        &mut tell,
+        &mut report,
     );
-    finish_run(rt, options.steps, writer.inner.has_gone, answer)
+    finish_run(rt, options.steps, writer.inner.broken_pipe, answer)
 }
 
 /// Serves so many tills as a terminal, and answers the exit status.
@@ -70,7 +70,7 @@ pub fn terminal(rt: &HostRuntime, options: &TerminalOptions<'_>) -> io::Result<u
         Ok(file) => file,
         Err(status) => return Ok(status),
     };
-    let mut tell = Over::new(rt.stderr());
+    let mut report = Counted::new(rt.stderr());
     let file = file.as_ref();
     let answer = run_terminal(
         rt,
@@ -82,7 +82,7 @@ pub fn terminal(rt: &HostRuntime, options: &TerminalOptions<'_>) -> io::Result<u
         options.lengths,
         options.connections,
         file,
-        &mut tell,
+        &mut report,
     );
     finish_run(rt, &[], false, answer)
 }

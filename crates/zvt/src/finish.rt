@@ -5,22 +5,22 @@ ghost use Rattle.zvt.specs.Statuses.{status_of_run, status_of_tally};
 
 use crate::statuses;
 use std::io;
-use zvt_tool::{EndFault, Found, ToolFault, TraceFault};
+use zvt_tool::{AuditSummary, EndFault, ToolFault, TraceFault};
 
 /// The exit status of a command on a trace, of this file perhaps. A fault is said, and the file of one that is about it;
 /// but nothing is said of text that could not be written since its reader has gone.
 pub fn finish_trace(
     rt: &HostRuntime,
     file: Option<&str>,
-    has_gone: bool,
-    answer: Result<Found, TraceFault>,
+    broken_pipe: bool,
+    answer: Result<AuditSummary, TraceFault>,
 ) -> io::Result<u8>
     ensures { IfOk result (λ status. status ≡ status_of_tally (tally_of answer)) }
 {
     let status = statuses::of_found(&answer);
     match answer {
         Ok(_) => {}
-        Err(TraceFault::Write) if has_gone => {}
+        Err(TraceFault::Write) if broken_pipe => {}
         Err(TraceFault::Write) => say(rt, None, &ToolFault::from(TraceFault::Write))?,
         Err(fault) => say(rt, file, &ToolFault::from(fault))?,
     }
@@ -32,7 +32,7 @@ pub fn finish_trace(
 pub fn finish_run(
     rt: &HostRuntime,
     steps: &[&str],
-    has_gone: bool,
+    broken_pipe: bool,
     answer: Result<(), EndFault>,
 ) -> io::Result<u8>
     ensures { IfOk result (λ status. status ≡ status_of_run answer) }
@@ -40,7 +40,7 @@ pub fn finish_run(
     let status = statuses::of_run(&answer);
     match answer {
         Ok(()) => {}
-        Err(EndFault::Write) if has_gone => {}
+        Err(EndFault::Write) if broken_pipe => {}
         Err(fault) => {
             let word = word_of(&fault, steps);
             say(rt, word, &ToolFault::from(fault))?;

@@ -7,7 +7,7 @@ use crate::output::Output;
 use crate::statuses::{DEVICE, MEMORY};
 use std::fs::File;
 use std::io::{self, IsTerminal};
-use zvt_io::{Over, Source};
+use zvt_io::{Counted, Source};
 use zvt_tool::read_trace;
 
 /// Runs the command on the trace in this file, or of standard input where none or `-` is named. Answers the exit status.
@@ -26,7 +26,7 @@ fn work_on_input(rt: &HostRuntime, command: &TraceCommand) -> io::Result<u8> {
             "zvt: a trace is read from this terminal: end it with Ctrl-D at the start of a line"
         )?;
     }
-    work_with(rt, command, None, &mut Over::new(input))
+    work_with(rt, command, None, &mut Counted::new(input))
 }
 
 /// Runs the command on the trace in this file.
@@ -38,7 +38,7 @@ fn work_on_file(rt: &HostRuntime, command: &TraceCommand, path: &str) -> io::Res
             return Ok(DEVICE);
         }
     };
-    work_with(rt, command, Some(path), &mut Over::new(file))
+    work_with(rt, command, Some(path), &mut Counted::new(file))
 }
 
 /// Runs the command on the trace that the reader brings, and names the file in its messages, if there is one. Standard
@@ -55,11 +55,11 @@ fn work_with<R: Source>(
         Err(fault) => return finish_trace(rt, path, false, Err(fault)),
     };
     let trace = trace.as_slice();
-    let mut writer = Over::new(Output::new(io::writer(rt)));
+    let mut writer = Counted::new(Output::new(io::writer(rt)));
     let answer = work_on_trace(rt.alloc(), command, trace, &mut writer);
     let unread = unread_line(command, &answer);
     let had_memory = say_notes(rt, command, trace, &answer)?;
-    let status = finish_trace(rt, path, writer.inner.has_gone, answer)?;
+    let status = finish_trace(rt, path, writer.inner.broken_pipe, answer)?;
     say_hint(rt, trace, unread)?;
     Ok(if had_memory { status } else { MEMORY })
 }

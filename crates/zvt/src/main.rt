@@ -3,7 +3,7 @@
 
 ghost use Rattle.std.specs.Prelude.{Option, List};
 ghost use Rattle.clap.specs.Words.{Row, Text};
-ghost use Rattle.zvt_choice.specs.Chosen.{IsChoiceOf};
+ghost use Rattle.zvt_cli.specs.Chosen.{IsChoiceOf};
 
 mod command;
 mod ends;

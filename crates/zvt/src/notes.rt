@@ -6,8 +6,10 @@ ghost use Rattle.zvt.specs.Notes.{scope_of, unread_line};
 use crate::command::{TraceCommand, TraceWork};
 use crate::finish::say;
 use std::io::{self, ErrorKind};
-use zvt_io::Over;
-use zvt_tool::{Failure, Found, Lengths, Scope, ToolFault, TraceFault, hint_on, write_notes};
+use zvt_io::Counted;
+use zvt_tool::{
+    AuditSummary, Lengths, ListenerError, Scope, ToolFault, TraceFault, hint_on, write_notes,
+};
 
 /// Says which streams of the trace are bad, that it has no message, or that its directions may be swapped, and answers
 /// whether there was memory for that.
@@ -15,7 +17,7 @@ pub fn say_notes(
     rt: &HostRuntime,
     command: &TraceCommand,
     trace: &[u8],
-    answer: &Result<Found, TraceFault>,
+    answer: &Result<AuditSummary, TraceFault>,
 ) -> io::Result<bool>
     requires { length trace.now ≤ limit }
 {
@@ -44,7 +46,7 @@ pub fn say_notes(
 }
 
 /// The line of the trace, counted from 1, that can't be read, if that is why the command ended.
-pub fn unread_line(command: &TraceCommand, answer: &Result<Found, TraceFault>) -> Option<u64>
+pub fn unread_line(command: &TraceCommand, answer: &Result<AuditSummary, TraceFault>) -> Option<u64>
     ensures { result ≡ unread_line command.now answer.now }
 {
     match answer {
@@ -79,13 +81,13 @@ fn scope_of(command: &TraceCommand) -> Option<Scope>
 fn say_bad(rt: &HostRuntime, scope: Scope, lengths: Lengths, trace: &[u8]) -> io::Result<bool>
     requires { length trace.now ≤ limit }
 {
-    let mut device = Over::new(rt.stderr());
+    let mut device = Counted::new(rt.stderr());
     match write_notes(rt.alloc(), scope, lengths, trace, &mut device) {
         Ok(()) => Ok(true),
-        Err(Failure::Memory) => {
+        Err(ListenerError::Memory) => {
             say(rt, None, &ToolFault::from(TraceFault::Memory))?;
             Ok(false)
         }
-        Err(Failure::Write) => Err(io::Error::from(ErrorKind::Other)),
+        Err(ListenerError::Write) => Err(io::Error::from(ErrorKind::Other)),
     }
 }

@@ -5,9 +5,9 @@ ghost use Rattle.zvt.specs.OnTrace.{AnswersOnTrace, tally_of};
 
 use crate::command::{TraceCommand, TraceWork};
 use std::alloc::Global;
-use zvt_io::{Over, Sink};
+use zvt_io::{Counted, Sink};
 use zvt_tool::{
-    Found, Lengths, Tally, TraceFault, audit_loose, audit_trace, join_trace, receipts_trace,
+    AuditSummary, Lengths, Tally, TraceFault, audit_loose, audit_trace, join_trace, receipts_trace,
     show_trace, vectors,
 };
 
@@ -17,7 +17,7 @@ pub fn work_on_trace<W: Sink>(
     command: &TraceCommand,
     trace: &[u8],
     writer: &mut W,
-) -> Result<Found, TraceFault>
+) -> Result<AuditSummary, TraceFault>
     requires { length trace.now ≤ limit }
     ensures writes { AnswersOnTrace command.now trace.now (W.written writer.old) (W.written writer.new) result }
     ensures write { result ≡ Err TraceFault.Write → W.failures writer.old < W.failures writer.new }
@@ -31,17 +31,17 @@ pub fn work_on_trace<W: Sink>(
             Lengths::Shortest => audit_trace(alloc, trace, writer),
             Lengths::Padded => audit_loose(alloc, trace, writer),
         },
-        TraceWork::Vectors => found(vectors(alloc, &mut Over::new(trace), writer)),
+        TraceWork::Vectors => found(vectors(alloc, &mut Counted::new(trace), writer)),
     }
 }
 
 /// What a command found that does not look at who sends orders.
-fn found(answer: Result<Tally, TraceFault>) -> Result<Found, TraceFault>
+fn found(answer: Result<Tally, TraceFault>) -> Result<AuditSummary, TraceFault>
     ensures tally { tally_of result ≡ answer }
     ensures swapped { IfOk result (λ found. found.swapped ≡ false) }
 {
     match answer {
-        Ok(tally) => Ok(Found {
+        Ok(tally) => Ok(AuditSummary {
             tally,
             swapped: false,
         }),

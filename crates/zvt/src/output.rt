@@ -5,7 +5,7 @@ use std::io::{self, ErrorKind, Write};
 #[derive(Drop)]
 pub struct Output<W> {
     inner: W,
-    pub has_gone: bool,
+    pub broken_pipe: bool,
 }
 
 impl<W> Output<W> {
@@ -13,7 +13,7 @@ impl<W> Output<W> {
     pub fn new(inner: W) -> Output<W> {
         Output {
             inner,
-            has_gone: false,
+            broken_pipe: false,
         }
     }
 }
@@ -24,7 +24,7 @@ impl<W: Write> Write for Output<W> {
     fn write(&mut self, bytes: &[u8]) -> io::Result<usize> {
         let written = self.inner.write(bytes);
         if let Err(error) = &written {
-            self.has_gone = error.kind() == ErrorKind::BrokenPipe;
+            self.broken_pipe = error.kind() == ErrorKind::BrokenPipe;
         }
         written
     }

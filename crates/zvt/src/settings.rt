@@ -1,6 +1,6 @@
 //! What the words of the options of either end name.
 ghost use Rattle.std.specs.Prelude.{◌≡◌, IfOk};
-ghost use Rattle.zvt_run.specs.Settings.{config_of, currency_of, password_of};
+ghost use Rattle.zvt_session.specs.Settings.{config_of, currency_of, password_of};
 ghost use Rattle.zvt.specs.Settings.{AreSettings, named, verdict_named};
 
 use std::io;

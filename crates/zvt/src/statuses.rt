@@ -4,7 +4,7 @@ ghost use Rattle.zvt.specs.OnTrace.{tally_of};
 ghost use Rattle.zvt.specs.Statuses.{status_of_bad, status_of_end_fault, status_of_run, status_of_tally, status_of_trace_fault};
 
 use zvt_stream::LineFault;
-use zvt_tool::{EndFault, Found, TraceFault};
+use zvt_tool::{AuditSummary, EndFault, TraceFault};
 
 /// All was done, or help was asked for.
 pub const DONE: u8 = 0;
@@ -25,7 +25,7 @@ pub const DEVICE: u8 = 4;
 pub const MEMORY: u8 = 5;
 
 /// The status of a command on a trace.
-pub fn of_found(answer: &Result<Found, TraceFault>) -> u8
+pub fn of_found(answer: &Result<AuditSummary, TraceFault>) -> u8
     ensures { result ≡ status_of_tally (tally_of answer.now) }
 {
     match answer {

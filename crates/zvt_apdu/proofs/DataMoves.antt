@@ -7,12 +7,12 @@ use Rattle.std.proofs.lemmas.Option.{get_or_from_slice_get}
 use Rattle.std.proofs.Math.Seq.{take-append-add, drop-append_seam, take-append_seam, take-suc, take-add}
 use Rattle.zvt_bcd.specs.Digits.{AreDigits, IsDigitPair}
 use Rattle.zvt_bcd.proofs.PairTests.{is_pair_test}
-use Rattle.zvt_spelling.specs.declared.why.Why.TheVariants.{NotDigit}
-use Rattle.zvt_spelling.specs.Beginnings.{Alive, NoneWhole, Unfinished, Place}
-use Rattle.zvt_spelling.specs.Reading.{Reading, AreBytes}
-use Rattle.zvt_spelling.specs.Tests.{check}
-use Rattle.zvt_tlv.proofs.Spelling.{same_front}
-use Rattle.zvt_tlv.proofs.Alive.{front_of}
+use Rattle.zvt_grammar.specs.declared.why.Why.TheVariants.{NotDigit}
+use Rattle.zvt_grammar.specs.Beginnings.{Alive, NoneWhole, Unfinished, Place}
+use Rattle.zvt_grammar.specs.Reading.{Reading, AreBytes}
+use Rattle.zvt_grammar.specs.Tests.{check}
+use Rattle.zvt_tlv.proofs.Spelling.{same_prefix}
+use Rattle.zvt_tlv.proofs.Alive.{prefix_of}
 use Rattle.zvt_tlv.proofs.Levels.{byte_from}
 use Rattle.zvt_apdu.specs.Message.{Message}
 use Rattle.zvt_apdu.specs.Grammar.{IsFrameLength, Spells}
@@ -45,8 +45,8 @@ inside_is r bytes o p =
     let size : o.start ≡ length head = omega (arith, p.starts) in
     ap (λ (n : ℕ). drop n bytes) size ∙ ap (drop (length head)) p.whole ∙ drop-append_seam head p.inside
 
-pub front_is : (r : Reading) (bytes : List ℕ) (o : Opening) (p : Opens r bytes o) (k : ℕ) → take (o.start + k) bytes ≡ begun o.high o.low p.size (take k p.inside)
-front_is r bytes o p k =
+pub prefix_is : (r : Reading) (bytes : List ℕ) (o : Opening) (p : Opens r bytes o) (k : ℕ) → take (o.start + k) bytes ≡ begun o.high o.low p.size (take k p.inside)
+prefix_is r bytes o p k =
     let head = o.high ∷ o.low ∷ p.size in
     let size : o.start + k ≡ length head + k = omega (arith, p.starts) in
     ap (λ (n : ℕ). take n bytes) size ∙ ap (take (length head + k)) p.whole ∙ take-append-add head p.inside k
@@ -69,19 +69,19 @@ last_digits : (a : List ℕ) (x : ℕ) → AreDigits (a ++ x ∷ []) → IsDigit
 last_digits [] x p = All-head IsDigitPair x [] p
 last_digits (y ∷ a) x p = last_digits a x (All-tail IsDigitPair y (a ++ x ∷ []) p)
 
-pub front_digits : (a b : List ℕ) → AreDigits (a ++ b) → AreDigits a
-front_digits a b p = All-same IsDigitPair a (take (length a) (a ++ b)) (sym (take-append_seam a b)) (All-take IsDigitPair (length a) (a ++ b) p)
+pub prefix_digits : (a b : List ℕ) → AreDigits (a ++ b) → AreDigits a
+prefix_digits a b p = All-same IsDigitPair a (take (length a) (a ++ b)) (sym (take-append_seam a b)) (All-take IsDigitPair (length a) (a ++ b) p)
 
 -- a byte of the digits of what goes with a beginning is a pair of digits
-pub digit_holds : (r : Reading) (high low n : ℕ) (size front rest f d later : List ℕ) (x : ℕ) (inside : List ℕ) → Goes r high low n size inside front rest → inside ≡ f ++ ((d ++ x ∷ []) ++ later) → length f ≡ (layout_of high low n).free → length d < (layout_of high low n).digits → IsDigitPair x
-digit_holds r high low n size front rest f d later x inside g e fs ds =
+pub digit_holds : (r : Reading) (high low n : ℕ) (size prefix rest f d later : List ℕ) (x : ℕ) (inside : List ℕ) → Goes r high low n size inside prefix rest → inside ≡ f ++ ((d ++ x ∷ []) ++ later) → length f ≡ (layout_of high low n).free → length d < (layout_of high low n).digits → IsDigitPair x
+digit_holds r high low n size prefix rest f d later x inside g e fs ds =
     let p = g.parts in
     let whole : p.free ++ (p.digits ++ (p.tail ++ rest)) ≡ f ++ ((d ++ x ∷ []) ++ later) =
     let back : (p.free ++ (p.digits ++ p.tail)) ++ rest ≡ p.free ++ (p.digits ++ (p.tail ++ rest)) = simp append_assoc in
     sym back ∙ ap (λ (s : List ℕ). s ++ rest) (sym p.whole) ∙ g.inside_is ∙ e in
-    let one = same_front p.free f (p.digits ++ (p.tail ++ rest)) ((d ++ x ∷ []) ++ later) (p.free_size ∙ sym fs) whole in
-    let m = front_of (d ++ x ∷ []) later p.digits (p.tail ++ rest) (sym one.1) (omega (arith, length-append d (x ∷ []), p.digits_size, ds)) in
-    last_digits d x (front_digits (d ++ x ∷ []) m.0 (subst AreDigits m.1 p.are_digits))
+    let one = same_prefix p.free f (p.digits ++ (p.tail ++ rest)) ((d ++ x ∷ []) ++ later) (p.free_size ∙ sym fs) whole in
+    let m = prefix_of (d ++ x ∷ []) later p.digits (p.tail ++ rest) (sym one.1) (omega (arith, length-append d (x ∷ []), p.digits_size, ds)) in
+    last_digits d x (prefix_digits (d ++ x ∷ []) m.0 (subst AreDigits m.1 p.are_digits))
 
 digit_at : (r : Reading) (o : Opening) (k : ℕ) (bytes : List ℕ) (p : Opens r bytes o) (l : Layout) → l ≡ layout_of o.high o.low o.size → WrongDigit l.free l.digits p.inside k → AreBytes p.inside →
     NoneWhole (Spells r) bytes × Place (Spells r) bytes (o.start + k) × WhyOf r bytes (o.start + k) NotDigit
@@ -90,13 +90,13 @@ digit_at r o k bytes p l is w are =
     let f = take l.free inside in
     let d = take (k - l.free) (drop l.free inside) in
     let later = drop (suc k) inside in
-    let fs : length f ≡ l.free = length-take-le l.free inside (omega (arith, w.behind, w.present)) in
+    let fs : length f ≡ l.free = length-take-le l.free inside (omega (arith, w.trailing, w.present)) in
     let ds : length d ≡ k - l.free = length-take-le (k - l.free) (drop l.free inside) (omega (arith, w.present, length-drop l.free inside)) in
     let frees : length f ≡ (layout_of o.high o.low o.size).free = fs ∙ ap (λ (l : Layout). l.free) is in
-    let few : length d < (layout_of o.high o.low o.size).digits = omega (arith, ds, w.within, w.behind, ap (λ (l : Layout). l.digits) is) in
+    let few : length d < (layout_of o.high o.low o.size).digits = omega (arith, ds, w.within, w.trailing, ap (λ (l : Layout). l.digits) is) in
     let byte : get_or inside k 0 ≡ w.byte = get_or_from_slice_get inside k w.byte 0 w.is_byte in
     let before : take k inside ≡ f ++ d =
-    let e : k ≡ l.free + (k - l.free) = omega (arith, w.behind) in ap (λ (m : ℕ). take m inside) e ∙ take-add l.free (k - l.free) inside in
+    let e : k ≡ l.free + (k - l.free) = omega (arith, w.trailing) in ap (λ (m : ℕ). take m inside) e ∙ take-add l.free (k - l.free) inside in
     let through : take (suc k) inside ≡ f ++ (d ++ w.byte ∷ []) =
     take-suc inside k 0 w.present ∙ ap (λ (s : List ℕ). s ++ get_or inside k 0 ∷ []) before ∙ ap (λ (x : ℕ). (f ++ d) ++ x ∷ []) byte ∙ append_assoc f d (w.byte ∷ []) in
     let whole : inside ≡ f ++ ((d ++ w.byte ∷ []) ++ later) = sym (take-append-drop (suc k) inside) ∙ ap (λ (s : List ℕ). s ++ later) through ∙ append_assoc f (d ++ w.byte ∷ []) later in
@@ -104,10 +104,10 @@ digit_at r o k bytes p l is w are =
       λ m b rest e q. dead (digit_holds r o.high o.low o.size p.size b rest f d later w.byte inside (goes_with r bytes o p m b rest e q) whole frees few),
       record {
         present = omega (arith, whole_size r bytes o p, w.present);
-        alive = subst (Alive (Spells r)) (ap (begun o.high o.low p.size) (sym before) ∙ sym (front_is r bytes o p k))
+        alive = subst (Alive (Spells r)) (ap (begun o.high o.low p.size) (sym before) ∙ sym (prefix_is r bytes o p k))
             (alive_digits r o.high o.low o.size p.size p.are_bytes p.is_size f d frees (take_bytes l.free inside are) (omega (arith, few)) w.passed p.fills);
         dead = λ a.
-            let b = subst (Alive (Spells r)) (ap (λ (m : ℕ). take m bytes) next ∙ front_is r bytes o p (suc k) ∙ ap (begun o.high o.low p.size) through) a in
+            let b = subst (Alive (Spells r)) (ap (λ (m : ℕ). take m bytes) next ∙ prefix_is r bytes o p (suc k) ∙ ap (begun o.high o.low p.size) through) a in
             dead (digit_holds r o.high o.low o.size p.size _ [] f d b.rest w.byte _ (goes_alive r o.high o.low o.size p.size (f ++ (d ++ w.byte ∷ [])) p.is_size b) (append_assoc f (d ++ w.byte ∷ []) b.rest) frees few);
       },
       record {
@@ -121,14 +121,14 @@ digit_at r o k bytes p l is w are =
             size = p.size;
             n = o.size;
             inside = take k inside;
-            whole = front_is r bytes o p k;
+            whole = prefix_is r bytes o p k;
             are_bytes = p.are_bytes;
             is_size = p.is_size;
             fills = p.fills;
             short = omega (arith, length-take-le k inside (omega (arith, w.present)), w.within, (fills_out (layout_of o.high o.low o.size) o.size p.fills).0, ap head_size is);
           },
           refl,
-          omega (arith, length-take-le k inside (omega (arith, w.present)), w.behind, ap (λ (l : Layout). l.free) is),
+          omega (arith, length-take-le k inside (omega (arith, w.present)), w.trailing, ap (λ (l : Layout). l.free) is),
           omega (arith, length-take-le k inside (omega (arith, w.present)), w.within, ap head_size is),
         );
         is_byte = byte_from o.start k w.byte bytes (omega (arith, ap length (inside_is r bytes o p), w.present)) (subst (λ (s : List ℕ). slice_get s k ≡ Some w.byte) (sym (inside_is r bytes o p)) w.is_byte);
@@ -153,10 +153,10 @@ head_short r bytes o p l is digits few are = record {
     by_size : (length p.inside < l.free) ⊎ (l.free ≤ length p.inside) → Alive (Spells r) (begun o.high o.low p.size p.inside)
     by_size (inl lt) = alive_free r o.high o.low o.size p.size p.are_bytes p.is_size p.inside (omega (arith, lt, ap (λ (l : Layout). l.free) is)) are p.fills
     by_size (inr le) =
-        let behind = drop l.free p.inside in
-        let all : take l.digits behind ≡ behind = take_all l.digits behind (omega (arith, length-drop l.free p.inside, few)) in
+        let trailing = drop l.free p.inside in
+        let all : take l.digits trailing ≡ trailing = take_all l.digits trailing (omega (arith, length-drop l.free p.inside, few)) in
         subst (λ (s : List ℕ). Alive (Spells r) (begun o.high o.low p.size s)) (take-append-drop l.free p.inside)
-        (alive_digits r o.high o.low o.size p.size p.are_bytes p.is_size (take l.free p.inside) behind (length-take-le l.free p.inside le ∙ ap (λ (l : Layout). l.free) is) (take_bytes l.free p.inside are)
+        (alive_digits r o.high o.low o.size p.size p.are_bytes p.is_size (take l.free p.inside) trailing (length-take-le l.free p.inside le ∙ ap (λ (l : Layout). l.free) is) (take_bytes l.free p.inside are)
         (omega (arith, length-drop l.free p.inside, few, ap (λ (l : Layout). l.digits) is)) (subst AreDigits all digits) p.fills)
 
 pub head_more : (r : Reading) (bytes inside : List ℕ) (o : Opening) (l : Layout) → Opens r bytes o → l ≡ layout_of o.high o.low o.size → inside ≡ drop o.start bytes → AreDigits (take l.digits (drop l.free inside)) → length inside < head_size l → AreBytes bytes → Unfinished (Spells r) bytes
@@ -208,7 +208,7 @@ is_found r bytes content o p m h e enough =
         control = o.high ∷ o.low ∷ [];
         size = p.size;
         content = content;
-        whole = front_is r bytes o p o.size ∙ ap (begun o.high o.low p.size) (sym e);
+        whole = prefix_is r bytes o p o.size ∙ ap (begun o.high o.low p.size) (sym e);
         is_control = h.is_control;
         is_size = subst (λ (k : ℕ). IsFrameLength r k p.size) (sym sized) p.is_size;
         is_content = h.is_content;
@@ -242,9 +242,9 @@ bytes_parts r bytes inside payload o l h f e enough is =
     let one : take l.free inside ++ payload ≡ take o.size inside =
     let total : l.free + (o.size - l.free) ≡ o.size = omega arith in
     ap (λ (s : List ℕ). take l.free inside ++ s) is ∙ sym (take-add l.free (o.size - l.free) inside) ∙ ap (λ (k : ℕ). take k inside) total in
-    let front_size : length (take l.free inside) ≡ l.free = length-take-le l.free inside (omega (arith, enough)) in (
+    let prefix_size : length (take l.free inside) ≡ l.free = length-take-le l.free inside (omega (arith, enough)) in (
       one ∙ ap (take o.size) same,
-      front_size,
+      prefix_size,
       omega (arith, ap length one, length-append (take l.free inside) payload, length-take-le o.size inside enough),
     )
 

@@ -2,10 +2,10 @@
 use Rattle.std.proofs.Common.{◌≡◌, ℕ, ◌+◌, ◌<◌, ◌≤◌, Bool, true, false, List, [], ◌∷◌, ◌++◌, length, refl, sym, ◌∙◌, ap, subst, append_assoc, arith, length-append, ◌⊎◌, inl, inr}
 use Rattle.std.proofs.lemmas.List.{append-nil}
 use Rattle.std.proofs.lemmas.Bool.{cases_lt, cases_Bool, false≢true}
-use Rattle.zvt_spelling.specs.Reading.{Reading}
-use Rattle.zvt_spelling.specs.Beginnings.{Unfinished}
-use Rattle.zvt_tlv.proofs.Spelling.{same_front}
-use Rattle.zvt_tlv.proofs.Alive.{front_of}
+use Rattle.zvt_grammar.specs.Reading.{Reading}
+use Rattle.zvt_grammar.specs.Beginnings.{Unfinished}
+use Rattle.zvt_tlv.proofs.Spelling.{same_prefix}
+use Rattle.zvt_tlv.proofs.Alive.{prefix_of}
 use Rattle.zvt_tlv.specs.Judging.{Opener}
 use Rattle.zvt_field.specs.Grammar.{Field, FieldList}
 use Rattle.zvt_field.specs.Judging as field
@@ -40,8 +40,8 @@ in_data fields r b rest d p sized = by_free (cases_lt (length d.inside) (layout_
         let head = p.free ++ p.digits in
         let long : length head ≡ head_size (layout_in d) = omega (arith, length-append p.free p.digits, p.free_size, p.digits_size) in
         let whole : head ++ p.tail ≡ d.inside ++ rest = append_assoc p.free p.digits p.tail ∙ sym p.whole in
-        let m = front_of head p.tail d.inside rest whole (omega (arith, long, le)) in
-        let tails : p.tail ≡ m.0 ++ rest = (same_front head head p.tail (m.0 ++ rest) refl (whole ∙ ap (λ (s : List ℕ). s ++ rest) m.1 ∙ append_assoc head m.0 rest)).1 in
+        let m = prefix_of head p.tail d.inside rest whole (omega (arith, long, le)) in
+        let tails : p.tail ≡ m.0 ++ rest = (same_prefix head head p.tail (m.0 ++ rest) refl (whole ∙ ap (λ (s : List ℕ). s ++ rest) m.1 ∙ append_assoc head m.0 rest)).1 in
         let t = listed (layout_in d).fields p.tail some p.tailed in
         let room = length p.tail in
         let total : length head + room ≡ d.n = omega (arith, sized, ap length whole, length-append head p.tail) in
@@ -69,8 +69,8 @@ each_stands fields r b u = by_bytes b refl (frame_of r u.alive.value (b ++ u.ali
     rest = u.alive.rest
 
     -- behind a length
-    behind : (h l : ℕ) (size inside : List ℕ) (f : Frame r (b ++ rest)) → b ≡ begun h l size inside → h ≡ f.high → l ≡ f.low → size ≡ f.size → f.content ≡ inside ++ rest → 0 < length rest → Stands r b
-    behind h l size inside f whole hs ls ss content some =
+    trailing : (h l : ℕ) (size inside : List ℕ) (f : Frame r (b ++ rest)) → b ≡ begun h l size inside → h ≡ f.high → l ≡ f.low → size ≡ f.size → f.content ≡ inside ++ rest → 0 < length rest → Stands r b
+    trailing h l size inside f whole hs ls ss content some =
         let n = length (inside ++ rest) in
         let numbers : length f.content ≡ n = ap length content in
         let parts : Parts r (layout_of h l n) (inside ++ rest) =
@@ -95,7 +95,7 @@ each_stands fields r b u = by_bytes b refl (frame_of r u.alive.value (b ++ u.ali
     by_size h l x more f whole hs ls some [] ss e q = absurd q
     by_size h l x more f whole hs ls some (a ∷ []) ss e q =
         let same : x ≡ a = cc (e) in
-        behind h l (x ∷ []) more f whole hs ls (ap (λ (y : ℕ). y ∷ []) same ∙ ss) (cc (e)) some
+        trailing h l (x ∷ []) more f whole hs ls (ap (λ (y : ℕ). y ∷ []) same ∙ ss) (cc (e)) some
     by_size h l x more f whole hs ls some (a ∷ c ∷ []) ss e q = absurd q
     by_size h l x [] f whole hs ls some (a ∷ c ∷ t ∷ []) ss e q =
         let same : x ≡ 0xFF = cc (e, q.0) in
@@ -108,7 +108,7 @@ each_stands fields r b u = by_bytes b refl (frame_of r u.alive.value (b ++ u.ali
         let one : x ≡ a = cc (e) in
         let two : s ≡ c = cc (e) in
         let three : v ≡ t = cc (e) in
-        behind h l (x ∷ s ∷ v ∷ []) more f whole hs ls (cc (one, two, three) ∙ ss) (cc (e)) some
+        trailing h l (x ∷ s ∷ v ∷ []) more f whole hs ls (cc (one, two, three) ∙ ss) (cc (e)) some
     by_size h l x more f whole hs ls some (a ∷ c ∷ t ∷ y ∷ s) ss e q = absurd q
 
     by_bytes : (s : List ℕ) → b ≡ s → Frame r (b ++ rest) → 0 < length rest → Stands r b

@@ -5,13 +5,13 @@ use Rattle.std.proofs.lemmas.List.Elements.{All-push}
 use Rattle.std.proofs.lemmas.Bool.{cases_eq, cond-false, ne_eqb, leb-true, leb-false, false≢true}
 use Rattle.zvt_bcd.specs.Digits.{AreDigits, IsDigitPair, is_digit_pair}
 use Rattle.zvt_bcd.proofs.PairTests.{is_pair, is_pair_test}
-use Rattle.zvt_spelling.specs.declared.why.Why.{Why}
-use Rattle.zvt_spelling.specs.declared.why.Why.TheVariants.{NotShortest, DoesNotFit, NotDigit}
-use Rattle.zvt_spelling.specs.Reading.{Reading, AreBytes, least}
-use Rattle.zvt_spelling.specs.Tests.{check}
-use Rattle.zvt_spelling.specs.Beginnings.{Alive}
-use Rattle.zvt_tlv.proofs.Spelling.{same_front}
-use Rattle.zvt_tlv.proofs.Alive.{front_of, bytes_front, bytes_joined}
+use Rattle.zvt_grammar.specs.declared.why.Why.{Why}
+use Rattle.zvt_grammar.specs.declared.why.Why.TheVariants.{NotShortest, DoesNotFit, NotDigit}
+use Rattle.zvt_grammar.specs.Reading.{Reading, AreBytes, least}
+use Rattle.zvt_grammar.specs.Tests.{check}
+use Rattle.zvt_grammar.specs.Beginnings.{Alive}
+use Rattle.zvt_tlv.proofs.Spelling.{same_prefix}
+use Rattle.zvt_tlv.proofs.Alive.{prefix_of, bytes_prefix, bytes_joined}
 use Rattle.zvt_tlv.proofs.Room.{Says}
 use Rattle.zvt_tlv.specs.Judging.{Opener}
 use Rattle.zvt_apdu.specs.Grammar.{IsFrameLength, Spells}
@@ -20,8 +20,8 @@ use Rattle.zvt_apdu.specs.Laws.{TestsDecide}
 use Rattle.zvt_apdu.proofs.Frames.{Tail}
 use Rattle.zvt_apdu.proofs.Within.{fit_fields}
 use Rattle.zvt_apdu.proofs.Opened.{begun, Goes, goes_alive, parts_fill, alive_open, alive_free, alive_digits, alive_bytes}
-use Rattle.zvt_apdu.proofs.OpeningMoves.{alive_long, front, long}
-use Rattle.zvt_apdu.proofs.DataMoves.{digit_holds, front_digits}
+use Rattle.zvt_apdu.proofs.OpeningMoves.{alive_long, prefix, long}
+use Rattle.zvt_apdu.proofs.DataMoves.{digit_holds, prefix_digits}
 
 always : (P : Type 0) → P → Says None P
 always P p = (λ e. p, λ w e q. absurd (cc (e)))
@@ -46,7 +46,7 @@ fit_first_size r h l x hs ls xs = by_byte (cases_eq x 0xFF)
   where
     by_byte : (x ≡ 0xFF) ⊎ (x ≢ 0xFF) → Says (fault r (first_size h l) x) (Alive (Spells r) (h ∷ l ∷ x ∷ []))
     by_byte (inl e) =
-        subst (λ (y : ℕ). Says (fault r (first_size h l) y) (Alive (Spells r) (h ∷ l ∷ y ∷ []))) (sym e) (always _ (front r (h ∷ l ∷ 0xFF ∷ []) (0 ∷ 255 ∷ []) (alive_long r h l 0 hs ls (omega arith))))
+        subst (λ (y : ℕ). Says (fault r (first_size h l) y) (Alive (Spells r) (h ∷ l ∷ y ∷ []))) (sym e) (always _ (prefix r (h ∷ l ∷ 0xFF ∷ []) (0 ∷ 255 ∷ []) (alive_long r h l 0 hs ls (omega arith))))
     by_byte (inr ne) =
         let size : IsFrameLength r x (x ∷ []) = (omega arith, refl) in
         let is : fault r (first_size h l) x ≡ check (can_fill (layout_of h l x) x) DoesNotFit None = cond-false _ _ _ (ne_eqb x 0xFF ne) in
@@ -83,18 +83,18 @@ fit_free r b x d lt p a = subst (Alive (Spells r)) (more_data d.high d.low d.siz
         let g = goes_alive r d.high d.low d.n d.size d.inside d.is_size there in
         let q = g.parts in
         let whole : d.inside ++ there.rest ≡ q.free ++ (q.digits ++ q.tail) = sym g.inside_is ∙ append-nil g.content ∙ q.whole in
-        let m = front_of d.inside there.rest q.free (q.digits ++ q.tail) whole (omega (arith, q.free_size, few)) in
-        let are : AreBytes d.inside = bytes_front d.inside m.0 (subst AreBytes m.1 q.are_bytes) in
+        let m = prefix_of d.inside there.rest q.free (q.digits ++ q.tail) whole (omega (arith, q.free_size, few)) in
+        let are : AreBytes d.inside = bytes_prefix d.inside m.0 (subst AreBytes m.1 q.are_bytes) in
         alive_free r d.high d.low d.n d.size d.are_bytes d.is_size (d.inside ++ x ∷ []) (omega (arith, length-append d.inside (x ∷ []), few)) (bytes_joined d.inside (x ∷ []) are (lt, tt)) d.fills
     by_place (inr (le, none)) =
         let g = goes_alive r d.high d.low d.n d.size d.inside d.is_size there in
         let q = g.parts in
         let head = q.free ++ q.digits in
         let whole : head ++ q.tail ≡ d.inside ++ there.rest = append_assoc q.free q.digits q.tail ∙ sym q.whole ∙ sym (append-nil g.content) ∙ g.inside_is in
-        let m = front_of head q.tail d.inside there.rest whole (omega (arith, length-append q.free q.digits, q.free_size, q.digits_size, le)) in
-        let behind : head ++ q.tail ≡ head ++ (m.0 ++ there.rest) = whole ∙ ap (λ (s : List ℕ). s ++ there.rest) m.1 ∙ append_assoc head m.0 there.rest in
-        let tails : q.tail ≡ m.0 ++ there.rest = (same_front head head q.tail (m.0 ++ there.rest) refl behind).1 in
-        let are : AreBytes m.0 = bytes_front m.0 there.rest (subst AreBytes tails (tail_bytes (layout_in d).fields q.tail none q.tailed)) in
+        let m = prefix_of head q.tail d.inside there.rest whole (omega (arith, length-append q.free q.digits, q.free_size, q.digits_size, le)) in
+        let trailing : head ++ q.tail ≡ head ++ (m.0 ++ there.rest) = whole ∙ ap (λ (s : List ℕ). s ++ there.rest) m.1 ∙ append_assoc head m.0 there.rest in
+        let tails : q.tail ≡ m.0 ++ there.rest = (same_prefix head head q.tail (m.0 ++ there.rest) refl trailing).1 in
+        let are : AreBytes m.0 = bytes_prefix m.0 there.rest (subst AreBytes tails (tail_bytes (layout_in d).fields q.tail none q.tailed)) in
         let inside : d.inside ++ x ∷ [] ≡ q.free ++ (q.digits ++ (m.0 ++ x ∷ [])) =
         ap (λ (s : List ℕ). s ++ x ∷ []) m.1 ∙ append_assoc head m.0 (x ∷ []) ∙ append_assoc q.free q.digits (m.0 ++ x ∷ []) in
         subst (λ (s : List ℕ). Alive (Spells r) (begun d.high d.low d.size s)) (sym inside)
@@ -120,18 +120,18 @@ fit_digit r b x d le few a =
     whole = sym g.parts.whole ∙ sym (append-nil g.content) ∙ g.inside_is
 
     split : (m : List ℕ) × (d.inside ≡ g.parts.free ++ m)
-    split = front_of g.parts.free (g.parts.digits ++ g.parts.tail) d.inside there.rest whole (omega (arith, g.parts.free_size, le))
+    split = prefix_of g.parts.free (g.parts.digits ++ g.parts.tail) d.inside there.rest whole (omega (arith, g.parts.free_size, le))
 
     same : g.parts.digits ++ g.parts.tail ≡ split.0 ++ there.rest
-    same = (same_front g.parts.free g.parts.free (g.parts.digits ++ g.parts.tail) (split.0 ++ there.rest) refl (whole ∙ ap (λ (s : List ℕ). s ++ there.rest) split.1 ∙ append_assoc g.parts.free split.0 there.rest)).1
+    same = (same_prefix g.parts.free g.parts.free (g.parts.digits ++ g.parts.tail) (split.0 ++ there.rest) refl (whole ∙ ap (λ (s : List ℕ). s ++ there.rest) split.1 ∙ append_assoc g.parts.free split.0 there.rest)).1
 
     short : length split.0 < (layout_in d).digits
     short = omega (arith, ap length split.1, length-append g.parts.free split.0, g.parts.free_size, few)
 
     digits : AreDigits split.0
     digits =
-        let m = front_of split.0 there.rest g.parts.digits g.parts.tail (sym same) (omega (arith, short, g.parts.digits_size)) in
-        front_digits split.0 m.0 (subst AreDigits m.1 g.parts.are_digits)
+        let m = prefix_of split.0 there.rest g.parts.digits g.parts.tail (sym same) (omega (arith, short, g.parts.digits_size)) in
+        prefix_digits split.0 m.0 (subst AreDigits m.1 g.parts.are_digits)
 
     inside : d.inside ++ x ∷ [] ≡ g.parts.free ++ (split.0 ++ x ∷ [])
     inside = ap (λ (s : List ℕ). s ++ x ∷ []) split.1 ∙ append_assoc g.parts.free split.0 (x ∷ [])
@@ -150,12 +150,12 @@ fit_digit r b x d le few a =
 
 pub fit : (r : Reading) (os : List Opener) (b : List ℕ) (role : Role) (x : ℕ) → Alive (Spells r) b → Position r os b role → x < 256 → Says (fault r role x) (Alive (Spells r) (b ++ x ∷ []))
 fit r os b first_control x a p lt =
-    subst (λ (s : List ℕ). Says None (Alive (Spells r) (s ++ x ∷ []))) (sym p.1) (always _ (front r (x ∷ []) (0 ∷ 0xFF ∷ 0 ∷ 255 ∷ []) (alive_long r x 0 0 lt (omega arith) (omega arith))))
+    subst (λ (s : List ℕ). Says None (Alive (Spells r) (s ++ x ∷ []))) (sym p.1) (always _ (prefix r (x ∷ []) (0 ∷ 0xFF ∷ 0 ∷ 255 ∷ []) (alive_long r x 0 0 lt (omega arith) (omega arith))))
 fit r os b second_control x a p lt =
-    subst (λ (s : List ℕ). Says None (Alive (Spells r) (s ++ x ∷ []))) (sym p.2) (always _ (front r (p.0 ∷ x ∷ []) (0xFF ∷ 0 ∷ 255 ∷ []) (alive_long r p.0 x 0 p.3 lt (omega arith))))
+    subst (λ (s : List ℕ). Says None (Alive (Spells r) (s ++ x ∷ []))) (sym p.2) (always _ (prefix r (p.0 ∷ x ∷ []) (0xFF ∷ 0 ∷ 255 ∷ []) (alive_long r p.0 x 0 p.3 lt (omega arith))))
 fit r os b (first_size h l) x a p lt = subst (λ (s : List ℕ). Says (fault r (first_size h l) x) (Alive (Spells r) (s ++ x ∷ []))) (sym p.1) (fit_first_size r h l x p.2 p.3 lt)
 fit r os b (low_size h l) x a p lt =
-    subst (λ (s : List ℕ). Says None (Alive (Spells r) (s ++ x ∷ []))) (sym p.1) (always _ (front r (h ∷ l ∷ 0xFF ∷ x ∷ []) (255 ∷ []) (alive_long r h l x p.2 p.3 lt)))
+    subst (λ (s : List ℕ). Says None (Alive (Spells r) (s ++ x ∷ []))) (sym p.1) (always _ (prefix r (h ∷ l ∷ 0xFF ∷ x ∷ []) (255 ∷ []) (alive_long r h l x p.2 p.3 lt)))
 fit r os b (high_size h l s) x a p lt = subst (λ (t : List ℕ). Says (fault r (high_size h l s) x) (Alive (Spells r) (t ++ x ∷ []))) (sym p.1) (fit_high_size r h l s x p.2 p.3 p.4 lt)
 fit r os b free x a p lt = always _ (fit_free r b x p.0 lt p.2 a)
 fit r os b digit x a p lt = fit_digit r b x p.0 p.2 p.3 a

@@ -2,7 +2,7 @@
 use Rattle.std.proofs.Common.{◌≡◌, ◌≢◌, ℕ, ◌+◌, ◌<◌, ◌≤◌, nat_le, cond, Bool, true, false, Option, Some, None, List, [], ◌∷◌, ◌++◌, length, drop, get_or, refl, sym, ◌∙◌, ap, subst, arith, ◌⊎◌, suc, inl, inr}
 use Rattle.std.proofs.lemmas.Bool.{false≢true, leb-true}
 use Rattle.zvt_bcd.specs.Digits.{AreDigits, number_of}
-use Rattle.zvt_spelling.specs.Reading.{Reading, AreBytes}
+use Rattle.zvt_grammar.specs.Reading.{Reading, AreBytes}
 use Rattle.zvt_field.specs.Grammar.{Field, FieldList}
 use Rattle.zvt_apdu.specs.Message.{ack, registration, reversal, end_of_day, status, intermediate, print_line, abort}
 use Rattle.zvt_apdu.specs.Grammar.{Form, BytesFrom, FieldsFrom, Registration, table, form_of}

@@ -1,8 +1,8 @@
 -- What follows from spellings that end themselves.
 use Rattle.std.proofs.Common.{◌≡◌, ℕ, ◌++◌, length, take, drop, refl, ◌∙◌, ap, arith}
 use Rattle.std.proofs.lemmas.List.{take-append-drop, length-take-le}
-use Rattle.zvt_spelling.specs.declared.answer.Scan.{Scan}
-use Rattle.zvt_spelling.specs.declared.answer.Scan.TheVariants.{Whole, More, Refused}
+use Rattle.zvt_grammar.specs.declared.answer.Scan.{Scan}
+use Rattle.zvt_grammar.specs.declared.answer.Scan.TheVariants.{Whole, More, Refused}
 use Rattle.zvt_apdu.specs.Message.{Message}
 use Rattle.zvt_apdu.specs.Judging.{Answers}
 use Rattle.zvt_apdu.specs.Laws.{SpellingsAreRead}

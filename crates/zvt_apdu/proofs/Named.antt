@@ -2,7 +2,7 @@
 use Rattle.std.proofs.Common.{◌≡◌, ◌≢◌, ℕ, ◌<◌, ◌≤◌, ◌==◌, ◌&&◌, nat_le, true, false, Option, Some, None, List, [], ◌∷◌, ◌++◌, length, refl, sym, ◌∙◌, ap, subst, arith, length-append, ◌⊎◌, inl, inr}
 use Rattle.std.proofs.lemmas.Bool.{cases_Bool, cases_lt, cases_eq, eqb-true, and_parts, cond-true, cond-false, ne_eqb}
 use Rattle.zvt_bcd.specs.Digits.{number_of}
-use Rattle.zvt_spelling.specs.Reading.{Reading, AreBytes}
+use Rattle.zvt_grammar.specs.Reading.{Reading, AreBytes}
 use Rattle.zvt_field.specs.Grammar.{Field}
 use Rattle.zvt_apdu.specs.Message.{Message, ack, nack, registration, authorisation, reversal, end_of_day, abort_order, status, intermediate, print_line, text_block, completion, abort, other}
 use Rattle.zvt_apdu.specs.Grammar.{Form, BytesFrom, FieldsFrom, Registration, table, look_up, form_of, IsControl, Free, Listed, Data, Spells}
@@ -130,13 +130,13 @@ plain_list r b f m low high control content q =
     let c = to_listed r 0 f.content q.2 in
     made r b f (m c.1) high low q.0 q.1 (control c.1) (content c.1 (none_listed r c.0 c.1 f.content c.2))
 
-behind_password : (r : Reading) (b : List ℕ) (f : Frame r b) (m : List ℕ → List Field → Message) (low high : ℕ) → ((w : List ℕ) (fs : List Field) → IsControl (m w fs) (high ∷ low ∷ [])) → ((w : List ℕ) (fs : List Field) → Listed r 3 w fs f.content → Data r (m w fs) f.content) → Row r b f high low (FieldsFrom 3) → Message' r b
-behind_password r b f m low high control content q =
+after_password : (r : Reading) (b : List ℕ) (f : Frame r b) (m : List ℕ → List Field → Message) (low high : ℕ) → ((w : List ℕ) (fs : List Field) → IsControl (m w fs) (high ∷ low ∷ [])) → ((w : List ℕ) (fs : List Field) → Listed r 3 w fs f.content → Data r (m w fs) f.content) → Row r b f high low (FieldsFrom 3) → Message' r b
+after_password r b f m low high control content q =
     let c = to_listed r 3 f.content q.2 in
     made r b f (m c.0 c.1) high low q.0 q.1 (control c.0 c.1) (content c.0 c.1 c.2)
 
-behind_byte : (r : Reading) (b : List ℕ) (f : Frame r b) (m : ℕ → List ℕ → Message) (low high : ℕ) → ((x : ℕ) (s : List ℕ) → IsControl (m x s) (high ∷ low ∷ [])) → ((x : ℕ) (s : List ℕ) → Free 1 (x ∷ []) s f.content → Data r (m x s) f.content) → Row r b f high low (BytesFrom 1) → Message' r b
-behind_byte r b f m low high control content q =
+after_byte : (r : Reading) (b : List ℕ) (f : Frame r b) (m : ℕ → List ℕ → Message) (low high : ℕ) → ((x : ℕ) (s : List ℕ) → IsControl (m x s) (high ∷ low ∷ [])) → ((x : ℕ) (s : List ℕ) → Free 1 (x ∷ []) s f.content → Data r (m x s) f.content) → Row r b f high low (BytesFrom 1) → Message' r b
+after_byte r b f m low high control content q =
     let c = to_free r 1 f.content q.2 in
     let x = single c.0 c.2.1 in
     made r b f (m x.0 c.1) high low q.0 q.1 (control x.0 c.1) (content x.0 c.1 (subst (λ (s : List ℕ). Free 1 s c.1 f.content) x.1 c.2))
@@ -154,15 +154,15 @@ message_of r b f = by_name (named f.high f.low)
         let c = to_free r 0 f.content p.2 in made r b f (ack c.1) 0x80 0x00 q.0 q.1 refl (none_first c.0 c.1 f.content c.2)
     by_row form is (inr (inl q)) = make_registration r b f q.0 q.1 (row 0x06 0x00 form Registration is q).2
     by_row form is (inr (inr (inl q))) = plain_list r b f authorisation 0x01 0x06 (λ fs. refl) (λ fs c. c) (row 0x06 0x01 form (FieldsFrom 0) is q)
-    by_row form is (inr (inr (inr (inl q)))) = behind_password r b f reversal 0x30 0x06 (λ w fs. refl) (λ w fs c. c) (row 0x06 0x30 form (FieldsFrom 3) is q)
-    by_row form is (inr (inr (inr (inr (inl q))))) = behind_password r b f end_of_day 0x50 0x06 (λ w fs. refl) (λ w fs c. c) (row 0x06 0x50 form (FieldsFrom 3) is q)
+    by_row form is (inr (inr (inr (inl q)))) = after_password r b f reversal 0x30 0x06 (λ w fs. refl) (λ w fs c. c) (row 0x06 0x30 form (FieldsFrom 3) is q)
+    by_row form is (inr (inr (inr (inr (inl q))))) = after_password r b f end_of_day 0x50 0x06 (λ w fs. refl) (λ w fs c. c) (row 0x06 0x50 form (FieldsFrom 3) is q)
     by_row form is (inr (inr (inr (inr (inr (inl q)))))) = plain_list r b f abort_order 0xB0 0x06 (λ fs. refl) (λ fs c. c) (row 0x06 0xB0 form (FieldsFrom 0) is q)
     by_row form is (inr (inr (inr (inr (inr (inr (inl q))))))) = plain_list r b f status 0x0F 0x04 (λ fs. refl) (λ fs c. c) (row 0x04 0x0F form (FieldsFrom 0) is q)
-    by_row form is (inr (inr (inr (inr (inr (inr (inr (inl q)))))))) = behind_byte r b f intermediate 0xFF 0x04 (λ x s. refl) (λ x s c. c) (row 0x04 0xFF form (BytesFrom 1) is q)
-    by_row form is (inr (inr (inr (inr (inr (inr (inr (inr (inl q))))))))) = behind_byte r b f print_line 0xD1 0x06 (λ x s. refl) (λ x s c. c) (row 0x06 0xD1 form (BytesFrom 1) is q)
+    by_row form is (inr (inr (inr (inr (inr (inr (inr (inl q)))))))) = after_byte r b f intermediate 0xFF 0x04 (λ x s. refl) (λ x s c. c) (row 0x04 0xFF form (BytesFrom 1) is q)
+    by_row form is (inr (inr (inr (inr (inr (inr (inr (inr (inl q))))))))) = after_byte r b f print_line 0xD1 0x06 (λ x s. refl) (λ x s c. c) (row 0x06 0xD1 form (BytesFrom 1) is q)
     by_row form is (inr (inr (inr (inr (inr (inr (inr (inr (inr (inl q)))))))))) = plain_list r b f text_block 0xD3 0x06 (λ fs. refl) (λ fs c. c) (row 0x06 0xD3 form (FieldsFrom 0) is q)
     by_row form is (inr (inr (inr (inr (inr (inr (inr (inr (inr (inr (inl q))))))))))) = plain_list r b f completion 0x0F 0x06 (λ fs. refl) (λ fs c. c) (row 0x06 0x0F form (FieldsFrom 0) is q)
-    by_row form is (inr (inr (inr (inr (inr (inr (inr (inr (inr (inr (inr (inl q)))))))))))) = behind_byte r b f abort 0x1E 0x06 (λ x s. refl) (λ x s c. c) (row 0x06 0x1E form (BytesFrom 1) is q)
+    by_row form is (inr (inr (inr (inr (inr (inr (inr (inr (inr (inr (inr (inl q)))))))))))) = after_byte r b f abort 0x1E 0x06 (λ x s. refl) (λ x s c. c) (row 0x06 0x1E form (BytesFrom 1) is q)
     by_row form is (inr (inr (inr (inr (inr (inr (inr (inr (inr (inr (inr (inr q)))))))))))) = absurd q
 
     by_name : Named f.high f.low → Message' r b

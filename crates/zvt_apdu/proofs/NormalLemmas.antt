@@ -2,12 +2,12 @@
 use Rattle.std.proofs.Common.{◌≡◌, ℕ, List, ◌++◌, length, take, drop, refl, sym, ◌∙◌, ap, subst, arith, length-append}
 use Rattle.std.proofs.lemmas.List.{length-take-le, take-append-drop}
 use Rattle.std.proofs.Math.Seq.{take-append_seam}
-use Rattle.zvt_spelling.specs.Reading.{shortest, padded}
+use Rattle.zvt_grammar.specs.Reading.{shortest, padded}
 use Rattle.zvt_apdu.specs.Message.{Message}
 use Rattle.zvt_apdu.specs.Grammar.{Spells}
 use Rattle.zvt_apdu.specs.Judging.{Found}
 use Rattle.zvt_apdu.specs.Normal.{IsNormal}
-use Rattle.zvt_apdu.specs.Once.{one_message}
+use Rattle.zvt_apdu.specs.UniqueDecoding.{one_message}
 use Rattle.zvt_apdu.specs.Laws.{StrictIsPadded, StrictStays, NormalsAreOne, NormalsStay}
 use Rattle.zvt_apdu.proofs.OwnedLemmas.{message_shorter}
 use Rattle.zvt_apdu.proofs.OneMessage.{messages_end_themselves}

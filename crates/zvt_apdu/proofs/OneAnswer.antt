@@ -1,11 +1,11 @@
 -- Bytes have one answer.
 use Rattle.std.proofs.Common.{◌≡◌, ℕ, List, length, take, drop, refl, sym, ◌∙◌, ap, subst, suc}
 use Rattle.std.proofs.lemmas.List.{take-append-drop, length-take-le}
-use Rattle.zvt_spelling.specs.declared.answer.Scan.{Scan}
-use Rattle.zvt_spelling.specs.declared.answer.Scan.TheVariants.{Whole, More, Refused}
-use Rattle.zvt_spelling.specs.Reading.{Reading}
-use Rattle.zvt_spelling.specs.Beginnings.{Alive, Unfinished, Place}
-use Rattle.zvt_spelling.proofs.CutLemmas.{fronts_alive}
+use Rattle.zvt_grammar.specs.declared.answer.Scan.{Scan}
+use Rattle.zvt_grammar.specs.declared.answer.Scan.TheVariants.{Whole, More, Refused}
+use Rattle.zvt_grammar.specs.Reading.{Reading}
+use Rattle.zvt_grammar.specs.Beginnings.{Alive, Unfinished, Place}
+use Rattle.zvt_grammar.proofs.CutLemmas.{prefixes_alive}
 use Rattle.zvt_apdu.specs.Message.{Message}
 use Rattle.zvt_apdu.specs.Grammar.{Spells}
 use Rattle.zvt_apdu.specs.Judging.{Found, Answers}
@@ -19,7 +19,7 @@ by_found r b f q x y =
     ap (λ (n : ℕ). Whole (f.0, n)) (sym (length-take-le f.1 b x.present)) ∙ sym e
 
 not_more : (r : Reading) (b : List ℕ) (k : ℕ) → Unfinished (Spells r) b → Place (Spells r) b k → ⊥
-not_more r b k x y = y.dead (fronts_alive (Spells r) (take (suc k) b) (drop (suc k) b) (subst (Alive (Spells r)) (sym (take-append-drop (suc k) b)) x.alive))
+not_more r b k x y = y.dead (prefixes_alive (Spells r) (take (suc k) b) (drop (suc k) b) (subst (Alive (Spells r)) (sym (take-append-drop (suc k) b)) x.alive))
 
 pub answers_are_one : AnswersAreOne
 answers_are_one r b (Whole f) q x y = by_found r b f q x y

@@ -1,7 +1,7 @@
 -- A spelling is one message's.
 use Rattle.zvt_apdu.specs.Laws.{MessagesEndThemselves}
 use Rattle.zvt_apdu.proofs.Within.{frames_end}
-pub use Rattle.zvt_apdu.specs.Once.{one_message}
+pub use Rattle.zvt_apdu.specs.UniqueDecoding.{one_message}
 
 pub messages_end_themselves : MessagesEndThemselves
 messages_end_themselves r m n a b x y p q e =

@@ -4,9 +4,9 @@ use Rattle.std.proofs.lemmas.List.{append-nil}
 use Rattle.std.proofs.lemmas.List.Elements.{All-append, All-nil, All-cons}
 use Rattle.std.proofs.lemmas.Bool.{cases_Bool, and_parts, and_from, not-true, eq-eqb, ne_eqb, leb-true, le-leb, false≢true}
 use Rattle.zvt_bcd.specs.Digits.{AreDigits, IsDigitPair}
-use Rattle.zvt_spelling.specs.Beginnings.{Alive}
-use Rattle.zvt_spelling.specs.Reading.{Reading, AreBytes}
-use Rattle.zvt_spelling.proofs.CutLemmas.{fronts_alive}
+use Rattle.zvt_grammar.specs.Beginnings.{Alive}
+use Rattle.zvt_grammar.specs.Reading.{Reading, AreBytes}
+use Rattle.zvt_grammar.proofs.CutLemmas.{prefixes_alive}
 use Rattle.zvt_tlv.proofs.Alive.{zeros, zeros_size, zeros_bytes, bytes_joined}
 use Rattle.zvt_field.specs.Grammar.{Field, FieldList}
 use Rattle.zvt_field.specs.Judging as field
@@ -16,28 +16,28 @@ use Rattle.zvt_apdu.specs.Grammar.{Form, BytesFrom, FieldsFrom, Registration, ta
 use Rattle.zvt_apdu.specs.Judging.{Layout, bytes_after, layout, layout_of, head_size, can_fill}
 use Rattle.zvt_apdu.proofs.Frames.{Tail, Parts, frame_of}
 use Rattle.zvt_apdu.proofs.Named.{Message', message_of}
-use Rattle.zvt_apdu.proofs.Within.{frame_length_front}
+use Rattle.zvt_apdu.proofs.Within.{frame_length_prefix}
 
 -- control bytes, a length and what stands behind it
 abbrev pub begun : (high low : ℕ) (size c : List ℕ) → List ℕ
 begun high low size c = high ∷ low ∷ (size ++ c)
 
 -- a spelling that goes with a beginning whose length stands
-pub record Goes (r : Reading) (high low n : ℕ) (size inside front rest : List ℕ) : Type 0 where
+pub record Goes (r : Reading) (high low n : ℕ) (size inside prefix rest : List ℕ) : Type 0 where
   pub content : List ℕ
-  pub whole : front ≡ begun high low size content
+  pub whole : prefix ≡ begun high low size content
   pub inside_is : content ++ rest ≡ inside
   pub sized : length content ≡ n
   pub parts : Parts r (layout_of high low n) content
 
-pub goes : (r : Reading) (m : Message) (front rest : List ℕ) (high low n : ℕ) (size inside : List ℕ) → Spells r m front → IsFrameLength r n size → front ++ rest ≡ begun high low size inside → Goes r high low n size inside front rest
-goes r m front rest high low n size inside p q e =
-    let f = frame_of r m front p in
+pub goes : (r : Reading) (m : Message) (prefix rest : List ℕ) (high low n : ℕ) (size inside : List ℕ) → Spells r m prefix → IsFrameLength r n size → prefix ++ rest ≡ begun high low size inside → Goes r high low n size inside prefix rest
+goes r m prefix rest high low n size inside p q e =
+    let f = frame_of r m prefix p in
     let joined : begun f.high f.low f.size (f.content ++ rest) ≡ begun high low size inside =
     ap (λ (s : List ℕ). f.high ∷ f.low ∷ s) (sym (append_assoc f.size f.content rest)) ∙ ap (λ (s : List ℕ). s ++ rest) (sym f.whole) ∙ e in
     let highs : f.high ≡ high = cc (joined) in
     let lows : f.low ≡ low = cc (joined) in
-    let one = frame_length_front r (length f.content) n f.size size (f.content ++ rest) inside f.is_size q (cc (joined)) in
+    let one = frame_length_prefix r (length f.content) n f.size size (f.content ++ rest) inside f.is_size q (cc (joined)) in
     let sizes : f.size ≡ size = one.0 in
     record {
       content = f.content;
@@ -192,21 +192,21 @@ module _ (r : Reading) (high low n : ℕ) (size : List ℕ) (small : (high < 256
       by_fields (inr f) = alive_bytes free digits [] fs fb ds dd f (omega (arith, (fills_out l n fills).0)) tt
 
   -- a front of it
-  front : (c rest : List ℕ) → Alive (Spells r) (begun high low size (c ++ rest)) → Alive (Spells r) (begun high low size c)
-  front c rest a = fronts_alive (Spells r) (begun high low size c) rest (subst (Alive (Spells r)) (ap (λ (s : List ℕ). high ∷ low ∷ s) (sym (append_assoc size c rest))) a)
+  prefix : (c rest : List ℕ) → Alive (Spells r) (begun high low size (c ++ rest)) → Alive (Spells r) (begun high low size c)
+  prefix c rest a = prefixes_alive (Spells r) (begun high low size c) rest (subst (Alive (Spells r)) (ap (λ (s : List ℕ). high ∷ low ∷ s) (sym (append_assoc size c rest))) a)
 
   pub alive_digits : (free digits : List ℕ) → length free ≡ l.free → AreBytes free → length digits ≤ l.digits → AreDigits digits → can_fill l n ≡ true → Alive (Spells r) (begun high low size (free ++ digits))
   alive_digits free digits fs fb le dd fills =
       let more = zeros (l.digits - length digits) in
       let back : (free ++ digits) ++ more ≡ free ++ ((digits ++ more) ++ []) = simp (append_assoc, append-nil) in
-      front (free ++ digits) more (subst (λ (s : List ℕ). Alive (Spells r) (begun high low size s)) (sym back)
+      prefix (free ++ digits) more (subst (λ (s : List ℕ). Alive (Spells r) (begun high low size s)) (sym back)
       (alive_head free (digits ++ more) fs fb (omega (arith, length-append digits more, zeros_size (l.digits - length digits), le)) (All-append IsDigitPair digits more dd (zeros_digits (l.digits - length digits))) fills))
 
   pub alive_free : (free : List ℕ) → length free ≤ l.free → AreBytes free → can_fill l n ≡ true → Alive (Spells r) (begun high low size free)
   alive_free free le fb fills =
       let more = zeros (l.free - length free) in
       let back : free ++ more ≡ (free ++ more) ++ [] = simp append-nil in
-      front free more (subst (λ (s : List ℕ). Alive (Spells r) (begun high low size s)) (sym back)
+      prefix free more (subst (λ (s : List ℕ). Alive (Spells r) (begun high low size s)) (sym back)
       (alive_digits (free ++ more) [] (omega (arith, length-append free more, zeros_size (l.free - length free), le)) (bytes_joined free more fb (zeros_bytes (l.free - length free))) (omega arith) (All-nil IsDigitPair) fills))
 
   pub alive_open : can_fill l n ≡ true → Alive (Spells r) (begun high low size [])

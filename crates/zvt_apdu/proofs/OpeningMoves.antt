@@ -1,11 +1,11 @@
 -- The steps of the reader of control bytes and a length.
 use Rattle.std.proofs.Common.{◌≡◌, ℕ, ◌+◌, ◌*◌, ◌<◌, ◌≤◌, ◌==◌, Bool, true, false, None, List, [], ◌∷◌, ◌++◌, length, get_or, refl, sym, ◌∙◌, ap, subst, arith, length-append, suc}
 use Rattle.std.proofs.lemmas.Bool.{false≢true, lt-leb, le-leb, cond-false, ne_eqb}
-use Rattle.zvt_spelling.specs.declared.why.Why.TheVariants.{NotShortest, DoesNotFit}
-use Rattle.zvt_spelling.specs.Beginnings.{Alive, NoneWhole, Unfinished, Place}
-use Rattle.zvt_spelling.specs.Reading.{Reading, shortest, padded, least}
-use Rattle.zvt_spelling.specs.Tests.{check}
-use Rattle.zvt_spelling.proofs.CutLemmas.{fronts_alive}
+use Rattle.zvt_grammar.specs.declared.why.Why.TheVariants.{NotShortest, DoesNotFit}
+use Rattle.zvt_grammar.specs.Beginnings.{Alive, NoneWhole, Unfinished, Place}
+use Rattle.zvt_grammar.specs.Reading.{Reading, shortest, padded, least}
+use Rattle.zvt_grammar.specs.Tests.{check}
+use Rattle.zvt_grammar.proofs.CutLemmas.{prefixes_alive}
 use Rattle.zvt_apdu.specs.Message.{Message}
 use Rattle.zvt_apdu.specs.Grammar.{IsFrameLength, Spells}
 use Rattle.zvt_apdu.specs.Judging.{Layout, layout_of, can_fill, first_size, high_size, WhyOf, Opens}
@@ -26,8 +26,8 @@ pub alive_long : (r : Reading) (high low size_low : ℕ) → high < 256 → low 
 alive_long r high low s h l lt =
     alive_open r high low (256 * 255 + s) (0xFF ∷ s ∷ 255 ∷ []) (h, l) (refl, least_long r (256 * 255 + s) (omega arith), lt, omega arith, refl) (fills_long high low (256 * 255 + s) (omega arith))
 
-pub front : (r : Reading) (front rest : List ℕ) → Alive (Spells r) (front ++ rest) → Alive (Spells r) front
-front r = fronts_alive (Spells r)
+pub prefix : (r : Reading) (prefix rest : List ℕ) → Alive (Spells r) (prefix ++ rest) → Alive (Spells r) prefix
+prefix r = prefixes_alive (Spells r)
 
 -- a message has control bytes and a length
 size_size : (r : Reading) (n : ℕ) (s : List ℕ) → IsFrameLength r n s → 1 ≤ length s
@@ -51,8 +51,8 @@ pub record Long (r : Reading) (bytes more : List ℕ) : Type 0 where
 pub long : (r : Reading) (m : Message) (b rest : List ℕ) (high low : ℕ) (more : List ℕ) → Spells r m b → b ++ rest ≡ high ∷ low ∷ 0xFF ∷ more → Long r b more
 long r m b rest high low more p e =
     let f = frame_of r m b p in
-    let behind : (f.size ++ f.content) ++ rest ≡ 0xFF ∷ more = cc (sym (ap (λ (s : List ℕ). s ++ rest) f.whole) ∙ e) in
-    by_size f.content f.size f.is_size behind (ap length f.whole)
+    let trailing : (f.size ++ f.content) ++ rest ≡ 0xFF ∷ more = cc (sym (ap (λ (s : List ℕ). s ++ rest) f.whole) ∙ e) in
+    by_size f.content f.size f.is_size trailing (ap length f.whole)
   where
     by_size : (c s : List ℕ) → IsFrameLength r (length c) s → (s ++ c) ++ rest ≡ 0xFF ∷ more → length b ≡ suc (suc (length (s ++ c))) → Long r b more
     by_size c [] q h l = absurd q
@@ -66,9 +66,9 @@ pub head_short : (r : Reading) (bytes : List ℕ) → length bytes < 3 → AreSm
 head_short r bytes few small = record { alive = alive bytes few small; none_whole = λ m b rest e p. omega (arith, ap length e, length-append b rest, message_size r m b p) }
   where
     alive : (b : List ℕ) → length b < 3 → AreSmall b → Alive (Spells r) b
-    alive [] few small = front r [] (0 ∷ 0 ∷ 0xFF ∷ 0 ∷ 255 ∷ []) (alive_long r 0 0 0 (omega arith) (omega arith) (omega arith))
-    alive (h ∷ []) few small = front r (h ∷ []) (0 ∷ 0xFF ∷ 0 ∷ 255 ∷ []) (alive_long r h 0 0 (omega (arith, small 0)) (omega arith) (omega arith))
-    alive (h ∷ l ∷ []) few small = front r (h ∷ l ∷ []) (0xFF ∷ 0 ∷ 255 ∷ []) (alive_long r h l 0 (omega (arith, small 0)) (omega (arith, small 1)) (omega arith))
+    alive [] few small = prefix r [] (0 ∷ 0 ∷ 0xFF ∷ 0 ∷ 255 ∷ []) (alive_long r 0 0 0 (omega arith) (omega arith) (omega arith))
+    alive (h ∷ []) few small = prefix r (h ∷ []) (0 ∷ 0xFF ∷ 0 ∷ 255 ∷ []) (alive_long r h 0 0 (omega (arith, small 0)) (omega arith) (omega arith))
+    alive (h ∷ l ∷ []) few small = prefix r (h ∷ l ∷ []) (0xFF ∷ 0 ∷ 255 ∷ []) (alive_long r h l 0 (omega (arith, small 0)) (omega (arith, small 1)) (omega arith))
     alive (h ∷ l ∷ x ∷ b) few small = absurd (omega arith)
 
 pub length_short : (r : Reading) (bytes : List ℕ) → 3 ≤ length bytes → length bytes < 5 → get_or bytes 2 0 ≡ 0xFF → AreSmall bytes → Unfinished (Spells r) bytes
@@ -82,9 +82,9 @@ length_short r (h ∷ l ∷ x ∷ more) some few ff small = record {
   where
     alive : (more : List ℕ) → length (h ∷ l ∷ x ∷ more) < 5 → AreSmall (h ∷ l ∷ x ∷ more) → Alive (Spells r) (h ∷ l ∷ x ∷ more)
     alive [] few small =
-        subst (λ (y : ℕ). Alive (Spells r) (h ∷ l ∷ y ∷ [])) (sym ff) (front r (h ∷ l ∷ 0xFF ∷ []) (0 ∷ 255 ∷ []) (alive_long r h l 0 (omega (arith, small 0)) (omega (arith, small 1)) (omega arith)))
+        subst (λ (y : ℕ). Alive (Spells r) (h ∷ l ∷ y ∷ [])) (sym ff) (prefix r (h ∷ l ∷ 0xFF ∷ []) (0 ∷ 255 ∷ []) (alive_long r h l 0 (omega (arith, small 0)) (omega (arith, small 1)) (omega arith)))
     alive (s ∷ []) few small =
-        subst (λ (y : ℕ). Alive (Spells r) (h ∷ l ∷ y ∷ s ∷ [])) (sym ff) (front r (h ∷ l ∷ 0xFF ∷ s ∷ []) (255 ∷ []) (alive_long r h l s (omega (arith, small 0)) (omega (arith, small 1)) (omega (arith, small 3))))
+        subst (λ (y : ℕ). Alive (Spells r) (h ∷ l ∷ y ∷ s ∷ [])) (sym ff) (prefix r (h ∷ l ∷ 0xFF ∷ s ∷ []) (255 ∷ []) (alive_long r h l s (omega (arith, small 0)) (omega (arith, small 1)) (omega (arith, small 3))))
     alive (s ∷ t ∷ more) few small = absurd (omega arith)
 
 -- a long length that a short one would say
@@ -99,7 +99,7 @@ length_padded r (h ∷ l ∷ x ∷ s ∷ t ∷ more) some ff less small = (
   λ m b rest e p. dead m b rest more p (sym e),
   record {
     present = omega arith;
-    alive = subst (λ (y : ℕ). Alive (Spells r) (h ∷ l ∷ y ∷ s ∷ [])) (sym ff) (front r (h ∷ l ∷ 0xFF ∷ s ∷ []) (255 ∷ []) (alive_long r h l s (omega (arith, small 0)) (omega (arith, small 1)) (omega (arith, small 3))));
+    alive = subst (λ (y : ℕ). Alive (Spells r) (h ∷ l ∷ y ∷ s ∷ [])) (sym ff) (prefix r (h ∷ l ∷ 0xFF ∷ s ∷ []) (255 ∷ []) (alive_long r h l s (omega (arith, small 0)) (omega (arith, small 1)) (omega (arith, small 3))));
     dead = λ a. dead a.value (h ∷ l ∷ x ∷ s ∷ t ∷ a.rest) [] (a.rest ++ []) a.spelled refl;
   },
   record {
@@ -129,7 +129,7 @@ length_refused r (h ∷ l ∷ x ∷ more) n some is less f small = (
   λ m b rest w p. dead m b rest more p (sym w),
   record {
     present = omega arith;
-    alive = front r (h ∷ l ∷ []) (0xFF ∷ 0 ∷ 255 ∷ []) (alive_long r h l 0 (omega (arith, small 0)) (omega (arith, small 1)) (omega arith));
+    alive = prefix r (h ∷ l ∷ []) (0xFF ∷ 0 ∷ 255 ∷ []) (alive_long r h l 0 (omega (arith, small 0)) (omega (arith, small 1)) (omega arith));
     dead = λ a. dead a.value (h ∷ l ∷ x ∷ a.rest) [] (a.rest ++ []) a.spelled refl;
   },
   record {
@@ -161,7 +161,7 @@ length_unfit r (h ∷ l ∷ x ∷ s ∷ t ∷ more) n some ff is le f small = (
   λ m b rest e p. dead m b rest more p (sym e),
   record {
     present = omega arith;
-    alive = subst (λ (y : ℕ). Alive (Spells r) (h ∷ l ∷ y ∷ s ∷ [])) (sym ff) (front r (h ∷ l ∷ 0xFF ∷ s ∷ []) (255 ∷ []) (alive_long r h l s (omega (arith, small 0)) (omega (arith, small 1)) (omega (arith, small 3))));
+    alive = subst (λ (y : ℕ). Alive (Spells r) (h ∷ l ∷ y ∷ s ∷ [])) (sym ff) (prefix r (h ∷ l ∷ 0xFF ∷ s ∷ []) (255 ∷ []) (alive_long r h l s (omega (arith, small 0)) (omega (arith, small 1)) (omega (arith, small 3))));
     dead = λ a. dead a.value (h ∷ l ∷ x ∷ s ∷ t ∷ a.rest) [] (a.rest ++ []) a.spelled refl;
   },
   record {

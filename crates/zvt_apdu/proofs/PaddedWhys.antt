@@ -1,10 +1,10 @@
 -- Where each form of length is taken, none is refused as too long a form.
 use Rattle.std.proofs.Common.{◌≡◌, ℕ, ◌+◌, ◌*◌, ◌==◌, nat_le, nat_lt, cond, Bool, true, false, Option, Some, None, arith}
 use Rattle.std.proofs.lemmas.Bool.{le-leb}
-use Rattle.zvt_spelling.specs.declared.why.Why.{Why}
-use Rattle.zvt_spelling.specs.declared.why.Why.TheVariants.{NotShortest, DoesNotFit, LengthForm, TooDeep, TagTooLong, NotDigit, LengthDigit}
-use Rattle.zvt_spelling.specs.Reading.{padded}
-use Rattle.zvt_spelling.specs.Tests.{check}
+use Rattle.zvt_grammar.specs.declared.why.Why.{Why}
+use Rattle.zvt_grammar.specs.declared.why.Why.TheVariants.{NotShortest, DoesNotFit, LengthForm, TooDeep, TagTooLong, NotDigit, LengthDigit}
+use Rattle.zvt_grammar.specs.Reading.{padded}
+use Rattle.zvt_grammar.specs.Tests.{check}
 use Rattle.zvt_tlv.specs.Judging as object
 use Rattle.zvt_field.specs.declared.shapes.Shape.{Shape}
 use Rattle.zvt_field.specs.Shapes.{shape_of}

@@ -4,7 +4,7 @@ use Rattle.std.proofs.Math.Logic.{∥∥₁_elim, ∥∥₁_map}
 use Rattle.std.proofs.Math.Nat.{ℕ_set}
 use Rattle.std.specs.Coded.{Coded-set, coded_list, coded_option, coded_ℕ, le_prop}
 use Rattle.zvt_bcd.specs.Digits.{AreDigits, number_of}
-use Rattle.zvt_spelling.specs.Reading.{padded}
+use Rattle.zvt_grammar.specs.Reading.{padded}
 use Rattle.zvt_tlv.proofs.ViewLemmas.{rest_at}
 use Rattle.zvt_field.proofs.ViewLemmas.{digits_once}
 use Rattle.zvt_apdu.specs.Message.{Message, ack, nack, registration, reversal, end_of_day, intermediate, print_line, abort, other}
@@ -12,7 +12,7 @@ use Rattle.zvt_apdu.specs.Grammar.{IsControl, Data, Spells}
 use Rattle.zvt_apdu.specs.Kinds.{Kind, kind_of, kind_at}
 use Rattle.zvt_apdu.specs.declared.kinds.Kind.TheVariants as kind
 use Rattle.zvt_apdu.specs.contracts.kinds.Kind.{the_type}
-use Rattle.zvt_apdu.specs.Once.{two_bytes, kind_named}
+use Rattle.zvt_apdu.specs.UniqueDecoding.{two_bytes, kind_named}
 use Rattle.zvt_apdu.specs.Views.{code_in, password_in, config_in, currency_in, status_in, attribute_in, text_in, payload_in}
 use Rattle.zvt_apdu.proofs.ViewLemmas.{IsData}
 use denote.Enum.Bare.{tag_one}
@@ -62,11 +62,11 @@ head_stands k m d p e = ∥∥₁_elim p le_prop (λ p. subst (λ (k : Kind). he
 one : (x : ℕ) (rest d : List ℕ) → d ≡ (x ∷ []) ++ rest → Some (slice_index_or d 0 0) ≡ Some x
 one x rest d e = ap (λ (l : List ℕ). Some (slice_index_or l 0 0)) e
 
-abbrev pub behind_one : List ℕ → List ℕ
-behind_one d = take (length d - 1) (drop 1 d)
+abbrev pub after_one : List ℕ → List ℕ
+after_one d = take (length d - 1) (drop 1 d)
 
-behind : (x : ℕ) (rest d : List ℕ) → d ≡ (x ∷ []) ++ rest → Some (behind_one d) ≡ Some rest
-behind x rest d e = ap Some (rest_at 1 d (x ∷ []) rest refl e)
+trailing : (x : ℕ) (rest d : List ℕ) → d ≡ (x ∷ []) ++ rest → Some (after_one d) ≡ Some rest
+trailing x rest d e = ap Some (rest_at 1 d (x ∷ []) rest refl e)
 
 pub code_shown : (m : Message) (d : List ℕ) → ∥ Data padded m d ∥₁ → kind.Abort ≡ kind_of m → Some (slice_index_or d 0 0) ≡ code_in m
 code_shown (abort c x) d p e = ∥∥₁_elim p (Coded-set (coded_option coded_ℕ) _ _) (λ p. one c x d p.0)
@@ -80,8 +80,8 @@ pub attribute_shown : (m : Message) (d : List ℕ) → ∥ Data padded m d ∥�
 attribute_shown (print_line a x) d p e = ∥∥₁_elim p (Coded-set (coded_option coded_ℕ) _ _) (λ p. one a x d p.0)
 attribute_shown m d p e = absurd (cc (e))
 
-pub text_shown : (m : Message) (d : List ℕ) → ∥ Data padded m d ∥₁ → kind.PrintLine ≡ kind_of m → Some (behind_one d) ≡ text_in m
-text_shown (print_line a x) d p e = ∥∥₁_elim p (Coded-set (coded_option (coded_list coded_ℕ)) _ _) (λ p. behind a x d p.0)
+pub text_shown : (m : Message) (d : List ℕ) → ∥ Data padded m d ∥₁ → kind.PrintLine ≡ kind_of m → Some (after_one d) ≡ text_in m
+text_shown (print_line a x) d p e = ∥∥₁_elim p (Coded-set (coded_option (coded_list coded_ℕ)) _ _) (λ p. trailing a x d p.0)
 text_shown m d p e = absurd (cc (e))
 
 -- a password and the byte behind it
@@ -172,17 +172,17 @@ whole_payload m d p (inl e) = absurd (cc (e))
 whole_payload m d p (inr (inl e)) = absurd (cc (e))
 whole_payload m d p (inr (inr e)) = absurd (cc (e))
 
-rest_payload : (m : Message) (d : List ℕ) → Data padded m d → HasPayload (kind_of m) → Some (behind_one d) ≡ payload_in m
-rest_payload (intermediate s x) d p e = behind s x d p.0
-rest_payload (abort s x) d p e = behind s x d p.0
+rest_payload : (m : Message) (d : List ℕ) → Data padded m d → HasPayload (kind_of m) → Some (after_one d) ≡ payload_in m
+rest_payload (intermediate s x) d p e = trailing s x d p.0
+rest_payload (abort s x) d p e = trailing s x d p.0
 rest_payload m d p (inl e) = absurd (cc (e))
 rest_payload m d p (inr e) = absurd (cc (e))
 
 pub payload_shown : (k : Kind) (m : Message) (d : List ℕ) → ∥ Data padded m d ∥₁ → k ≡ kind_of m → IsPayload k → Some d ≡ payload_in m
 payload_shown k m d p e h = ∥∥₁_elim p (Coded-set (coded_option (coded_list coded_ℕ)) _ _) (λ p. whole_payload m d p (subst IsPayload e h))
 
-pub payload_behind : (k : Kind) (m : Message) (d : List ℕ) → ∥ Data padded m d ∥₁ → k ≡ kind_of m → HasPayload k → Some (behind_one d) ≡ payload_in m
-payload_behind k m d p e h = ∥∥₁_elim p (Coded-set (coded_option (coded_list coded_ℕ)) _ _) (λ p. rest_payload m d p (subst HasPayload e h))
+pub payload_after : (k : Kind) (m : Message) (d : List ℕ) → ∥ Data padded m d ∥₁ → k ≡ kind_of m → HasPayload k → Some (after_one d) ≡ payload_in m
+payload_after k m d p e h = ∥∥₁_elim p (Coded-set (coded_option (coded_list coded_ℕ)) _ _) (λ p. rest_payload m d p (subst HasPayload e h))
 
 pub payload_follows : (k : Kind) → HasPayload k → 1 ≤ head_of k
 payload_follows k (inl e) = omega (arith, ap head_of e)

@@ -2,25 +2,25 @@
 use Rattle.std.proofs.Common.{◌≡◌, ℕ, ◌+◌, ◌-◌, ◌<◌, ◌≤◌, ◌==◌, cond, Some, List, [], ◌∷◌, ◌++◌, length, take, drop, slice_get, refl, sym, ◌∙◌, ap, subst, arith, length-append, ◌⊎◌, suc, inl, inr}
 use Rattle.std.proofs.lemmas.Bool.{cases_lt, cond-false, ne_eqb, false≢true}
 use Rattle.std.proofs.Math.Seq.{take-append_seam, take-add}
-use Rattle.zvt_spelling.specs.declared.why.Why.{Why}
-use Rattle.zvt_spelling.specs.Reading.{Reading}
-use Rattle.zvt_spelling.specs.Beginnings.{Alive, Place}
-use Rattle.zvt_spelling.proofs.CutLemmas.{fronts_alive}
-use Rattle.zvt_tlv.proofs.Spelling.{same_front}
+use Rattle.zvt_grammar.specs.declared.why.Why.{Why}
+use Rattle.zvt_grammar.specs.Reading.{Reading}
+use Rattle.zvt_grammar.specs.Beginnings.{Alive, Place}
+use Rattle.zvt_grammar.proofs.CutLemmas.{prefixes_alive}
+use Rattle.zvt_tlv.proofs.Spelling.{same_prefix}
 use Rattle.zvt_tlv.specs.Judging.{Opener}
 use Rattle.zvt_field.specs.Judging as field
 use Rattle.zvt_field.proofs.Positions.{why_once, stands, stands_once}
 use Rattle.zvt_apdu.specs.Grammar.{IsFrameLength, Spells}
 use Rattle.zvt_apdu.specs.Judging.{Layout, layout_of, head_size, Role, first_control, second_control, first_size, low_size, high_size, free, digit, in_fields, InData, layout_in, InFields, Position, fault, WhyOf}
 use Rattle.zvt_apdu.specs.Laws.{PositionsAreOne, RefusalsAreOne}
-use Rattle.zvt_apdu.proofs.Within.{frame_length_front}
+use Rattle.zvt_apdu.proofs.Within.{frame_length_prefix}
 
 -- the first place is one
 module _ {V : Type 0} (spells : V → List ℕ → Type 0) where
   place_before : (j k : ℕ) (bytes : List ℕ) → Place spells bytes j → Place spells bytes k → j < k → ⊥
   place_before j k bytes p q lt =
       let e : suc j + (k - suc j) ≡ k = omega arith in
-      p.dead (fronts_alive spells (take (suc j) bytes) (take (k - suc j) (drop (suc j) bytes))
+      p.dead (prefixes_alive spells (take (suc j) bytes) (take (k - suc j) (drop (suc j) bytes))
       (subst (Alive spells) (sym (ap (λ (m : ℕ). take m bytes) e) ∙ take-add (suc j) (k - suc j) bytes) q.alive))
 
   pub place_once : (j k : ℕ) (bytes : List ℕ) → Place spells bytes j → Place spells bytes k → j ≡ k
@@ -83,7 +83,7 @@ same_data r b d e =
     let whole : d.high ∷ d.low ∷ (d.size ++ d.inside) ≡ e.high ∷ e.low ∷ (e.size ++ e.inside) = sym d.whole ∙ e.whole in
     let highs : d.high ≡ e.high = cc (whole) in
     let lows : d.low ≡ e.low = cc (whole) in
-    let one = frame_length_front r d.n e.n d.size e.size d.inside e.inside d.is_size e.is_size (cc (whole)) in
+    let one = frame_length_prefix r d.n e.n d.size e.size d.inside e.inside d.is_size e.is_size (cc (whole)) in
     record {
       layouts = ap (λ (h : ℕ). layout_of h d.low d.n) highs ∙ ap (λ (l : ℕ). layout_of e.high l d.n) lows ∙ ap (λ (n : ℕ). layout_of e.high e.low n) one.1;
       numbers = one.1;
@@ -110,7 +110,7 @@ fields_once : (r : Reading) (b : List ℕ) (os qs : List Opener) (role role' : f
 fields_once r b os qs role role' left left' x v w p q e f =
     let s = same_data r b p.data_begun q.data_begun in
     let heads : length p.head ≡ length q.head = p.sized ∙ ap head_size s.layouts ∙ sym q.sized in
-    let two = same_front p.head q.head p.part q.part heads (sym p.whole ∙ s.insides ∙ q.whole) in
+    let two = same_prefix p.head q.head p.part q.part heads (sym p.whole ∙ s.insides ∙ q.whole) in
     let rooms : q.room ≡ p.room = omega (arith, heads, p.filled, q.filled, s.numbers) in
     let second : field.Position r p.room qs p.part role' left' = subst (λ (n : ℕ). field.Position r n qs p.part role' left') rooms (subst (λ (s : List ℕ). field.Position r q.room qs s role' left') (sym two.1) q.stands) in
     why_once r p.room (length p.part) (p.part ++ x ∷ []) v w (field_why r os p.room left x p.part role v p.stands e) (field_why r qs p.room left' x p.part role' w second f)
@@ -182,7 +182,7 @@ fields_stand_once : (r : Reading) (b : List ℕ) (os qs : List Opener) (role rol
 fields_stand_once r b os qs role role' left left' p q =
     let s = same_data r b p.data_begun q.data_begun in
     let heads : length p.head ≡ length q.head = p.sized ∙ ap head_size s.layouts ∙ sym q.sized in
-    let two = same_front p.head q.head p.part q.part heads (sym p.whole ∙ s.insides ∙ q.whole) in
+    let two = same_prefix p.head q.head p.part q.part heads (sym p.whole ∙ s.insides ∙ q.whole) in
     let rooms : q.room ≡ p.room = omega (arith, heads, p.filled, q.filled, s.numbers) in
     let second : field.Position r p.room qs p.part role' left' = subst (λ (n : ℕ). field.Position r n qs p.part role' left') rooms (subst (λ (s : List ℕ). field.Position r q.room qs s role' left') (sym two.1) q.stands) in
     let one = stands_once r p.room p.part role role' left left' (stands r p.room os p.part role left p.stands) (stands r p.room qs p.part role' left' second) in

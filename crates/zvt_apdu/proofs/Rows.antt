@@ -1,7 +1,7 @@
 -- Rows worked by hand.
 use Rattle.std.proofs.Common.{◌≡◌, ℕ, None, Some, List, [], ◌∷◌, ◌++◌, length, refl, ap, arith, false}
-use Rattle.zvt_spelling.specs.declared.why.Why.TheVariants.{NotShortest, DoesNotFit, UnknownField}
-use Rattle.zvt_spelling.specs.Reading.{shortest}
+use Rattle.zvt_grammar.specs.declared.why.Why.TheVariants.{NotShortest, DoesNotFit, UnknownField}
+use Rattle.zvt_grammar.specs.Reading.{shortest}
 use Rattle.zvt_field.specs.Shapes.{shape_of}
 use Rattle.zvt_field.specs.Grammar.{plain}
 use Rattle.zvt_field.specs.Judging.{name}

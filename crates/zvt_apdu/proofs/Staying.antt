@@ -1,7 +1,7 @@
 -- Answers that more bytes leave, and the one fault of a message.
 use Rattle.std.proofs.Common.{ℕ, List, length, refl, sym, ap, subst, arith, length-append}
 use Rattle.std.proofs.lemmas.List.{take-append-le}
-use Rattle.zvt_spelling.specs.declared.answer.Scan.TheVariants.{Whole, More, Refused}
+use Rattle.zvt_grammar.specs.declared.answer.Scan.TheVariants.{Whole, More, Refused}
 use Rattle.zvt_tlv.proofs.Places.{place_more, none_more, byte_more}
 use Rattle.zvt_apdu.specs.declared.messages.BadValue.TheVariants.{TooLarge, NamedControl}
 use Rattle.zvt_apdu.specs.Grammar.{Spells}

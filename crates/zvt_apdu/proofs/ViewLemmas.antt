@@ -3,7 +3,7 @@ use Rattle.std.proofs.Common.{◌≡◌, ℕ, ◌+◌, ◌-◌, ◌<◌, ◌≤�
 use Rattle.std.proofs.lemmas.List.{append-nil}
 use Rattle.std.proofs.Math.Logic.{∥∥₁_elim, ∥∥₁_map}
 use Rattle.std.specs.Coded.{Coded-set, coded_list, coded_option, coded_ℕ, le_prop}
-use Rattle.zvt_spelling.specs.Reading.{shortest, padded}
+use Rattle.zvt_grammar.specs.Reading.{shortest, padded}
 use Rattle.zvt_tlv.proofs.ViewLemmas.{rest_at}
 use Rattle.zvt_field.specs.Grammar.{Field, FieldList, field_code}
 use Rattle.zvt_field.specs.Views.{FieldsBytes, fields_once}
@@ -170,10 +170,10 @@ found m b d l p x e =
 pub head_fits : (m : Message) (b d : List ℕ) (l : Layout) → ∥ Spells padded m b ∥₁ → IsData b d → IsLayout b d l → l.free + l.digits ≤ length d
 head_fits m b d l p x e = ∥∥₁_elim p le_prop (λ p. let k = found m b d l p x e in omega (arith, ap length k.whole, length-append k.head k.tail, k.sized))
 
-abbrev pub behind : ℕ → List ℕ → List ℕ
-behind n d = take (length d - n) (drop n d)
+abbrev pub trailing : ℕ → List ℕ → List ℕ
+trailing n d = take (length d - n) (drop n d)
 
-tail_is : (fs : Option (List Field)) (l : Layout) (d : List ℕ) → (k : DataOf fs l d) → behind (l.free + l.digits) d ≡ k.tail
+tail_is : (fs : Option (List Field)) (l : Layout) (d : List ℕ) → (k : DataOf fs l d) → trailing (l.free + l.digits) d ≡ k.tail
 tail_is fs l d k = rest_at (l.free + l.digits) d k.head k.tail (sym k.sized) k.whole
 
 in_tail : (fs : Option (List Field)) (flag : Bool) (t : List ℕ) → InTail flag t fs → flag ≡ true → (fields : List Field) × (fs ≡ Some fields) × FieldList padded fields t
@@ -188,15 +188,15 @@ no_tail None true t h e = absurd h
 no_tail (Some fields) false t h e = absurd h
 no_tail None false t h e = refl
 
-pub fields_spelled : (m : Message) (b d : List ℕ) (l : Layout) → ∥ Spells padded m b ∥₁ → IsData b d → IsLayout b d l → l.fields ≡ true → FieldsBytes (behind (l.free + l.digits) d)
+pub fields_spelled : (m : Message) (b d : List ℕ) (l : Layout) → ∥ Spells padded m b ∥₁ → IsData b d → IsLayout b d l → l.fields ≡ true → FieldsBytes (trailing (l.free + l.digits) d)
 fields_spelled m b d l p x e has =
-    ∥∥₁_elim p (fields_once (behind (l.free + l.digits) d)) (λ p.
+    ∥∥₁_elim p (fields_once (trailing (l.free + l.digits) d)) (λ p.
     let k = found m b d l p x e in
     let t = in_tail (fields_in m) l.fields k.tail k.inside has in
     (t.0, ∣ subst (FieldList padded t.0) (sym (tail_is (fields_in m) l d k)) t.2 ∣₁))
 
 pub fields_are : (m : Message) (b d : List ℕ) (l : Layout) (g : List Field) → ∥ Spells padded m b ∥₁ → IsData b d → IsLayout b d l → l.fields ≡ true →
-    ((fields : List Field) → FieldList padded fields (behind (l.free + l.digits) d) → g ≡ fields) → Some g ≡ fields_in m
+    ((fields : List Field) → FieldList padded fields (trailing (l.free + l.digits) d) → g ≡ fields) → Some g ≡ fields_in m
 fields_are m b d l g p x e has w =
     ∥∥₁_elim p (Coded-set (coded_option (coded_list field_code)) _ _) (λ p.
     let k = found m b d l p x e in

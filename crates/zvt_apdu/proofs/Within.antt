@@ -1,10 +1,10 @@
 -- What follows in the fields of a message is what follows in a list of fields of the room that is left.
 use Rattle.std.proofs.Common.{◌≡◌, ℕ, ◌+◌, ◌<◌, Bool, true, List, [], ◌∷◌, ◌++◌, length, refl, sym, ◌∙◌, ap, subst, append_assoc, arith, length-append}
 use Rattle.zvt_bcd.specs.Digits.{AreDigits}
-use Rattle.zvt_spelling.specs.Reading.{Reading, AreBytes}
+use Rattle.zvt_grammar.specs.Reading.{Reading, AreBytes}
 use Rattle.zvt_tlv.specs.Judging.{Opener}
-use Rattle.zvt_spelling.specs.Beginnings.{Alive}
-use Rattle.zvt_tlv.proofs.Spelling.{same_front}
+use Rattle.zvt_grammar.specs.Beginnings.{Alive}
+use Rattle.zvt_tlv.proofs.Spelling.{same_prefix}
 use Rattle.zvt_tlv.proofs.Alive.{says_of}
 use Rattle.zvt_tlv.proofs.Room.{Says}
 use Rattle.zvt_field.specs.Grammar.{Field, FieldList}
@@ -15,7 +15,7 @@ use Rattle.zvt_apdu.specs.Grammar.{IsFrameLength, Spells}
 use Rattle.zvt_apdu.specs.Judging.{Layout, layout_of, head_size, in_fields, InFields, fault}
 use Rattle.zvt_apdu.proofs.Frames.{Tail, Parts, Frame, frame_of}
 use Rattle.zvt_apdu.proofs.Named.{message_of}
-pub use Rattle.zvt_apdu.specs.Once.{frame_length_front}
+pub use Rattle.zvt_apdu.specs.UniqueDecoding.{frame_length_prefix}
 
 -- a whole frame of a beginning whose length stands
 pub record Same (r : Reading) (high low : ℕ) (size : List ℕ) (n : ℕ) (inside rest : List ℕ) (b : List ℕ) (f : Frame r b) : Type 0 where
@@ -29,7 +29,7 @@ pub same_frame : (r : Reading) (high low : ℕ) (size : List ℕ) (n : ℕ) (ins
     Same r high low size n inside rest b f
 same_frame r high low size n inside rest b f l e =
     let whole : f.high ∷ f.low ∷ (f.size ++ f.content) ≡ high ∷ low ∷ (size ++ (inside ++ rest)) = sym f.whole ∙ e ∙ ap (λ (s : List ℕ). high ∷ low ∷ s) (append_assoc size inside rest) in
-    let one = frame_length_front r (length f.content) n f.size size f.content (inside ++ rest) f.is_size l (cc (whole)) in
+    let one = frame_length_prefix r (length f.content) n f.size size f.content (inside ++ rest) f.is_size l (cc (whole)) in
     record { highs = cc (whole); lows = cc (whole); sizes = one.0; numbers = one.1; contents = one.2 }
 
 alive_frame : (r : Reading) (b : List ℕ) → Alive (Spells r) b → (rest : List ℕ) × Frame r (b ++ rest)
@@ -60,7 +60,7 @@ pub record Split (r : Reading) (l : Layout) (head c rest : List ℕ) : Type 0 wh
 pub split : (r : Reading) (l : Layout) (head c rest : List ℕ) → length head ≡ head_size l → Parts r l ((head ++ c) ++ rest) → Split r l head c rest
 split r l head c rest sized p =
     let whole : head ++ (c ++ rest) ≡ (p.free ++ p.digits) ++ p.tail = sym (append_assoc head c rest) ∙ p.whole ∙ sym (append_assoc p.free p.digits p.tail) in
-    let two = same_front head (p.free ++ p.digits) (c ++ rest) p.tail (omega (arith, length-append p.free p.digits, p.free_size, p.digits_size, sized)) whole in
+    let two = same_prefix head (p.free ++ p.digits) (c ++ rest) p.tail (omega (arith, length-append p.free p.digits, p.free_size, p.digits_size, sized)) whole in
     record { free = p.free; digits = p.digits; head_whole = two.0; free_size = p.free_size; are_bytes = p.are_bytes; digits_size = p.digits_size; are_digits = p.are_digits; tailed = subst (Tail r l.fields) (sym two.1) p.tailed }
 
 listed_tail : (r : Reading) (b : Bool) (s : List ℕ) → b ≡ true → Tail r b s → (fs : List Field) × FieldList r fs s
@@ -137,8 +137,8 @@ frames_end r m n a b x y p q e =
     ap (λ (s : List ℕ). f.high ∷ f.low ∷ s) (sym (append_assoc f.size f.content x)) ∙ ap (λ (s : List ℕ). s ++ x) (sym f.whole) ∙ e ∙ ap (λ (s : List ℕ). s ++ y) g.whole ∙ ap (λ (s : List ℕ). g.high ∷ g.low ∷ s) (append_assoc g.size g.content y) in
     let highs : f.high ≡ g.high = cc (whole) in
     let lows : f.low ≡ g.low = cc (whole) in
-    let one = frame_length_front r (length f.content) (length g.content) f.size g.size (f.content ++ x) (g.content ++ y) f.is_size g.is_size (cc (whole)) in
-    let two = same_front f.content g.content x y one.1 one.2 in
+    let one = frame_length_prefix r (length f.content) (length g.content) f.size g.size (f.content ++ x) (g.content ++ y) f.is_size g.is_size (cc (whole)) in
+    let two = same_prefix f.content g.content x y one.1 one.2 in
     let sizes : f.size ≡ g.size = one.0 in
     let contents : f.content ≡ g.content = two.0 in
     f.whole ∙ cc (highs, lows, sizes, contents) ∙ sym g.whole

@@ -4,7 +4,7 @@ use Rattle.std.proofs.lemmas.List.{take_rest}
 use Rattle.std.proofs.lemmas.Bool.{cond-true, cond-false, lt-ltb, le-ltb, cases_lt}
 use borrow.Rule.Slice.PartMut.{put_mid}
 use Rattle.zvt_bcd.specs.Digits.{AreDigits, number_of}
-use Rattle.zvt_spelling.specs.Reading.{Reading, shortest}
+use Rattle.zvt_grammar.specs.Reading.{Reading, shortest}
 use Rattle.zvt_tlv.specs.Sizes.{Puts}
 use Rattle.zvt_tlv.proofs.Spelling.{from}
 use Rattle.zvt_tlv.proofs.Writing.{puts_after}
@@ -40,9 +40,9 @@ pub registered_is : (password digits listed bytes : List ℕ) (config high low c
     (get_or password 0 0 ∷ get_or password 1 0 ∷ get_or password 2 0 ∷ config ∷ high ∷ low ∷ []) ++ p.listed ≡ bytes
 registered_is password digits listed bytes config high low currency fs three is are number p =
     let same : p.digits ≡ digits = two_digits p.digits digits p.two (ap length is) p.are_digits are (p.number ∙ sym number) in
-    let front : get_or password 0 0 ∷ get_or password 1 0 ∷ get_or password 2 0 ∷ [] ≡ password = three_bytes password three in
+    let prefix : get_or password 0 0 ∷ get_or password 1 0 ∷ get_or password 2 0 ∷ [] ≡ password = three_bytes password three in
     let whole : (get_or password 0 0 ∷ get_or password 1 0 ∷ get_or password 2 0 ∷ []) ++ (config ∷ high ∷ low ∷ p.listed) ≡ bytes =
-    ap (λ (s : List ℕ). s ++ (config ∷ high ∷ low ∷ p.listed)) front
+    ap (λ (s : List ℕ). s ++ (config ∷ high ∷ low ∷ p.listed)) prefix
     ∙ ap (λ (s : List ℕ). password ++ (config ∷ (s ++ p.listed))) (sym (same ∙ is))
     ∙ sym (append_assoc password (config ∷ []) (p.digits ++ p.listed)) ∙ sym p.whole in
     whole

@@ -1,7 +1,7 @@
 -- The spelling of messages: two control bytes, the length of the data, the data.
 use Rattle.std.specs.Prelude.{◌≡◌, ℕ, ◌+◌, ◌*◌, ◌<◌, ◌≤◌, ◌==◌, ◌&&◌, cond, Option, Some, None, List, [], ◌∷◌, ◌++◌, length}
 use Rattle.zvt_bcd.specs.Digits.{AreDigits, number_of}
-use Rattle.zvt_spelling.specs.Reading.{Reading, AreBytes, least}
+use Rattle.zvt_grammar.specs.Reading.{Reading, AreBytes, least}
 use Rattle.zvt_field.specs.Grammar.{Field, FieldList}
 pub use Rattle.zvt_apdu.specs.declared.frame.Form.{Form}
 pub use Rattle.zvt_apdu.specs.declared.frame.Form.TheVariants.{BytesFrom, FieldsFrom, Registration}

@@ -2,14 +2,14 @@
 use Rattle.std.specs.Prelude.{◌≡◌, ℕ, ◌+◌, ◌*◌, ◌-◌, ◌<◌, ◌≤◌, ◌==◌, ◌&&◌, not, nat_le, Bool, true, false, cond, Option, Some, None, Result, Ok, Err, List, [], ◌∷◌, ◌++◌, length, take, drop, slice_get}
 use Rattle.std.proofs.Common.{◌⊎◌}
 use Rattle.zvt_bcd.specs.Digits.{AreDigits, is_digit_pair}
-use Rattle.zvt_spelling.specs.declared.why.Why.{Why}
-use Rattle.zvt_spelling.specs.declared.why.Why.TheVariants.{NotShortest, DoesNotFit, NotDigit}
-use Rattle.zvt_spelling.specs.declared.answer.Scan.{Scan}
-use Rattle.zvt_spelling.specs.declared.answer.Scan.TheVariants.{Whole, More, Refused}
-use Rattle.zvt_spelling.specs.Reading.{Reading, least}
-use Rattle.zvt_spelling.specs.Tests.{check}
+use Rattle.zvt_grammar.specs.declared.why.Why.{Why}
+use Rattle.zvt_grammar.specs.declared.why.Why.TheVariants.{NotShortest, DoesNotFit, NotDigit}
+use Rattle.zvt_grammar.specs.declared.answer.Scan.{Scan}
+use Rattle.zvt_grammar.specs.declared.answer.Scan.TheVariants.{Whole, More, Refused}
+use Rattle.zvt_grammar.specs.Reading.{Reading, least}
+use Rattle.zvt_grammar.specs.Tests.{check}
 use Rattle.zvt_tlv.specs.Judging.{Opener}
-use Rattle.zvt_spelling.specs.Beginnings.{NoneWhole, Unfinished, Place}
+use Rattle.zvt_grammar.specs.Beginnings.{NoneWhole, Unfinished, Place}
 use Rattle.zvt_field.specs.Answers as fields
 use Rattle.zvt_field.specs.Judging as field
 pub use Rattle.zvt_apdu.specs.declared.frame.Layout.{Layout}
@@ -170,7 +170,7 @@ pub record TakesMemory (r : Reading) (bytes : List ℕ) : Type 0 where
 
 -- The first byte that is no pair of digits, of so many that stand behind others.
 pub record WrongDigit (before digits : ℕ) (bytes : List ℕ) (place : ℕ) : Type 0 where
-  pub behind : before ≤ place
+  pub trailing : before ≤ place
   pub within : place < before + digits
   pub present : place < length bytes
   pub passed : AreDigits (take (place - before) (drop before bytes))

@@ -1,12 +1,12 @@
 -- Laws of the grammar.
 use Rattle.std.specs.Prelude.{◌≡◌, ◌≢◌, ◌↔◌, ℕ, ◌<◌, None, List, [], ◌∷◌, ◌++◌, length}
-use Rattle.zvt_spelling.specs.declared.why.Why.{Why}
-use Rattle.zvt_spelling.specs.declared.why.Why.TheVariants.{NotShortest}
-use Rattle.zvt_spelling.specs.declared.answer.Scan.{Scan}
-use Rattle.zvt_spelling.specs.declared.answer.Scan.TheVariants.{Whole, More}
-use Rattle.zvt_spelling.specs.Reading.{Reading, shortest, padded}
+use Rattle.zvt_grammar.specs.declared.why.Why.{Why}
+use Rattle.zvt_grammar.specs.declared.why.Why.TheVariants.{NotShortest}
+use Rattle.zvt_grammar.specs.declared.answer.Scan.{Scan}
+use Rattle.zvt_grammar.specs.declared.answer.Scan.TheVariants.{Whole, More}
+use Rattle.zvt_grammar.specs.Reading.{Reading, shortest, padded}
 use Rattle.zvt_tlv.specs.Judging.{Opener}
-use Rattle.zvt_spelling.specs.Beginnings.{Alive, Unfinished, Place}
+use Rattle.zvt_grammar.specs.Beginnings.{Alive, Unfinished, Place}
 use Rattle.zvt_apdu.specs.declared.messages.BadValue.{BadValue}
 use Rattle.zvt_apdu.specs.Message.{Message}
 use Rattle.zvt_apdu.specs.Messages.{HasSpelling, HasFault}

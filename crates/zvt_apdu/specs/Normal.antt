@@ -1,9 +1,9 @@
 -- Messages of padded lengths in their one strict spelling.
 use Rattle.std.specs.Prelude.{◌≡◌, ◌⊎◌, ℕ, ◌≤◌, List, length, take, Vec}
 use Rattle.std.specs.Global.{Global}
-use Rattle.zvt_spelling.specs.declared.answer.Scan.{Scan}
-use Rattle.zvt_spelling.specs.declared.answer.Scan.TheVariants.{Whole, More, Refused}
-use Rattle.zvt_spelling.specs.Reading.{shortest, padded}
+use Rattle.zvt_grammar.specs.declared.answer.Scan.{Scan}
+use Rattle.zvt_grammar.specs.declared.answer.Scan.TheVariants.{Whole, More, Refused}
+use Rattle.zvt_grammar.specs.Reading.{shortest, padded}
 use Rattle.zvt_apdu.specs.Message.{Message}
 use Rattle.zvt_apdu.specs.Grammar.{Spells}
 use Rattle.zvt_apdu.specs.Judging.{Found, Answers, TakesMemory}

@@ -1,13 +1,13 @@
 -- What a view of a message's bytes holds.
 use Rattle.std.specs.Prelude.{◌≡◌, ℕ, Option, Some, None, List, [], ◌∷◌, ◌++◌, length}
 use Rattle.std.proofs.Common.{refl}
-use Rattle.zvt_spelling.specs.Reading.{padded}
+use Rattle.zvt_grammar.specs.Reading.{padded}
 use Rattle.zvt_tlv.specs.Views.{OneOf, one_value}
 use Rattle.zvt_field.specs.Grammar.{Field}
 use Rattle.zvt_apdu.specs.Message.{Message, ack, nack, registration, authorisation, reversal, end_of_day, abort_order, status, intermediate, print_line, text_block, completion, abort, other}
 use Rattle.zvt_apdu.specs.MessageCode.{message_code}
 use Rattle.zvt_apdu.specs.Grammar.{IsFrameLength, Spells}
-use Rattle.zvt_apdu.specs.Once.{one_message}
+use Rattle.zvt_apdu.specs.UniqueDecoding.{one_message}
 
 -- The message that the bytes spell, each length in any form that holds it.
 abbrev pub MessageBytes : List ℕ → Type 0

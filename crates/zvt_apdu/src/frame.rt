@@ -1,13 +1,12 @@
 //! The frame of a message: control bytes, a length, and what stands behind them.
 
 ghost use Rattle.std.specs.Prelude.{◌≡◌, ◌≤◌, length, slice_index_or};
-ghost use Rattle.zvt_tlv.specs.Lengths.{reading_of};
+ghost use Rattle.zvt_grammar.specs.Lengths.{reading_of};
 ghost use Rattle.zvt_apdu.specs.Grammar.{form_of};
 ghost use Rattle.zvt_apdu.specs.Judging.{AnswersOpening, JudgesSize, bytes_after, can_fill, head_size, layout_of};
 
 use crate::kinds::{Kind, kind_at};
-use zvt_spelling::{Scan, Why};
-use zvt_tlv::Lengths;
+use zvt_grammar::{Lengths, Scan, Why};
 
 /// What the data of a message is: so many bytes and then bytes of any number, so many bytes and fields, or a registration's.
 #[derive(Clone, Copy)]

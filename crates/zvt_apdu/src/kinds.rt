@@ -2,7 +2,7 @@
 
 ghost use Rattle.std.specs.Prelude.{◌≡◌, ◌≤◌, ◌+◌, ◌++◌, ℕ, List, length, drop, Some, true};
 ghost use Rattle.zvt_bcd.specs.Digits.{AreDigits};
-ghost use Rattle.zvt_spelling.specs.Reading.{AreBytes, Reading};
+ghost use Rattle.zvt_grammar.specs.Reading.{AreBytes, Reading};
 ghost use Rattle.zvt_field.specs.Grammar.{FieldList};
 ghost use Rattle.zvt_apdu.specs.Grammar.{form_of, BytesFrom, FieldsFrom};
 ghost use Rattle.zvt_apdu.specs.Kinds.{kind_at};

@@ -1,8 +1,8 @@
 //! Laws of the grammar, each the contract of a function that does nothing.
 
 ghost use Rattle.std.specs.Prelude.{ℕ, List};
-ghost use Rattle.zvt_spelling.specs.Laws.{SpellingsAreOne, CutsAreOne, FrontsOfCut, Growth, FrontsAlive};
-ghost use Rattle.zvt_spelling.specs.Reading.{Reading, shortest};
+ghost use Rattle.zvt_grammar.specs.Laws.{SpellingsAreOne, CutsAreOne, PrefixesOfCut, Growth, PrefixesAlive};
+ghost use Rattle.zvt_grammar.specs.Reading.{Reading, shortest};
 ghost use Rattle.zvt_apdu.specs.Grammar.{Spells};
 ghost use Rattle.zvt_apdu.specs.Laws.{AnswersAreOne, AnswersStay, EachBeginningStands, FaultsAreOne, MessagesEndThemselves, NeverNotShortest, NormalsAreOne, NormalsStay, PositionsAreOne, RefusalsAreOne, SpelledIsFaultless, SpellingsAreRead, StrictIsPadded, StrictStays, TestsDecide};
 
@@ -20,13 +20,13 @@ pub fn spellings_are_one()
 /// messages that stand.
 pub fn cuts_are_one()
     ensures one { (r : Reading) → CutsAreOne (Spells r) }
-    ensures fronts { (r : Reading) → FrontsOfCut (Spells r) }
+    ensures prefixes { (r : Reading) → PrefixesOfCut (Spells r) }
     ensures growth { (r : Reading) → Growth (Spells r) }
 {}
 
 /// Each front of what can be completed can be completed.
-pub fn fronts_are_alive()
-    ensures { (r : Reading) → FrontsAlive (Spells r) }
+pub fn prefixes_are_alive()
+    ensures { (r : Reading) → PrefixesAlive (Spells r) }
 {}
 
 /// Of a spelling with anything behind it, the answer is its message and its size.

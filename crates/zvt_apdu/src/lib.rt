@@ -2,25 +2,25 @@
 #![tactic(auto)]
 
 mod apdu;
-mod brief;
 mod control_bytes;
 mod frame;
 mod kinds;
 pub mod laws;
 mod messages;
-mod normalising;
-mod owning;
+mod normal_form;
+mod owned_message;
 mod reader;
+mod till_message;
 mod views;
 mod writer;
 
 pub use apdu::Apdu;
-pub use brief::{BRIEF_ROOM, Brief, brief_message, put_brief};
 pub use frame::{Layout, judge_size};
 pub use kinds::{Kind, kind_at};
 pub use messages::{BadValue, Message, Rest};
-pub use normalising::normalise;
-pub use owning::owned;
+pub use normal_form::normalise;
+pub use owned_message::owned;
 pub use reader::{scan, scan_loose, scan_message};
+pub use till_message::{MAX_TILL_MESSAGE_LEN, TillMessage, put_till_message, till_message_apdu};
 pub use views::{ApduView, view};
 pub use writer::{NoRoom, encode, encode_into, size};

@@ -1,8 +1,8 @@
 //! The reader of messages.
 
 ghost use Rattle.std.specs.Prelude.{◌≡◌, ◌≤◌, ◌+◌, false, length, true, MatchResult};
-ghost use Rattle.zvt_spelling.specs.Reading.{padded, shortest};
-ghost use Rattle.zvt_tlv.specs.Lengths.{reading_of};
+ghost use Rattle.zvt_grammar.specs.Reading.{padded, shortest};
+ghost use Rattle.zvt_grammar.specs.Lengths.{reading_of};
 ghost use Rattle.zvt_apdu.specs.Judging.{Answers, FindsDigit, Headed, TakesMemory, head_size};
 
 use crate::apdu::Apdu;
@@ -10,8 +10,7 @@ use crate::frame::{Layout, Opening, layout_of, scan_opening};
 use crate::kinds::{bytes_message, fields_message};
 use std::alloc::{AllocError, Global};
 use zvt_field::scan_fields;
-use zvt_spelling::{Scan, Why};
-use zvt_tlv::Lengths;
+use zvt_grammar::{Lengths, Scan, Why};
 
 /// Reads the message that stands first: the message and its size, each length in its shortest form. Bytes behind it are
 /// not looked at. It answers `More` where the bytes begin a message and hold none, as the empty slice does, and refuses

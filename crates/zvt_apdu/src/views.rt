@@ -3,7 +3,7 @@
 
 ghost use Rattle.std.specs.Prelude.{◌≡◌, ℕ, List, ◌∷◌, ◌++◌, length};
 ghost use Rattle.std.specs.Option.{option_copied};
-ghost use Rattle.zvt_spelling.specs.Reading.{padded};
+ghost use Rattle.zvt_grammar.specs.Reading.{padded};
 ghost use Rattle.zvt_apdu.specs.Message.{Message};
 ghost use Rattle.zvt_apdu.specs.Grammar.{IsControl, IsFrameLength, Data, Spells};
 ghost use Rattle.zvt_apdu.specs.Kinds.{kind_of};

@@ -1,7 +1,7 @@
 //! The writer of messages, and what they need.
 
 ghost use Rattle.std.specs.Prelude.{◌≡◌, ◌+◌, ◌++◌, ◌<◌, ◌≤◌, ◌^◌, ℕ, List, ◌∷◌, length, IfOk};
-ghost use Rattle.zvt_spelling.specs.Reading.{AreBytes, shortest};
+ghost use Rattle.zvt_grammar.specs.Reading.{AreBytes, shortest};
 ghost use Rattle.zvt_bcd.specs.Digits.{AreDigits, number_of};
 ghost use Rattle.zvt_tlv.specs.Sizes.{Puts};
 ghost use Rattle.zvt_field.specs.Grammar.{FieldList};
@@ -65,7 +65,7 @@ pub(crate) fn bytes_size(bytes: &[u8]) -> usize
 }
 
 /// The size of a byte and of bytes behind it.
-fn behind_byte(byte: u8, bytes: &[u8]) -> usize
+fn after_byte(byte: u8, bytes: &[u8]) -> usize
     ensures value { result ≡ 1 + length bytes.now }
     ensures bytes { AreBytes (byte ∷ bytes.now) }
 {
@@ -116,11 +116,11 @@ pub(crate) fn data_size(message: &Message) -> usize
         Message::EndOfDay { password, fields } => password_size(password) + fields_size(fields),
         Message::AbortOrder(fields) => fields_size(fields),
         Message::Status(fields) => fields_size(fields),
-        Message::Intermediate { status, payload } => behind_byte(*status, payload),
-        Message::PrintLine { attribute, text } => behind_byte(*attribute, text),
+        Message::Intermediate { status, payload } => after_byte(*status, payload),
+        Message::PrintLine { attribute, text } => after_byte(*attribute, text),
         Message::TextBlock(fields) => fields_size(fields),
         Message::Completion(fields) => fields_size(fields),
-        Message::Abort { code, payload } => behind_byte(*code, payload),
+        Message::Abort { code, payload } => after_byte(*code, payload),
         Message::Other { payload, .. } => bytes_size(payload),
     }
 }
@@ -146,7 +146,7 @@ pub(crate) fn put_bytes(bytes: &[u8], out: &mut [u8]) -> usize
 }
 
 /// Puts bytes at the front, and others behind them, and says how many.
-pub(crate) fn put_behind(first: &[u8], bytes: &[u8], out: &mut [u8]) -> usize
+pub(crate) fn put_after(first: &[u8], bytes: &[u8], out: &mut [u8]) -> usize
     requires { length first.now + length bytes.now ≤ length out.old }
     ensures { Puts (first.now ++ bytes.now) out.old out.new result }
 {
@@ -183,11 +183,11 @@ fn write_data(message: &Message, out: &mut [u8]) -> usize
         Message::EndOfDay { password, fields } => put_listed(password, fields, out),
         Message::AbortOrder(fields) => write_into(fields, out),
         Message::Status(fields) => write_into(fields, out),
-        Message::Intermediate { status, payload } => put_behind(&[*status], payload, out),
-        Message::PrintLine { attribute, text } => put_behind(&[*attribute], text, out),
+        Message::Intermediate { status, payload } => put_after(&[*status], payload, out),
+        Message::PrintLine { attribute, text } => put_after(&[*attribute], text, out),
         Message::TextBlock(fields) => write_into(fields, out),
         Message::Completion(fields) => write_into(fields, out),
-        Message::Abort { code, payload } => put_behind(&[*code], payload, out),
+        Message::Abort { code, payload } => put_after(&[*code], payload, out),
         Message::Other { payload, .. } => put_bytes(payload, out),
     }
 }
@@ -198,7 +198,7 @@ fn write_registration(password: &[u8; 3], config: u8, rest: &Option<Rest>, out: 
     ensures { (bytes : List ℕ) → Data shortest (registration password.now config (rest_of rest.now)) bytes → Puts bytes out.old out.new result }
 {
     match rest {
-        None => put_behind(password, &[config], out),
+        None => put_after(password, &[config], out),
         Some(rest) => {
             let [high, low] = currency_digits(rest.currency);
             let head = [password[0], password[1], password[2], config, high, low];

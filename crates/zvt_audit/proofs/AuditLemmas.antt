@@ -4,26 +4,26 @@ use Rattle.std.specs.List.{flat_map}
 use Rattle.std.specs.Io.KnownBytes.{Appends, Keeps}
 use Rattle.std.specs.Prelude.{IfSome}
 use Rattle.std.specs.Str.Lines.{lines}
-use Rattle.zvt_spelling.specs.Reading.{Reading, shortest}
+use Rattle.zvt_grammar.specs.Reading.{Reading, shortest}
 use Rattle.zvt_till.specs.Books.{Books, books}
 use Rattle.zvt_till.specs.Judging.{BooksSoFar, HasJudged}
 use Rattle.zvt_till.specs.declared.happenings.Happening.{Happening}
 use Rattle.zvt_till.specs.declared.happenings.Happening.TheVariants.{Connected}
 use Rattle.zvt_trace.specs.Listening.{AnswersWalkBy, Fails, Hears, HearsAll, Stops}
-use Rattle.zvt_trace.specs.Told.{At}
-use Rattle.zvt_trace.specs.Telling.{ToldSoFar}
-use Rattle.zvt_trace.specs.Written.{AppendsFront, limit}
+use Rattle.zvt_trace.specs.TraceEvent.{At}
+use Rattle.zvt_trace.specs.Emitting.{EventsSoFar}
+use Rattle.zvt_trace.specs.Written.{AppendsPrefix, limit}
 use Rattle.zvt_trace.specs.declared.direction.Direction.TheVariants.{FromTill, FromTerminal}
 use Rattle.zvt_trace.specs.declared.fault.Tally.{Tally}
 use Rattle.zvt_trace.specs.declared.fault.TraceFault.{TraceFault}
 use Rattle.zvt_trace.specs.declared.fault.TraceFault.TheVariants.{Memory, Read, TooLong, Trace, Write}
-use Rattle.zvt_trace.specs.declared.listener.Failure.TheVariants as failure
+use Rattle.zvt_trace.specs.declared.listener.ListenerError.TheVariants as failure
 use Rattle.zvt_trace.specs.declared.listener.Scope.TheVariants.{WholeLine}
 use Rattle.zvt_audit.specs.Audited.{AnswersAudit, AnswersReadBy, Takes}
 use Rattle.zvt_audit.specs.Booked.{books_text}
 use Rattle.zvt_audit.specs.Happened.{happenings_of, log_of}
 use Rattle.zvt_audit.specs.Orders.{are_swapped, is_order_from, noticed, orders_from}
-use Rattle.zvt_audit.specs.declared.auditing.Found.{Found}
+use Rattle.zvt_audit.specs.declared.summary.AuditSummary.{AuditSummary}
 use Rattle.zvt_audit.specs.declared.orders.Orders.{Orders}
 
 -- nothing happened
@@ -37,18 +37,18 @@ takes_more a b c x y first second = λ log judged. subst (λ (l : List Happening
 -- ---- what is heard
 
 abbrev pub hears : {S : Type 0} → (S → BooksSoFar) → (S → Orders) → Hears S
-hears books orders old event new = Takes (books old) (books new) (happenings_of event.told) × (orders new ≡ noticed (orders old) event.told)
+hears books orders old event new = Takes (books old) (books new) (happenings_of event.trace_event) × (orders new ≡ noticed (orders old) event.trace_event)
 
 abbrev pub wants_memory : {S : Type 0} → Fails S
 wants_memory old event why new = why ≡ failure.Memory
 
 abbrev happened_by : List At → List Happening
-happened_by events = flat_map (λ (event : At). happenings_of event.told) events
+happened_by events = flat_map (λ (event : At). happenings_of event.trace_event) events
 
 taken : {S : Type 0} (books_of : S → BooksSoFar) (orders : S → Orders) (events : List At) (old new : S) → HearsAll (hears books_of orders) old events new → Takes (books_of old) (books_of new) (happened_by events)
 taken {S = S} books_of orders [] old new same = subst (λ (s : S). Takes (books_of old) (books_of s) []) (sym same) (takes_none (books_of old))
 taken books_of orders (event ∷ events) old new some =
-    takes_more (books_of old) (books_of some.0) (books_of new) (happenings_of event.told) (happened_by events) some.1.0 (taken books_of orders events some.0 new some.2)
+    takes_more (books_of old) (books_of some.0) (books_of new) (happenings_of event.trace_event) (happened_by events) some.1.0 (taken books_of orders events some.0 new some.2)
 
 -- the books of the whole log, from the connection on
 log_judged : {S : Type 0} (books_of : S → BooksSoFar) (orders : S → Orders) (events : List At) (first : BooksSoFar) (old new : S) → HasJudged [] first → Takes first (books_of old) (Connected ∷ []) → HearsAll (hears books_of orders) old events new
@@ -68,12 +68,12 @@ or_more false b c = refl
 till_noticed : {S : Type 0} (books_of : S → BooksSoFar) (orders : S → Orders) (events : List At) (old new : S) → HearsAll (hears books_of orders) old events new → (orders new).till ≡ ((orders old).till || orders_from FromTill events)
 till_noticed {S = S} books_of orders [] old new same = subst (λ (s : S). (orders s).till ≡ ((orders old).till || false)) (sym same) (sym (or_false (orders old).till))
 till_noticed books_of orders (event ∷ events) old new some =
-    till_noticed books_of orders events some.0 new some.2 ∙ ap (λ (o : Orders). o.till || orders_from FromTill events) some.1.1 ∙ or_more (orders old).till (is_order_from FromTill event.told) (orders_from FromTill events)
+    till_noticed books_of orders events some.0 new some.2 ∙ ap (λ (o : Orders). o.till || orders_from FromTill events) some.1.1 ∙ or_more (orders old).till (is_order_from FromTill event.trace_event) (orders_from FromTill events)
 
 terminal_noticed : {S : Type 0} (books_of : S → BooksSoFar) (orders : S → Orders) (events : List At) (old new : S) → HearsAll (hears books_of orders) old events new → (orders new).terminal ≡ ((orders old).terminal || orders_from FromTerminal events)
 terminal_noticed {S = S} books_of orders [] old new same = subst (λ (s : S). (orders s).terminal ≡ ((orders old).terminal || false)) (sym same) (sym (or_false (orders old).terminal))
 terminal_noticed books_of orders (event ∷ events) old new some =
-    terminal_noticed books_of orders events some.0 new some.2 ∙ ap (λ (o : Orders). o.terminal || orders_from FromTerminal events) some.1.1 ∙ or_more (orders old).terminal (is_order_from FromTerminal event.told) (orders_from FromTerminal events)
+    terminal_noticed books_of orders events some.0 new some.2 ∙ ap (λ (o : Orders). o.terminal || orders_from FromTerminal events) some.1.1 ∙ or_more (orders old).terminal (is_order_from FromTerminal event.trace_event) (orders_from FromTerminal events)
 
 swapped : {S : Type 0} (books_of : S → BooksSoFar) (orders : S → Orders) (events : List At) (old new : S) → (orders old).till ≡ false → (orders old).terminal ≡ false → HearsAll (hears books_of orders) old events new
     → (not (orders new).till && (orders new).terminal) ≡ are_swapped events
@@ -88,7 +88,7 @@ keeps_same : (held : Option (List ℕ)) → Keeps held held
 keeps_same None = tt
 keeps_same (Some bytes) = refl
 
-pub audited : {S : Type 0} {r : Reading} (books_of : S → BooksSoFar) (orders : S → Orders) (trace : List ℕ) (answer : Found) (old new : Option (List ℕ)) (first : BooksSoFar) (connected closed : S) (found : Books) (text : List ℕ)
+pub audited : {S : Type 0} {r : Reading} (books_of : S → BooksSoFar) (orders : S → Orders) (trace : List ℕ) (answer : AuditSummary) (old new : Option (List ℕ)) (first : BooksSoFar) (connected closed : S) (found : Books) (text : List ℕ)
     → HasJudged [] first → Takes first (books_of connected) (Connected ∷ []) → (orders connected).till ≡ false → (orders connected).terminal ≡ false
     → AnswersWalkBy r (hears books_of orders) wants_memory WholeLine (lines trace) connected closed (Ok answer.tally) → answer.swapped ≡ (not (orders closed).till && (orders closed).terminal)
     → ((log : List Happening) → HasJudged log (books_of closed) → found ≡ books log) → text ≡ books_text found → Appends old new text
@@ -104,11 +104,11 @@ audited books_of orders trace answer old new first connected closed found text s
 
 pub audit_failed : {S : Type 0} {r : Reading} (books_of : S → BooksSoFar) (orders : S → Orders) (trace : List ℕ) (tally : Tally) (old new : Option (List ℕ)) (first : BooksSoFar) (connected closed : S) (found : Books) (text : List ℕ)
     → HasJudged [] first → Takes first (books_of connected) (Connected ∷ []) → AnswersWalkBy r (hears books_of orders) wants_memory WholeLine (lines trace) connected closed (Ok tally)
-    → ((log : List Happening) → HasJudged log (books_of closed) → found ≡ books log) → text ≡ books_text found → AppendsFront old new text
+    → ((log : List Happening) → HasJudged log (books_of closed) → found ≡ books log) → text ≡ books_text found → AppendsPrefix old new text
     → AnswersReadBy r trace old new (Err Write)
-audit_failed books_of orders trace tally old new first connected closed found text start connects walked closes says front =
+audit_failed books_of orders trace tally old new first connected closed found text start connects walked closes says prefix =
     let judged = log_judged books_of orders walked.0 first connected closed start connects walked.2 in
-    (walked.0, walked.1, subst (λ (t : List ℕ). AppendsFront old new t) (says ∙ ap books_text (closes (log_of walked.0) judged)) front)
+    (walked.0, walked.1, subst (λ (t : List ℕ). AppendsPrefix old new t) (says ∙ ap books_text (closes (log_of walked.0) judged)) prefix)
 
 -- ---- where the walk fails
 
@@ -119,7 +119,7 @@ no_write {S = S} {r = r} books_of orders lines old new failed = by failed.stops
     differ : failure.Write ≡ failure.Memory → ⊥
     differ e = cc
 
-    by : Stops {S = S} wants_memory failure.Write (ToldSoFar r WholeLine lines) failed.events failed.middle new → ⊥
+    by : Stops {S = S} wants_memory failure.Write (EventsSoFar r WholeLine lines) failed.events failed.middle new → ⊥
     by (inl (is, so_far, same)) = differ is
     by (inr (event, so_far, left)) = differ left
 
@@ -133,7 +133,7 @@ walk_failed r books_of orders trace Read held old new never = absurd never
 
 -- ---- a trace that is read first
 
-pub read_audited : (left : Option (List ℕ)) (trace slice : List ℕ) (old new : Option (List ℕ)) (found : Found) → IfSome left (λ bytes. trace ≡ bytes) → length trace ≤ limit → slice ≡ trace
+pub read_audited : (left : Option (List ℕ)) (trace slice : List ℕ) (old new : Option (List ℕ)) (found : AuditSummary) → IfSome left (λ bytes. trace ≡ bytes) → length trace ≤ limit → slice ≡ trace
     → AnswersReadBy shortest slice old new (Ok found) → IfSome left (λ bytes. AnswersAudit bytes old new (Ok found.tally))
 read_audited None trace slice old new found read few same answers = tt
 read_audited (Some bytes) trace slice old new found read few same answers =

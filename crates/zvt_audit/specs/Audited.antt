@@ -2,13 +2,13 @@
 use Rattle.std.specs.Prelude.{◌≡◌, ℕ, ◌<◌, ◌≤◌, List, ◌++◌, length, Option, Result, Ok, Err}
 use Rattle.std.specs.Io.KnownBytes.{Appends, Keeps}
 use Rattle.std.specs.Str.Lines.{lines}
-use Rattle.zvt_spelling.specs.Reading.{Reading, shortest}
+use Rattle.zvt_grammar.specs.Reading.{Reading, shortest}
 use Rattle.zvt_till.specs.Books.{books}
 use Rattle.zvt_till.specs.Judging.{BooksSoFar, HasJudged}
 use Rattle.zvt_till.specs.declared.happenings.Happening.{Happening}
-use Rattle.zvt_trace.specs.Told.{At, Tallies}
-use Rattle.zvt_trace.specs.Telling.{BrokenTrace, WholeTrace}
-use Rattle.zvt_trace.specs.Written.{AppendsFront, limit}
+use Rattle.zvt_trace.specs.TraceEvent.{At, Tallies}
+use Rattle.zvt_trace.specs.Emitting.{BrokenTrace, WholeTrace}
+use Rattle.zvt_trace.specs.Written.{AppendsPrefix, limit}
 use Rattle.zvt_trace.specs.declared.fault.Tally.{Tally}
 use Rattle.zvt_trace.specs.declared.fault.TraceFault.{TraceFault}
 use Rattle.zvt_trace.specs.declared.fault.TraceFault.TheVariants.{Memory, Read, TooLong, Trace, Write}
@@ -16,7 +16,7 @@ use Rattle.zvt_trace.specs.declared.listener.Scope.TheVariants.{WholeLine}
 use Rattle.zvt_audit.specs.Booked.{books_text}
 use Rattle.zvt_audit.specs.Happened.{log_of}
 use Rattle.zvt_audit.specs.Orders.{are_swapped}
-use Rattle.zvt_audit.specs.declared.auditing.Found.{Found}
+use Rattle.zvt_audit.specs.declared.summary.AuditSummary.{AuditSummary}
 
 -- the books of a log became those of the log with these happenings behind it
 abbrev pub Takes : (old new : BooksSoFar) → List Happening → Type 0
@@ -29,17 +29,17 @@ WritesBooks trace tally old new =
 
 -- What an audit answers for a trace that was read, by that reading of lengths. Where it fails nothing is written, but of
 -- a write that failed a front of the text.
-abbrev pub AnswersReadBy : Reading → (trace : List ℕ) → (old new : Option (List ℕ)) → Result Found TraceFault → Type 0
+abbrev pub AnswersReadBy : Reading → (trace : List ℕ) → (old new : Option (List ℕ)) → Result AuditSummary TraceFault → Type 0
 AnswersReadBy r trace old new (Ok audited) =
     (events : List At) × WholeTrace r WholeLine (lines trace) events × Appends old new (books_text (books (log_of events))) × Tallies audited.tally events × (audited.swapped ≡ are_swapped events)
 AnswersReadBy r trace old new (Err (Trace number what)) = (events : List At) × BrokenTrace r WholeLine (lines trace) number what events × Keeps old new
 AnswersReadBy r trace old new (Err Memory) = Keeps old new
-AnswersReadBy r trace old new (Err Write) = (events : List At) × WholeTrace r WholeLine (lines trace) events × AppendsFront old new (books_text (books (log_of events)))
+AnswersReadBy r trace old new (Err Write) = (events : List At) × WholeTrace r WholeLine (lines trace) events × AppendsPrefix old new (books_text (books (log_of events)))
 AnswersReadBy r trace old new (Err TooLong) = ⊥
 AnswersReadBy r trace old new (Err Read) = ⊥
 
 -- The same of a strict audit.
-abbrev pub AnswersRead : (trace : List ℕ) → (old new : Option (List ℕ)) → Result Found TraceFault → Type 0
+abbrev pub AnswersRead : (trace : List ℕ) → (old new : Option (List ℕ)) → Result AuditSummary TraceFault → Type 0
 AnswersRead trace old new answer = AnswersReadBy shortest trace old new answer
 
 -- What a strict audit answers for a trace of known bytes, which may be too long.
@@ -50,4 +50,4 @@ AnswersAudit trace old new (Err TooLong) = (limit < length trace) × Keeps old n
 AnswersAudit trace old new (Err Read) = Keeps old new
 AnswersAudit trace old new (Err Memory) = Keeps old new
 AnswersAudit trace old new (Err Write) =
-    (length trace ≤ limit) × (events : List At) × WholeTrace shortest WholeLine (lines trace) events × AppendsFront old new (books_text (books (log_of events)))
+    (length trace ≤ limit) × (events : List At) × WholeTrace shortest WholeLine (lines trace) events × AppendsPrefix old new (books_text (books (log_of events)))

@@ -9,8 +9,8 @@ use Rattle.zvt_till.specs.declared.happenings.Happening.{Happening}
 use Rattle.zvt_till.specs.declared.happenings.Happening.TheVariants.{Connected, Sent as SentOut, Heard as HeardIn, Malformed, Lost}
 use Rattle.zvt_till.specs.declared.happenings.Sent.{Sent}
 use Rattle.zvt_till.specs.declared.happenings.Sent.TheVariants.{Register, Pay, CloseDay, Cancel, Foreign}
-use Rattle.zvt_trace.specs.Told.{At, Told}
-use Rattle.zvt_trace.specs.Told as told
+use Rattle.zvt_trace.specs.TraceEvent.{At, TraceEvent}
+use Rattle.zvt_trace.specs.TraceEvent as trace_event
 use Rattle.zvt_trace.specs.declared.direction.Direction.{Direction}
 use Rattle.zvt_trace.specs.declared.direction.Direction.TheVariants.{FromTill, FromTerminal}
 
@@ -47,13 +47,13 @@ happened FromTerminal message = Some (HeardIn (heard_as message))
 
 -- Bytes that are refused make the line malformed. What is cut off by that, or where the line is lost, the till never heard,
 -- and no more what is not read.
-abbrev pub happenings_of : Told → List Happening
-happenings_of (told.message from m) = cons_option (happened from m) []
-happenings_of (told.refused from head byte place why) = Malformed ∷ []
-happenings_of (told.unread from) = []
-happenings_of (told.cut_off from head have) = []
-happenings_of told.lost = Lost ∷ Connected ∷ []
+abbrev pub happenings_of : TraceEvent → List Happening
+happenings_of (trace_event.message from m) = cons_option (happened from m) []
+happenings_of (trace_event.refused from head byte place why) = Malformed ∷ []
+happenings_of (trace_event.unread from) = []
+happenings_of (trace_event.cut_off from head have) = []
+happenings_of trace_event.lost = Lost ∷ Connected ∷ []
 
 -- the log of a till that is connected, and then lives through what is told
 abbrev pub log_of : List At → List Happening
-log_of events = Connected ∷ flat_map (λ (event : At). happenings_of event.told) events
+log_of events = Connected ∷ flat_map (λ (event : At). happenings_of event.trace_event) events

@@ -9,7 +9,7 @@ use std::alloc::AllocError;
 use zvt_apdu::{ApduView, Kind};
 use zvt_till::Happening;
 use zvt_till::books::Bookkeeping;
-use zvt_trace::{Direction, Failure, Listener, Told};
+use zvt_trace::{Direction, Listener, ListenerError, TraceEvent};
 
 /// Judges what happened on the line as it is told, and notices who sends orders. It writes to no device.
 #[derive(Drop)]
@@ -22,22 +22,27 @@ impl Listener<()> for Auditor {
     ghost use Rattle.zvt_audit.specs.Audited.{Takes};
     ghost use Rattle.zvt_audit.specs.Happened.{happenings_of};
     ghost use Rattle.zvt_audit.specs.Orders.{noticed};
-    ghost use Rattle.zvt_trace.specs.declared.listener.Failure.TheVariants.{Memory};
+    ghost use Rattle.zvt_trace.specs.declared.listener.ListenerError.TheVariants.{Memory};
 
-    ghost hears = { λ old event new. Takes old.0.books new.0.books (happenings_of event.told) × (new.0.orders ≡ noticed old.0.orders event.told) };
+    ghost hears = { λ old event new. Takes old.0.books new.0.books (happenings_of event.trace_event) × (new.0.orders ≡ noticed old.0.orders event.trace_event) };
 
     ghost fails = { λ _ _ failure _. failure ≡ Memory };
 
     #[inline(always)]
-    fn hear(&mut self, _device: &mut (), _line: u64, told: &Told<'_>) -> Result<(), Failure> {
-        match told {
-            Told::Message { from, apdu, .. } => match from {
+    fn hear(
+        &mut self,
+        _device: &mut (),
+        _line: u64,
+        trace_event: &TraceEvent<'_>,
+    ) -> Result<(), ListenerError> {
+        match trace_event {
+            TraceEvent::Message { from, apdu, .. } => match from {
                 Direction::FromTill => self.hear_till(apdu)?,
                 Direction::FromTerminal => self.hear_terminal(apdu)?,
             },
-            Told::Refused { .. } => malform(&mut self.books)?,
-            Told::Lost => lose(&mut self.books)?,
-            Told::Unread { .. } | Told::CutOff { .. } => {}
+            TraceEvent::Refused { .. } => malform(&mut self.books)?,
+            TraceEvent::Lost => lose(&mut self.books)?,
+            TraceEvent::Unread { .. } | TraceEvent::CutOff { .. } => {}
         }
         Ok(())
     }
@@ -48,13 +53,13 @@ impl Auditor {
     ghost use Rattle.zvt_audit.specs.Audited.{Takes};
     ghost use Rattle.zvt_audit.specs.Happened.{happenings_of};
     ghost use Rattle.zvt_audit.specs.Orders.{noticed};
-    ghost use Rattle.zvt_trace.specs.Told as told;
+    ghost use Rattle.zvt_trace.specs.TraceEvent as trace_event;
     ghost use Rattle.zvt_trace.specs.declared.direction.Direction.TheVariants.{FromTill, FromTerminal};
 
     /// Hears a message of the till. Most acknowledge one of the terminal, and leave at once.
     #[inline(always)]
     fn hear_till(&mut self, apdu: &ApduView<'_>) -> Result<(), AllocError>
-        ensures { OnOk result (Takes self.old.books self.new.books (happenings_of (told.message FromTill apdu.now)) × (self.new.orders ≡ noticed self.old.orders (told.message FromTill apdu.now))) }
+        ensures { OnOk result (Takes self.old.books self.new.books (happenings_of (trace_event.message FromTill apdu.now)) × (self.new.orders ≡ noticed self.old.orders (trace_event.message FromTill apdu.now))) }
     {
         match apdu.kind() {
             Kind::Ack => Ok(()),
@@ -65,7 +70,7 @@ impl Auditor {
     /// Hears a message of the till that may be an order.
     #[inline(never)]
     fn hear_order(&mut self, apdu: &ApduView<'_>) -> Result<(), AllocError>
-        ensures { OnOk result (Takes self.old.books self.new.books (happenings_of (told.message FromTill apdu.now)) × (self.new.orders ≡ noticed self.old.orders (told.message FromTill apdu.now))) }
+        ensures { OnOk result (Takes self.old.books self.new.books (happenings_of (trace_event.message FromTill apdu.now)) × (self.new.orders ≡ noticed self.old.orders (trace_event.message FromTill apdu.now))) }
     {
         self.orders.notice(Direction::FromTill, apdu);
         match ordered(apdu) {
@@ -77,7 +82,7 @@ impl Auditor {
     /// Hears a message of the terminal.
     #[inline(always)]
     fn hear_terminal(&mut self, apdu: &ApduView<'_>) -> Result<(), AllocError>
-        ensures { OnOk result (Takes self.old.books self.new.books (happenings_of (told.message FromTerminal apdu.now)) × (self.new.orders ≡ noticed self.old.orders (told.message FromTerminal apdu.now))) }
+        ensures { OnOk result (Takes self.old.books self.new.books (happenings_of (trace_event.message FromTerminal apdu.now)) × (self.new.orders ≡ noticed self.old.orders (trace_event.message FromTerminal apdu.now))) }
     {
         self.orders.notice(Direction::FromTerminal, apdu);
         self.books.hear(apdu)

@@ -1,7 +1,7 @@
 //! Which sides of the line sent a till's orders.
 ghost use Rattle.std.specs.Prelude.{◌≡◌, false, not, ◌&&◌};
 ghost use Rattle.zvt_audit.specs.Orders.{is_order, noticed};
-ghost use Rattle.zvt_trace.specs.Told as told;
+ghost use Rattle.zvt_trace.specs.TraceEvent as trace_event;
 
 use zvt_apdu::{ApduView, Kind};
 use zvt_trace::Direction;
@@ -26,7 +26,7 @@ impl Orders {
 
     /// Notices a message.
     pub(crate) fn notice(&mut self, from: Direction, apdu: &ApduView<'_>)
-        ensures { self.new ≡ noticed self.old (told.message from apdu.now) }
+        ensures { self.new ≡ noticed self.old (trace_event.message from apdu.now) }
     {
         match from {
             Direction::FromTill => {

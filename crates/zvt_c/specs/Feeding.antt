@@ -1,20 +1,20 @@
 -- What bytes of a terminal make of a till and its stream.
 use Rattle.std.specs.Prelude.{◌≡◌, ℕ, true, cond, List, [], length, Option, Some, None}
 use Rattle.zvt_apdu.specs.Message.{Message}
-use Rattle.zvt_apdu.specs.Briefs.{message_of_brief, PutsMessage}
+use Rattle.zvt_apdu.specs.TillMessages.{message_of_till_message, PutsMessage}
 use Rattle.zvt_apdu.specs.Views.{text_in}
 use Rattle.zvt_stream.specs.Feeds.{Feeds}
 use Rattle.zvt_stream.specs.StreamState.{Keeps}
-use Rattle.zvt_stream.specs.declared.feeding.FeedError.{FeedError}
-use Rattle.zvt_stream.specs.declared.feeding.FeedError.TheVariants.{Stopped, Memory}
-use Rattle.zvt_stream.specs.declared.feeding.Fed.{Fed}
-use Rattle.zvt_stream.specs.declared.feeding.Fed.TheVariants.{Message as Whole, More, Refused}
+use Rattle.zvt_stream.specs.declared.stream.FeedError.{FeedError}
+use Rattle.zvt_stream.specs.declared.stream.FeedError.TheVariants.{Stopped, Memory}
+use Rattle.zvt_stream.specs.declared.stream.Fed.{Fed}
+use Rattle.zvt_stream.specs.declared.stream.Fed.TheVariants.{Message as Whole, More, Refused}
 use Rattle.zvt_till.specs.declared.happenings.Happening.TheVariants.{Heard, Malformed}
 use Rattle.zvt_till.specs.declared.orders.Outgoing.{Outgoing}
 use Rattle.zvt_till.specs.Hearing.{heard_as}
 use Rattle.zvt_till.specs.Sending.{reply_to}
 use Rattle.zvt_till.specs.Till.{TillState, step, outcome_at}
-use Rattle.zvt_c.specs.declared.end.End.{End}
+use Rattle.zvt_c.specs.declared.session.Session.{Session}
 use Rattle.zvt_c.specs.declared.numbers.ZvtStep.{ZvtStep}
 use Rattle.zvt_c.specs.Answers.{code_of_why}
 use Rattle.zvt_c.specs.Numbers.{nothing, outcome_of, silent}
@@ -23,7 +23,7 @@ use Rattle.zvt_c.specs.Saving.{Written}
 -- What the till is to send: nothing, or the spelling of one message at the front of the room.
 abbrev pub Sends : Option Outgoing → (room_before room_after : List ℕ) → (send : ℕ) → Type 0
 Sends None before after send = (send ≡ 0) × (after ≡ before)
-Sends (Some outgoing) before after send = PutsMessage (message_of_brief outgoing.brief) before after send
+Sends (Some outgoing) before after send = PutsMessage (message_of_till_message outgoing.till_message) before after send
 
 -- What a till answers to a message, while its line is up.
 abbrev pub replied : TillState → Message → Option Outgoing
@@ -61,19 +61,19 @@ status_of_failure Stopped = 7
 status_of_failure Memory = 3
 
 -- Bytes are taken for stopped only where bytes were refused before.
-abbrev pub IsFailure : FeedError → End → Type 0
+abbrev pub IsFailure : FeedError → Session → Type 0
 IsFailure Stopped end = end.stream.stopped ≡ true
 IsFailure Memory end = Unit {0}
 
 -- What a feed of an open handle is: the stream's, and the till's; or nothing, where bytes were refused before or memory was.
-pub data FeedsEnd (before : End) (piece : List ℕ) (after : End) (room_before room_after line_before line_after : List ℕ) (answer : ZvtStep) (status : ℕ) : Type 0 where
+pub data FeedsEnd (before : Session) (piece : List ℕ) (after : Session) (room_before room_after line_before line_after : List ℕ) (answer : ZvtStep) (status : ℕ) : Type 0 where
   fed : (fed : Fed) → Feeds before.stream piece fed after.stream → Told fed piece before.till.state after.till.state room_before room_after line_before line_after answer status
       → FeedsEnd before piece after room_before room_after line_before line_after answer status
   failed : (why : FeedError) → IsFailure why before → Keeps before.stream after.stream → after.till ≡ before.till → room_after ≡ room_before → line_after ≡ line_before
       → answer ≡ nothing → status ≡ status_of_failure why → FeedsEnd before piece after room_before room_after line_before line_after answer status
 
 -- A handle is fed, and no print line is handed out.
-abbrev pub FeedsHandle : Option End → (piece : List ℕ) → Option End → (room_before room_after : List ℕ) → ZvtStep → (status : ℕ) → Type 0
+abbrev pub FeedsHandle : Option Session → (piece : List ℕ) → Option Session → (room_before room_after : List ℕ) → ZvtStep → (status : ℕ) → Type 0
 FeedsHandle None piece after room_before room_after answer status = (after ≡ None) × (room_after ≡ room_before) × (answer ≡ nothing) × (status ≡ 6)
 FeedsHandle (Some before) piece after room_before room_after answer status =
-    (end : End) × (after ≡ Some end) × FeedsEnd before piece end room_before room_after [] [] answer status
+    (end : Session) × (after ≡ Some end) × FeedsEnd before piece end room_before room_after [] [] answer status

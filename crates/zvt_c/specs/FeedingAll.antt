@@ -1,6 +1,6 @@
 -- What one message after another makes of a till and its stream.
 use Rattle.std.specs.Prelude.{◌≡◌, ℕ, ◌+◌, ◌-◌, ◌==◌, ◌&&◌, nat_lt, nat_le, Bool, true, false, cond, List, ◌++◌, length, take, drop, Option, Some, None}
-use Rattle.zvt_c.specs.declared.end.End.{End}
+use Rattle.zvt_c.specs.declared.session.Session.{Session}
 use Rattle.zvt_c.specs.declared.numbers.ZvtStep.{ZvtStep}
 use Rattle.zvt_c.specs.Feeding.{FeedsEnd}
 use Rattle.zvt_c.specs.Numbers.{nothing}
@@ -24,26 +24,26 @@ abbrev pub goes_on : (piece room : ℕ) → ZvtStep → Bool
 goes_on piece room so_far = nat_lt so_far.taken piece && (nat_le 32 (room - so_far.send) && (so_far.printed == 0))
 
 -- Single feeds one behind another, each of what is left of the piece, into what is left of the room.
-pub data FedSoFar (before : End) (piece room line : List ℕ) : End → List ℕ → List ℕ → ZvtStep → Type 0 where
+pub data FedSoFar (before : Session) (piece room line : List ℕ) : Session → List ℕ → List ℕ → ZvtStep → Type 0 where
   start : FedSoFar before piece room line before room line nothing
-  further : {end after : End} {room_so_far rest line_so_far line_after : List ℕ} {so_far one : ZvtStep}
+  further : {end after : Session} {room_so_far rest line_so_far line_after : List ℕ} {so_far one : ZvtStep}
       → FedSoFar before piece room line end room_so_far line_so_far so_far → goes_on (length piece) (length room) so_far ≡ true
       → FeedsEnd end (drop so_far.taken piece) after (drop so_far.send room_so_far) rest line_so_far line_after one 0
       → FedSoFar before piece room line after (take so_far.send room_so_far ++ rest) line_after (added so_far one)
 
 -- Feeds go on as long as they may; or the last of them is refused or fails, and what the others told stands.
-pub data FeedsAll (before : End) (piece : List ℕ) (after : End) (room_before room_after line_before line_after : List ℕ) (answer : ZvtStep) (status : ℕ) : Type 0 where
+pub data FeedsAll (before : Session) (piece : List ℕ) (after : Session) (room_before room_after line_before line_after : List ℕ) (answer : ZvtStep) (status : ℕ) : Type 0 where
   ended : FedSoFar before piece room_before line_before after room_after line_after answer → goes_on (length piece) (length room_before) answer ≡ false → status ≡ 0
       → FeedsAll before piece after room_before room_after line_before line_after answer status
-  broken : {end : End} {room_so_far rest line_so_far : List ℕ} {so_far one : ZvtStep}
+  broken : {end : Session} {room_so_far rest line_so_far : List ℕ} {so_far one : ZvtStep}
       → FedSoFar before piece room_before line_before end room_so_far line_so_far so_far → goes_on (length piece) (length room_before) so_far ≡ true
       → FeedsEnd end (drop so_far.taken piece) after (drop so_far.send room_so_far) rest line_so_far line_after one status → (status ≡ 0 → ⊥)
       → room_after ≡ take so_far.send room_so_far ++ rest → answer ≡ added so_far one
       → FeedsAll before piece after room_before room_after line_before line_after answer status
 
 -- A handle is fed message by message.
-abbrev pub FeedsAllHandle : Option End → (piece : List ℕ) → Option End → (room_before room_after line_before line_after : List ℕ) → ZvtStep → (status : ℕ) → Type 0
+abbrev pub FeedsAllHandle : Option Session → (piece : List ℕ) → Option Session → (room_before room_after line_before line_after : List ℕ) → ZvtStep → (status : ℕ) → Type 0
 FeedsAllHandle None piece after room_before room_after line_before line_after answer status =
     (after ≡ None) × (room_after ≡ room_before) × (line_after ≡ line_before) × (answer ≡ nothing) × (status ≡ 6)
 FeedsAllHandle (Some before) piece after room_before room_after line_before line_after answer status =
-    (end : End) × (after ≡ Some end) × FeedsAll before piece end room_before room_after line_before line_after answer status
+    (end : Session) × (after ≡ Some end) × FeedsAll before piece end room_before room_after line_before line_after answer status

@@ -1,13 +1,13 @@
 -- The names of what numbers stand for: each table has the numbers and the names that stand elsewhere.
 use Rattle.std.specs.Prelude.{ℕ, ◌==◌, List, [], ◌∷◌, None, option_map, unwrap_or, find, codes}
-use Rattle.zvt_spelling.specs.Names.{why_name}
-use Rattle.zvt_spelling.specs.declared.why.Why.TheVariants.{NotShortest, DoesNotFit, LengthForm, TooDeep, TagTooLong, UnknownField, NotDigit, LengthDigit}
+use Rattle.zvt_grammar.specs.Names.{why_name}
+use Rattle.zvt_grammar.specs.declared.why.Why.TheVariants.{NotShortest, DoesNotFit, LengthForm, TooDeep, TagTooLong, UnknownField, NotDigit, LengthDigit}
 use Rattle.zvt_till.specs.Names.{cause_name, refusal_name}
 use Rattle.zvt_till.specs.declared.outcomes.Cause.TheVariants.{NoStatus, Conflict, AmountDiffers, NoTrace, TraceUsed, AbortAfterApproval, Line, Malformed, Unfinished, WrongCurrency}
 use Rattle.zvt_till.specs.declared.outcomes.Outcome.TheVariants.{Registered, Paid, Declined, Refused, Aborted, Unclear, Reversed, DayClosed}
 use Rattle.zvt_till.specs.declared.orders.OrderRefusal.TheVariants.{Offline, NotRegistered, Busy, NothingToCancel, BookFull, UnknownEntry, AlreadyReversed, NoReceipt, Memory}
 use Rattle.zvt_c.specs.Answers.{code_of_why}
-use Rattle.zvt_save.specs.Saved.{cause_code}
+use Rattle.zvt_snapshot.specs.Encoded.{cause_code}
 use Rattle.zvt_c.specs.Numbers.{ended}
 use Rattle.zvt_c.specs.Ordering.{status_of}
 

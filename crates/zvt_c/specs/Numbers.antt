@@ -10,8 +10,8 @@ use Rattle.zvt_till.specs.declared.orders.Order.{Order}
 use Rattle.zvt_till.specs.declared.orders.Order.TheVariants.{Register, Pay, Reverse, CloseDay, Cancel}
 use Rattle.zvt_till.specs.Doubts.{unclear_reversals}
 use Rattle.zvt_till.specs.Marks.{total}
-use Rattle.zvt_save.specs.Saved.{cause_code}
-use Rattle.zvt_c.specs.declared.end.End.{End}
+use Rattle.zvt_snapshot.specs.Encoded.{cause_code}
+use Rattle.zvt_c.specs.declared.session.Session.{Session}
 use Rattle.zvt_c.specs.declared.numbers.ZvtOutcome.{ZvtOutcome}
 use Rattle.zvt_c.specs.declared.numbers.ZvtState.{ZvtState}
 use Rattle.zvt_c.specs.declared.numbers.ZvtStep.{ZvtStep}
@@ -89,7 +89,7 @@ kind_of_running (Some CloseDay) = 4
 kind_of_running (Some Cancel) = 5
 
 -- The state of a till and its stream.
-pub record IsStateOf (end : End) (state : ZvtState) : Type 0 where
+pub record IsStateOf (end : Session) (state : ZvtState) : Type 0 where
   pub sum : state.total ≡ total end.till.state.book
   pub booked : state.booked ≡ length end.till.state.book
   pub unclear : state.unclear ≡ length end.till.state.unclear

@@ -4,9 +4,9 @@ use base.Fml.{Fml, ftrue}
 use denote.RawPtr.{Ptr}
 use Rattle.std.specs.Box.Ownership.{box_owns}
 use Rattle.libc.specs.Heap.{chunk}
-use Rattle.zvt_c.specs.declared.end.End.{End}
-use Rattle.zvt_c.specs.contracts.end.End.{the_row}
+use Rattle.zvt_c.specs.declared.session.Session.{Session}
+use Rattle.zvt_c.specs.contracts.end.Session.{the_row}
 
-abbrev pub owned : Ptr → Option End → Fml
+abbrev pub owned : Ptr → Option Session → Fml
 owned at None = ftrue
 owned at (Some x) = box_owns chunk the_row at x

@@ -1,11 +1,11 @@
 -- What is saved of a handle, and what is loaded behind one.
 use Rattle.std.specs.Prelude.{◌≡◌, ◌⊎◌, ℕ, List, length, Option, Some, None, option_map}
-use Rattle.zvt_save.specs.Saved.{saved, saved_first, HasNoDoubts, IsKept, IsSavedAs}
+use Rattle.zvt_snapshot.specs.Encoded.{saved, saved_first, HasNoDoubts, IsKept, IsSavedAs}
 use Rattle.zvt_stream.specs.StreamState.{at_start}
 use Rattle.zvt_till.specs.Till.{TillState, step}
 use Rattle.zvt_till.specs.declared.happenings.Happening.TheVariants.{Lost}
 use Rattle.zvt_c.specs.declared.answer.ZvtAnswer.{ZvtAnswer}
-use Rattle.zvt_c.specs.declared.end.End.{End}
+use Rattle.zvt_c.specs.declared.session.Session.{Session}
 use Rattle.zvt_c.specs.Texts.{Writes}
 
 -- The size of the bytes, which stand at the front of the room where they fit.
@@ -20,24 +20,24 @@ abbrev pub sized : ℕ → ZvtAnswer
 sized size = record { size = size; place = 0; reason = 0; status = 0 }
 
 -- The bytes of the till after its line was lost, which can be loaded; or nothing, where the handle is closed or memory was refused.
-abbrev pub Saves : Option End → (room_before room_after : List ℕ) → ZvtAnswer → Type 0
+abbrev pub Saves : Option Session → (room_before room_after : List ℕ) → ZvtAnswer → Type 0
 Saves None before after answer = (after ≡ before) × (answer ≡ bare 6)
 Saves (Some end) before after answer =
     ((answer ≡ sized answer.size) × Written (saved (step end.till.state Lost)) answer.size before after × IsKept (step end.till.state Lost)) ⊎ ((after ≡ before) × (answer ≡ bare 3))
 
 -- A till that is saved in these bytes, in this layout or in the first, and a stream at the start of its line.
-abbrev pub Loads : List ℕ → Option End → Type 0
+abbrev pub Loads : List ℕ → Option Session → Type 0
 Loads bytes None = ⊥
 Loads bytes (Some end) = IsSavedAs bytes (step end.till.state Lost) × (end.stream ≡ at_start)
 
 -- The till of this state stands behind the handle, or memory was refused.
-abbrev pub IsRestored : TillState → (after : Option End) → (status : ℕ) → Type 0
+abbrev pub IsRestored : TillState → (after : Option Session) → (status : ℕ) → Type 0
 IsRestored state after status = ((status ≡ 0) × (option_map (λ end. end.till.state) after ≡ Some state)) ⊎ (status ≡ 3)
 
 -- Bytes that were saved of a till are taken for that till, or memory is refused.
-abbrev pub Restores : List ℕ → (after : Option End) → (status : ℕ) → Type 0
+abbrev pub Restores : List ℕ → (after : Option Session) → (status : ℕ) → Type 0
 Restores bytes after status = (state : TillState) → IsKept state → bytes ≡ saved state → IsRestored state after status
 
 -- So are bytes of the first layout, which has no doubts.
-abbrev pub RestoresFirst : List ℕ → (after : Option End) → (status : ℕ) → Type 0
+abbrev pub RestoresFirst : List ℕ → (after : Option Session) → (status : ℕ) → Type 0
 RestoresFirst bytes after status = (state : TillState) → IsKept state → HasNoDoubts state → bytes ≡ saved_first state → IsRestored state after status

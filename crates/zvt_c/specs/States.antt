@@ -3,7 +3,7 @@ use Rattle.std.specs.Prelude.{◌≡◌, ℕ, List, Option, Some, option_map}
 use Rattle.zvt_bcd.specs.Digits.{AreDigits, number_of}
 use Rattle.zvt_stream.specs.StreamState.{at_start}
 use Rattle.zvt_till.specs.Till.{TillState, new_till}
-use Rattle.zvt_c.specs.declared.end.End.{End}
+use Rattle.zvt_c.specs.declared.session.Session.{Session}
 use Rattle.zvt_c.specs.declared.handle.ZvtTill.{ZvtTill}
 
 -- What is known of the till of a handle; nothing, where the handle is closed.
@@ -11,7 +11,7 @@ abbrev pub state_of : ZvtTill → Option TillState
 state_of handle = option_map (λ end. end.till.state) handle.shell.held
 
 -- A new till with the digits of the password, this configuration byte and currency, and a stream at the start of its line.
-abbrev pub IsNewTill : (password config currency : ℕ) → Option End → Type 0
+abbrev pub IsNewTill : (password config currency : ℕ) → Option Session → Type 0
 IsNewTill password config currency held =
     (digits : List ℕ) × AreDigits digits × (number_of digits ≡ password)
     × (option_map (λ end. end.till.state) held ≡ Some (new_till (record { password = digits; config = config; currency = currency })))

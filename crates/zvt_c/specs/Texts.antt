@@ -1,10 +1,10 @@
 -- The text of the message that stands first.
 use Rattle.std.specs.Prelude.{◌≡◌, ℕ, List, ◌++◌, length, drop, nat_le, MatchBool}
-use Rattle.zvt_spelling.specs.Reading.{shortest}
-use Rattle.zvt_spelling.specs.declared.answer.Scan.TheVariants.{Whole}
+use Rattle.zvt_grammar.specs.Reading.{shortest}
+use Rattle.zvt_grammar.specs.declared.answer.Scan.TheVariants.{Whole}
 use Rattle.zvt_apdu.specs.Message.{Message}
 use Rattle.zvt_apdu.specs.Judging as apdu
-use Rattle.zvt_text.specs.Said.{said}
+use Rattle.zvt_text.specs.MessageTexts.{said}
 use Rattle.zvt_c.specs.declared.answer.ZvtAnswer.{ZvtAnswer}
 use Rattle.zvt_c.specs.Answers.{answer_of, Says}
 

@@ -3,7 +3,7 @@ ghost use Rattle.std.specs.Prelude.{◌≡◌};
 ghost use Rattle.zvt_c.specs.Answers.{code_of_why, answer_of, out_of_memory};
 
 use zvt_apdu::Apdu;
-use zvt_spelling::{Scan, Why};
+use zvt_grammar::{Scan, Why};
 
 /// What stands first in the bytes. `status` says which of the other numbers mean something; they are 0 else.
 #[repr(C)]

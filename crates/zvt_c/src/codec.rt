@@ -1,13 +1,13 @@
 //! The reader and the texts.
 ghost use Rattle.std.specs.Prelude.{◌≡◌, IfSome, IfNone, length};
-ghost use Rattle.zvt_text.specs.Said.{said};
+ghost use Rattle.zvt_text.specs.MessageTexts.{said};
 ghost use Rattle.zvt_c.specs.Answers.{Says};
 ghost use Rattle.zvt_c.specs.Texts.{Texts, Writes};
 
 use crate::answer::{ZvtAnswer, bare, found, reason_code};
 use std::alloc::Global;
 use zvt_apdu::{ApduView, view};
-use zvt_spelling::Scan;
+use zvt_grammar::Scan;
 use zvt_text::Text;
 
 /// Says what stands first in the bytes: a whole message and its size, the beginning of one, or bytes with which none

@@ -1,16 +1,16 @@
 //! What a caller in C holds of a till.
 ghost use Rattle.std.specs.Prelude.{◌≡◌, Some, None, is_some, option_map};
 
-use crate::end::End;
-use crate::loose::Loose;
-use crate::shell::Shell;
+use crate::raw_box::RawBox;
+use crate::raw_handle::RawHandle;
+use crate::session::Session;
 use std::alloc::Global;
 
 /// A till, or nothing: a struct of zeroes is closed.
 #[repr(C)]
 #[derive(Drop)]
 pub struct ZvtTill {
-    pub shell: Shell,
+    pub shell: RawHandle,
     full: bool,
     ghost tied: { is_some shell.held ≡ full },
 }
@@ -21,23 +21,23 @@ impl ZvtTill {
         ensures { result.shell.held ≡ None }
     {
         ZvtTill {
-            shell: Shell::closed(),
+            shell: RawHandle::closed(),
             full: false,
         }
     }
 
     /// A handle of this till.
-    pub fn of(end: Box<End>) -> ZvtTill
+    pub fn of(end: Box<Session>) -> ZvtTill
         ensures { result.shell.held ≡ Some end.value }
     {
         ZvtTill {
-            shell: Shell::of(Loose::of(end)),
+            shell: RawHandle::of(RawBox::of(end)),
             full: true,
         }
     }
 
     /// Takes the till out.
-    pub fn take(&mut self, alloc: Global) -> Option<Box<End>>
+    pub fn take(&mut self, alloc: Global) -> Option<Box<Session>>
         ensures taken { option_map (λ end. end.value) result ≡ self.old.shell.held }
         ensures closed { self.new.shell.held ≡ None }
     {

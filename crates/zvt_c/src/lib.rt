@@ -3,14 +3,14 @@
 
 mod answer;
 mod codec;
-mod end;
-mod feeding;
 mod handle;
-mod loose;
 mod names;
 mod numbers;
-mod saving;
-mod shell;
+mod raw_box;
+mod raw_handle;
+mod session;
+mod snapshot;
+mod stream;
 mod till;
 
 pub use answer::ZvtAnswer;

@@ -5,7 +5,7 @@ ghost use Rattle.std.specs.Prelude.{◌≡◌};
 ghost use Rattle.zvt_c.specs.Names.{causes, name_in, outcomes, reasons, refusals};
 ghost use Rattle.zvt_c.specs.Saving.{Written};
 
-use zvt_spelling::Why;
+use zvt_grammar::Why;
 use zvt_till::{Cause, OrderRefusal};
 
 /// Writes a name where it fits, and answers its size.

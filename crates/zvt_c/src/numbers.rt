@@ -4,7 +4,7 @@ ghost use Rattle.zvt_c.specs.Numbers.{coded, doubt_of, ended, kind_of_running, n
 ghost use Rattle.zvt_c.specs.Ordering.{order_named, payment_of, status_of};
 
 use zvt_bcd::{Amount, Trace};
-use zvt_save::cause_code;
+use zvt_snapshot::cause_code;
 use zvt_till::{Cause, Doubt, Entry, Order, OrderRefusal, Outcome};
 
 /// How an order ended. What a kind does not have is 0.

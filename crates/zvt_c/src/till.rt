@@ -3,20 +3,20 @@
 //! 6 the handle is closed, 7 the line brought bytes before that begin no message, 10 to 17 the order is refused.
 ghost use Rattle.std.specs.Prelude.{◌≡◌, ◌≤◌, ◌⊎◌, ◌&&◌, None, option_map, length, MatchBool, MatchOption, nat_le, nat_lt, cond, slice_get};
 ghost use Rattle.zvt_till.specs.Till.{step, outcome_at};
-ghost use Rattle.zvt_apdu.specs.Briefs.{message_of_brief, PutsMessage};
+ghost use Rattle.zvt_apdu.specs.TillMessages.{message_of_till_message, PutsMessage};
 ghost use Rattle.zvt_stream.specs.StreamState.{at_start};
 ghost use Rattle.zvt_c.specs.States.{state_of, IsNewTill};
 ghost use Rattle.zvt_c.specs.Numbers.{nothing, outcome_of, row_of, silent, unclear_row_of, IsStateOf};
 ghost use Rattle.zvt_c.specs.Ordering.{OrdersEnd, OrdersHandle};
 
-use crate::end::End;
 use crate::handle::ZvtTill;
 use crate::numbers::{
     ZvtEntry, ZvtState, ZvtStep, entry_numbers, no_step, order_of, outcome_numbers, refusal_status,
     running_number, unclear_numbers,
 };
+use crate::session::Session;
 use std::alloc::Global;
-use zvt_apdu::BRIEF_ROOM;
+use zvt_apdu::MAX_TILL_MESSAGE_LEN;
 use zvt_bcd::{Amount, Currency};
 use zvt_stream::Stream;
 use zvt_till::{Cause, Happening, Order, Outgoing, Till};
@@ -43,7 +43,7 @@ pub extern "C" fn zvt_till_new(
     }
     let mut digits = [0; 3];
     zvt_bcd::put(u64::from(password), &mut digits);
-    let end = End {
+    let end = Session {
         till: Till::new(alloc, digits, config, currency),
         stream: Stream::new(alloc),
     };
@@ -99,10 +99,10 @@ pub extern "C" fn zvt_till_lost(alloc: Global, till: &mut ZvtTill, answer: &mut 
 /// Writes a message at the front of `out`, which has room for it, and says its size.
 pub(crate) fn write_message(outgoing: &Outgoing, out: &mut [u8]) -> usize
     requires { 32 ≤ length out.old }
-    ensures written { PutsMessage (message_of_brief outgoing.now.brief) out.old out.new result }
+    ensures written { PutsMessage (message_of_till_message outgoing.now.till_message) out.old out.new result }
     ensures room { result ≤ length out.old }
 {
-    let mut buffer = [0; BRIEF_ROOM];
+    let mut buffer = [0; MAX_TILL_MESSAGE_LEN];
     let size = outgoing.put(&mut buffer);
     out[..size].copy_from_slice(&buffer[..size]);
     size
@@ -146,7 +146,7 @@ pub extern "C" fn zvt_till_order(
 }
 
 /// Gives the till behind a handle an order.
-fn give(end: &mut End, order: Order, out: &mut [u8], answer: &mut ZvtStep) -> u32
+fn give(end: &mut Session, order: Order, out: &mut [u8], answer: &mut ZvtStep) -> u32
     requires { 32 ≤ length out.old }
     ensures { OrdersEnd end.old order end.new out.old out.new answer.new result }
 {

@@ -7,10 +7,10 @@ use Rattle.std.proofs.lemmas.List.Elements.{All-from_get_or}
 use Rattle.std.proofs.lemmas.Bool.{ltb-true, ltb-false, not-true}
 use Rattle.zvt_bcd.specs.Digits.{AreDigits, IsDigitPair, is_digit_pair}
 use Rattle.zvt_bcd.proofs.PairTests.{is_pair}
-use Rattle.zvt_spelling.specs.declared.why.Why.TheVariants.{NotDigit}
-use Rattle.zvt_spelling.specs.Reading.{Reading, AreBytes}
-use Rattle.zvt_spelling.specs.Tests.{check}
-use Rattle.zvt_tlv.proofs.Alive.{bytes_front}
+use Rattle.zvt_grammar.specs.declared.why.Why.TheVariants.{NotDigit}
+use Rattle.zvt_grammar.specs.Reading.{Reading, AreBytes}
+use Rattle.zvt_grammar.specs.Tests.{check}
+use Rattle.zvt_tlv.proofs.Alive.{bytes_prefix}
 use Rattle.zvt_tlv.proofs.Levels.{take_from, are_bytes}
 use Rattle.zvt_field.specs.Shapes.{shape_of}
 use Rattle.zvt_field.specs.Grammar.{plain, IsHead, IsContent}
@@ -76,15 +76,15 @@ stopped : (digits : Bool) (content : List ℕ) (at : ℕ) → stop digits conten
 stopped true content at e = (refl, e)
 stopped false content at e = absurd (cc (e))
 
-behind : (k : ℕ) (bytes : List ℕ) → AreBytes bytes → AreBytes (drop k bytes)
-behind zero bytes are = are
-behind (suc k) [] are = are
-behind (suc k) (x ∷ bytes) are = behind k bytes are.1
+after : (k : ℕ) (bytes : List ℕ) → AreBytes bytes → AreBytes (drop k bytes)
+after zero bytes are = are
+after (suc k) [] are = are
+after (suc k) (x ∷ bytes) are = after k bytes are.1
 
 inner_bytes : (start end : ℕ) (bytes : List ℕ) → ((i : ℕ) → get_or bytes i 0 < 256) → AreBytes (inner start end bytes)
 inner_bytes start end bytes are =
     let rest = drop start bytes in
-    bytes_front (inner start end bytes) (drop (end - start) rest) (subst AreBytes (sym (take-append-drop (end - start) rest)) (behind start bytes (are_bytes bytes are)))
+    bytes_prefix (inner start end bytes) (drop (end - start) rest) (subst AreBytes (sym (take-append-drop (end - start) rest)) (after start bytes (are_bytes bytes are)))
 
 begun : (r : Reading) (room : ℕ) (bytes : List ℕ) (head : Head) (h : HeadFound r room bytes head) → Content head.digits head.size (h.bmp ∷ h.size) [] room
 begun r room bytes head h =
@@ -124,7 +124,7 @@ content_refused r room end at bytes head h e found are =
     let size = inner_size head.start head.size end bytes h.present e in
     let below : at < end - head.start = omega (arith, f.present, size) in
     let same = λ (k : ℕ) (lt : k < end - head.start). get_or-take (end - head.start) rest k 0 lt in
-    let behind' : at < length rest = omega (arith, e, length-drop head.start bytes, below) in
+    let after' : at < length rest = omega (arith, e, length-drop head.start bytes, below) in
     let part = length-take-le at rest (omega arith) in
     let are_digits = pairs (take at rest)
     (λ k lt. let k' : k < at = omega (arith, lt, part) in ap is_digit_pair (get_or-take at rest k 0 k' ∙ sym (same k (omega arith))) ∙ f.before k k') in
@@ -132,7 +132,7 @@ content_refused r room end at bytes head h e found are =
     let bad : is_digit_pair (get_or bytes (head.start + at) 0) ≡ false = ap is_digit_pair (sym (get_or-drop head.start bytes at 0) ∙ sym (same at below)) ∙ f.fails in
     failed r room (in_content true) bytes (head.start + at) NotDigit
     (h.bmp, h.size, take at rest, head.size, taken r room at bytes head h, subst (λ (d : Bool). IsHead (shape_of h.bmp) d head.size h.size) digits h.is_head, omega (arith, part, e, below))
-    alive (omega (arith, content_small r room bytes head h, e, below)) (omega (arith, behind', length-drop head.start bytes)) (are (head.start + at))
+    alive (omega (arith, content_small r room bytes head h, e, below)) (omega (arith, after', length-drop head.start bytes)) (are (head.start + at))
     (ap (λ (b : Bool). check b NotDigit None) bad)
 
 pub content_more : (r : Reading) (room end : ℕ) (bytes : List ℕ) (head : Head) (h : HeadFound r room bytes head) → end ≡ min (head.start + head.size) (length bytes) → stop head.digits (inner head.start end bytes) ≡ None →

@@ -3,15 +3,15 @@ use Rattle.std.proofs.Common.{◌≡◌, ◌≢◌, ℕ, ◌+◌, ◌*◌, ◌-�
 use Rattle.std.proofs.lemmas.List.{append-nil}
 use Rattle.std.proofs.lemmas.Bool.{leb-true, leb-false, and_parts, and_cases, cases_eq}
 use Rattle.zvt_bcd.specs.LengthDigits.{AreLengthDigits, counted, IsCount}
-use Rattle.zvt_spelling.specs.declared.why.Why.{Why}
-use Rattle.zvt_spelling.specs.declared.why.Why.TheVariants.{DoesNotFit, LengthDigit}
-use Rattle.zvt_spelling.specs.Reading.{Reading}
+use Rattle.zvt_grammar.specs.declared.why.Why.{Why}
+use Rattle.zvt_grammar.specs.declared.why.Why.TheVariants.{DoesNotFit, LengthDigit}
+use Rattle.zvt_grammar.specs.Reading.{Reading}
 use Rattle.zvt_tlv.specs.Grammar as tlv
-use Rattle.zvt_spelling.specs.Tests.{check}
+use Rattle.zvt_grammar.specs.Tests.{check}
 use Rattle.zvt_tlv.specs.Judging.{avoids, first_tag}
 use Rattle.zvt_tlv.specs.Judging as judging
 use Rattle.zvt_tlv.proofs.Spelling as forest
-use Rattle.zvt_tlv.proofs.Alive.{front_of, says_of}
+use Rattle.zvt_tlv.proofs.Alive.{prefix_of, says_of}
 use Rattle.zvt_tlv.proofs.Alive as alive
 use Rattle.zvt_tlv.proofs.Room.{Says}
 use Rattle.zvt_tlv.proofs.SizedLemmas.{sized_object, object_sized}
@@ -23,21 +23,21 @@ use Rattle.zvt_field.specs.Judging.{AliveIn, Role, name, digit, in_content, in_c
 use Rattle.zvt_field.proofs.FieldLists.{not_single, alive_joined, alive_apart}
 use Rattle.zvt_field.proofs.Fit.{says_check, content_alive, fit_size, fit_content, fit_container, alive_container, container_alive}
 
-pub alive_front : (r : Reading) (room : ℕ) (a b : List ℕ) → AliveIn r room (a ++ b) → AliveIn r room a
-alive_front r room a b h = record {
+pub alive_prefix : (r : Reading) (room : ℕ) (a b : List ℕ) → AliveIn r room (a ++ b) → AliveIn r room a
+alive_prefix r room a b h = record {
   value = h.value;
   rest = b ++ h.rest;
   spelled = (subst (FieldList r h.value) (append_assoc a b h.rest) h.spelled.0, ap length (sym (append_assoc a b h.rest)) ∙ h.spelled.1);
 }
 
 -- digits, one list after another
-pub digits_front : (a b : List ℕ) → AreLengthDigits (a ++ b) → AreLengthDigits a
-digits_front [] b h = tt
-digits_front (x ∷ a) b h = (h.0, h.1, digits_front a b h.2)
+pub digits_prefix : (a b : List ℕ) → AreLengthDigits (a ++ b) → AreLengthDigits a
+digits_prefix [] b h = tt
+digits_prefix (x ∷ a) b h = (h.0, h.1, digits_prefix a b h.2)
 
-digits_behind : (a b : List ℕ) → AreLengthDigits (a ++ b) → AreLengthDigits b
-digits_behind [] b h = h
-digits_behind (x ∷ a) b h = digits_behind a b h.2
+digits_after : (a b : List ℕ) → AreLengthDigits (a ++ b) → AreLengthDigits b
+digits_after [] b h = h
+digits_after (x ∷ a) b h = digits_after a b h.2
 
 pub digits_joined : (a b : List ℕ) → AreLengthDigits a → AreLengthDigits b → AreLengthDigits (a ++ b)
 digits_joined [] b p q = q
@@ -135,7 +135,7 @@ alive_counted r bmp k size room is short h = by_list h.value h.spelled.0
         whole ∙ ap (λ (s : List ℕ). s ++ after) p.whole ∙ ap (λ (s : List ℕ). bmp' ∷ s) (append_assoc p.size content after) in
         let names : bmp ≡ bmp' = cc (e) in
         let count = head_count (shape_of bmp') k p.digits (length content) p.size (ap (λ (m : ℕ). count_digits (shape_of m)) (sym names) ∙ is) p.is_head in
-        let m = front_of size h.rest p.size (content ++ after) (cc (e)) (omega (arith, count.0)) in
+        let m = prefix_of size h.rest p.size (content ++ after) (cc (e)) (omega (arith, count.0)) in
         record {
           more = m.0;
           n = length content;
@@ -155,7 +155,7 @@ counted_alive r bmp k m size room is sized digits enough = by_size (cases_eq roo
     with' ds n over long are count total apart =
         let head = count_head (shape_of bmp) k n (size ++ ds) is (omega (arith, length-append size ds), digits_joined size ds digits are, counted_joined 0 size ds ∙ count) in
         let whole : bmp ∷ ((size ++ ds) ++ []) ≡ (bmp ∷ size) ++ ds = ap (λ (s : List ℕ). bmp ∷ s) (append-nil (size ++ ds)) in
-        alive_front r room (bmp ∷ size) ds (subst (AliveIn r room) whole
+        alive_prefix r room (bmp ∷ size) ds (subst (AliveIn r room) whole
         (content_alive r bmp n false (size ++ ds) [] room head (omega arith)
         (record { over = over; sized = omega (arith, length-append size ds); apart = apart; is_content = tt })))
 
@@ -198,7 +198,7 @@ pub fit_digit : (r : Reading) (bmp more before : ℕ) (size : List ℕ) (room le
 fit_digit r bmp more before size room left x is digits number filled =
     says_both (is_length_digit x) (count_fits more (10 * before + (x - 0xF0)) left) LengthDigit DoesNotFit _
     (λ e h. let c = alive_counted r bmp (length size + more) (size ++ x ∷ []) room (sym is ∙ omega arith) (omega (arith, length-append size (x ∷ []))) h in
-    let d = digits_behind size (x ∷ []) (digits_front (size ++ x ∷ []) c.more c.is_count.1) in no_length_digit x e d.0 d.1)
+    let d = digits_after size (x ∷ []) (digits_prefix (size ++ x ∷ []) c.more c.is_count.1) in no_length_digit x e d.0 d.1)
     (λ e. by_more more is (length_digit x e))
   where
     count : counted 0 (size ++ x ∷ []) ≡ 10 * before + (x - 0xF0)

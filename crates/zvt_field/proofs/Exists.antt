@@ -2,15 +2,15 @@
 use Rattle.std.proofs.Common.{◌≡◌, ℕ, ◌+◌, ◌-◌, ◌<◌, ◌≤◌, Bool, Option, Some, None, List, [], ◌∷◌, ◌++◌, length, refl, sym, ◌∙◌, ap, subst, arith, length-append, ◌⊎◌, suc, inl, inr}
 use Rattle.std.proofs.lemmas.List.{append-nil}
 use Rattle.zvt_bcd.specs.LengthDigits.{AreLengthDigits, counted}
-use Rattle.zvt_spelling.specs.Reading.{Reading}
+use Rattle.zvt_grammar.specs.Reading.{Reading}
 use Rattle.zvt_tlv.specs.Judging as judging
-use Rattle.zvt_tlv.proofs.Exists.{split, sized_front}
+use Rattle.zvt_tlv.proofs.Exists.{split, sized_prefix}
 use Rattle.zvt_field.specs.declared.shapes.Shape.{Shape}
 use Rattle.zvt_field.specs.declared.shapes.Shape.TheVariants.{Fixed, Digits, Ll, Lll, Tree}
 use Rattle.zvt_field.specs.Shapes.{shape_of}
 use Rattle.zvt_field.specs.Grammar.{Field, plain, tree, IsHead, FieldOf, FieldList}
 use Rattle.zvt_field.specs.Judging.{AliveIn, Role, name, digit, in_content, in_container, count_digits, Begins, Position}
-use Rattle.zvt_field.proofs.Counts.{digits_front}
+use Rattle.zvt_field.proofs.Counts.{digits_prefix}
 use Rattle.zvt_field.proofs.HeadMoves.{position_here}
 use Rattle.zvt_field.proofs.ListMoves.{position_after}
 
@@ -28,8 +28,8 @@ counts_head : (o : Option Shape) (digits : Bool) (n : ℕ) (size b : List ℕ) (
 counts_head None d n s b z m h e = absurd h
 counts_head (Some (Fixed k)) d n s b z m h e = absurd (omega (arith, ap length h.2, ap length e, length-append b (z ∷ m)))
 counts_head (Some (Digits k)) d n s b z m h e = absurd (omega (arith, ap length h.2, ap length e, length-append b (z ∷ m)))
-counts_head (Some Ll) d n s b z m h e = (omega (arith, h.1.0, ap length e, length-append b (z ∷ m)), digits_front b (z ∷ m) (subst AreLengthDigits e h.1.1))
-counts_head (Some Lll) d n s b z m h e = (omega (arith, h.1.0, ap length e, length-append b (z ∷ m)), digits_front b (z ∷ m) (subst AreLengthDigits e h.1.1))
+counts_head (Some Ll) d n s b z m h e = (omega (arith, h.1.0, ap length e, length-append b (z ∷ m)), digits_prefix b (z ∷ m) (subst AreLengthDigits e h.1.1))
+counts_head (Some Lll) d n s b z m h e = (omega (arith, h.1.0, ap length e, length-append b (z ∷ m)), digits_prefix b (z ∷ m) (subst AreLengthDigits e h.1.1))
 counts_head (Some Tree) d n s b z m h e = absurd h
 
 -- a front of one field
@@ -54,7 +54,7 @@ field_stands r room (plain bmp content) one (x ∷ b) z m p e le =
 field_stands r room (tree bmp objects) one (x ∷ b) z m p e le =
     let whole : bmp ∷ p.one ≡ x ∷ (b ++ z ∷ m) = sym p.whole ∙ e in
     let names : x ≡ bmp = cc (whole) in
-    let s = sized_front r (room - 1) objects p.one b z m p.sized (cc (whole)) (omega (arith, le, ap length p.whole)) in
+    let s = sized_prefix r (room - 1) objects p.one b z m p.sized (cc (whole)) (omega (arith, le, ap length p.whole)) in
     record {
       openers = s.openers;
       role = in_container s.at s.role;

@@ -1,10 +1,10 @@
 -- Facts on spellings of fields: lists join and part, and each size but 1 is filled.
 use Rattle.std.proofs.Common.{◌≡◌, ◌≢◌, ℕ, ◌+◌, false, List, [], ◌∷◌, ◌++◌, length, refl, sym, ◌∙◌, ap, subst, append_assoc, arith, length-append, suc, zero}
-use Rattle.zvt_spelling.specs.Reading.{Reading}
+use Rattle.zvt_grammar.specs.Reading.{Reading}
 use Rattle.zvt_field.specs.Shapes.{shape_of}
 use Rattle.zvt_field.specs.Grammar.{Field, plain, FieldOf, FieldList}
 use Rattle.zvt_field.specs.Judging.{AliveIn}
-pub use Rattle.zvt_field.specs.Once.{IsSane, sane, SameHead, head_front, sized_front, field_front, sized_size, field_size, not_single, one_list}
+pub use Rattle.zvt_field.specs.UniqueDecoding.{IsSane, sane, SameHead, head_prefix, sized_prefix, field_prefix, sized_size, field_size, not_single, one_list}
 
 pub list_joined : (r : Reading) (fs gs : List Field) (a b : List ℕ) → FieldList r fs a → FieldList r gs b → FieldList r (fs ++ gs) (a ++ b)
 list_joined r [] gs a b p q = let e : b ≡ a ++ b = rw p refl in subst (FieldList r gs) e q
@@ -17,7 +17,7 @@ after_fields r [] gs a s p q = (gs, let e : a ++ s ≡ s = rw p refl in subst (F
 after_fields r (f ∷ fs) [] a s (one, after, whole, p, more) q =
     absurd (omega (arith, ap length q, length-append a s, ap length whole, length-append one after, field_size r f one p))
 after_fields r (f ∷ fs) (g ∷ gs) a s (one, after, whole, p, more) (one', after', whole', p', more') =
-    let e = field_front r f g one one' (after ++ s) after' p p' (sym (append_assoc one after s) ∙ ap (λ (v : List ℕ). v ++ s) (sym whole) ∙ whole') in
+    let e = field_prefix r f g one one' (after ++ s) after' p p' (sym (append_assoc one after s) ∙ ap (λ (v : List ℕ). v ++ s) (sym whole) ∙ whole') in
     after_fields r fs gs after s more (subst (FieldList r gs) (sym e.2) more')
 
 -- fields of a size: names of two bytes, the last of three

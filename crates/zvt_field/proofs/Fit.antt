@@ -5,15 +5,15 @@ use Rattle.std.proofs.lemmas.Bool.{leb-true, leb-false, eqb-true, eqb-false, or_
 use Rattle.std.proofs.lemmas.List.Elements.{All-nil, All-cons, All-append}
 use Rattle.zvt_bcd.specs.Digits.{AreDigits, IsDigitPair, is_digit_pair}
 use Rattle.zvt_bcd.proofs.PairTests.{is_pair, is_pair_test}
-use Rattle.zvt_spelling.specs.declared.why.Why.{Why}
-use Rattle.zvt_spelling.specs.declared.why.Why.TheVariants.{DoesNotFit, NotDigit}
-use Rattle.zvt_spelling.specs.Reading.{Reading}
-use Rattle.zvt_spelling.specs.Tests.{check, fits}
+use Rattle.zvt_grammar.specs.declared.why.Why.{Why}
+use Rattle.zvt_grammar.specs.declared.why.Why.TheVariants.{DoesNotFit, NotDigit}
+use Rattle.zvt_grammar.specs.Reading.{Reading}
+use Rattle.zvt_grammar.specs.Tests.{check, fits}
 use Rattle.zvt_tlv.specs.Judging.{avoids, first_tag}
 use Rattle.zvt_tlv.specs.Judging as judging
-use Rattle.zvt_spelling.specs.Beginnings.{Alive}
+use Rattle.zvt_grammar.specs.Beginnings.{Alive}
 use Rattle.zvt_tlv.specs.Sized.{Sized, SizedIn, PositionSized}
-use Rattle.zvt_tlv.proofs.Alive.{front_of, zeros, zeros_size, zeros_bytes, bytes_front, bytes_joined, remainder, says_of}
+use Rattle.zvt_tlv.proofs.Alive.{prefix_of, zeros, zeros_size, zeros_bytes, bytes_prefix, bytes_joined, remainder, says_of}
 use Rattle.zvt_tlv.proofs.Room.{Says}
 use Rattle.zvt_tlv.proofs.SizedLemmas.{NotLonger, position_unfinished, not_longer, not_longer_more, fit_sized}
 use Rattle.zvt_field.specs.declared.shapes.Shape.{Shape}
@@ -21,7 +21,7 @@ use Rattle.zvt_field.specs.declared.shapes.Shape.TheVariants.{Tree}
 use Rattle.zvt_field.specs.Shapes.{shape_of}
 use Rattle.zvt_field.specs.Grammar.{Field, plain, tree, IsHead, IsContent, FieldList}
 use Rattle.zvt_field.specs.Judging.{AliveIn, in_content, fault}
-use Rattle.zvt_field.proofs.FieldLists.{head_front, not_single, filler, filling, filling_size, filled}
+use Rattle.zvt_field.proofs.FieldLists.{head_prefix, not_single, filler, filling, filling_size, filled}
 
 pub says_check : (b : Bool) (why : Why) (P : Type 0) → (b ≡ true → P) → (b ≡ false → P → ⊥) → Says (check b why None) P
 says_check true why P passes fails = (λ e. passes refl, λ w e p. absurd (cc (e)))
@@ -40,7 +40,7 @@ alive_container r bmp level c is longer h = by_list h.value h.spelled.0
     by_list (tree bmp' objects ∷ fs) (one, after, whole, p, more) =
         let e : bmp ∷ (c ++ h.rest) ≡ bmp' ∷ (p.one ++ after) = whole ∙ ap (λ (s : List ℕ). s ++ after) p.whole in
         let tails : c ++ h.rest ≡ p.one ++ after = cc (e) in
-        let m = front_of c h.rest p.one after tails (longer objects p.one h.rest after p.sized tails) in
+        let m = prefix_of c h.rest p.one after tails (longer objects p.one h.rest after p.sized tails) in
         let rest : h.rest ≡ m.0 ++ after = append_cancel_left c h.rest (m.0 ++ after) (tails ∙ ap (λ (s : List ℕ). s ++ after) m.1 ∙ append_assoc c m.0 after) in
         record {
           value = objects;
@@ -76,10 +76,10 @@ fit_container r bmp level os inside at role left x is p lt a =
     (fit_sized r level os inside at role left x p lt (alive_container r bmp level inside is (not_longer r inside u) a))
 
 -- contents of a kind
-content_front : (digits : Bool) (a b : List ℕ) → IsContent digits (a ++ b) → IsContent digits a
-content_front false a b h = bytes_front a b h
-content_front true [] b h = All-nil IsDigitPair
-content_front true (x ∷ a) b h = All-cons IsDigitPair x a (h 0 0 (omega arith)) (content_front true a b (λ k d lt. h (suc k) d (omega arith)))
+content_prefix : (digits : Bool) (a b : List ℕ) → IsContent digits (a ++ b) → IsContent digits a
+content_prefix false a b h = bytes_prefix a b h
+content_prefix true [] b h = All-nil IsDigitPair
+content_prefix true (x ∷ a) b h = All-cons IsDigitPair x a (h 0 0 (omega arith)) (content_prefix true a b (λ k d lt. h (suc k) d (omega arith)))
 
 content_joined : (digits : Bool) (a b : List ℕ) → IsContent digits a → IsContent digits b → IsContent digits (a ++ b)
 content_joined false a b p q = bytes_joined a b p q
@@ -136,14 +136,14 @@ alive_content r bmp n digits size part room head short h = by_list h.value h.spe
         let e : bmp ∷ (size ++ (part ++ h.rest)) ≡ bmp' ∷ (p.size ++ (content ++ after)) =
         ap (λ (s : List ℕ). bmp ∷ s) (sym (append_assoc size part h.rest)) ∙ whole ∙ ap (λ (s : List ℕ). s ++ after) p.whole ∙ ap (λ (s : List ℕ). bmp' ∷ s) (append_assoc p.size content after) in
         let names : bmp ≡ bmp' = cc (e) in
-        let same = head_front (shape_of bmp') digits p.digits n (length content) size p.size (part ++ h.rest) (content ++ after)
+        let same = head_prefix (shape_of bmp') digits p.digits n (length content) size p.size (part ++ h.rest) (content ++ after)
         (subst (λ (m : ℕ). IsHead (shape_of m) digits n size) names head) p.is_head (cc (e)) in
-        let m = front_of part h.rest content after same.rests (omega (arith, same.numbers)) in
+        let m = prefix_of part h.rest content after same.rests (omega (arith, same.numbers)) in
         record {
           over = length after;
           sized = omega (arith, h.spelled.1, ap length e, length-append size (part ++ h.rest), length-append (size ++ part) h.rest, length-append size part, length-append part h.rest, ap length same.sizes, length-append p.size (content ++ after), length-append content after, same.numbers);
           apart = not_single r fs after more;
-          is_content = content_front digits part m.0 (subst (IsContent digits) m.1 (subst (λ (d : Bool). IsContent d content) (sym same.kinds) p.is_content));
+          is_content = content_prefix digits part m.0 (subst (IsContent digits) m.1 (subst (λ (d : Bool). IsContent d content) (sym same.kinds) p.is_content));
         }
 
 fits_true : (n left : ℕ) → fits n left ≡ true → (left ≡ n) ⊎ (n + 2 ≤ left)

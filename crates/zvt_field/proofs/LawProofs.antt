@@ -2,19 +2,19 @@
 use Rattle.std.proofs.Common.{◌≡◌, ℕ, ◌+◌, ◌-◌, ◌≤◌, suc, Option, Some, None, List, [], ◌∷◌, ◌++◌, length, take, drop, refl, sym, ◌∙◌, ap, subst, arith, length-append}
 use Rattle.std.proofs.lemmas.List.{length-take-le, take-append-drop, take-append-le}
 use Rattle.std.proofs.Math.Seq.{take-add}
-use Rattle.zvt_spelling.specs.Reading.{Reading}
-use Rattle.zvt_spelling.specs.declared.answer.Scan.TheVariants.{Whole, More, Refused}
+use Rattle.zvt_grammar.specs.Reading.{Reading}
+use Rattle.zvt_grammar.specs.declared.answer.Scan.TheVariants.{Whole, More, Refused}
 use Rattle.zvt_tlv.proofs.Places.{place_more, byte_more}
 use Rattle.zvt_field.specs.declared.shapes.Shape.{Shape}
 use Rattle.zvt_field.specs.declared.bodies.BadField.TheVariants.{Unknown, Size, NotDigit}
 use Rattle.zvt_field.specs.Shapes.{shape_of}
 use Rattle.zvt_field.specs.Grammar.{Field, FieldList, Filled}
 use Rattle.zvt_field.specs.Bodies.{name_of, size_agrees}
-use Rattle.zvt_spelling.specs.declared.why.Why.{Why}
+use Rattle.zvt_grammar.specs.declared.why.Why.{Why}
 use Rattle.zvt_field.specs.Judging.{AliveIn, PlaceIn, WhyIn, Position, fault}
 use Rattle.zvt_field.specs.Laws.{EachSizeIsFilled, EachBeginningStands, PositionsAreOne, TestsDecide, RefusalsAreOne, FieldsEndThemselves, ListsAreOne, ListsHaveOne, AnswersAreOne, AnswersStay, FaultsAreOne, SpelledIsFaultless}
-use Rattle.zvt_field.proofs.FieldLists.{filler, filling, filling_size, filled, field_front, one_list}
-use Rattle.zvt_field.proofs.Counts.{fit, alive_front}
+use Rattle.zvt_field.proofs.FieldLists.{filler, filling, filling_size, filled, field_prefix, one_list}
+use Rattle.zvt_field.proofs.Counts.{fit, alive_prefix}
 use Rattle.zvt_field.proofs.Exists.{alive_stands}
 use Rattle.zvt_field.proofs.Spellings.{list_spelled, agrees, listed}
 use Rattle.zvt_field.proofs.Positions.{stands, stands_once, why_once, place_once}
@@ -37,7 +37,7 @@ refusals_are_one r room j k b v w p q x y =
     (e, why_once r room k b v w (subst (λ (n : ℕ). WhyIn r room b n v) e x) y)
 
 pub fields_end_themselves : FieldsEndThemselves
-fields_end_themselves r f g a b x y p q e = let s = field_front r f g a b x y p q e in (s.1, s.0)
+fields_end_themselves r f g a b x y p q e = let s = field_prefix r f g a b x y p q e in (s.1, s.0)
 
 pub lists_are_one : ListsAreOne
 lists_are_one r fs gs b p q = one_list r fs gs b b refl p q
@@ -63,7 +63,7 @@ whole_alive r room place b fs le p q =
     })
 
 more_alive : (r : Reading) (room place : ℕ) (b : List ℕ) → AliveIn r room b → PlaceIn r room b place → ⊥
-more_alive r room place b a q = q.0.dead (alive_front r room (take (suc place) b) (drop (suc place) b) (subst (AliveIn r room) (sym (take-append-drop (suc place) b)) a))
+more_alive r room place b a q = q.0.dead (alive_prefix r room (take (suc place) b) (drop (suc place) b) (subst (AliveIn r room) (sym (take-append-drop (suc place) b)) a))
 
 pub one_answer : AnswersAreOne
 one_answer r room b (Whole fs) (Whole gs) p q = ap (λ (l : List Field). Whole l) (one_list r fs gs (take room b) (take room b) refl p.1 q.1)

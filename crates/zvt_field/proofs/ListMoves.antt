@@ -1,10 +1,10 @@
 -- The steps of the reader of a list of fields.
 use Rattle.std.proofs.Common.{◌≡◌, ◌≢◌, ℕ, ◌+◌, ◌-◌, ◌<◌, ◌≤◌, ◌^◌, List, [], ◌∷◌, ◌++◌, length, take, drop, refl, sym, ◌∙◌, ap, subst, append_assoc, arith, length-append, length-drop, suc}
 use Rattle.std.proofs.lemmas.List.{append-nil, length-take-le, take-append-drop, take_rest}
-use Rattle.zvt_spelling.specs.declared.why.Why.{Why}
-use Rattle.zvt_spelling.specs.declared.answer.Scan.{Scan}
-use Rattle.zvt_spelling.specs.declared.answer.Scan.TheVariants.{Whole, More, Refused}
-use Rattle.zvt_spelling.specs.Reading.{Reading, shortest}
+use Rattle.zvt_grammar.specs.declared.why.Why.{Why}
+use Rattle.zvt_grammar.specs.declared.answer.Scan.{Scan}
+use Rattle.zvt_grammar.specs.declared.answer.Scan.TheVariants.{Whole, More, Refused}
+use Rattle.zvt_grammar.specs.Reading.{Reading, shortest}
 use Rattle.zvt_tlv.specs.Judging.{Opener}
 use Rattle.zvt_tlv.proofs.Levels.{byte_from, take_from}
 use Rattle.zvt_field.specs.Grammar.{Field, FieldList}

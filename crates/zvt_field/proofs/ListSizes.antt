@@ -1,7 +1,7 @@
 -- One more field behind others.
 use Rattle.std.proofs.Common.{◌≡◌, ℕ, ◌+◌, ◌<◌, ◌^◌, ◌≤◌, List, [], ◌∷◌, ◌++◌, length, take, drop, get_or, refl, sym, ◌∙◌, ap, subst, arith, length-append}
 use Rattle.std.proofs.lemmas.List.{append-nil, take-append-drop, take_all}
-use Rattle.zvt_spelling.specs.Reading.{shortest}
+use Rattle.zvt_grammar.specs.Reading.{shortest}
 use Rattle.zvt_field.specs.Grammar.{Field, FieldList}
 use Rattle.zvt_field.specs.Spelling.{spelling_of, spelling_of_all, size_of_field}
 use Rattle.zvt_field.specs.Bodies.{HasSpelling, HaveSpelling}

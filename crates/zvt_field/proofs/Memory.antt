@@ -1,9 +1,9 @@
 -- Where the reader takes memory.
 use Rattle.std.proofs.Common.{◌≡◌, ℕ, ◌+◌, ◌-◌, ◌<◌, List, [], ◌∷◌, ◌++◌, length, take, drop, refl, sym, ◌∙◌, ap, subst, append_assoc, arith, suc, zero, inl, inr}
 use Rattle.std.proofs.lemmas.List.{take_rest, length-take-le, take-append-drop}
-use Rattle.zvt_spelling.specs.Reading.{Reading}
-use Rattle.zvt_spelling.specs.declared.answer.Scan.{Scan}
-use Rattle.zvt_spelling.specs.declared.answer.Scan.TheVariants.{Whole}
+use Rattle.zvt_grammar.specs.Reading.{Reading}
+use Rattle.zvt_grammar.specs.declared.answer.Scan.{Scan}
+use Rattle.zvt_grammar.specs.declared.answer.Scan.TheVariants.{Whole}
 use Rattle.zvt_tlv.proofs.Spelling.{from}
 use Rattle.zvt_tlv.specs.Sized.{SizedTakesMemory}
 use Rattle.zvt_field.specs.Grammar.{Field, FieldList}
@@ -21,9 +21,9 @@ objects_take r room bytes i t =
     inr (i.bmp, i.inside, i.whole, i.is_tree, subst (SizedTakesMemory r) inside t)
 
 -- fields that were read
-listed_take : (r : Reading) (fs : List Field) (front rest bytes : List ℕ) → FieldList r fs front → 0 < length front → bytes ≡ front ++ rest → HoldsSome r bytes
-listed_take r [] front rest bytes p lt e = absurd (omega (arith, ap length p, lt))
-listed_take r (f ∷ fs) front rest bytes p lt e = inl (f, p.0, p.1 ++ rest, e ∙ ap (λ (s : List ℕ). s ++ rest) p.2 ∙ append_assoc p.0 p.1 rest, p.3)
+listed_take : (r : Reading) (fs : List Field) (prefix rest bytes : List ℕ) → FieldList r fs prefix → 0 < length prefix → bytes ≡ prefix ++ rest → HoldsSome r bytes
+listed_take r [] prefix rest bytes p lt e = absurd (omega (arith, ap length p, lt))
+listed_take r (f ∷ fs) prefix rest bytes p lt e = inl (f, p.0, p.1 ++ rest, e ∙ ap (λ (s : List ℕ). s ++ rest) p.2 ∙ append_assoc p.0 p.1 rest, p.3)
 
 read_takes : (r : Reading) (room : ℕ) (bytes : List ℕ) (fs : List Field) (k : ℕ) → ReadTo r room bytes fs k → 0 < k → HoldsSome r bytes
 read_takes r room bytes fs k i lt = listed_take r fs (take k bytes) (drop k bytes) bytes i.spelled (omega (arith, lt, length-take-le k bytes i.present)) (sym (take-append-drop k bytes))

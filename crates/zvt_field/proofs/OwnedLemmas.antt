@@ -3,7 +3,7 @@ use Rattle.std.proofs.Common.{◌≡◌, ℕ, Some, None, List, [], ◌∷◌, �
 use Rattle.std.proofs.lemmas.List.{append-nil}
 use Rattle.std.proofs.Math.Logic.{∥∥₁_elim}
 use Rattle.std.specs.Coded.{Coded-set}
-use Rattle.zvt_spelling.specs.Reading.{Reading, shortest}
+use Rattle.zvt_grammar.specs.Reading.{Reading, shortest}
 use Rattle.zvt_tlv.specs.Grammar.{Objects}
 use Rattle.zvt_tlv.specs.Spelled as tlv
 use Rattle.zvt_field.specs.Grammar.{Field, plain, tree, field_code, FieldList}
@@ -42,28 +42,28 @@ bytes_shown v made e m = ∥∥₁_elim v.field.1 (Coded-set field_code _ _) (λ
 
 -- a list of fields parts where it was joined
 pub record Parted (r : Reading) (fs gs : List Field) (s : List ℕ) : Type 0 where
-  pub front : List ℕ
+  pub prefix : List ℕ
   pub back : List ℕ
-  pub whole : s ≡ front ++ back
-  pub first : FieldList r fs front
+  pub whole : s ≡ prefix ++ back
+  pub first : FieldList r fs prefix
   pub others : FieldList r gs back
 
 pub list_parted : (r : Reading) (fs gs : List Field) (s : List ℕ) → FieldList r (fs ++ gs) s → Parted r fs gs s
-list_parted r [] gs s p = record { front = []; back = s; whole = refl; first = refl; others = p }
+list_parted r [] gs s p = record { prefix = []; back = s; whole = refl; first = refl; others = p }
 list_parted r (f ∷ fs) gs s (one, after, whole, p, more) =
     let k = list_parted r fs gs after more in record {
-      front = one ++ k.front;
+      prefix = one ++ k.prefix;
       back = k.back;
-      whole = whole ∙ ap (λ (a : List ℕ). one ++ a) k.whole ∙ sym (append_assoc one k.front k.back);
-      first = (one, k.front, refl, p, k.first);
+      whole = whole ∙ ap (λ (a : List ℕ). one ++ a) k.whole ∙ sym (append_assoc one k.prefix k.back);
+      first = (one, k.prefix, refl, p, k.first);
       others = k.others;
     }
 
 -- fields that stand first have a spelling where all of them have one
-pub spelled_front : (fs gs : List Field) → HaveSpelling (fs ++ gs) → HaveSpelling fs
-spelled_front fs gs h =
+pub spelled_prefix : (fs gs : List Field) → HaveSpelling (fs ++ gs) → HaveSpelling fs
+spelled_prefix fs gs h =
     let k = list_parted shortest fs gs h.bytes h.spelled in
-    record { bytes = k.front; spelled = k.first; small = omega (arith, h.small, ap length k.whole, length-append k.front k.back) }
+    record { bytes = k.prefix; spelled = k.first; small = omega (arith, h.small, ap length k.whole, length-append k.prefix k.back) }
 
 together : (made rest left : List Field) (f : Field) → rest ≡ f ∷ left → made ++ rest ≡ (made ++ f ∷ []) ++ left
 together made rest left f e = ap (λ (l : List Field). made ++ l) e ∙ sym (append_assoc made (f ∷ []) left)
@@ -72,14 +72,14 @@ pub more_made : (made rest left whole : List Field) (f : Field) → made ++ rest
 more_made made rest left whole f w e = sym (together made rest left f e) ∙ w
 
 pub more_spelled : (made rest left whole : List Field) (f : Field) → made ++ rest ≡ whole → rest ≡ f ∷ left → HaveSpelling whole → HaveSpelling (made ++ f ∷ [])
-more_spelled made rest left whole f w e h = spelled_front (made ++ f ∷ []) left (subst HaveSpelling (sym (more_made made rest left whole f w e)) h)
+more_spelled made rest left whole f w e h = spelled_prefix (made ++ f ∷ []) left (subst HaveSpelling (sym (more_made made rest left whole f w e)) h)
 
 pub one_spelled : (made rest left whole : List Field) (f : Field) → made ++ rest ≡ whole → rest ≡ f ∷ left → HaveSpelling whole → HasSpelling f
 one_spelled made rest left whole f w e h =
     let m = more_spelled made rest left whole f w e h in
     let k = list_parted shortest made (f ∷ []) m.bytes m.spelled in
     let (one, after, is, p, more) = k.others in
-    record { bytes = one; spelled = p; small = omega (arith, m.small, ap length k.whole, length-append k.front k.back, ap length is, length-append one after) }
+    record { bytes = one; spelled = p; small = omega (arith, m.small, ap length k.whole, length-append k.prefix k.back, ap length is, length-append one after) }
 
 -- nothing is left
 pub all_made : (made rest whole : List Field) → made ++ rest ≡ whole → rest ≡ [] → made ≡ whole

@@ -4,19 +4,19 @@ use Rattle.std.proofs.lemmas.Bool.{cases_lt}
 use Rattle.std.proofs.lemmas.List.{append_cancel_left, append-nil}
 use Rattle.std.proofs.Math.Seq.{take-add}
 use Rattle.zvt_bcd.specs.LengthDigits.{counted}
-use Rattle.zvt_spelling.specs.declared.why.Why.{Why}
-use Rattle.zvt_spelling.specs.Reading.{Reading}
+use Rattle.zvt_grammar.specs.declared.why.Why.{Why}
+use Rattle.zvt_grammar.specs.Reading.{Reading}
 use Rattle.zvt_tlv.specs.Judging as judging
 use Rattle.zvt_tlv.specs.Sized.{PositionSized}
-use Rattle.zvt_tlv.proofs.Alive.{front_of}
+use Rattle.zvt_tlv.proofs.Alive.{prefix_of}
 use Rattle.zvt_tlv.proofs.Unique.{position_once}
 use Rattle.zvt_tlv.proofs.SizedLemmas.{openers_of, position_object, position_unfinished, open_shorter}
 use Rattle.zvt_field.specs.declared.shapes.Shape.TheVariants.{Tree}
 use Rattle.zvt_field.specs.Shapes.{shape_of}
 use Rattle.zvt_field.specs.Grammar.{Field, plain, tree, IsHead, FieldOf, FieldList}
 use Rattle.zvt_field.specs.Judging.{AliveIn, PlaceIn, WhyIn, Role, name, digit, in_content, in_container, count_digits, Begins, Here, Within, Position, fault}
-use Rattle.zvt_field.proofs.FieldLists.{head_front, after_fields, field_size}
-use Rattle.zvt_field.proofs.Counts.{head_count, no_tree, alive_front}
+use Rattle.zvt_field.proofs.FieldLists.{head_prefix, after_fields, field_size}
+use Rattle.zvt_field.proofs.Counts.{head_count, no_tree, alive_prefix}
 use Rattle.zvt_field.proofs.Fit.{tree_head}
 
 -- no complete field stands first
@@ -41,7 +41,7 @@ begins_open r (digit more before) c (bmp, size, w, is, are, number) (tree bmp' o
 begins_open r (in_content digits) c (bmp, size, part, n, w, head, short) (plain bmp' content) m x p e =
     let whole : bmp ∷ (size ++ part) ≡ bmp' ∷ (p.size ++ (content ++ x)) = sym w ∙ e ∙ ap (λ (s : List ℕ). s ++ x) p.whole ∙ ap (λ (s : List ℕ). bmp' ∷ s) (append_assoc p.size content x) in
     let names : bmp ≡ bmp' = cc (whole) in
-    let same = head_front (shape_of bmp') digits p.digits n (length content) size p.size part (content ++ x) (subst (λ (k : ℕ). IsHead (shape_of k) digits n size) names head) p.is_head (cc (whole)) in
+    let same = head_prefix (shape_of bmp') digits p.digits n (length content) size p.size part (content ++ x) (subst (λ (k : ℕ). IsHead (shape_of k) digits n size) names head) p.is_head (cc (whole)) in
     omega (arith, same.numbers, ap length same.rests, length-append content x)
 begins_open r (in_content digits) c (bmp, size, part, n, w, head, short) (tree bmp' objects) m x p e =
     let whole : bmp ∷ (size ++ part) ≡ bmp' ∷ (p.one ++ x) = sym w ∙ e ∙ ap (λ (s : List ℕ). s ++ x) p.whole in
@@ -69,7 +69,7 @@ part_once r f g a b a' b' p q u v e = by_size (cases_lt (length a') (length a))
   where
     shorter : (f g : List Field) (a b a' b' : List ℕ) → FieldList r f a → FieldList r g a' → Open r b → a ++ b ≡ a' ++ b' → length a ≤ length a' → (a ≡ a') × (b ≡ b')
     shorter f g a b a' b' p q u e le =
-        let m = front_of a b a' b' e le in
+        let m = prefix_of a b a' b' e le in
         let h = after_fields r f g a m.0 p (subst (FieldList r g) m.1 q) in
         let same : b ≡ m.0 ++ b' = append_cancel_left a b (m.0 ++ b') (e ∙ ap (λ (s : List ℕ). s ++ b') m.1 ∙ append_assoc a m.0 b') in
         ended m.0 m.1 h.0 h.1 same
@@ -111,7 +111,7 @@ one_role (in_content digits) (digit more before) b c e (bmp', size', part, n, w'
 one_role (in_content digits) (in_content digits') b c e (bmp, size, part, n, w, head, short) (bmp', size', part', n', w', head', short') =
     let whole : bmp ∷ (size ++ part) ≡ bmp' ∷ (size' ++ part') = sym w ∙ e ∙ w' in
     let names : bmp ≡ bmp' = cc (whole) in
-    let same = head_front (shape_of bmp') digits digits' n n' size size' part part' (subst (λ (k : ℕ). IsHead (shape_of k) digits n size) names head) head' (cc (whole)) in
+    let same = head_prefix (shape_of bmp') digits digits' n n' size size' part part' (subst (λ (k : ℕ). IsHead (shape_of k) digits n size) names head) head' (cc (whole)) in
     let kinds : digits ≡ digits' = same.kinds in cc (kinds)
 one_role (in_content digits) (in_container at role) b c e p q = absurd q
 one_role (in_container at role) role' b c e p q = absurd p
@@ -183,7 +183,7 @@ place_once r room j k bytes p q = by_order (cases_lt j k) (cases_lt k j)
     before : (j k : ℕ) → PlaceIn r room bytes j → PlaceIn r room bytes k → j < k → ⊥
     before j k p q lt =
         let e : suc j + (k - suc j) ≡ k = omega arith in
-        p.0.dead (alive_front r room (take (suc j) bytes) (take (k - suc j) (drop (suc j) bytes))
+        p.0.dead (alive_prefix r room (take (suc j) bytes) (take (k - suc j) (drop (suc j) bytes))
         (subst (AliveIn r room) (sym (ap (λ (m : ℕ). take m bytes) e) ∙ take-add (suc j) (k - suc j) bytes) q.0.alive))
 
     by_order : ((j < k) ⊎ (k ≤ j)) → ((k < j) ⊎ (j ≤ k)) → j ≡ k

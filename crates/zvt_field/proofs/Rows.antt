@@ -1,7 +1,7 @@
 -- Rows worked by hand.
 use Rattle.std.proofs.Common.{◌≡◌, Some, None, List, [], ◌∷◌, refl, arith, true, false, replicate}
-use Rattle.zvt_spelling.specs.declared.why.Why.TheVariants.{DoesNotFit, UnknownField, NotDigit, LengthDigit}
-use Rattle.zvt_spelling.specs.Reading.{shortest}
+use Rattle.zvt_grammar.specs.declared.why.Why.TheVariants.{DoesNotFit, UnknownField, NotDigit, LengthDigit}
+use Rattle.zvt_grammar.specs.Reading.{shortest}
 use Rattle.zvt_tlv.specs.Grammar as tlv
 use Rattle.zvt_tlv.specs.Judging.{first_length}
 use Rattle.zvt_field.specs.declared.shapes.Shape.TheVariants.{Ll}

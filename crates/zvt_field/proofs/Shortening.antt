@@ -1,6 +1,6 @@
 -- Fields of either reading have a shortest spelling.
 use Rattle.std.proofs.Common.{ℕ, ◌<◌, ◌≤◌, ◌^◌, List, [], ◌∷◌, ◌++◌, length, refl, ap, arith, length-append}
-use Rattle.zvt_spelling.specs.Reading.{Reading, shortest}
+use Rattle.zvt_grammar.specs.Reading.{Reading, shortest}
 use Rattle.zvt_tlv.proofs.Spelling.{shortened, shorter_length}
 use Rattle.zvt_field.specs.Grammar.{Field, plain, tree, FieldOf, FieldList}
 use Rattle.zvt_field.specs.Bodies.{HasSpelling, HaveSpelling}

@@ -1,6 +1,6 @@
 -- The shortest spelling of a length and its objects.
 use Rattle.std.proofs.Common.{◌≡◌, ℕ, ◌+◌, ◌<◌, ◌^◌, List, ◌++◌, length, refl, sym, ◌∙◌, ap, subst, arith, length-append}
-use Rattle.zvt_spelling.specs.Reading.{shortest}
+use Rattle.zvt_grammar.specs.Reading.{shortest}
 use Rattle.zvt_tlv.specs.Grammar.{Objects, IsLength, Spells}
 use Rattle.zvt_tlv.specs.Sized.{Sized}
 use Rattle.zvt_tlv.specs.Sizes.{size_of, length_size, length_bytes, spelling}

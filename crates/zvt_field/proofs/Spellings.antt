@@ -2,7 +2,7 @@
 use Rattle.std.proofs.Common.{◌≡◌, ℕ, ◌+◌, ◌/◌, ◌%◌, ◌<◌, ◌≤◌, nat_lt, cond, Bool, true, false, Option, Some, None, List, [], ◌∷◌, ◌++◌, length, refl, sym, ◌∙◌, ap, subst, append_assoc, arith, length-append}
 use Rattle.std.proofs.lemmas.Bool.{eqb-true, eq-eqb, ltb-true, lt-ltb}
 use Rattle.zvt_bcd.specs.LengthDigits.{IsCount}
-use Rattle.zvt_spelling.specs.Reading.{shortest}
+use Rattle.zvt_grammar.specs.Reading.{shortest}
 use Rattle.zvt_tlv.specs.Grammar.{Objects}
 use Rattle.zvt_tlv.specs.Sizes as tlv
 use Rattle.zvt_field.proofs.SizedSpelling.{sized_spelling, sized_size, sized_spelled, spelled_sized}

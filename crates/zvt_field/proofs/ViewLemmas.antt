@@ -8,7 +8,7 @@ use Rattle.std.proofs.Math.Seq.{take-length}
 use Rattle.std.proofs.Math.Logic.{∥∥₁_elim, ∥∥₁_map}
 use Rattle.std.specs.Coded.{Coded-set, coded_list, coded_ℕ, le_prop, ×_prop, Π_prop}
 use Rattle.zvt_bcd.specs.Digits.{AreDigits}
-use Rattle.zvt_spelling.specs.Reading.{shortest, padded}
+use Rattle.zvt_grammar.specs.Reading.{shortest, padded}
 use Rattle.zvt_tlv.specs.Grammar.{Objects, Spells}
 use Rattle.zvt_tlv.specs.Coding.{objects_code}
 use Rattle.zvt_tlv.specs.Views.{ForestBytes, forest_once, LengthFirst}
@@ -23,7 +23,7 @@ use Rattle.zvt_field.specs.Bodies.{name_of}
 use Rattle.zvt_field.specs.Named.{bytes_of, is_named, sole, only_of, count_of}
 use Rattle.zvt_field.specs.Lent.{shown, all_shown}
 use Rattle.zvt_field.proofs.NamedLemmas.{sole_named, digits_of, fixed_of}
-use Rattle.zvt_field.specs.Once.{field_size}
+use Rattle.zvt_field.specs.UniqueDecoding.{field_size}
 
 -- what stands before a content
 pub lead_two : (o : Option Shape) (b : List ℕ) → o ≡ Some Ll → LeadFirst o b → 2 ≤ length b

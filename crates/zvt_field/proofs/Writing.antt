@@ -3,7 +3,7 @@ use Rattle.std.proofs.Common.{◌≡◌, ℕ, ◌+◌, ◌<◌, ◌≤◌, List,
 use Rattle.std.proofs.lemmas.List.{append-nil, take_more, take_rest, take_all, take-append-drop}
 use Rattle.std.specs.declared.vec.Vec.{Vec}
 use Rattle.std.specs.declared.alloc.Global.{Global}
-use Rattle.zvt_spelling.specs.Reading.{shortest}
+use Rattle.zvt_grammar.specs.Reading.{shortest}
 use Rattle.zvt_tlv.specs.Grammar.{Objects}
 use Rattle.zvt_tlv.specs.Sized.{Sized}
 use Rattle.zvt_tlv.specs.Sizes.{Puts, Writes, length_size, size_of}
@@ -38,7 +38,7 @@ pub puts_tree : (f : Field) (body : FieldBody) (objects : Objects) (bmp k m : �
 puts_tree f body objects bmp k m old mid sub same is name p w =
     let e : tree (name_of f) objects ≡ f = ap (field_of (name_of f)) (sym is) ∙ same in
     let whole : bmp ∷ w.bytes ≡ spelling_of f = ap (λ (b : ℕ). b ∷ w.bytes) name ∙ ap (λ (s : List ℕ). name_of f ∷ s) (sized_spelled objects w.bytes w.spelled) ∙ ap spelling_of e in
-    subst (λ (s : List ℕ). PutAll s k m old mid sub) whole (puts_after (bmp ∷ []) w.bytes old mid sub k m p (w.front, w.size))
+    subst (λ (s : List ℕ). PutAll s k m old mid sub) whole (puts_after (bmp ∷ []) w.bytes old mid sub k m p (w.prefix, w.size))
 
 -- one more field
 pub all_more : (fs : List Field) (i : ℕ) (f : Field) → i < length fs → f ≡ get_or fs i f → spelling_of_all (take (i + 1) fs) ≡ spelling_of_all (take i fs) ++ spelling_of f

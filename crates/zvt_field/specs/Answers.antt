@@ -1,10 +1,10 @@
 -- What the reader answers, in the terms of the grammar.
 use Rattle.std.specs.Prelude.{◌≡◌, ◌≢◌, ◌⊎◌, ℕ, ◌+◌, ◌*◌, ◌-◌, ◌<◌, ◌≤◌, Bool, Some, None, Result, Ok, Err, List, [], ◌∷◌, ◌++◌, length, take, suc}
-use Rattle.zvt_spelling.specs.declared.why.Why.{Why}
-use Rattle.zvt_spelling.specs.declared.answer.Scan.{Scan}
-use Rattle.zvt_spelling.specs.declared.answer.Scan.TheVariants.{Whole, More, Refused}
-use Rattle.zvt_spelling.specs.Reading.{Reading, shortest}
-use Rattle.zvt_spelling.specs.Beginnings.{Alive}
+use Rattle.zvt_grammar.specs.declared.why.Why.{Why}
+use Rattle.zvt_grammar.specs.declared.answer.Scan.{Scan}
+use Rattle.zvt_grammar.specs.declared.answer.Scan.TheVariants.{Whole, More, Refused}
+use Rattle.zvt_grammar.specs.Reading.{Reading, shortest}
+use Rattle.zvt_grammar.specs.Beginnings.{Alive}
 use Rattle.zvt_tlv.specs.Sized.{SizedIn, SizedTakesMemory}
 use Rattle.zvt_field.specs.Grammar.{Field, FieldOf, FieldList, IsHead}
 use Rattle.zvt_field.specs.declared.shapes.Shape.{Shape}
@@ -80,7 +80,7 @@ JudgesContent digits byte (Err why) = (left : ℕ) → fault shortest (in_conten
 
 -- A whole field stands first; or a container's name does, and objects in it that take memory.
 abbrev pub HoldsField : Reading → List ℕ → Type 0
-HoldsField r bytes = (field : Field) × (front : List ℕ) × (rest : List ℕ) × (bytes ≡ front ++ rest) × FieldOf r field front
+HoldsField r bytes = (field : Field) × (prefix : List ℕ) × (rest : List ℕ) × (bytes ≡ prefix ++ rest) × FieldOf r field prefix
 
 abbrev pub HoldsObjects : Reading → List ℕ → Type 0
 HoldsObjects r bytes = (bmp : ℕ) × (inside : List ℕ) × (bytes ≡ bmp ∷ inside) × (shape_of bmp ≡ Some Tree) × SizedTakesMemory r inside

@@ -1,7 +1,7 @@
 -- A field by its name and body.
 use Rattle.std.specs.Prelude.{◌≡◌, ℕ, ◌<◌, ◌+◌, ◌^◌, ◌==◌, nat_lt, Bool, true, false, Some, None, List, length}
 use Rattle.zvt_bcd.specs.Digits.{AreDigits}
-use Rattle.zvt_spelling.specs.Reading.{shortest, AreBytes}
+use Rattle.zvt_grammar.specs.Reading.{shortest, AreBytes}
 use Rattle.zvt_tlv.specs.Sizes.{size_of, length_size}
 use Rattle.zvt_tlv.specs.Spelled as tlv
 use Rattle.zvt_field.specs.declared.bodies.FieldBody.{FieldBody}

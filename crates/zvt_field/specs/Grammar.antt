@@ -4,7 +4,7 @@ use Rattle.std.specs.Coded.{Coded, code_by, coded×, coded⊎, coded_ℕ, coded_
 use Rattle.std.proofs.Common.{◌⊎◌, inl, inr, refl}
 use Rattle.zvt_bcd.specs.Digits.{AreDigits}
 use Rattle.zvt_bcd.specs.LengthDigits.{IsCount}
-use Rattle.zvt_spelling.specs.Reading.{Reading, AreBytes}
+use Rattle.zvt_grammar.specs.Reading.{Reading, AreBytes}
 use Rattle.zvt_tlv.specs.Grammar.{Objects}
 use Rattle.zvt_tlv.specs.Coding.{objects_code}
 use Rattle.zvt_tlv.specs.Sized.{Sized}

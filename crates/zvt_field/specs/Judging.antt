@@ -2,14 +2,14 @@
 use Rattle.std.specs.Prelude.{◌≡◌, ℕ, ◌+◌, ◌*◌, ◌^◌, ◌-◌, ◌<◌, ◌==◌, ◌&&◌, nat_le, Bool, true, false, cond, Option, Some, None, List, [], ◌∷◌, ◌++◌, length, take, slice_get, suc}
 use Rattle.zvt_bcd.specs.Digits.{is_digit_pair}
 use Rattle.zvt_bcd.specs.LengthDigits.{AreLengthDigits, counted}
-use Rattle.zvt_spelling.specs.declared.why.Why.{Why}
-use Rattle.zvt_spelling.specs.declared.why.Why.TheVariants.{DoesNotFit, UnknownField, NotDigit, LengthDigit}
-use Rattle.zvt_spelling.specs.Reading.{Reading}
-use Rattle.zvt_spelling.specs.Tests.{check, fits}
+use Rattle.zvt_grammar.specs.declared.why.Why.{Why}
+use Rattle.zvt_grammar.specs.declared.why.Why.TheVariants.{DoesNotFit, UnknownField, NotDigit, LengthDigit}
+use Rattle.zvt_grammar.specs.Reading.{Reading}
+use Rattle.zvt_grammar.specs.Tests.{check, fits}
 use Rattle.zvt_tlv.specs.Judging.{avoids}
 use Rattle.zvt_tlv.specs.Judging as tlv
 use Rattle.zvt_tlv.specs.Sized.{PositionSized}
-use Rattle.zvt_spelling.specs.Beginnings.{Alive, Place}
+use Rattle.zvt_grammar.specs.Beginnings.{Alive, Place}
 use Rattle.zvt_field.specs.declared.shapes.Shape.{Shape}
 use Rattle.zvt_field.specs.declared.shapes.Shape.TheVariants.{Fixed, Digits, Ll, Lll, Tree}
 use Rattle.zvt_field.specs.Shapes.{shape_of}

@@ -1,12 +1,12 @@
 -- Laws of the grammar.
 use Rattle.std.specs.Prelude.{◌≡◌, ◌≢◌, ◌↔◌, ℕ, ◌<◌, None, List, [], ◌∷◌, ◌++◌, length}
-use Rattle.zvt_spelling.specs.declared.why.Why.{Why}
-use Rattle.zvt_spelling.specs.Reading.{Reading, shortest}
-use Rattle.zvt_spelling.specs.Laws.{EndThemselves, SpellingsAreOne}
+use Rattle.zvt_grammar.specs.declared.why.Why.{Why}
+use Rattle.zvt_grammar.specs.Reading.{Reading, shortest}
+use Rattle.zvt_grammar.specs.Laws.{EndThemselves, SpellingsAreOne}
 use Rattle.zvt_tlv.specs.Judging.{Opener}
 use Rattle.zvt_field.specs.Grammar.{Field, FieldOf, FieldList}
-use Rattle.zvt_spelling.specs.declared.answer.Scan.{Scan}
-use Rattle.zvt_spelling.specs.declared.answer.Scan.TheVariants.{More}
+use Rattle.zvt_grammar.specs.declared.answer.Scan.{Scan}
+use Rattle.zvt_grammar.specs.declared.answer.Scan.TheVariants.{More}
 use Rattle.zvt_field.specs.declared.bodies.BadField.{BadField}
 use Rattle.zvt_field.specs.Bodies.{name_of, HasSpelling, HasFault}
 use Rattle.zvt_field.specs.Answers.{Answers}

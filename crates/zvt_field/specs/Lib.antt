@@ -9,6 +9,6 @@ pub mod Named
 pub mod Names
 pub mod Answers
 pub mod Laws
-pub mod Once
+pub mod UniqueDecoding
 pub mod Views
 pub mod Lent

@@ -1,6 +1,6 @@
 -- Fields that stand together.
 use Rattle.std.specs.Prelude.{◌≡◌, ℕ, ◌<◌, ◌^◌, List, [], ◌∷◌, ◌++◌, length}
-use Rattle.zvt_spelling.specs.Reading.{shortest}
+use Rattle.zvt_grammar.specs.Reading.{shortest}
 use Rattle.zvt_field.specs.Grammar.{Field, FieldList}
 use Rattle.zvt_field.specs.Bodies.{HaveSpelling}
 use Rattle.zvt_field.specs.declared.lists.PushRefusal.{PushRefusal}

@@ -4,15 +4,15 @@ use Rattle.std.specs.Coded.{Coded-set, coded_list}
 use mathlib.Core.HLevel.{Σ_prop_path}
 use mathlib.Core.Logic.{∥∥₁_elim, ∥∥₁_prop}
 use Rattle.std.proofs.Common.{refl, sym, ◌∙◌, ap, subst}
-use Rattle.zvt_spelling.specs.Reading.{padded}
+use Rattle.zvt_grammar.specs.Reading.{padded}
 use Rattle.zvt_tlv.specs.Grammar.{Objects, IsLength, Spells}
-use Rattle.zvt_tlv.specs.Once.{one_tree}
+use Rattle.zvt_tlv.specs.UniqueDecoding.{one_tree}
 use Rattle.zvt_tlv.specs.Views.{OneOf, one_value}
 use Rattle.zvt_field.specs.declared.shapes.Shape.{Shape}
 use Rattle.zvt_field.specs.declared.shapes.Shape.TheVariants.{Fixed, Digits, Ll, Lll, Tree}
 use Rattle.zvt_field.specs.Shapes.{shape_of}
 use Rattle.zvt_field.specs.Grammar.{Field, plain, tree, field_code, IsHead, Plain, FieldList}
-use Rattle.zvt_field.specs.Once.{one_list}
+use Rattle.zvt_field.specs.UniqueDecoding.{one_list}
 
 -- The fields that the bytes spell, each length of objects in any form that holds it.
 abbrev pub FieldsBytes : List ℕ → Type 0

@@ -1,7 +1,7 @@
 //! A field, and what it needs to have a spelling.
 
 ghost use Rattle.std.specs.Prelude.{◌≡◌, ◌↔◌, ℕ, IsTrue, IsOk, IfOk, IfErr};
-ghost use Rattle.zvt_spelling.specs.Reading.{AreBytes};
+ghost use Rattle.zvt_grammar.specs.Reading.{AreBytes};
 ghost use Rattle.zvt_field.specs.Bodies.{name_of, field_of, size_agrees, AreParts, DigitsAgree, HasFault, HasSpelling};
 
 use crate::Shape;

@@ -3,12 +3,12 @@
 
 mod bodies;
 mod contents;
-pub mod judging;
+pub mod judge;
 pub mod laws;
 mod lists;
 mod named;
 mod names;
-mod owning;
+mod owned_fields;
 mod reader;
 mod shapes;
 mod single;
@@ -21,7 +21,7 @@ pub use bodies::{BadField, Field, FieldBody};
 pub use lists::{Fields, PushRefusal};
 pub use named::{amount, count, currency, only, original, receipt, result, trace};
 pub use names::name;
-pub use owning::{owned, owned_field};
+pub use owned_fields::{owned, owned_field};
 pub use reader::{scan, scan_fields, scan_loose};
 pub use shapes::Shape;
 pub use single::{Single, read_single};

@@ -1,17 +1,16 @@
 //! The reader of a room of fields.
 
 ghost use Rattle.std.specs.Prelude.{◌≡◌, ◌≢◌, ◌≤◌, ◌<◌, ◌^◌, not, if◌then◌else◌, MatchResult, position};
-ghost use Rattle.zvt_spelling.specs.Reading.{shortest, padded};
+ghost use Rattle.zvt_grammar.specs.Reading.{shortest, padded};
 ghost use Rattle.zvt_bcd.specs.Digits.{is_digit_pair};
-ghost use Rattle.zvt_tlv.specs.Lengths.{reading_of};
+ghost use Rattle.zvt_grammar.specs.Lengths.{reading_of};
 ghost use Rattle.zvt_field.specs.Answers.{Answers, AnswersOne, AnswersHead, InName, InContainer, HeadFound, HoldsSome, TakesMemory};
 
-use crate::judging::{judge_digit, judge_name};
+use crate::judge::{judge_digit, judge_name};
 use crate::sizes::list_size;
 use crate::{Field, FieldBody, Fields, Shape};
 use std::alloc::{AllocError, Global};
-use zvt_spelling::{Scan, Why};
-use zvt_tlv::Lengths;
+use zvt_grammar::{Lengths, Scan, Why};
 use zvt_tlv::reader::scan_sized_forest;
 
 /// What stands before a content: how many bytes, how many follow, and whether these are digits.

@@ -1,7 +1,7 @@
 //! The sizes of spellings.
 
 ghost use Rattle.std.specs.Prelude.{◌≡◌, ℕ, List, length, ◌+◌, ◌<◌, ◌^◌};
-ghost use Rattle.zvt_spelling.specs.Reading.{shortest};
+ghost use Rattle.zvt_grammar.specs.Reading.{shortest};
 ghost use Rattle.zvt_tlv.specs.Sizes as tlv;
 ghost use Rattle.zvt_tlv.specs.Spelled as tlv_spelled;
 ghost use Rattle.zvt_field.specs.Grammar.{FieldList};

@@ -2,7 +2,7 @@
 
 ghost use Rattle.std.specs.Prelude.{◌≡◌, ℕ, ◌%◌, ◌<◌, ◌^◌, List, ◌++◌, length, IfSome};
 ghost use Rattle.std.specs.Option.{option_copied};
-ghost use Rattle.zvt_spelling.specs.Reading.{padded};
+ghost use Rattle.zvt_grammar.specs.Reading.{padded};
 ghost use Rattle.zvt_field.specs.Grammar.{Field, FieldList};
 ghost use Rattle.zvt_field.specs.Named.{bytes_of, count_of, only_of, content_of, amount_of, trace_of, result_of, receipt_of, currency_of, original_of};
 ghost use Rattle.zvt_field.specs.Views.{FieldsBytes, fields_once, FieldBytes, field_once, IsLead, LeadFirst, ContentFirst, tree_of, PlainBytes};

@@ -1,7 +1,7 @@
 //! The writer of spellings.
 
 ghost use Rattle.std.specs.Prelude.{◌≡◌, ℕ, List, ◌∷◌, length, ◌+◌, ◌<◌, ◌≤◌, IsTrue};
-ghost use Rattle.zvt_spelling.specs.Reading.{shortest};
+ghost use Rattle.zvt_grammar.specs.Reading.{shortest};
 ghost use Rattle.zvt_tlv.specs.Sizes.{Puts};
 ghost use Rattle.zvt_field.specs.Grammar.{FieldList};
 ghost use Rattle.zvt_field.specs.Shapes.{shape_of};

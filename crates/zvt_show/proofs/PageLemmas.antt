@@ -4,94 +4,94 @@ use Rattle.std.proofs.KnownBytes.{Appends-kept, Appends-trans}
 use Rattle.std.specs.Io.KnownBytes.{Appends}
 use Rattle.std.specs.Prelude.{IfSome}
 use Rattle.std.specs.Str.Lines.{lines}
-use Rattle.zvt_spelling.specs.Reading.{Reading}
+use Rattle.zvt_grammar.specs.Reading.{Reading}
 use Rattle.zvt_trace.specs.Listening.{AnswersWalkBy, Fails, FailsIn, Hears, HearsAll, Stops}
-use Rattle.zvt_trace.specs.Told.{At}
-use Rattle.zvt_trace.specs.Telling.{BrokenTrace, FrontOf, SideEnds, ToldSoFar, WholeTrace}
+use Rattle.zvt_trace.specs.TraceEvent.{At}
+use Rattle.zvt_trace.specs.Emitting.{BrokenTrace, PrefixOf, SideEnds, EventsSoFar, WholeTrace}
 use Rattle.zvt_trace.specs.Trace.{new_line, running}
-use Rattle.zvt_trace.specs.Written.{AppendsFront, ReadsTrace}
+use Rattle.zvt_trace.specs.Written.{AppendsPrefix, ReadsTrace}
 use Rattle.zvt_stream.proofs.Beginnings.{nothing_in}
 use Rattle.zvt_trace.specs.declared.direction.Direction.{Direction}
 use Rattle.zvt_trace.specs.declared.direction.Direction.TheVariants.{FromTill, FromTerminal}
 use Rattle.zvt_trace.specs.declared.fault.Tally.{Tally}
-use Rattle.zvt_trace.specs.declared.fault.What.{What}
+use Rattle.zvt_trace.specs.declared.fault.TraceLineError.{TraceLineError}
 use Rattle.zvt_trace.specs.declared.fault.TraceFault.{TraceFault}
 use Rattle.zvt_trace.specs.declared.fault.TraceFault.TheVariants.{Memory, Read, TooLong, Trace, Write}
-use Rattle.zvt_trace.specs.declared.listener.Failure.{Failure}
-use Rattle.zvt_trace.specs.declared.listener.Failure.TheVariants as failure
+use Rattle.zvt_trace.specs.declared.listener.ListenerError.{ListenerError}
+use Rattle.zvt_trace.specs.declared.listener.ListenerError.TheVariants as failure
 use Rattle.zvt_trace.specs.declared.listener.Scope.{Scope}
 use Rattle.zvt_trace.specs.declared.listener.Scope.TheVariants.{OneSide}
-use Rattle.zvt_trace.proofs.EventLemmas.{front_whole}
+use Rattle.zvt_trace.proofs.EventLemmas.{prefix_whole}
 use Rattle.zvt_show.specs.Text.{EventsText}
 use Rattle.zvt_show.specs.Written.{AnswersLinesBy, AnswersTraceBy, Extends, FailsEvent, Page, WritesEvent, all_of}
 use Rattle.zvt_show.specs.declared.style.Style.{Style}
-use Rattle.zvt_show.proofs.BlockLemmas.{all_written, appends_none, behind_nothing, extends_more, extends_none, keeps_same, last_failed, last_written, short_of, whole_front}
+use Rattle.zvt_show.proofs.BlockLemmas.{all_written, appends_none, after_nothing, extends_more, extends_none, keeps_same, last_failed, last_written, short_of, whole_prefix}
 
 -- ---- a front of what a trace tells
 
-whole_so_far : {r : Reading} (scope : Scope) (lines : List (List ℕ)) (events : List At) → WholeTrace r scope lines events → ToldSoFar r scope lines events
-whole_so_far scope lines events whole = front_whole events (record {
+whole_so_far : {r : Reading} (scope : Scope) (lines : List (List ℕ)) (events : List At) → WholeTrace r scope lines events → EventsSoFar r scope lines events
+whole_so_far scope lines events whole = prefix_whole events (record {
   done = lines;
   later = [];
   before = whole.body;
   next = whole.last;
   after = whole.after;
   cut = sym (append-nil lines);
-  tell = whole.tell;
-  tells = whole.ends;
+  emit = whole.emit;
+  emits = whole.ends;
   is_all = whole.is_all;
 })
 
-broken_so_far : {r : Reading} (scope : Scope) (lines : List (List ℕ)) (number : ℕ) (what : What) (events : List At) → BrokenTrace r scope lines number what events → ToldSoFar r scope lines events
-broken_so_far scope lines number what events broken = front_whole events (record {
+broken_so_far : {r : Reading} (scope : Scope) (lines : List (List ℕ)) (number : ℕ) (what : TraceLineError) (events : List At) → BrokenTrace r scope lines number what events → EventsSoFar r scope lines events
+broken_so_far scope lines number what events broken = prefix_whole events (record {
   done = broken.done;
   later = broken.line ∷ broken.later;
   before = events;
   next = [];
   after = broken.after;
   cut = broken.cut;
-  tell = broken.tell;
-  tells = inl refl;
+  emit = broken.emit;
+  emits = inl refl;
   is_all = sym (append-nil events);
 })
 
 none_begun : {r : Reading} (line : ℕ) (from : Direction) → SideEnds r line from (running []) []
 none_begun {r = r} line from = ([], [], record { spelled = refl; none_whole = (nothing_in r).none_whole }, refl)
 
-none_so_far : {r : Reading} (scope : Scope) (lines : List (List ℕ)) → ToldSoFar r scope lines []
+none_so_far : {r : Reading} (scope : Scope) (lines : List (List ℕ)) → EventsSoFar r scope lines []
 none_so_far {r = r} scope lines = by lines
   where
-    by : (lines : List (List ℕ)) → ToldSoFar r scope lines []
-    by [] = front_whole [] (record {
+    by : (lines : List (List ℕ)) → EventsSoFar r scope lines []
+    by [] = prefix_whole [] (record {
       done = [];
       later = [];
       before = [];
       next = [];
       after = new_line;
       cut = refl;
-      tell = (refl, refl);
-      tells = record { till = []; terminal = []; till_ends = none_begun 0 FromTill; terminal_ends = none_begun 0 FromTerminal; is_all = refl };
+      emit = (refl, refl);
+      emits = record { till = []; terminal = []; till_ends = none_begun 0 FromTill; terminal_ends = none_begun 0 FromTerminal; is_all = refl };
       is_all = refl;
     })
-    by (line ∷ more) = front_whole [] (record {
+    by (line ∷ more) = prefix_whole [] (record {
       done = [];
       later = line ∷ more;
       before = [];
       next = [];
       after = new_line;
       cut = refl;
-      tell = (refl, refl);
-      tells = inl refl;
+      emit = (refl, refl);
+      emits = inl refl;
       is_all = refl;
     })
 
-front_fewer : {Tell : List At → Type 0} (events more : List At) → FrontOf Tell (events ++ more) → FrontOf Tell events
-front_fewer events more front = record { all = front.all; later = more ++ front.later; tell = front.tell; is_front = front.is_front ∙ append_assoc events more front.later }
+prefix_fewer : {Emit : List At → Type 0} (events more : List At) → PrefixOf Emit (events ++ more) → PrefixOf Emit events
+prefix_fewer events more prefix = record { all = prefix.all; later = more ++ prefix.later; emit = prefix.emit; is_prefix = prefix.is_prefix ∙ append_assoc events more prefix.later }
 
 -- ---- what is written
 
 abbrev pub writes : {S : Type 0} → (S → Page) → Hears S
-writes view old event new = WritesEvent event.told (view old) (view new)
+writes view old event new = WritesEvent event.trace_event (view old) (view new)
 
 abbrev pub fails : {S : Type 0} → (S → Page) → Fails S
 fails view old event why new = FailsEvent why (view old) (view new)
@@ -128,37 +128,37 @@ shown view (event ∷ events) old new some =
 record Wrote (r : Reading) (style : Style) (lines : List (List ℕ)) (old new : Page) : Type 0 where
   pub events : List At
   pub text : List ℕ
-  pub so_far : ToldSoFar r OneSide lines events
+  pub so_far : EventsSoFar r OneSide lines events
   pub says : EventsText style events text
-  pub front : AppendsFront old.written (all_of new) text
+  pub prefix : AppendsPrefix old.written (all_of new) text
   pub extends : Extends old.written new.written
   pub least : old.failures ≤ new.failures
 
 started : (old : Page) (new : Option (List ℕ)) (text : List ℕ) → old.block ≡ [] → Appends (all_of old) new text → Appends old.written new text
-started old new text empty appended = subst (λ (o : Option (List ℕ)). Appends o new text) (behind_nothing old.written old.block empty) appended
+started old new text empty appended = subst (λ (o : Option (List ℕ)). Appends o new text) (after_nothing old.written old.block empty) appended
 
-wrote_all : {S : Type 0} {r : Reading} (view : S → Page) (lines : List (List ℕ)) (events : List At) (old new : S) → (view old).block ≡ [] → ToldSoFar r OneSide lines events → HearsAll (writes view) old events new → Wrote r (view old).style lines (view old) (view new)
+wrote_all : {S : Type 0} {r : Reading} (view : S → Page) (lines : List (List ℕ)) (events : List At) (old new : S) → (view old).block ≡ [] → EventsSoFar r OneSide lines events → HearsAll (writes view) old events new → Wrote r (view old).style lines (view old) (view new)
 wrote_all {r = r} view lines events old new empty so_far heard =
     let shows = shown view events old new heard in record {
       events = events;
       text = shows.text;
       so_far = so_far;
       says = shows.says;
-      front = whole_front (view old).written (all_of (view new)) shows.text (started (view old) (all_of (view new)) shows.text empty shows.appended);
+      prefix = whole_prefix (view old).written (all_of (view new)) shows.text (started (view old) (all_of (view new)) shows.text empty shows.appended);
       extends = shows.extends;
       least = omega (arith, shows.failures);
     }
 
 -- of an event that could not be written nothing stands there, and perhaps less than before
-wrote_less : {S : Type 0} {r : Reading} (view : S → Page) (lines : List (List ℕ)) (events : List At) (event : At) (why : Failure) (old middle new : S) → (view old).block ≡ [] → ToldSoFar r OneSide lines (events ++ event ∷ [])
+wrote_less : {S : Type 0} {r : Reading} (view : S → Page) (lines : List (List ℕ)) (events : List At) (event : At) (why : ListenerError) (old middle new : S) → (view old).block ≡ [] → EventsSoFar r OneSide lines (events ++ event ∷ [])
     → HearsAll (writes view) old events middle → FailsEvent why (view middle) (view new) → Wrote r (view old).style lines (view old) (view new)
 wrote_less {r = r} view lines events event failure.Memory old middle new empty so_far heard failed =
     let shows = shown view events old middle heard in record {
       events = events;
       text = shows.text;
-      so_far = front_fewer events (event ∷ []) so_far;
+      so_far = prefix_fewer events (event ∷ []) so_far;
       says = shows.says;
-      front = whole_front (view old).written (all_of (view new)) shows.text
+      prefix = whole_prefix (view old).written (all_of (view new)) shows.text
           (started (view old) (all_of (view new)) shows.text empty (Appends-kept (all_of (view old)) (all_of (view middle)) (all_of (view new)) shows.text shows.appended failed.0));
       extends = extends_more (view old).written (view middle).written (view new).written shows.extends failed.1;
       least = omega (arith, shows.failures, failed.2);
@@ -168,17 +168,17 @@ wrote_less {r = r} view lines events event failure.Write old middle new empty so
     let extends = extends_more (view old).written (view middle).written (view new).written shows.extends failed.1 in record {
       events = events;
       text = shows.text;
-      so_far = front_fewer events (event ∷ []) so_far;
+      so_far = prefix_fewer events (event ∷ []) so_far;
       says = shows.says;
-      front = short_of (view old).written (view new).written (all_of (view middle)) (view new).block shows.text extends (started (view old) (all_of (view middle)) shows.text empty shows.appended) failed.0;
+      prefix = short_of (view old).written (view new).written (all_of (view middle)) (view new).block shows.text extends (started (view old) (all_of (view middle)) shows.text empty shows.appended) failed.0;
       extends = extends;
       least = omega (arith, shows.failures, failed.2);
     }
 
-wrote_failed : {S : Type 0} (r : Reading) (view : S → Page) (lines : List (List ℕ)) (why : Failure) (old new : S) → (view old).block ≡ [] → FailsIn (writes view) (fails view) why (ToldSoFar r OneSide lines) old new → Wrote r (view old).style lines (view old) (view new)
+wrote_failed : {S : Type 0} (r : Reading) (view : S → Page) (lines : List (List ℕ)) (why : ListenerError) (old new : S) → (view old).block ≡ [] → FailsIn (writes view) (fails view) why (EventsSoFar r OneSide lines) old new → Wrote r (view old).style lines (view old) (view new)
 wrote_failed {S = S} r view lines why old new empty failed = by failed.stops
   where
-    by : Stops (fails view) why (ToldSoFar r OneSide lines) failed.events failed.middle new → Wrote r (view old).style lines (view old) (view new)
+    by : Stops (fails view) why (EventsSoFar r OneSide lines) failed.events failed.middle new → Wrote r (view old).style lines (view old) (view new)
     by (inl (is, so_far, same)) = subst (λ (s : S). Wrote r (view old).style lines (view old) (view s)) (sym same) (wrote_all view lines failed.events old failed.middle empty so_far failed.heard)
     by (inr (event, so_far, left)) = wrote_less view lines failed.events event why old failed.middle new empty so_far failed.heard left
 
@@ -193,19 +193,19 @@ wrote r view lines (Err Read) old new empty never = absurd never
 -- ---- the last block
 
 -- it was written
-memory_written : {S : Type 0} (r : Reading) (view : S → Page) (lines : List (List ℕ)) (old new : S) (device : Option (List ℕ)) → (view old).block ≡ [] → FailsIn (writes view) (fails view) failure.Memory (ToldSoFar r OneSide lines) old new
+memory_written : {S : Type 0} (r : Reading) (view : S → Page) (lines : List (List ℕ)) (old new : S) (device : Option (List ℕ)) → (view old).block ≡ [] → FailsIn (writes view) (fails view) failure.Memory (EventsSoFar r OneSide lines) old new
     → Appends (view new).written device (view new).block → AnswersLinesBy r (view old).style lines (view old).written device (Err Memory)
 memory_written {S = S} r view lines old new device empty failed last = by failed.stops
   where
     shows : Shows (view old).style failed.events (view old) (view failed.middle)
     shows = shown view failed.events old failed.middle failed.heard
 
-    all : Appends (all_of (view old)) (all_of (view new)) shows.text → ToldSoFar r OneSide lines failed.events → AnswersLinesBy r (view old).style lines (view old).written device (Err Memory)
+    all : Appends (all_of (view old)) (all_of (view new)) shows.text → EventsSoFar r OneSide lines failed.events → AnswersLinesBy r (view old).style lines (view old).written device (Err Memory)
     all appended so_far = (failed.events, shows.text, so_far, shows.says, all_written (view old).written (view new).written device (view new).block shows.text (started (view old) (all_of (view new)) shows.text empty appended) last)
 
-    by : Stops (fails view) failure.Memory (ToldSoFar r OneSide lines) failed.events failed.middle new → AnswersLinesBy r (view old).style lines (view old).written device (Err Memory)
+    by : Stops (fails view) failure.Memory (EventsSoFar r OneSide lines) failed.events failed.middle new → AnswersLinesBy r (view old).style lines (view old).written device (Err Memory)
     by (inl (is, so_far, same)) = all (subst (λ (s : S). Appends (all_of (view old)) (all_of (view s)) shows.text) (sym same) shows.appended) so_far
-    by (inr (event, so_far, left)) = all (Appends-kept (all_of (view old)) (all_of (view failed.middle)) (all_of (view new)) shows.text shows.appended left.0) (front_fewer failed.events (event ∷ []) so_far)
+    by (inr (event, so_far, left)) = all (Appends-kept (all_of (view old)) (all_of (view failed.middle)) (all_of (view new)) shows.text shows.appended left.0) (prefix_fewer failed.events (event ∷ []) so_far)
 
 written_so : {S : Type 0} (r : Reading) (view : S → Page) (lines : List (List ℕ)) (answer : Result Tally TraceFault) (old new : S) (device : Option (List ℕ)) → (view old).block ≡ [] → AnswersWalkBy r (writes view) (fails view) OneSide lines old new answer
     → Appends (view new).written device (view new).block → AnswersLinesBy r (view old).style lines (view old).written device answer
@@ -218,7 +218,7 @@ written_so r view lines (Err (Trace number what)) old new device empty walked la
 written_so r view lines (Err Memory) old new device empty failed last = memory_written r view lines old new device empty failed last
 written_so r view lines (Err Write) old new device empty failed last =
     let some = wrote_failed r view lines failure.Write old new empty failed in
-    (some.events, some.text, some.so_far, some.says, last_written (view old).written (view new).written device (view new).block some.text some.front last)
+    (some.events, some.text, some.so_far, some.says, last_written (view old).written (view new).written device (view new).block some.text some.prefix last)
 written_so r view lines (Err TooLong) old new device empty never last = absurd never
 written_so r view lines (Err Read) old new device empty never last = absurd never
 
@@ -228,11 +228,11 @@ written r view style lines answer old new device is empty walked last = subst (�
 
 -- it could not be written
 pub not_written : {S : Type 0} (r : Reading) (view : S → Page) (style : Style) (lines : List (List ℕ)) (answer : Result Tally TraceFault) (old new : S) (device : Option (List ℕ)) → (view old).style ≡ style → (view old).block ≡ []
-    → AnswersWalkBy r (writes view) (fails view) OneSide lines old new answer → AppendsFront (view new).written device (view new).block → AnswersLinesBy r style lines (view old).written device (Err Write)
+    → AnswersWalkBy r (writes view) (fails view) OneSide lines old new answer → AppendsPrefix (view new).written device (view new).block → AnswersLinesBy r style lines (view old).written device (Err Write)
 not_written r view style lines answer old new device is empty walked last =
     let some = wrote r view lines answer old new empty walked in
     subst (λ (s : Style). AnswersLinesBy r s lines (view old).written device (Err Write)) is
-    (some.events, some.text, some.so_far, some.says, last_failed (view old).written (view new).written device (view new).block some.text some.extends some.front last)
+    (some.events, some.text, some.so_far, some.says, last_failed (view old).written (view new).written device (view new).block some.text some.extends some.prefix last)
 
 -- ---- failures
 
@@ -248,7 +248,7 @@ write_counted r view lines (Err TooLong) old new never e = absurd never
 write_counted r view lines (Err Read) old new never e = absurd never
 write_counted {S = S} r view lines (Err Write) old new failed e = by failed.stops
   where
-    by : Stops (fails view) failure.Write (ToldSoFar r OneSide lines) failed.events failed.middle new → (view old).failures < (view new).failures
+    by : Stops (fails view) failure.Write (EventsSoFar r OneSide lines) failed.events failed.middle new → (view old).failures < (view new).failures
     by (inl (is, so_far, same)) = cc
     by (inr (event, so_far, left)) = omega (arith, (shown view failed.events old failed.middle failed.heard).failures, left.2)
 

@@ -1,14 +1,14 @@
 -- The text of what a trace tells.
 use Rattle.std.specs.Prelude.{◌≡◌, ℕ, List, [], ◌∷◌, ◌++◌}
 use Rattle.hex.specs.Hex.{encode_upper}
-use Rattle.zvt_spelling.specs.Reading.{shortest}
+use Rattle.zvt_grammar.specs.Reading.{shortest}
 use Rattle.zvt_apdu.specs.Grammar.{Spells}
 use Rattle.zvt_apdu.specs.Message.{Message, ack, nack, registration, authorisation, reversal, end_of_day, abort_order, status, intermediate, print_line, text_block, completion, abort, other}
 use Rattle.zvt_text.specs.Bytes.{escaped_text}
-use Rattle.zvt_text.specs.Said.{said}
+use Rattle.zvt_text.specs.MessageTexts.{said}
 use Rattle.zvt_trace.specs.Lines.{direction_text}
-use Rattle.zvt_trace.specs.Told.{At, Told}
-use Rattle.zvt_trace.specs.Told as told
+use Rattle.zvt_trace.specs.TraceEvent.{At, TraceEvent}
+use Rattle.zvt_trace.specs.TraceEvent as trace_event
 use Rattle.zvt_trace.specs.declared.direction.Direction.{Direction}
 use Rattle.zvt_trace.specs.declared.direction.Direction.TheVariants.{FromTill, FromTerminal}
 use Rattle.zvt_show.specs.Lines.{lost_text, refused_text, stopped_text, truncated_text}
@@ -50,14 +50,14 @@ MessageText Receipts from message text = text ≡ receipt from message
 
 -- ---- all that is told
 
-abbrev pub EventText : Style → Told → List ℕ → Type 0
-EventText style (told.message from m) text = MessageText style from m text
-EventText style (told.refused from head byte place why) text = text ≡ refused_text style from place why
-EventText style (told.unread from) text = text ≡ stopped_text style from
-EventText style (told.cut_off from head have) text = text ≡ truncated_text style from have
-EventText style told.lost text = text ≡ lost_text style
+abbrev pub EventText : Style → TraceEvent → List ℕ → Type 0
+EventText style (trace_event.message from m) text = MessageText style from m text
+EventText style (trace_event.refused from head byte place why) text = text ≡ refused_text style from place why
+EventText style (trace_event.unread from) text = text ≡ stopped_text style from
+EventText style (trace_event.cut_off from head have) text = text ≡ truncated_text style from have
+EventText style trace_event.lost text = text ≡ lost_text style
 
 abbrev pub EventsText : Style → List At → List ℕ → Type 0
 EventsText style [] text = text ≡ []
 EventsText style (event ∷ events) text =
-    (one : List ℕ) × (after : List ℕ) × (text ≡ one ++ after) × EventText style event.told one × EventsText style events after
+    (one : List ℕ) × (after : List ℕ) × (text ≡ one ++ after) × EventText style event.trace_event one × EventsText style events after

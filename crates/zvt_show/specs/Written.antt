@@ -2,18 +2,18 @@
 use Rattle.std.specs.Prelude.{◌≡◌, ℕ, ◌<◌, ◌≤◌, ◌++◌, List, length, Option, None, Some, Result, Ok, Err}
 use Rattle.std.specs.Io.KnownBytes.{Appends, Keeps}
 use Rattle.std.specs.Str.Lines.{lines}
-use Rattle.zvt_io.specs.Devices.{IsFront}
-use Rattle.zvt_spelling.specs.Reading.{Reading, shortest}
+use Rattle.zvt_io.specs.Devices.{IsPrefix}
+use Rattle.zvt_grammar.specs.Reading.{Reading, shortest}
 use Rattle.zvt_apdu.specs.Message.{Message}
-use Rattle.zvt_trace.specs.Told.{At, Tallies, Told}
-use Rattle.zvt_trace.specs.Telling.{BrokenTrace, ToldSoFar, WholeTrace}
-use Rattle.zvt_trace.specs.Written.{AppendsFront, limit}
+use Rattle.zvt_trace.specs.TraceEvent.{At, Tallies, TraceEvent}
+use Rattle.zvt_trace.specs.Emitting.{BrokenTrace, EventsSoFar, WholeTrace}
+use Rattle.zvt_trace.specs.Written.{AppendsPrefix, limit}
 use Rattle.zvt_trace.specs.declared.direction.Direction.{Direction}
 use Rattle.zvt_trace.specs.declared.fault.Tally.{Tally}
 use Rattle.zvt_trace.specs.declared.fault.TraceFault.{TraceFault}
 use Rattle.zvt_trace.specs.declared.fault.TraceFault.TheVariants.{Memory, Read, TooLong, Trace, Write}
-use Rattle.zvt_trace.specs.declared.listener.Failure.{Failure}
-use Rattle.zvt_trace.specs.declared.listener.Failure.TheVariants as failure
+use Rattle.zvt_trace.specs.declared.listener.ListenerError.{ListenerError}
+use Rattle.zvt_trace.specs.declared.listener.ListenerError.TheVariants as failure
 use Rattle.zvt_trace.specs.declared.listener.Scope.TheVariants.{OneSide}
 use Rattle.zvt_show.specs.Text.{EventText, EventsText, MessageText}
 use Rattle.zvt_show.specs.declared.style.Style.{Style}
@@ -27,9 +27,9 @@ pub record AddsMessage (style : Style) (from : Direction) (message : Message) (o
   pub grown : new ≡ old ++ one
 
 -- the text grew by that of what is told
-pub record AddsEvent (style : Style) (told : Told) (old new : List ℕ) : Type 0 where
+pub record AddsEvent (style : Style) (trace_event : TraceEvent) (old new : List ℕ) : Type 0 where
   pub one : List ℕ
-  pub says : EventText style told one
+  pub says : EventText style trace_event one
   pub grown : new ≡ old ++ one
 
 -- ---- what a device has that failed
@@ -42,14 +42,14 @@ Extends old new = (more : List ℕ) × Appends old new more
 abbrev pub IsShortOf : (whole new : Option (List ℕ)) → Type 0
 IsShortOf None new = Unit {0}
 IsShortOf (Some bytes) None = ⊥
-IsShortOf (Some bytes) (Some front) = IsFront front bytes
+IsShortOf (Some bytes) (Some prefix) = IsPrefix prefix bytes
 
 -- ---- blocks
 
 -- what the device has once it has the block too
-abbrev pub behind : Option (List ℕ) → List ℕ → Option (List ℕ)
-behind None block = None
-behind (Some bytes) block = Some (bytes ++ block)
+abbrev pub after : Option (List ℕ) → List ℕ → Option (List ℕ)
+after None block = None
+after (Some bytes) block = Some (bytes ++ block)
 
 -- what the device has, what is to be written, and how many writes failed
 pub record Page : Type 0 where
@@ -62,19 +62,19 @@ abbrev pub page : Style → Option (List ℕ) → List ℕ → ℕ → Page
 page style written block failures = record { style = style; written = written; block = block; failures = failures }
 
 abbrev pub all_of : Page → Option (List ℕ)
-all_of page = behind page.written page.block
+all_of page = after page.written page.block
 
 -- the text of what is told stands behind the block, or the block's does on the device
-pub record WritesEvent (told : Told) (old new : Page) : Type 0 where
+pub record WritesEvent (trace_event : TraceEvent) (old new : Page) : Type 0 where
   pub text : List ℕ
-  pub says : EventText old.style told text
+  pub says : EventText old.style trace_event text
   pub appended : Appends (all_of old) (all_of new) text
   pub extends : Extends old.written new.written
   pub failures : new.failures ≡ old.failures
   pub same : new.style ≡ old.style
 
 -- where memory is refused nothing of it is written; of a write that failed, some front of what was to be written before
-abbrev pub FailsEvent : Failure → (old new : Page) → Type 0
+abbrev pub FailsEvent : ListenerError → (old new : Page) → Type 0
 FailsEvent failure.Memory old new = Keeps (all_of old) (all_of new) × Extends old.written new.written × (old.failures ≤ new.failures)
 FailsEvent failure.Write old new = IsShortOf (all_of old) (all_of new) × Extends old.written new.written × (old.failures < new.failures)
 
@@ -89,9 +89,9 @@ AnswersLinesBy r style lines old new (Ok tally) =
 AnswersLinesBy r style lines old new (Err (Trace number what)) =
     (events : List At) × (text : List ℕ) × BrokenTrace r OneSide lines number what events × EventsText style events text × Appends old new text
 AnswersLinesBy r style lines old new (Err Write) =
-    (events : List At) × (text : List ℕ) × ToldSoFar r OneSide lines events × EventsText style events text × AppendsFront old new text
+    (events : List At) × (text : List ℕ) × EventsSoFar r OneSide lines events × EventsText style events text × AppendsPrefix old new text
 AnswersLinesBy r style lines old new (Err Memory) =
-    (events : List At) × (text : List ℕ) × ToldSoFar r OneSide lines events × EventsText style events text × Appends old new text
+    (events : List At) × (text : List ℕ) × EventsSoFar r OneSide lines events × EventsText style events text × Appends old new text
 AnswersLinesBy r style lines old new (Err TooLong) = ⊥
 AnswersLinesBy r style lines old new (Err Read) = ⊥
 

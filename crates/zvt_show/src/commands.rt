@@ -1,8 +1,8 @@
 //! The commands that write the text of a trace.
 ghost use Rattle.std.specs.Prelude.{◌≡◌, ◌<◌, ◌≤◌, length, Err, IfSome};
 ghost use Rattle.std.specs.Str.Lines.{lines};
-ghost use Rattle.zvt_spelling.specs.Reading.{padded};
-ghost use Rattle.zvt_tlv.specs.Lengths.{reading_of};
+ghost use Rattle.zvt_grammar.specs.Reading.{padded};
+ghost use Rattle.zvt_grammar.specs.Lengths.{reading_of};
 ghost use Rattle.zvt_trace.specs.Written.{limit};
 ghost use Rattle.zvt_show.specs.Written.{AnswersLinesBy, AnswersTrace, AnswersTraceBy};
 ghost use Rattle.zvt_show.specs.declared.style.Style.TheVariants.{Join, Receipts, Show};
@@ -10,8 +10,8 @@ ghost use Rattle.zvt_show.specs.declared.style.Style.TheVariants.{Join, Receipts
 use crate::pages::{Pages, flush};
 use crate::style::Style;
 use std::alloc::Global;
+use zvt_grammar::Lengths;
 use zvt_io::{Sink, Source};
-use zvt_tlv::Lengths;
 use zvt_trace::{Scope, Tally, TraceFault, read_trace, walk_by};
 
 /// Writes each whole message of the trace as text: its direction and name, and a line for each

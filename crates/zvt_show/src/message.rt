@@ -1,18 +1,18 @@
 //! The text of a message.
 ghost use Rattle.std.specs.Prelude.{◌≡◌, ◌++◌, ◌∷◌, [], OnErr, OnOk};
-ghost use Rattle.zvt_tlv.specs.Lengths.{reading_of};
+ghost use Rattle.zvt_grammar.specs.Lengths.{reading_of};
 ghost use Rattle.zvt_apdu.specs.Grammar.{Spells};
 ghost use Rattle.zvt_trace.specs.Lines.{direction_text};
 ghost use Rattle.zvt_show.specs.Text.{joined, receipt, shown};
 ghost use Rattle.zvt_show.specs.Written.{AddsMessage};
-ghost use Rattle.zvt_text.specs.Whole.{Adds};
+ghost use Rattle.zvt_text.specs.Writing.{Adds};
 ghost use Rattle.zvt_show.specs.declared.style.Style.TheVariants.{Join};
 
 use crate::style::Style;
 use std::alloc::{AllocError, Global};
 use zvt_apdu::{ApduView, encode, owned};
+use zvt_grammar::Lengths;
 use zvt_text::Text;
-use zvt_tlv::Lengths;
 use zvt_trace::Direction;
 
 /// A message with its fields, as a line of a trace, or as a line of a receipt.
@@ -42,12 +42,12 @@ pub(crate) fn write(
 fn show(text: &mut Text, from: Direction, apdu: &ApduView<'_>) -> Result<(), AllocError>
     ensures { Adds result text.old text.new (shown from apdu.now) }
 {
-    zvt_text::message(text, front(from), apdu)
+    zvt_text::message(text, prefix(from), apdu)
 }
 
 /// A direction, and a space.
 #[inline(always)]
-fn front(from: Direction) -> &'static [u8]
+fn prefix(from: Direction) -> &'static [u8]
     ensures { result.now ≡ direction_text from ++ 32 ∷ [] }
 {
     match from {
@@ -97,7 +97,7 @@ fn normal_line(
 fn line(text: &mut Text, from: Direction, bytes: &[u8]) -> Result<(), AllocError>
     ensures { Adds result text.old text.new (joined from bytes.now) }
 {
-    zvt_text::line(text, front(from), bytes)
+    zvt_text::line(text, prefix(from), bytes)
 }
 
 /// The text of a print line of the terminal.

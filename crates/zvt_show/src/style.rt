@@ -1,11 +1,11 @@
 //! How what a trace tells is written.
 ghost use Rattle.std.specs.Prelude.{◌≡◌, ◌++◌, IfOk};
-ghost use Rattle.zvt_text.specs.Whole.{Adds};
+ghost use Rattle.zvt_text.specs.Writing.{Adds};
 ghost use Rattle.zvt_trace.specs.Lines.{direction_text};
 ghost use Rattle.zvt_show.specs.Lines.{lost_text, refused_text, stopped_text, truncated_text};
 
 use std::alloc::{AllocError, Global};
-use zvt_spelling::Why;
+use zvt_grammar::Why;
 use zvt_text::Text;
 use zvt_trace::Direction;
 

@@ -1,7 +1,7 @@
 -- Beginnings of messages, and lines of them.
 use Rattle.std.proofs.Common.{ℕ, ◌<◌, ◌≤◌, List, [], ◌∷◌, ◌++◌, length, refl, sym, ap, subst, arith, length-append, append-nil}
-use Rattle.zvt_spelling.specs.Reading.{Reading, shortest}
-use Rattle.zvt_spelling.proofs.CutLemmas as cuts
+use Rattle.zvt_grammar.specs.Reading.{Reading, shortest}
+use Rattle.zvt_grammar.proofs.CutLemmas as cuts
 use Rattle.zvt_apdu.specs.Message.{Message, ack}
 use Rattle.zvt_apdu.specs.Grammar.{IsFrameLength}
 use Rattle.zvt_apdu.specs.Grammar as grammar
@@ -14,8 +14,8 @@ spelled_more_in r = cuts.spelled_more (grammar.Spells r)
 pub spelled_append_in : (r : Reading) (ms ns : List Message) (bytes middle rest : List ℕ) → SpelledIn r bytes ms middle → SpelledIn r middle ns rest → SpelledIn r bytes (ms ++ ns) rest
 spelled_append_in r = cuts.spelled_append (grammar.Spells r)
 
-pub front_alive_in : (r : Reading) (front rest : List ℕ) → AliveIn r (front ++ rest) → AliveIn r front
-front_alive_in r = cuts.fronts_alive (grammar.Spells r)
+pub prefix_alive_in : (r : Reading) (prefix rest : List ℕ) → AliveIn r (prefix ++ rest) → AliveIn r prefix
+prefix_alive_in r = cuts.prefixes_alive (grammar.Spells r)
 
 length_bounds : (r : Reading) (n : ℕ) (size : List ℕ) → IsFrameLength r n size → (0 < length size) × (length size ≤ 3) × (n < 65536)
 length_bounds r n [] s = absurd s
@@ -37,7 +37,7 @@ bounds_in r m bytes p =
 pub nothing_in : (r : Reading) → UnfinishedIn r []
 nothing_in r = record {
   alive = record { value = ack []; rest = 0x80 ∷ 0x00 ∷ 0x00 ∷ []; spelled = record { control = 0x80 ∷ 0x00 ∷ []; size = 0x00 ∷ []; content = []; whole = refl; is_control = refl; is_size = (omega arith, refl); is_content = (refl, refl, tt, tt) } };
-  none_whole = λ m front rest e s. let n : 2 < length front = (bounds_in r m front s).0 in absurd (omega (arith, n, ap length e, length-append front rest));
+  none_whole = λ m prefix rest e s. let n : 2 < length prefix = (bounds_in r m prefix s).0 in absurd (omega (arith, n, ap length e, length-append prefix rest));
 }
 
 -- A message that isn't whole is shorter than the longest message.
@@ -55,8 +55,8 @@ spelled_more = spelled_more_in shortest
 pub spelled_append : (ms ns : List Message) (bytes middle rest : List ℕ) → Spelled bytes ms middle → Spelled middle ns rest → Spelled bytes (ms ++ ns) rest
 spelled_append = spelled_append_in shortest
 
-pub front_alive : (front rest : List ℕ) → Alive (front ++ rest) → Alive front
-front_alive = front_alive_in shortest
+pub prefix_alive : (prefix rest : List ℕ) → Alive (prefix ++ rest) → Alive prefix
+prefix_alive = prefix_alive_in shortest
 
 pub message_bounds : (m : Message) (bytes : List ℕ) → Spells m bytes → (2 < length bytes) × (length bytes ≤ 65540)
 message_bounds = bounds_in shortest

@@ -1,11 +1,11 @@
 -- The bytes of contents.
 use Rattle.std.proofs.Common.{◌≡◌, ◌≢◌, ℕ, ◌-◌, ◌<◌, Ok, List, [], ◌∷◌, ◌++◌, refl, sym, ◌∙◌, ap, subst, append_assoc, arith, length-append, suc}
-use Rattle.zvt_spelling.specs.Reading.{Reading}
+use Rattle.zvt_grammar.specs.Reading.{Reading}
 use Rattle.zvt_tlv.specs.Grammar.{Objects, none, primitive, Spells}
 use Rattle.zvt_tlv.proofs.Alive.{bytes_joined}
-use Rattle.zvt_stream.specs.declared.moves.At.TheVariants as stage
-use Rattle.zvt_stream.specs.declared.moves.Move.TheVariants.{Within, Ends}
-use Rattle.zvt_stream.specs.Standing.{depth_of, HoldsObjects, HasRoom, AtObject, ObjectContent, Between, IsEmpty}
+use Rattle.zvt_stream.specs.declared.transitions.At.TheVariants as stage
+use Rattle.zvt_stream.specs.declared.transitions.Transition.TheVariants.{Within, Ends}
+use Rattle.zvt_stream.specs.DecoderState.{depth_of, HoldsObjects, HasRoom, AtObject, ObjectContent, Between, IsEmpty}
 use Rattle.zvt_stream.specs.Moves.{Judges}
 use Rattle.zvt_stream.proofs.LevelLemmas.{object_more, object_done, bytes_object}
 
@@ -24,10 +24,10 @@ between_objects r left (k ∷ j ∷ ks) b h ne a = (ne, a)
 
 part_more : (r : Reading) (d more x : ℕ) → x < 256 → 0 < more → (s : List ℕ) → ObjectContent r d more s → ObjectContent r d (more - 1) (s ++ x ∷ [])
 part_more r d more x lt some s (tag, size, part, n, w, t, l, e, are) =
-    (tag, size, part ++ x ∷ [], n, ap (λ (s : List ℕ). s ++ x ∷ []) w ∙ behind tag size part, t, l, omega (arith, length-append part (x ∷ []), e, some), bytes_joined part (x ∷ []) are (lt, tt))
+    (tag, size, part ++ x ∷ [], n, ap (λ (s : List ℕ). s ++ x ∷ []) w ∙ trailing tag size part, t, l, omega (arith, length-append part (x ∷ []), e, some), bytes_joined part (x ∷ []) are (lt, tt))
   where
-    behind : (tag size part : List ℕ) → (tag ++ (size ++ part)) ++ x ∷ [] ≡ tag ++ (size ++ (part ++ x ∷ []))
-    behind tag size part = simp append_assoc
+    trailing : (tag size part : List ℕ) → (tag ++ (size ++ part)) ++ x ∷ [] ≡ tag ++ (size ++ (part ++ x ∷ []))
+    trailing tag size part = simp append_assoc
 
 pub one_less : (left : ℕ) → 0 < left → left ≡ suc (left - 1)
 one_less left some = omega (arith, some)

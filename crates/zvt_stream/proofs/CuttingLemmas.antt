@@ -1,15 +1,15 @@
 -- What pieces spell.
 use Rattle.std.proofs.Common.{ℕ, List, [], ◌∷◌, ◌++◌, take, drop, ◌≡◌, refl, sym, ◌∙◌, ap, subst, append_assoc, append-nil}
 use Rattle.std.specs.List.{concat}
-use Rattle.zvt_spelling.specs.Reading.{Reading}
+use Rattle.zvt_grammar.specs.Reading.{Reading}
 use Rattle.zvt_apdu.specs.Message.{Message}
 use Rattle.zvt_stream.specs.Apdus.{NoneWholeIn, SpelledIn, CutIn, IsRefusedIn}
-use Rattle.zvt_spelling.specs.declared.why.Why.{Why}
+use Rattle.zvt_grammar.specs.declared.why.Why.{Why}
 use Rattle.zvt_stream.proofs.Beginnings.{spelled_more_in, spelled_append_in}
 use Rattle.zvt_stream.proofs.Beginnings.{nothing_in}
 use Rattle.zvt_stream.specs.StreamState.{StreamState}
 use Rattle.zvt_stream.specs.Cutting.{FedWhole, FedPieces, FedRefused, AnyCutting, AnyRefusal}
-use Rattle.zvt_stream.proofs.Going.{split}
+use Rattle.zvt_stream.proofs.LineRunLemmas.{split}
 
 alike_whole : (old : StreamState) (piece : List ℕ) (ms : List Message) (new : StreamState) → FedWhole old piece ms new → new.reading ≡ old.reading
 alike_whole old piece [] new f = f.2

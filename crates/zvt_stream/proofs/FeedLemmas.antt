@@ -2,14 +2,14 @@
 use Rattle.std.proofs.Common.{◌≡◌, ℕ, suc, Bool, ◌≤◌, List, [], ◌++◌, length, take, drop, inl, inr, sym, ◌∙◌, ap, subst, arith, append_assoc}
 use Rattle.std.proofs.lemmas.Bool.{cases_lt}
 use Rattle.std.proofs.lemmas.List.{take-append-drop, take-append-le}
-use Rattle.zvt_spelling.specs.declared.why.Why.{Why}
-use Rattle.zvt_spelling.specs.Reading.{Reading}
+use Rattle.zvt_grammar.specs.declared.why.Why.{Why}
+use Rattle.zvt_grammar.specs.Reading.{Reading}
 use Rattle.zvt_tlv.proofs.Places.{none_more, place_more, byte_more}
 use Rattle.zvt_apdu.specs.Judging.{Position}
 use Rattle.zvt_apdu.specs.Grammar.{Spells}
 use Rattle.zvt_stream.specs.Apdus.{AliveIn, UnfinishedIn, PlaceIn, IsRefusedIn}
 use Rattle.zvt_stream.specs.StreamState.{IsSound}
-use Rattle.zvt_stream.proofs.Beginnings.{front_alive_in, nothing_in}
+use Rattle.zvt_stream.proofs.Beginnings.{prefix_alive_in, nothing_in}
 
 -- what holds nothing is sound
 pub sound_empty : (r : Reading) (held : List ℕ) (stopped : Bool) → held ≡ [] → IsSound r held stopped
@@ -30,7 +30,7 @@ place_past r held piece place a p =
     elim (cases_lt place (length held)) [
       | inl within ↦
           let shorter = take-append-le (suc place) held piece (omega arith) in
-          let alive : AliveIn r (take (suc place) held) = front_alive_in r (take (suc place) held) (drop (suc place) held) (subst (AliveIn r) (sym (take-append-drop (suc place) held)) a) in
+          let alive : AliveIn r (take (suc place) held) = prefix_alive_in r (take (suc place) held) (drop (suc place) held) (subst (AliveIn r) (sym (take-append-drop (suc place) held)) a) in
           absurd (p.dead (subst (AliveIn r) (sym shorter) alive))
       | inr past ↦ past
     ]

@@ -6,11 +6,11 @@ use Rattle.std.proofs.lemmas.List.Elements.{All-push, All-nil}
 use Rattle.zvt_bcd.specs.Digits.{IsDigitPair, is_digit_pair}
 use Rattle.zvt_bcd.specs.LengthDigits.{counted}
 use Rattle.zvt_bcd.proofs.PairTests.{is_pair}
-use Rattle.zvt_spelling.specs.declared.why.Why.TheVariants.{DoesNotFit, NotDigit, LengthDigit}
-use Rattle.zvt_spelling.specs.Reading.{Reading, shortest}
-use Rattle.zvt_spelling.specs.Tests.{fits}
+use Rattle.zvt_grammar.specs.declared.why.Why.TheVariants.{DoesNotFit, NotDigit, LengthDigit}
+use Rattle.zvt_grammar.specs.Reading.{Reading, shortest}
+use Rattle.zvt_grammar.specs.Tests.{fits}
 use Rattle.zvt_tlv.proofs.Alive.{bytes_joined}
-use Rattle.zvt_tlv.specs.declared.judging.LengthAt.TheVariants.{First}
+use Rattle.zvt_tlv.specs.declared.judge.LengthAt.TheVariants.{First}
 use Rattle.zvt_field.specs.declared.shapes.Shape.{Shape}
 use Rattle.zvt_field.specs.declared.shapes.Shape.TheVariants.{Fixed, Digits, Ll, Lll, Tree}
 use Rattle.zvt_field.specs.Shapes.{shape_of}
@@ -18,9 +18,9 @@ use Rattle.zvt_field.specs.Grammar.{Field, plain, FieldOf, IsHead, IsContent}
 use Rattle.zvt_field.specs.Judging.{name, digit, in_content, count_digits, Begins, name_fault, count_fits, is_length_digit, fault}
 use Rattle.zvt_field.proofs.FieldLists.{sane, IsSane}
 use Rattle.zvt_field.proofs.Counts.{digits_joined, counted_joined, count_head, length_digit}
-use Rattle.zvt_stream.specs.declared.moves.At.TheVariants as stage
-use Rattle.zvt_stream.specs.declared.moves.Move.TheVariants.{Within, Ends}
-use Rattle.zvt_stream.specs.Standing.{HasDigits, AtField, FieldContent, ContainerLength, Between, IsEmpty}
+use Rattle.zvt_stream.specs.declared.transitions.At.TheVariants as stage
+use Rattle.zvt_stream.specs.declared.transitions.Transition.TheVariants.{Within, Ends}
+use Rattle.zvt_stream.specs.DecoderState.{HasDigits, AtField, FieldContent, ContainerLength, Between, IsEmpty}
 use Rattle.zvt_stream.specs.Moves.{Judges}
 use Rattle.zvt_stream.proofs.LevelLemmas.{field_more, field_done}
 use Rattle.zvt_stream.proofs.ContentMoves.{room_less, room_over, one_less, some_left}

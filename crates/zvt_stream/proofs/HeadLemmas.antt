@@ -1,10 +1,10 @@
 -- The control bytes stay behind the second byte of a message.
 use Rattle.std.proofs.Common.{◌≡◌, ℕ, List, [], ◌∷◌, ◌++◌, refl, sym, subst}
-use Rattle.zvt_spelling.specs.Reading.{Reading}
+use Rattle.zvt_grammar.specs.Reading.{Reading}
 use Rattle.zvt_stream.specs.Head.{head_of}
-use Rattle.zvt_stream.specs.Standing.{Fields, Level, Where}
-use Rattle.zvt_stream.specs.declared.moves.At.{At}
-use Rattle.zvt_stream.specs.declared.moves.At.TheVariants as stage
+use Rattle.zvt_stream.specs.DecoderState.{Fields, Level, Where}
+use Rattle.zvt_stream.specs.declared.transitions.At.{At}
+use Rattle.zvt_stream.specs.declared.transitions.At.TheVariants as stage
 
 -- both control bytes have come
 abbrev pub HasBoth : List ℕ → Type 0
@@ -20,23 +20,23 @@ of_level r (k ∷ j ∷ []) b room part l = of_fields r l.around l.part b l.oute
 of_level r (k ∷ j ∷ i ∷ ks) b room part l = of_level r (j ∷ i ∷ ks) b l.around l.part l.outer
 
 -- the part of a byte behind both
-abbrev pub IsBehind : At → Type 0
-IsBehind stage.FirstControl = ⊥
-IsBehind (stage.SecondControl high) = ⊥
-IsBehind (stage.FirstSize high low) = Unit {0}
-IsBehind (stage.LowSize high low) = Unit {0}
-IsBehind (stage.HighSize high low s) = Unit {0}
-IsBehind stage.Payload = Unit {0}
-IsBehind (stage.Head free digits) = Unit {0}
-IsBehind stage.Name = Unit {0}
-IsBehind (stage.Digit more before) = Unit {0}
-IsBehind (stage.Content digits more) = Unit {0}
-IsBehind (stage.Container at) = Unit {0}
-IsBehind (stage.Tag at) = Unit {0}
-IsBehind (stage.Length nests at) = Unit {0}
-IsBehind (stage.Object more) = Unit {0}
+abbrev pub IsAfter : At → Type 0
+IsAfter stage.FirstControl = ⊥
+IsAfter (stage.SecondControl high) = ⊥
+IsAfter (stage.FirstSize high low) = Unit {0}
+IsAfter (stage.LowSize high low) = Unit {0}
+IsAfter (stage.HighSize high low s) = Unit {0}
+IsAfter stage.Payload = Unit {0}
+IsAfter (stage.Head free digits) = Unit {0}
+IsAfter stage.Name = Unit {0}
+IsAfter (stage.Digit more before) = Unit {0}
+IsAfter (stage.Content digits more) = Unit {0}
+IsAfter (stage.Container at) = Unit {0}
+IsAfter (stage.Tag at) = Unit {0}
+IsAfter (stage.Length nests at) = Unit {0}
+IsAfter (stage.Object more) = Unit {0}
 
-has_both : (r : Reading) (at : At) (left : ℕ) (outer b : List ℕ) → IsBehind at → Where r at left outer b → HasBoth b
+has_both : (r : Reading) (at : At) (left : ℕ) (outer b : List ℕ) → IsAfter at → Where r at left outer b → HasBoth b
 has_both r stage.FirstControl left outer b p h = absurd p
 has_both r (stage.SecondControl high) left outer b p h = absurd p
 has_both r (stage.FirstSize high low) left outer b p h = (high, low, [], h.1)
@@ -52,7 +52,7 @@ has_both r (stage.Tag at) left outer b p h = of_level r outer b h.2.room h.2.par
 has_both r (stage.Length nests at) left outer b p h = of_level r outer b h.2.room h.2.part h.2.level
 has_both r (stage.Object more) left outer b p h = of_level r outer b h.2.room h.2.part h.2.level
 
-pub head_stays : (r : Reading) (at : At) (left x : ℕ) (outer b : List ℕ) → IsBehind at → Where r at left outer b → head_of b ≡ head_of (b ++ x ∷ [])
+pub head_stays : (r : Reading) (at : At) (left x : ℕ) (outer b : List ℕ) → IsAfter at → Where r at left outer b → head_of b ≡ head_of (b ++ x ∷ [])
 head_stays r at left x outer b p h =
     let both = has_both r at left outer b p h in
     subst (λ (s : List ℕ). head_of s ≡ head_of (s ++ x ∷ [])) (sym both.3) refl

@@ -5,7 +5,7 @@ use Rattle.std.proofs.lemmas.List.Folds.{list_any-append}
 use Rattle.std.proofs.lemmas.Grind.{flat_map-append}
 use Rattle.std.specs.Prelude.{nat_lt}
 use Rattle.zvt_apdu.specs.Message.{Message}
-use Rattle.zvt_spelling.specs.Reading.{Reading}
+use Rattle.zvt_grammar.specs.Reading.{Reading}
 use Rattle.zvt_apdu.specs.Grammar.{Spells}
 use Rattle.zvt_stream.proofs.Beginnings.{spelled_more_in, spelled_append_in}
 use Rattle.zvt_stream.specs.Answered.{Answered, bytes_of, any_sent}
@@ -64,8 +64,8 @@ heard_then {r = r} {step = step} {bytes = bytes} {rest = rest} {rest' = rest'} {
 }
 
 -- one message heard and answered
-pub heard_one : {S : Type 0} (r : Reading) (step : S → Message → Answered → S → Type 0) (front later : List ℕ) (old new : S) (m : Message) (x : Answered) → Spells r m front → step old m x new → Heard r step (front ++ later) old later new x.bytes (nat_lt 0 x.count)
-heard_one r step front later old new m x s h = record { messages = m ∷ []; answers = x ∷ []; spelled = (front, later, refl, s, refl); heard = (new, h, refl); answered = sym (append-nil x.bytes); sending = or_false (nat_lt 0 x.count) }
+pub heard_one : {S : Type 0} (r : Reading) (step : S → Message → Answered → S → Type 0) (prefix later : List ℕ) (old new : S) (m : Message) (x : Answered) → Spells r m prefix → step old m x new → Heard r step (prefix ++ later) old later new x.bytes (nat_lt 0 x.count)
+heard_one r step prefix later old new m x s h = record { messages = m ∷ []; answers = x ∷ []; spelled = (prefix, later, refl, s, refl); heard = (new, h, refl); answered = sym (append-nil x.bytes); sending = or_false (nat_lt 0 x.count) }
   where
     or_false : (b : Bool) → b ≡ (b || false)
     or_false true = refl

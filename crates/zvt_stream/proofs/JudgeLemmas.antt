@@ -3,21 +3,21 @@ use Rattle.std.proofs.Common.{◌≡◌, ◌≢◌, ℕ, ◌+◌, ◌-◌, ◌<�
 use Rattle.std.proofs.lemmas.Bool.{cases_lt}
 use Rattle.std.proofs.lemmas.List.{append-nil, reverse-append, length-take-le}
 use Rattle.std.proofs.Math.Seq.{take-append_seam, take-suc}
-use Rattle.zvt_spelling.specs.declared.why.Why.{Why}
-use Rattle.zvt_spelling.specs.Reading.{Reading}
-use Rattle.zvt_tlv.specs.declared.judging.TagAt.TheVariants.{First}
-use Rattle.zvt_tlv.proofs.Alive.{front_of}
+use Rattle.zvt_grammar.specs.declared.why.Why.{Why}
+use Rattle.zvt_grammar.specs.Reading.{Reading}
+use Rattle.zvt_tlv.specs.declared.judge.TagAt.TheVariants.{First}
+use Rattle.zvt_tlv.proofs.Alive.{prefix_of}
 use Rattle.zvt_apdu.specs.Grammar.{Spells}
 use Rattle.zvt_apdu.specs.Judging.{Position, fault}
 use Rattle.zvt_apdu.proofs.Fit.{fit}
 use Rattle.zvt_stream.specs.Apdus.{AliveIn, NoneWholeIn, UnfinishedIn, IsRefusedIn}
-use Rattle.zvt_stream.specs.declared.moves.At.{At}
-use Rattle.zvt_stream.specs.declared.moves.At.TheVariants as stage
-use Rattle.zvt_stream.specs.declared.judging.Goes.{Goes}
-use Rattle.zvt_stream.specs.declared.judging.Judged.{Judged}
-use Rattle.zvt_stream.specs.declared.judging.Judged.TheVariants.{Open, Ended}
-use Rattle.zvt_stream.specs.Standing.{IsFull, depth_of, Level, Between, Where, role_of}
-use Rattle.zvt_stream.specs.declared.moves.Move.{Move}
+use Rattle.zvt_stream.specs.declared.transitions.At.{At}
+use Rattle.zvt_stream.specs.declared.transitions.At.TheVariants as stage
+use Rattle.zvt_stream.specs.declared.judge.Goes.{Goes}
+use Rattle.zvt_stream.specs.declared.judge.Judged.{Judged}
+use Rattle.zvt_stream.specs.declared.judge.Judged.TheVariants.{Open, Ended}
+use Rattle.zvt_stream.specs.DecoderState.{IsFull, depth_of, Level, Between, Where, role_of}
+use Rattle.zvt_stream.specs.declared.transitions.Transition.{Transition}
 use Rattle.zvt_stream.specs.Moves.{IsReady, Moves}
 use Rattle.zvt_stream.specs.declared.head.Head.{Head}
 use Rattle.zvt_stream.specs.declared.head.Head.TheVariants.{One, Two}
@@ -25,7 +25,7 @@ use Rattle.zvt_stream.specs.Head.{head_of}
 use Rattle.zvt_stream.specs.Judge.{unfilled, beginning, IsJudge, IsMessageIn, JudgeState, Settles, StandsFor, Stepped, HasLevelsIn}
 use Rattle.zvt_stream.proofs.Beginnings.{nothing_in}
 use Rattle.zvt_stream.proofs.LevelLemmas.{filled_level}
-use Rattle.zvt_stream.proofs.Stood.{stood, position_none, full_message}
+use Rattle.zvt_stream.proofs.DecoderStateLemmas.{stood, position_none, full_message}
 
 -- the list of levels, innermost first
 pub pushed : (items : List ℕ) (k : ℕ) → reverse (items ++ k ∷ []) ≡ k ∷ reverse items
@@ -144,32 +144,32 @@ refuses r at left x outer b why lt u h e =
     last (y ∷ b) = last b
 
     none_whole : (AliveIn r (b ++ x ∷ []) → ⊥) → NoneWholeIn r (b ++ x ∷ [])
-    none_whole dead m front rest w s = by_size (cases_lt (length b) (length front))
+    none_whole dead m prefix rest w s = by_size (cases_lt (length b) (length prefix))
       where
         empty : (t : List ℕ) → length t ≡ 0 → t ≡ []
         empty [] e = refl
         empty (y ∷ t) e = absurd (omega (arith, e))
 
-        by_size : (length b < length front) ⊎ (length front ≤ length b) → ⊥
+        by_size : (length b < length prefix) ⊎ (length prefix ≤ length b) → ⊥
         by_size (inl longer) =
-            let none_left : rest ≡ [] = empty rest (omega (arith, longer, ap length w, length-append b (x ∷ []), length-append front rest)) in
-            let same : front ≡ b ++ x ∷ [] = sym (w ∙ ap (λ (t : List ℕ). front ++ t) none_left ∙ append-nil front) in
+            let none_left : rest ≡ [] = empty rest (omega (arith, longer, ap length w, length-append b (x ∷ []), length-append prefix rest)) in
+            let same : prefix ≡ b ++ x ∷ [] = sym (w ∙ ap (λ (t : List ℕ). prefix ++ t) none_left ∙ append-nil prefix) in
             dead (record { value = m; rest = []; spelled = subst (Spells r m) (same ∙ sym (append-nil (b ++ x ∷ []))) s })
         by_size (inr within) =
-            let t = front_of front rest b (x ∷ []) (sym w) within in
-            u.none_whole m front t.0 t.1 s
+            let t = prefix_of prefix rest b (x ∷ []) (sym w) within in
+            u.none_whole m prefix t.0 t.1 s
 
 -- what a step makes of a judge
 pub start_stands : (r : Reading) (items : List ℕ) (goes : Goes) → items ≡ [] → goes ≡ beginning → StandsFor (record { reading = r; at = goes.at; left = goes.left; outer = reverse items; head = goes.head }) []
 start_stands r items goes e g =
     let Stands : Goes → Type 0 = λ (k : Goes). StandsFor (record { reading = r; at = k.at; left = k.left; outer = reverse items; head = k.head }) [] in
-    subst Stands (sym g) (record { unfinished = nothing_in r; stands = (ap reverse e, refl); front = refl })
+    subst Stands (sym g) (record { unfinished = nothing_in r; stands = (ap reverse e, refl); prefix = refl })
 
 pub stepped : (r : Reading) (at : At) (left x : ℕ) (outer b now : List ℕ) (head : Head) (old new : Goes) (judged : Judged) → x < 256 → StandsFor (record { reading = r; at = at; left = left; outer = outer; head = head }) b → fault r (role_of at left (depth_of outer)) x ≡ None
     → Settles r old new now (b ++ x ∷ []) judged → old.head ≡ head_of (b ++ x ∷ []) → Stepped r b x (Ok judged) (record { reading = r; at = new.at; left = new.left; outer = now; head = new.head })
-stepped r at left x outer b now head old new Open lt s passed settles front =
-    (record { unfinished = unfinished r new.at new.left now (b ++ x ∷ []) (passes r at left x outer b lt s.unfinished.alive s.stands passed) settles.0; stands = settles.0; front = settles.1 ∙ front }, refl)
-stepped r at left x outer b now head old new Ended lt s passed settles front =
+stepped r at left x outer b now head old new Open lt s passed settles prefix =
+    (record { unfinished = unfinished r new.at new.left now (b ++ x ∷ []) (passes r at left x outer b lt s.unfinished.alive s.stands passed) settles.0; stands = settles.0; prefix = settles.1 ∙ prefix }, refl)
+stepped r at left x outer b now head old new Ended lt s passed settles prefix =
     (whole r (b ++ x ∷ []) (passes r at left x outer b lt s.unfinished.alive s.stands passed) settles.0, rw (settles.1, settles.2) refl)
 
 -- a judge behind an answer stands for some bytes
@@ -178,15 +178,15 @@ still_judge r b x Open new s = (b ++ x ∷ [], s.0)
 still_judge r b x Ended new s = subst IsJudge (sym s.1) ([], start_stands r [] beginning refl refl)
 
 -- what was judged of a judge, by what it is
-pub moved_in : (v now : JudgeState) (x : ℕ) (b : List ℕ) (moved : Result Move Why) → v ≡ now → Moves now.reading now.at now.left now.outer b x moved → Moves v.reading v.at v.left v.outer b x moved
+pub moved_in : (v now : JudgeState) (x : ℕ) (b : List ℕ) (moved : Result Transition Why) → v ≡ now → Moves now.reading now.at now.left now.outer b x moved → Moves v.reading v.at v.left v.outer b x moved
 moved_in v now x b moved same m = subst (λ (w : JudgeState). Moves w.reading w.at w.left w.outer b x moved) (sym same) m
 
 pub followed : (v now : JudgeState) (x : ℕ) (b outer : List ℕ) (old new : Goes) (judged : Judged) → v ≡ now → x < 256 → StandsFor now b → fault v.reading (role_of v.at v.left (depth_of v.outer)) x ≡ None
     → Settles v.reading old new outer (b ++ x ∷ []) judged → old.head ≡ head_of (b ++ x ∷ []) → Stepped now.reading b x (Ok judged) (record { reading = v.reading; at = new.at; left = new.left; outer = outer; head = new.head })
-followed v now x b outer old new judged same lt s passed settles front =
+followed v now x b outer old new judged same lt s passed settles prefix =
     let there : StandsFor v b = subst (λ (w : JudgeState). StandsFor w b) (sym same) s in
     let answer : JudgeState = record { reading = v.reading; at = new.at; left = new.left; outer = outer; head = new.head } in
-    subst (λ (w : JudgeState). Stepped w.reading b x (Ok judged) answer) same (stepped v.reading v.at v.left x v.outer b outer v.head old new judged lt there passed settles front)
+    subst (λ (w : JudgeState). Stepped w.reading b x (Ok judged) answer) same (stepped v.reading v.at v.left x v.outer b outer v.head old new judged lt there passed settles prefix)
 
 -- behind the first control byte, and behind the second
 pub first_control : (v now : JudgeState) (x : ℕ) (b : List ℕ) (goes : Goes) → v ≡ now → v.at ≡ stage.FirstControl → goes ≡ record { at = stage.SecondControl x; left = v.left; head = One x } → x < 256 → StandsFor now b

@@ -1,12 +1,12 @@
 -- What a run of the judge over a piece says of the stream.
 use Rattle.std.proofs.Common.{◌≡◌, ℕ, suc, Bool, ◌+◌, ◌≤◌, List, [], ◌++◌, length, take, refl, sym, subst, arith, length-append}
 use Rattle.std.proofs.lemmas.List.{length-take-le}
-use Rattle.zvt_spelling.specs.declared.why.Why.{Why}
-use Rattle.zvt_spelling.specs.Reading.{Reading}
+use Rattle.zvt_grammar.specs.declared.why.Why.{Why}
+use Rattle.zvt_grammar.specs.Reading.{Reading}
 use Rattle.zvt_stream.specs.Apdus.{AliveIn, UnfinishedIn, IsRefusedIn}
 use Rattle.zvt_stream.specs.StreamState.{IsSound}
 use Rattle.zvt_stream.specs.Judge.{JudgeState, beginning, start, StandsFor, Ran}
-use Rattle.zvt_stream.specs.declared.judging.Run.TheVariants.{Refused}
+use Rattle.zvt_stream.specs.declared.judge.DecodeRun.TheVariants.{Refused}
 use Rattle.zvt_stream.proofs.Beginnings.{bounds_in}
 use Rattle.zvt_stream.proofs.FeedLemmas.{sound_empty, fed_refused}
 use Rattle.zvt_stream.proofs.JudgeLemmas.{start_stands}

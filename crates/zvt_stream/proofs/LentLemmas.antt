@@ -2,22 +2,22 @@
 use Rattle.std.proofs.Common.{◌≡◌, ℕ, ◌+◌, ◌≤◌, min, Bool, true, false, Option, Some, None, IfSome, List, [], ◌++◌, length, take, sym, ◌∙◌, ap, subst, refl, arith}
 use Rattle.std.proofs.Math.Logic.{∥∥₁_elim}
 use Rattle.std.specs.Coded.{Coded-set}
-use Rattle.zvt_spelling.specs.Reading.{Reading, shortest, padded}
+use Rattle.zvt_grammar.specs.Reading.{Reading, shortest, padded}
 use Rattle.zvt_apdu.specs.Message.{Message}
 use Rattle.zvt_apdu.specs.MessageCode.{message_code}
 use Rattle.zvt_apdu.specs.Grammar.{Spells}
 use Rattle.zvt_apdu.specs.Views.{MessageBytes}
 use Rattle.zvt_apdu.proofs.ViewLemmas.{message_loosened, same_message}
-use Rattle.zvt_spelling.specs.declared.why.Why.{Why}
+use Rattle.zvt_grammar.specs.declared.why.Why.{Why}
 use Rattle.zvt_stream.specs.Apdus.{UnfinishedIn}
 use Rattle.zvt_stream.specs.Feeds.{Feeds, Lends}
 use Rattle.zvt_stream.specs.Judge.{JudgeState, IsMessageIn, Ran, StandsFor, start}
 use Rattle.zvt_stream.specs.Lending.{LentBytes, lent_of, held_of}
 use Rattle.zvt_stream.specs.StreamState.{StreamState, IsSound, Keeps}
-use Rattle.zvt_stream.specs.declared.feeding.Fed.TheVariants as fed
-use Rattle.zvt_stream.specs.declared.feeding.FedView.TheVariants as view
-use Rattle.zvt_stream.specs.declared.judging.Run.{Run}
-use Rattle.zvt_stream.specs.declared.judging.Run.TheVariants as run
+use Rattle.zvt_stream.specs.declared.stream.Fed.TheVariants as fed
+use Rattle.zvt_stream.specs.declared.stream.FedView.TheVariants as view
+use Rattle.zvt_stream.specs.declared.judge.DecodeRun.{DecodeRun}
+use Rattle.zvt_stream.specs.declared.judge.DecodeRun.TheVariants as run
 use Rattle.zvt_stream.proofs.JudgedFeeds.{fresh, ran_out}
 
 -- what a reading spells the padded one spells
@@ -30,17 +30,17 @@ pub message_bytes : (r : Reading) (bytes : List ℕ) → IsMessageIn r bytes →
 message_bytes r bytes m = (m.0, ∣ loosened r m.0 bytes m.1 ∣₁)
 
 -- a view of the bytes that are lent shows the message that is
-pub lent_is : (lends : Bool) (bytes d : List ℕ) (s : LentBytes lends bytes) (r : Message) → lends ≡ true → d ≡ bytes → ((m : Message) → Spells padded m d → r ≡ m) → Some r ≡ lent_of lends bytes s
+pub lent_is : (has_message : Bool) (bytes d : List ℕ) (s : LentBytes has_message bytes) (r : Message) → has_message ≡ true → d ≡ bytes → ((m : Message) → Spells padded m d → r ≡ m) → Some r ≡ lent_of has_message bytes s
 lent_is true bytes d s r is e x =
     ap Some (∥∥₁_elim (s refl).1 (Coded-set message_code _ _) (λ p. x (s refl).0 (subst (Spells padded (s refl).0) (sym e) p)))
 lent_is false bytes d s r is e x = absurd (cc (is))
 
-pub none_lent : (lends : Bool) (bytes : List ℕ) (s : LentBytes lends bytes) → lends ≡ false → None ≡ lent_of lends bytes s
+pub none_lent : (has_message : Bool) (bytes : List ℕ) (s : LentBytes has_message bytes) → has_message ≡ false → None ≡ lent_of has_message bytes s
 none_lent false bytes s is = refl
 none_lent true bytes s is = absurd (cc (is))
 
 -- the bytes that are lent are a spelling of the message that is
-pub lent_spells : (r : Reading) (lends : Bool) (bytes : List ℕ) (s : LentBytes lends bytes) → (lends ≡ true → IsMessageIn r bytes) → (m : Message) → lent_of lends bytes s ≡ Some m → Spells r m bytes
+pub lent_spells : (r : Reading) (has_message : Bool) (bytes : List ℕ) (s : LentBytes has_message bytes) → (has_message ≡ true → IsMessageIn r bytes) → (m : Message) → lent_of has_message bytes s ≡ Some m → Spells r m bytes
 lent_spells r true bytes s whole m is =
     let w : IsMessageIn r bytes = whole refl in
     let same : (s refl).0 ≡ w.0 = same_message w.0 bytes ∣ loosened r w.0 bytes w.1 ∣₁ (s refl) in
@@ -50,21 +50,21 @@ lent_spells r true bytes s whole m is =
     some_is e = cc (e)
 lent_spells r false bytes s whole m is = absurd (cc (is))
 
-pub some_spelled : (r : Reading) (lends : Bool) (bytes : List ℕ) (s : LentBytes lends bytes) → (lends ≡ true → IsMessageIn r bytes) → IfSome (lent_of lends bytes s) (λ m. Spells r m bytes × (true ≡ true))
+pub some_spelled : (r : Reading) (has_message : Bool) (bytes : List ℕ) (s : LentBytes has_message bytes) → (has_message ≡ true → IsMessageIn r bytes) → IfSome (lent_of has_message bytes s) (λ m. Spells r m bytes × (true ≡ true))
 some_spelled r true bytes s whole = (lent_spells r true bytes s whole (s refl).0 refl, refl)
 some_spelled r false bytes s whole = tt
 
 -- A stream that lends nothing holds all its bytes.
-pub record Idle (lends : Bool) (bytes : List ℕ) (judge : JudgeState) (old : StreamState) : Type 0 where
-  pub idle : lends ≡ false
+pub record Idle (has_message : Bool) (bytes : List ℕ) (judge : JudgeState) (old : StreamState) : Type 0 where
+  pub idle : has_message ≡ false
   pub is_held : bytes ≡ old.held
   pub unfinished : UnfinishedIn old.reading bytes
   pub stands : StandsFor judge bytes
   pub alike : judge.reading ≡ old.reading
 
-pub idle : (lends stopped : Bool) (bytes : List ℕ) (s : LentBytes lends bytes) (room judged : ℕ) (judge : JudgeState) (old now : StreamState)
-    → (let state : StreamState = record { held = held_of lends bytes; stopped = stopped; lent = lent_of lends bytes s; room = room; judged = judged; reading = judge.reading } in state) ≡ now → Keeps old now
-    → IsSound judge.reading (held_of lends bytes) stopped × StandsFor judge (held_of lends bytes) × (lends ≡ true → IsMessageIn judge.reading bytes) → Idle lends bytes judge old
+pub idle : (has_message stopped : Bool) (bytes : List ℕ) (s : LentBytes has_message bytes) (room judged : ℕ) (judge : JudgeState) (old now : StreamState)
+    → (let state : StreamState = record { held = held_of has_message bytes; stopped = stopped; lent = lent_of has_message bytes s; room = room; judged = judged; reading = judge.reading } in state) ≡ now → Keeps old now
+    → IsSound judge.reading (held_of has_message bytes) stopped × StandsFor judge (held_of has_message bytes) × (has_message ≡ true → IsMessageIn judge.reading bytes) → Idle has_message bytes judge old
 idle false stopped bytes s room judged judge old now is keeps sound =
     let alike : judge.reading ≡ old.reading = ap (λ (t : StreamState). t.reading) is ∙ keeps.3 in
     record { idle = refl; is_held = ap (λ (t : StreamState). t.held) is ∙ keeps.0; unfinished = subst (λ (r : Reading). UnfinishedIn r bytes) alike sound.0.unfinished; stands = sound.1; alike = alike }
@@ -74,16 +74,16 @@ idle true stopped bytes s room judged judge old now is keeps sound = absurd (som
     some_is_none e = cc
 
 -- what a run of a judge says, of a reading that is the judge's
-pub ran_in : (r : Reading) (judge : JudgeState) (bytes piece : List ℕ) (q : Run) (new : JudgeState) → judge.reading ≡ r → Ran judge.reading bytes piece q new → Ran r bytes piece q new
+pub ran_in : (r : Reading) (judge : JudgeState) (bytes piece : List ℕ) (q : DecodeRun) (new : JudgeState) → judge.reading ≡ r → Ran judge.reading bytes piece q new → Ran r bytes piece q new
 ran_in r judge bytes piece q new e = subst (λ (k : Reading). Ran k bytes piece q new) e
 
 -- a stream that holds nothing, with a new judge
-pub emptied : (r : Reading) (lends stopped : Bool) (bytes : List ℕ) (judge : JudgeState) → lends ≡ false → judge ≡ start r → bytes ≡ [] → IsSound judge.reading (held_of lends bytes) stopped × StandsFor judge (held_of lends bytes) × (lends ≡ true → IsMessageIn judge.reading bytes)
+pub emptied : (r : Reading) (has_message stopped : Bool) (bytes : List ℕ) (judge : JudgeState) → has_message ≡ false → judge ≡ start r → bytes ≡ [] → IsSound judge.reading (held_of has_message bytes) stopped × StandsFor judge (held_of has_message bytes) × (has_message ≡ true → IsMessageIn judge.reading bytes)
 emptied r false stopped bytes judge is e f = let new = fresh r judge bytes stopped e f in (new.0, new.1, λ lent. absurd cc)
 emptied r true stopped bytes judge is e f = absurd (cc (is))
 
 -- a stream that holds more
-pub grown : (lends stopped : Bool) (bytes : List ℕ) (judge : JudgeState) → lends ≡ false → stopped ≡ false → StandsFor judge bytes → IsSound judge.reading (held_of lends bytes) stopped × StandsFor judge (held_of lends bytes) × (lends ≡ true → IsMessageIn judge.reading bytes)
+pub grown : (has_message stopped : Bool) (bytes : List ℕ) (judge : JudgeState) → has_message ≡ false → stopped ≡ false → StandsFor judge bytes → IsSound judge.reading (held_of has_message bytes) stopped × StandsFor judge (held_of has_message bytes) × (has_message ≡ true → IsMessageIn judge.reading bytes)
 grown false stopped bytes judge is runs s = (record { unfinished = s.unfinished; none_held = λ e. absurd (true_is_false (sym e ∙ runs)) }, s, λ lent. absurd cc)
   where
     true_is_false : true ≡ false → ⊥
@@ -97,18 +97,18 @@ lending r stopped bytes judge runs e whole =
     (new.0, new.1, λ lent. subst (λ (k : Reading). IsMessageIn k bytes) (sym (ap (λ (j : JudgeState). j.reading) e)) whole)
 
 -- what a feed gives where no message ended
-pub feeds_more : (lends stopped : Bool) (bytes piece after : List ℕ) (lent : Option Message) (room judged : ℕ) (judge new : JudgeState) (old : StreamState)
-    → Idle lends bytes judge old → StandsFor new (bytes ++ piece) × (new.reading ≡ old.reading) → after ≡ bytes ++ piece → stopped ≡ false
-    → Feeds old piece fed.More (let state : StreamState = record { held = held_of lends after; stopped = stopped; lent = lent; room = room; judged = judged; reading = new.reading } in state)
+pub feeds_more : (has_message stopped : Bool) (bytes piece after : List ℕ) (lent : Option Message) (room judged : ℕ) (judge new : JudgeState) (old : StreamState)
+    → Idle has_message bytes judge old → StandsFor new (bytes ++ piece) × (new.reading ≡ old.reading) → after ≡ bytes ++ piece → stopped ≡ false
+    → Feeds old piece fed.More (let state : StreamState = record { held = held_of has_message after; stopped = stopped; lent = lent; room = room; judged = judged; reading = new.reading } in state)
 feeds_more false stopped bytes piece after lent room judged judge new old i s is runs =
     let same : bytes ++ piece ≡ old.held ++ piece = ap (λ (b : List ℕ). b ++ piece) i.is_held in
     (subst (UnfinishedIn old.reading) same (subst (λ (r : Reading). UnfinishedIn r (bytes ++ piece)) s.1 s.0.unfinished), (is ∙ same, runs), s.1)
 feeds_more true stopped bytes piece after lent room judged judge new old i s is runs = absurd (cc (i.idle))
 
 -- and where bytes were refused
-pub feeds_refused : (lends : Bool) (bytes piece after : List ℕ) (lent : Option Message) (room judged at place : ℕ) (why : Why) (judge new : JudgeState) (old : StreamState)
-    → Idle lends bytes judge old → Ran old.reading bytes piece (run.Refused at why) new → place ≡ length bytes + at → after ≡ []
-    → Feeds old piece (fed.Refused place why) (let state : StreamState = record { held = held_of lends after; stopped = true; lent = lent; room = room; judged = judged; reading = new.reading } in state)
+pub feeds_refused : (has_message : Bool) (bytes piece after : List ℕ) (lent : Option Message) (room judged at place : ℕ) (why : Why) (judge new : JudgeState) (old : StreamState)
+    → Idle has_message bytes judge old → Ran old.reading bytes piece (run.Refused at why) new → place ≡ length bytes + at → after ≡ []
+    → Feeds old piece (fed.Refused place why) (let state : StreamState = record { held = held_of has_message after; stopped = true; lent = lent; room = room; judged = judged; reading = new.reading } in state)
 feeds_refused false bytes piece after lent room judged at place why judge new old i ran is none =
     let out = ran_out old.reading new bytes piece at why i.unfinished ran in
     let alike : new.reading ≡ old.reading = ap (λ (j : JudgeState). j.reading) ran.2 in
@@ -116,10 +116,10 @@ feeds_refused false bytes piece after lent room judged at place why judge new ol
 feeds_refused true bytes piece after lent room judged at place why judge new old i ran is none = absurd (cc (i.idle))
 
 -- and where a message ended, which is lent
-pub lends_message : (stopped : Bool) (bytes piece after : List ℕ) (s : LentBytes true after) (room judged taken : ℕ) (judge new : JudgeState) (lends : Bool) (old : StreamState)
-    → Idle lends bytes judge old → Ran old.reading bytes piece (run.Ended taken) new → after ≡ bytes ++ take taken piece → stopped ≡ false
+pub lends_message : (stopped : Bool) (bytes piece after : List ℕ) (s : LentBytes true after) (room judged taken : ℕ) (judge new : JudgeState) (has_message : Bool) (old : StreamState)
+    → Idle has_message bytes judge old → Ran old.reading bytes piece (run.Ended taken) new → after ≡ bytes ++ take taken piece → stopped ≡ false
     → Lends old piece (view.Message taken) (let state : StreamState = record { held = []; stopped = stopped; lent = lent_of true after s; room = room; judged = judged; reading = new.reading } in state)
-lends_message stopped bytes piece after s room judged taken judge new lends old i ran is runs =
+lends_message stopped bytes piece after s room judged taken judge new has_message old i ran is runs =
     let r = old.reading in
     let whole : IsMessageIn r after = subst (IsMessageIn r) (sym is) ran.2 in
     let spells : Spells r whole.0 (old.held ++ take taken piece) = subst (Spells r whole.0) (is ∙ ap (λ (b : List ℕ). b ++ take taken piece) i.is_held) whole.1 in
@@ -127,7 +127,7 @@ lends_message stopped bytes piece after s room judged taken judge new lends old 
 
 -- a feed whose message is the one that is shown
 pub feeds_shown : (old new : StreamState) (piece : List ℕ) (taken : ℕ) (shown : Option Message) (apdu : Message) → Lends old piece (view.Message taken) new → shown ≡ new.lent → shown ≡ Some apdu → Feeds old piece (fed.Message apdu taken) new
-feeds_shown old new piece taken shown apdu lends is found = subst (λ (m : Message). Feeds old piece (fed.Message m taken) new) (some_is (sym lends.2 ∙ sym is ∙ found)) lends.1
+feeds_shown old new piece taken shown apdu has_message is found = subst (λ (m : Message). Feeds old piece (fed.Message m taken) new) (some_is (sym has_message.2 ∙ sym is ∙ found)) has_message.1
   where
     some_is : {a b : Message} → Some a ≡ Some b → a ≡ b
     some_is e = cc (e)

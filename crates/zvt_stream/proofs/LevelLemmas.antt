@@ -1,13 +1,13 @@
 -- Levels with one more byte, items that end, and levels that are filled.
 use Rattle.std.proofs.Common.{◌≡◌, ℕ, true, false, List, [], ◌∷◌, ◌++◌, length, refl, sym, ◌∙◌, ap, subst, append_assoc, arith, length-append, suc}
 use Rattle.std.proofs.lemmas.List.{append-nil}
-use Rattle.zvt_spelling.specs.Reading.{Reading, AreBytes}
+use Rattle.zvt_grammar.specs.Reading.{Reading, AreBytes}
 use Rattle.zvt_tlv.specs.Grammar.{Objects, none, primitive, constructed, IsLength, Spells}
 use Rattle.zvt_tlv.specs.Judging.{Tagged}
 use Rattle.zvt_tlv.proofs.Spelling.{joined, spells_joined}
 use Rattle.zvt_field.specs.Grammar.{Field, tree, FieldOf}
 use Rattle.zvt_field.proofs.FieldLists.{list_joined}
-use Rattle.zvt_stream.specs.Standing.{Begun, Fields, depth_of, Level, AtField, AtObject, IsEmpty, Between}
+use Rattle.zvt_stream.specs.DecoderState.{Begun, Fields, depth_of, Level, AtField, AtObject, IsEmpty, Between}
 
 abbrev pub begun_more : (r : Reading) (n : ℕ) (inside b : List ℕ) (x : ℕ) → Begun r n inside b → Begun r n (inside ++ x ∷ []) (b ++ x ∷ [])
 begun_more r n inside b x h = record {
@@ -64,7 +64,7 @@ level_more r b (k ∷ j ∷ i ∷ ks) room inside x h = record {
   done = h.done;
   tag = h.tag;
   size = h.size;
-  whole = ap (λ (s : List ℕ). s ++ x ∷ []) h.whole ∙ behind h.done h.tag h.size inside;
+  whole = ap (λ (s : List ℕ). s ++ x ∷ []) h.whole ∙ trailing h.done h.tag h.size inside;
   spelled = h.spelled;
   tagged = h.tagged;
   is_length = h.is_length;
@@ -72,8 +72,8 @@ level_more r b (k ∷ j ∷ i ∷ ks) room inside x h = record {
   apart = h.apart;
 }
   where
-    behind : (done tag size inside : List ℕ) → (done ++ (tag ++ (size ++ inside))) ++ x ∷ [] ≡ done ++ (tag ++ (size ++ (inside ++ x ∷ [])))
-    behind done tag size inside = simp append_assoc
+    trailing : (done tag size inside : List ℕ) → (done ++ (tag ++ (size ++ inside))) ++ x ∷ [] ≡ done ++ (tag ++ (size ++ (inside ++ x ∷ [])))
+    trailing done tag size inside = simp append_assoc
 
 -- one more byte of the item
 pub field_more : (r : Reading) (left less : ℕ) (b : List ℕ) (x : ℕ) (P Q : List ℕ → Type 0) → AtField r left b P → ((s : List ℕ) → P s → Q (s ++ x ∷ [])) → left ≡ suc less → AtField r less (b ++ x ∷ []) Q

@@ -2,7 +2,7 @@ pub mod Beginnings
 pub mod FeedLemmas
 pub mod LentLemmas
 pub mod HearingLemmas
-pub mod Going
+pub mod LineRunLemmas
 pub mod TurnLemmas
 pub mod CuttingLemmas
 pub mod LevelLemmas
@@ -11,7 +11,7 @@ pub mod TlvMoves
 pub mod TreeMoves
 pub mod FieldMoves
 pub mod FrameMoves
-pub mod Stood
+pub mod DecoderStateLemmas
 pub mod HeadLemmas
 pub mod JudgeLemmas
 pub mod WholeLemmas

@@ -1,16 +1,16 @@
 -- A run of the judge over a piece: the byte behind those that were judged.
 use Rattle.std.proofs.Common.{◌≡◌, ℕ, ◌+◌, ◌<◌, suc, List, [], ◌∷◌, ◌++◌, length, take, get_or, sym, ◌∙◌, ap, subst, append_assoc, arith}
 use Rattle.std.proofs.Math.Seq.{take-suc}
-use Rattle.zvt_spelling.specs.Reading.{Reading}
+use Rattle.zvt_grammar.specs.Reading.{Reading}
 use Rattle.zvt_stream.specs.Judge.{JudgeState, StandsFor, IsMessageIn}
 
-byte_behind : (held bytes : List ℕ) (k : ℕ) → k < length bytes → (held ++ take k bytes) ++ get_or bytes k 0 ∷ [] ≡ held ++ take (k + 1) bytes
-byte_behind held bytes k lt =
+byte_after : (held bytes : List ℕ) (k : ℕ) → k < length bytes → (held ++ take k bytes) ++ get_or bytes k 0 ∷ [] ≡ held ++ take (k + 1) bytes
+byte_after held bytes k lt =
     let one : suc k ≡ k + 1 = omega arith in
     append_assoc held (take k bytes) (get_or bytes k 0 ∷ []) ∙ ap (λ (t : List ℕ). held ++ t) (sym (take-suc bytes k 0 lt) ∙ ap (λ (n : ℕ). take n bytes) one)
 
-pub stands_behind : (judge : JudgeState) (held bytes : List ℕ) (k : ℕ) → k < length bytes → StandsFor judge ((held ++ take k bytes) ++ get_or bytes k 0 ∷ []) → StandsFor judge (held ++ take (k + 1) bytes)
-stands_behind judge held bytes k lt s = subst (StandsFor judge) (byte_behind held bytes k lt) s
+pub stands_after : (judge : JudgeState) (held bytes : List ℕ) (k : ℕ) → k < length bytes → StandsFor judge ((held ++ take k bytes) ++ get_or bytes k 0 ∷ []) → StandsFor judge (held ++ take (k + 1) bytes)
+stands_after judge held bytes k lt s = subst (StandsFor judge) (byte_after held bytes k lt) s
 
-pub ends_behind : (r : Reading) (held bytes : List ℕ) (k : ℕ) → k < length bytes → IsMessageIn r ((held ++ take k bytes) ++ get_or bytes k 0 ∷ []) → IsMessageIn r (held ++ take (k + 1) bytes)
-ends_behind r held bytes k lt s = subst (IsMessageIn r) (byte_behind held bytes k lt) s
+pub ends_after : (r : Reading) (held bytes : List ℕ) (k : ℕ) → k < length bytes → IsMessageIn r ((held ++ take k bytes) ++ get_or bytes k 0 ∷ []) → IsMessageIn r (held ++ take (k + 1) bytes)
+ends_after r held bytes k lt s = subst (IsMessageIn r) (byte_after held bytes k lt) s

@@ -1,13 +1,13 @@
 -- One more byte of a tag or of a length.
 use Rattle.std.proofs.Common.{◌≡◌, ◌≢◌, ℕ, ◌+◌, ◌*◌, ◌-◌, ◌<◌, ◌≤◌, ◌==◌, ◌&&◌, not, nat_le, nat_lt, cond, Bool, true, false, Option, Some, None, List, [], ◌∷◌, ◌++◌, refl, sym, ◌∙◌, ap, subst, append_assoc, arith, ◌⊎◌, inl, inr}
 use Rattle.std.proofs.lemmas.Bool.{leb-true, leb-false, ltb-true, ltb-false, eqb-true, eqb-false, cond-true, cond-false, and_parts, or_cases, not-true, false≢true}
-use Rattle.zvt_spelling.specs.declared.why.Why.{Why}
-use Rattle.zvt_spelling.specs.declared.why.Why.TheVariants.{NotShortest, DoesNotFit, LengthForm, TooDeep, TagTooLong}
-use Rattle.zvt_spelling.specs.Reading.{Reading, shortest, padded, least}
-use Rattle.zvt_spelling.specs.Tests.{check, fits}
+use Rattle.zvt_grammar.specs.declared.why.Why.{Why}
+use Rattle.zvt_grammar.specs.declared.why.Why.TheVariants.{NotShortest, DoesNotFit, LengthForm, TooDeep, TagTooLong}
+use Rattle.zvt_grammar.specs.Reading.{Reading, shortest, padded, least}
+use Rattle.zvt_grammar.specs.Tests.{check, fits}
 use Rattle.zvt_tlv.specs.Grammar.{IsLength, holds_objects, continues}
 use Rattle.zvt_tlv.specs.Judging.{Role, first_tag, second_tag, third_tag, first_length, after_81, high_length, low_length, in_content, Tagged, Begins, byte, content, wrong, next, fault, content_fits, avoids, long_form}
-use Rattle.zvt_tlv.proofs.Follows.{least_both}
+use Rattle.zvt_tlv.proofs.NextByteLemmas.{least_both}
 
 pub cond_cases : {A : Type 0} (b : Bool) (x y z : A) → cond b x y ≡ z → ((b ≡ true) × (x ≡ z)) ⊎ ((b ≡ false) × (y ≡ z))
 cond_cases true x y z e = inl (refl, e)

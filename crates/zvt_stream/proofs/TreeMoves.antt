@@ -2,21 +2,21 @@
 use Rattle.std.proofs.Common.{◌≡◌, ◌≢◌, ℕ, ◌-◌, ◌<◌, ◌≤◌, nat_le, Bool, true, false, Some, None, Ok, List, [], ◌∷◌, ◌++◌, length, refl, sym, ◌∙◌, ap, subst, arith, length-append, ◌⊎◌, inl, inr}
 use Rattle.std.proofs.lemmas.Bool.{false≢true}
 use Rattle.std.proofs.lemmas.List.{append-nil}
-use Rattle.zvt_spelling.specs.declared.why.Why.TheVariants.{NotShortest}
-use Rattle.zvt_spelling.specs.Reading.{Reading, least}
+use Rattle.zvt_grammar.specs.declared.why.Why.TheVariants.{NotShortest}
+use Rattle.zvt_grammar.specs.Reading.{Reading, least}
 use Rattle.zvt_tlv.specs.Grammar.{Objects, none, primitive, IsLength, Spells}
 use Rattle.zvt_tlv.specs.Judging.{Role, first_length, byte, content, wrong, next, fault}
 use Rattle.zvt_tlv.specs.Answers.{role_of_tag, role_of_length}
-use Rattle.zvt_tlv.specs.declared.judging.TagAt.{TagAt}
-use Rattle.zvt_tlv.specs.declared.judging.TagAt.TheVariants as tag_at
-use Rattle.zvt_tlv.specs.declared.judging.LengthAt.{LengthAt}
-use Rattle.zvt_tlv.specs.declared.judging.LengthAt.TheVariants as length_at
-use Rattle.zvt_tlv.proofs.Spelling.{tag_front}
+use Rattle.zvt_tlv.specs.declared.judge.TagAt.{TagAt}
+use Rattle.zvt_tlv.specs.declared.judge.TagAt.TheVariants as tag_at
+use Rattle.zvt_tlv.specs.declared.judge.LengthAt.{LengthAt}
+use Rattle.zvt_tlv.specs.declared.judge.LengthAt.TheVariants as length_at
+use Rattle.zvt_tlv.proofs.Spelling.{tag_prefix}
 use Rattle.zvt_field.specs.declared.shapes.Shape.TheVariants.{Tree}
 use Rattle.zvt_field.specs.Shapes.{shape_of}
-use Rattle.zvt_stream.specs.declared.moves.At.TheVariants as stage
-use Rattle.zvt_stream.specs.declared.moves.Move.TheVariants.{Within, Ends, Opens}
-use Rattle.zvt_stream.specs.Standing.{depth_of, HoldsObjects, AtField, AtObject, ContainerLength, ObjectContent, Between}
+use Rattle.zvt_stream.specs.declared.transitions.At.TheVariants as stage
+use Rattle.zvt_stream.specs.declared.transitions.Transition.TheVariants.{Within, Ends, Opens}
+use Rattle.zvt_stream.specs.DecoderState.{depth_of, HoldsObjects, AtField, AtObject, ContainerLength, ObjectContent, Between}
 use Rattle.zvt_stream.specs.Moves.{Judges}
 use Rattle.zvt_stream.proofs.LevelLemmas.{field_more, object_more, object_done, bytes_object}
 use Rattle.zvt_stream.proofs.ContentMoves.{between_objects, one_less}
@@ -45,7 +45,7 @@ Whole r n s = (bmp : ℕ) × (size : List ℕ) × (s ≡ bmp ∷ size) × (shape
 container_opened : (r : Reading) (at : LengthAt) (n x : ℕ) → x < 256 → next r 0 (role_of_length true at) x ≡ content true n → (s : List ℕ) → ContainerLength r at s → Whole r n (s ++ x ∷ [])
 container_opened r at n x lt e s (bmp, size, w, tree, p) =
     let o = begins_opened r 0 (role_of_length true at) true n x (0x25 ∷ size) lt p e in
-    let one = tag_front (0x25 ∷ []) o.tag (size ++ x ∷ []) o.size (omega arith, refl) o.tagged.is_tag o.whole in
+    let one = tag_prefix (0x25 ∷ []) o.tag (size ++ x ∷ []) o.size (omega arith, refl) o.tagged.is_tag o.whole in
     (bmp, size ++ x ∷ [], ap (λ (s : List ℕ). s ++ x ∷ []) w, tree, subst (IsLength r n) (sym one.1) o.is_length)
 
 container_level : (r : Reading) (n left : ℕ) (b : List ℕ) → (f : Fitting true n left) → AtField r left b (Whole r n) → Between r n ((left - n) ∷ 0 ∷ []) b

@@ -7,7 +7,7 @@ use Rattle.zvt_stream.specs.StreamState.{StreamState}
 use Rattle.zvt_stream.specs.declared.line.LineFault.{LineFault}
 use Rattle.zvt_stream.specs.declared.line.LineFault.TheVariants as faults
 use Rattle.zvt_stream.specs.Answered.{Answered}
-use Rattle.zvt_stream.specs.Course.{Course, Pumped, there_at_once, reached}
+use Rattle.zvt_stream.specs.LineRun.{Course, Pumped, there_at_once, reached}
 use Rattle.zvt_stream.specs.declared.line.Until.{Until}
 use Rattle.zvt_stream.specs.declared.line.Until.TheVariants.{Rest, Sent}
 use Rattle.zvt_stream.specs.Turns.{LineState, Turned, Waited, Broke, Falters}

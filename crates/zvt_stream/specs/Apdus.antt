@@ -1,9 +1,9 @@
 -- What all grammars share, said of messages: of a reading of lengths, and of their one spelling.
 use Rattle.std.specs.Prelude.{ℕ, List}
-use Rattle.zvt_spelling.specs.declared.why.Why.{Why}
-use Rattle.zvt_spelling.specs.Reading.{Reading, shortest}
-use Rattle.zvt_spelling.specs.Beginnings as beginnings
-use Rattle.zvt_spelling.specs.Cuts as cuts
+use Rattle.zvt_grammar.specs.declared.why.Why.{Why}
+use Rattle.zvt_grammar.specs.Reading.{Reading, shortest}
+use Rattle.zvt_grammar.specs.Beginnings as beginnings
+use Rattle.zvt_grammar.specs.Cuts as cuts
 use Rattle.zvt_apdu.specs.Message.{Message}
 use Rattle.zvt_apdu.specs.Grammar as grammar
 use Rattle.zvt_apdu.specs.Judging.{WhyOf}

@@ -3,10 +3,10 @@ use Rattle.std.specs.Prelude.{◌≡◌, ℕ, List, [], ◌∷◌, ◌++◌, dro
 use Rattle.std.specs.List.{concat}
 use Rattle.zvt_apdu.specs.Message.{Message}
 use Rattle.zvt_stream.specs.Apdus.{CutIn, IsRefusedIn}
-use Rattle.zvt_spelling.specs.declared.why.Why.{Why}
+use Rattle.zvt_grammar.specs.declared.why.Why.{Why}
 use Rattle.zvt_stream.specs.StreamState.{StreamState, Holds}
 use Rattle.zvt_stream.specs.Feeds.{Feeds}
-use Rattle.zvt_stream.specs.declared.feeding.Fed.TheVariants as fed
+use Rattle.zvt_stream.specs.declared.stream.Fed.TheVariants as fed
 
 -- A piece is fed, and after each message what follows it, until all of it is taken.
 abbrev pub FedWhole : StreamState → List ℕ → List Message → StreamState → Type 0

@@ -4,10 +4,10 @@ use Rattle.zvt_apdu.specs.Message as message
 use Rattle.zvt_apdu.specs.Grammar.{Spells}
 use Rattle.zvt_stream.specs.Apdus.{UnfinishedIn, IsRefusedIn}
 use Rattle.zvt_stream.specs.StreamState.{StreamState, Holds, HasRefused}
-use Rattle.zvt_stream.specs.declared.feeding.Fed.{Fed}
-use Rattle.zvt_stream.specs.declared.feeding.Fed.TheVariants.{Message, More, Refused}
-use Rattle.zvt_stream.specs.declared.feeding.FedView.{FedView}
-use Rattle.zvt_stream.specs.declared.feeding.FedView.TheVariants as view
+use Rattle.zvt_stream.specs.declared.stream.Fed.{Fed}
+use Rattle.zvt_stream.specs.declared.stream.Fed.TheVariants.{Message, More, Refused}
+use Rattle.zvt_stream.specs.declared.stream.FedView.{FedView}
+use Rattle.zvt_stream.specs.declared.stream.FedView.TheVariants as view
 
 -- From old, the piece gives this answer and leads to new.
 abbrev pub Feeds : StreamState → List ℕ → Fed → StreamState → Type 0

@@ -1,6 +1,6 @@
 -- A machine hears messages, one after another, by its own step.
 use Rattle.std.specs.Prelude.{◌≡◌, ℕ, Bool, List, [], ◌∷◌}
-use Rattle.zvt_spelling.specs.Reading.{Reading}
+use Rattle.zvt_grammar.specs.Reading.{Reading}
 use Rattle.zvt_apdu.specs.Message.{Message}
 use Rattle.zvt_stream.specs.Apdus.{SpelledIn}
 use Rattle.zvt_stream.specs.Answered.{Answered, bytes_of, any_sent}

@@ -1,21 +1,21 @@
 -- The judge as its callers see it, and what it answers.
 use Rattle.std.specs.Prelude.{◌≡◌, ℕ, ◌+◌, ◌<◌, ◌≤◌, suc, zero, Option, Some, None, Result, Ok, Err, List, [], ◌∷◌, ◌++◌, length, take}
-use Rattle.zvt_spelling.specs.declared.why.Why.{Why}
-use Rattle.zvt_spelling.specs.Reading.{Reading, shortest}
+use Rattle.zvt_grammar.specs.declared.why.Why.{Why}
+use Rattle.zvt_grammar.specs.Reading.{Reading, shortest}
 use Rattle.zvt_apdu.specs.Message.{Message}
 use Rattle.zvt_apdu.specs.Grammar.{Spells}
 use Rattle.zvt_tlv.specs.Judging.{Opener}
 use Rattle.zvt_apdu.specs.Judging.{Role, first_control, second_control, first_size, low_size, high_size, free, digit, in_fields, Position}
 use Rattle.zvt_stream.specs.Apdus.{UnfinishedIn, IsRefusedIn}
-use Rattle.zvt_stream.specs.Standing.{Where, IsFull, depth_of, role_of}
-use Rattle.zvt_stream.specs.declared.moves.At.{At}
-use Rattle.zvt_stream.specs.declared.moves.At.TheVariants as at
-use Rattle.zvt_stream.specs.declared.judging.Judged.{Judged}
-use Rattle.zvt_stream.specs.declared.judging.Judged.TheVariants.{Open, Ended}
-use Rattle.zvt_stream.specs.declared.judging.Run.{Run}
-use Rattle.zvt_stream.specs.declared.judging.Run.TheVariants as run
-use Rattle.zvt_stream.specs.declared.judging.Goes.{Goes}
-use Rattle.zvt_stream.specs.declared.judging.Steps.{Steps}
+use Rattle.zvt_stream.specs.DecoderState.{Where, IsFull, depth_of, role_of}
+use Rattle.zvt_stream.specs.declared.transitions.At.{At}
+use Rattle.zvt_stream.specs.declared.transitions.At.TheVariants as at
+use Rattle.zvt_stream.specs.declared.judge.Judged.{Judged}
+use Rattle.zvt_stream.specs.declared.judge.Judged.TheVariants.{Open, Ended}
+use Rattle.zvt_stream.specs.declared.judge.DecodeRun.{DecodeRun}
+use Rattle.zvt_stream.specs.declared.judge.DecodeRun.TheVariants as run
+use Rattle.zvt_stream.specs.declared.judge.Goes.{Goes}
+use Rattle.zvt_stream.specs.declared.judge.Steps.{Steps}
 use Rattle.zvt_stream.specs.declared.head.Head.{Head}
 use Rattle.zvt_stream.specs.declared.head.Head.TheVariants.{Empty}
 use Rattle.zvt_stream.specs.Head.{head_of}
@@ -36,7 +36,7 @@ start r = record { reading = r; at = at.FirstControl; left = 1; outer = []; head
 pub record StandsFor (judge : JudgeState) (bytes : List ℕ) : Type 0 where
   pub unfinished : UnfinishedIn judge.reading bytes
   pub stands : Where judge.reading judge.at judge.left judge.outer bytes
-  pub front : judge.head ≡ head_of bytes
+  pub prefix : judge.head ≡ head_of bytes
 
 -- It stands for some bytes.
 abbrev pub IsJudge : JudgeState → Type 0
@@ -55,7 +55,7 @@ Stepped r bytes byte (Ok Ended) new = IsMessageIn r (bytes ++ byte ∷ []) × (n
 Stepped r bytes byte (Err why) new = IsRefusedIn r (bytes ++ byte ∷ []) (length bytes) why × (new ≡ start r)
 
 -- Behind these bytes more bytes give this answer.
-abbrev pub Ran : Reading → (bytes more : List ℕ) → Run → (new : JudgeState) → Type 0
+abbrev pub Ran : Reading → (bytes more : List ℕ) → DecodeRun → (new : JudgeState) → Type 0
 Ran r bytes more run.Open new = StandsFor new (bytes ++ more) × (new.reading ≡ r)
 Ran r bytes more (run.Ended taken) new = (0 < taken) × (taken ≤ length more) × IsMessageIn r (bytes ++ take taken more) × (new ≡ start r)
 Ran r bytes more (run.Refused at why) new = (at < length more) × IsRefusedIn r (bytes ++ take (suc at) more) (length bytes + at) why × (new ≡ start r)
@@ -65,7 +65,7 @@ abbrev pub judged_of : Steps → ℕ
 judged_of steps = steps.judged.count
 
 -- How many bytes that takes.
-abbrev pub taken_by : (more : List ℕ) → Run → ℕ
+abbrev pub taken_by : (more : List ℕ) → DecodeRun → ℕ
 taken_by more run.Open = length more
 taken_by more (run.Ended taken) = taken
 taken_by more (run.Refused at why) = suc at

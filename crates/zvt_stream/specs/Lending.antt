@@ -11,18 +11,18 @@ pub record HeldState : Type 0 where
   pub room : ℕ
 
 -- Where the bytes are lent they spell a message.
-abbrev pub LentBytes : (lends : Bool) → List ℕ → Type 0
-LentBytes lends bytes = lends ≡ true → MessageBytes bytes
+abbrev pub LentBytes : (has_message : Bool) → List ℕ → Type 0
+LentBytes has_message bytes = has_message ≡ true → MessageBytes bytes
 
-pub lent_once : (lends : Bool) (bytes : List ℕ) → (a b : LentBytes lends bytes) → a ≡ b
-lent_once lends bytes = Π_prop (λ _. message_once bytes)
+pub lent_once : (has_message : Bool) (bytes : List ℕ) → (a b : LentBytes has_message bytes) → a ≡ b
+lent_once has_message bytes = Π_prop (λ _. message_once bytes)
 
 -- The message that is lent.
-abbrev pub lent_of : (lends : Bool) → (bytes : List ℕ) → LentBytes lends bytes → Option Message
+abbrev pub lent_of : (has_message : Bool) → (bytes : List ℕ) → LentBytes has_message bytes → Option Message
 lent_of true bytes spelled = Some (spelled refl).0
 lent_of false bytes spelled = None
 
 -- What is held of an unfinished message: nothing where the bytes are lent.
-abbrev pub held_of : (lends : Bool) → List ℕ → List ℕ
+abbrev pub held_of : (has_message : Bool) → List ℕ → List ℕ
 held_of true bytes = []
 held_of false bytes = bytes

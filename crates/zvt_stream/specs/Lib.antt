@@ -6,9 +6,9 @@ pub mod Cutting
 pub mod Answered
 pub mod Hearing
 pub mod Replies
-pub mod Course
+pub mod LineRun
 pub mod Turns
-pub mod Standing
+pub mod DecoderState
 pub mod Moves
 pub mod Head
 pub mod Judge

@@ -1,7 +1,7 @@
 -- What became of one message.
 use Rattle.std.specs.Prelude.{◌≡◌, ℕ, Bool, List, [], Option, nat_lt}
 use Rattle.std.specs.Io.KnownBytes.{Appends}
-use Rattle.zvt_io.specs.Devices.{IsFront}
+use Rattle.zvt_io.specs.Devices.{IsPrefix}
 use Rattle.zvt_apdu.specs.Message.{Message}
 use Rattle.zvt_stream.specs.Answered.{Answered}
 use Rattle.zvt_stream.specs.declared.line.LineFault.{LineFault}
@@ -20,7 +20,7 @@ pub record Interrupted {S : Type 0} (step : S → Message → Answered → S →
   pub part : List ℕ
   pub heard : step old message answer new
   pub appended : Appends before after part
-  pub some_part : IsFront part answer.bytes
+  pub some_part : IsPrefix part answer.bytes
 
 -- The message was not heard, or its answers were not written.
 abbrev pub Unanswered : {S : Type 0} → (S → Message → Answered → S → Type 0) → LineFault → S → Message → S → Option (List ℕ) → Option (List ℕ) → Type 0

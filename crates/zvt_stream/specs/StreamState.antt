@@ -2,7 +2,7 @@
 use Rattle.std.specs.Prelude.{◌≡◌, ℕ, ◌≤◌, Bool, true, false, Option, None, List, []}
 use Rattle.std.proofs.Common.{refl, ap}
 use Rattle.std.specs.Coded.{Coded, code_by, coded×, coded_ℕ, coded_bool, coded_list, coded_option}
-use Rattle.zvt_spelling.specs.Reading.{Reading, shortest, padded, reading}
+use Rattle.zvt_grammar.specs.Reading.{Reading, shortest, padded, reading}
 use Rattle.zvt_apdu.specs.Message.{Message}
 use Rattle.zvt_apdu.specs.MessageCode.{message_code}
 use Rattle.zvt_stream.specs.Apdus.{UnfinishedIn}

@@ -8,12 +8,12 @@ ghost use Rattle.zvt_stream.specs.Apdus.{Unfinished};
 ghost use Rattle.zvt_stream.specs.StreamState.{IsReserved};
 ghost use Rattle.zvt_stream.specs.Answered.{Answered};
 ghost use Rattle.zvt_stream.specs.Hearing.{Heard};
-ghost use Rattle.zvt_stream.specs.Course.{Course, Breaks, Pumped, Broken, Told, failed_reads, failed_writes, there_at_once, reached, IsPieceFault};
+ghost use Rattle.zvt_stream.specs.LineRun.{Course, Breaks, Pumped, Broken, Told, failed_reads, failed_writes, there_at_once, reached, IsPieceFault};
 ghost use Rattle.zvt_stream.specs.Turns.{Arrives, Ends, Falters, line_state, line_ends};
 ghost use Rattle.zvt_stream.specs.Replies.{Replies, Unanswered};
 
-use crate::feeding::{FedView, FeedError, Stream};
 use crate::line::{LineFault, Machine, Until};
+use crate::stream::{FedView, FeedError, Stream};
 use std::alloc::Global;
 use zvt_apdu::ApduView;
 use zvt_io::{Sink, Source};

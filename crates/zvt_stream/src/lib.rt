@@ -1,18 +1,18 @@
 //! Messages out of pieces of a line, and a machine that hears and answers them.
 #![tactic(auto)]
 
+mod buffer;
 mod engine;
-mod feeding;
 mod head;
-mod judging;
-mod keeping;
+mod judge;
 pub mod laws;
 mod line;
-mod moves;
+mod stream;
+mod transitions;
 
+pub use buffer::{Held, MAX_APDU_LEN};
 pub use engine::{pump, send};
-pub use feeding::{Fed, FedView, FeedError, Stream, Truncated};
 pub use head::Head;
-pub use judging::{Judge, Judged, Run, Steps};
-pub use keeping::{Held, LONGEST};
+pub use judge::{DecodeRun, Judge, Judged, Steps};
 pub use line::{Answers, LineFault, Machine, Until};
+pub use stream::{Fed, FedView, FeedError, Stream, Truncated};

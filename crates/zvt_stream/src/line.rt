@@ -3,14 +3,14 @@
 ghost use Rattle.std.specs.Prelude.{◌≡◌, ◌≢◌, ℕ, ◌+◌, ◌<◌, ◌≤◌, Bool, [], ◌++◌, IfOk, IsOk, OnErr, false, length};
 ghost use Rattle.zvt_apdu.specs.Message.{Message};
 ghost use Rattle.zvt_stream.specs.Answered.{Answered};
-ghost use Rattle.zvt_stream.specs.Course.{there_at_once, reached};
+ghost use Rattle.zvt_stream.specs.LineRun.{there_at_once, reached};
 
 use arrayvec::ArrayVec;
 use std::alloc::{AllocError, Global};
 use std::marker::Model;
 use thiserror::Error;
 use zvt_apdu::ApduView;
-use zvt_spelling::Why;
+use zvt_grammar::Why;
 
 /// The messages that answer one message: at most two, of 64 bytes in all.
 #[derive(Drop)]

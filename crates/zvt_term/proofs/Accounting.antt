@@ -27,7 +27,7 @@ use Rattle.zvt_term.specs.Terminal.{TerminalState, turn_of, reports_of}
 use Rattle.zvt_term.specs.World.{Ends, new_ends, move as ends_move, world, FitMove, FitMoves}
 use Rattle.zvt_term.proofs.Facts.{Facts, heard_of, asked_out, answer_to, orders, reaches_terminal, reaches_till, move}
 use Rattle.zvt_term.proofs.Accounts.{orders_in, is_order, is_word, words, Accounts, Covered, Dialogue}
-use Rattle.zvt_term.proofs.Talking.{Talks, Down, till-hears, line_up-heard, till-loses, dialogue-front, till-accepts, line_up-accepted}
+use Rattle.zvt_term.proofs.Talking.{Talks, Down, till-hears, line_up-heard, till-loses, dialogue-prefix, till-accepts, line_up-accepted}
 use Rattle.zvt_term.proofs.Answering.{script_of, speech, ledger_after, decided-covered, terminal-hears-talks}
 use Rattle.zvt_term.proofs.WorldMeans.{meaning, Fit, move-means, move-fit, new-fit}
 
@@ -221,9 +221,9 @@ standing-accounts : (b : Bool) (l : List Row) (asked : List Asked) (s : TillStat
 standing-accounts true l asked s rest k = λ b. let c = k.covered b in omega (arith, c)
 standing-accounts false l asked s rest k = k.1.accounts
 
-standing-front : (b : Bool) (l : List Row) (asked : List Asked) (s : TillState) (xs ys : List Heard) → Standing b l asked s (xs ++ ys) → Standing b l asked s xs
-standing-front true l asked s xs ys k = k
-standing-front false l asked s xs ys (up, k) = (up, record { accounts = k.accounts; dialogue = dialogue-front l asked s.book s.unclear s.running xs ys k.dialogue })
+standing-prefix : (b : Bool) (l : List Row) (asked : List Asked) (s : TillState) (xs ys : List Heard) → Standing b l asked s (xs ++ ys) → Standing b l asked s xs
+standing-prefix true l asked s xs ys k = k
+standing-prefix false l asked s xs ys (up, k) = (up, record { accounts = k.accounts; dialogue = dialogue-prefix l asked s.book s.unclear s.running xs ys k.dialogue })
 
 -- an orderly delivery is of the first message that waits, to an end that has a line
 pub terminal-delivered : (P : Facts → Line → Type 0) (w : Facts) (l : Line) (k : ℕ) (v : Verdict) → is_orderly (length w.from_till) (length w.from_terminal) l (ToTerminal k v) ≡ true
@@ -273,7 +273,7 @@ move-holds w l TerminalLost e i =
       silent = λ q. refl;
       standing =
           subst (λ x. Standing l.till_lost w.terminal.ledger (asked_on w l) w.till x) (sym (append-nil said))
-          (standing-front l.till_lost w.terminal.ledger (asked_on w l) w.till said (words (script_of w.terminal.phase)) i.standing);
+          (standing-prefix l.till_lost w.terminal.ledger (asked_on w l) w.till said (words (script_of w.terminal.phase)) i.standing);
     }
 
 -- what each orderly move keeps

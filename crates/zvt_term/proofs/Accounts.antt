@@ -20,7 +20,7 @@ use Rattle.zvt_till.specs.declared.outcomes.Outcome.TheVariants.{Paid, Refused a
 use Rattle.zvt_till.specs.Books.{Booked}
 use Rattle.zvt_till.specs.Outcomes.{charged, note, trace_used, payment_outcome, broken_outcome, outcome_by}
 use Rattle.zvt_till.specs.Till.{entry_after, book_after, unclear_after}
-use Rattle.zvt_till.proofs.Kept.{same-row}
+use Rattle.zvt_till.proofs.BookStepLemmas.{same-row}
 use Rattle.zvt_term.specs.declared.messages.Asked.{Asked}
 use Rattle.zvt_term.specs.declared.messages.Asked.TheVariants.{Authorisation, AbortOrder, Answer}
 use Rattle.zvt_term.specs.declared.ledger.Row.{Row}

@@ -27,7 +27,7 @@ use Rattle.zvt_term.specs.declared.turns.Phase.TheVariants.{Idle, Printing, Comp
 use Rattle.zvt_term.specs.declared.turns.Turn.{Turn}
 use Rattle.zvt_term.specs.Ledger.{approval_by, is_taken_back}
 use Rattle.zvt_term.specs.Orderly.{approvals, entries_of_amount, unclear_of_amount, pays_amount}
-use Rattle.zvt_term.specs.Terminal.{TerminalState, has_room, next_number, is_idle, is_ready, aborts, refuses, registers, takes_currency, decides, authorises, takes_back_row, reverses_found, reverses, closes, goes_on, when, turn_of, reports_of}
+use Rattle.zvt_term.specs.Terminal.{TerminalState, has_capacity, next_number, is_idle, is_ready, aborts, refuses, registers, takes_currency, decides, authorises, takes_back_row, reverses_found, reverses, closes, goes_on, when, turn_of, reports_of}
 use Rattle.zvt_term.proofs.Accounts.{asks_amount, on_the_way, on_the_way-first, approvals-push, orders_in, words, Accounts, Covered, EndsLast, IsClaimed, Keeps, Pledges, Fits, Stage, Asking, TakenUp, Dialogue}
 use Rattle.zvt_term.proofs.Talking.{Talks, nothing-first, nothing-last}
 use Rattle.zvt_term.proofs.Facts.{heard_of, fact_of, approval_status}
@@ -79,14 +79,14 @@ authorises-grows s None named v b = unchanged b 0 s
 authorises-grows s (Some a) named v b =
     let n = approvals b s.ledger + cond (a == b) 1 0 in
     let same = unchanged b (cond (a == b) 1 0) s in
-    either-grows b n s (has_room s) (cond (takes_currency s.currency named) (decides s a v) (refuses s 111)) (refuses s 255)
+    either-grows b n s (has_capacity s) (cond (takes_currency s.currency named) (decides s a v) (refuses s 111)) (refuses s 255)
     (either-grows b n s (takes_currency s.currency named) (decides s a v) (refuses s 111) (decides-grows s a v b) same) same
 
 takes_back-grows : (s : TerminalState) (row : Row) (b : ℕ) → GrowsTo b (approvals b s.ledger + 0) s (takes_back_row s row)
 takes_back-grows s row b =
     let n = approvals b s.ledger + 0 in
-    either-grows b n s (is_taken_back row.number s.ledger) (aborts s 180) (cond (has_room s) (taken_back s row) (aborts s 255)) (unchanged b 0 s)
-    (either-grows b n s (has_room s) (taken_back s row) (aborts s 255) (reversed-grows b s.ledger row.amount (next_number s) s.currency row.number) (unchanged b 0 s))
+    either-grows b n s (is_taken_back row.number s.ledger) (aborts s 180) (cond (has_capacity s) (taken_back s row) (aborts s 255)) (unchanged b 0 s)
+    (either-grows b n s (has_capacity s) (taken_back s row) (aborts s 255) (reversed-grows b s.ledger row.amount (next_number s) s.currency row.number) (unchanged b 0 s))
 
 reverses-grows : (s : TerminalState) (receipt : Option (List ℕ)) (b : ℕ) → GrowsTo b (approvals b s.ledger + 0) s (reverses s receipt)
 reverses-grows s None b = unchanged b 0 s
@@ -129,13 +129,13 @@ decides-ends s a (Decline code) = refl
 authorises-ends : (s : TerminalState) (o : Option ℕ) (named : CurrencyFact) (v : Verdict) → words (script_of s.phase) ≡ [] → EndsLast (speech (authorises s o named v))
 authorises-ends s None named v e = e
 authorises-ends s (Some a) named v e =
-    either-ends (has_room s) (cond (takes_currency s.currency named) (decides s a v) (refuses s 111)) (refuses s 255)
+    either-ends (has_capacity s) (cond (takes_currency s.currency named) (decides s a v) (refuses s 111)) (refuses s 255)
     (either-ends (takes_currency s.currency named) (decides s a v) (refuses s 111) (decides-ends s a v) e) e
 
 takes_back-ends : (s : TerminalState) (row : Row) → EndsLast (speech (takes_back_row s row))
 takes_back-ends s row =
-    either-ends (is_taken_back row.number s.ledger) (aborts s 180) (cond (has_room s) (taken_back s row) (aborts s 255)) refl
-    (either-ends (has_room s) (taken_back s row) (aborts s 255) refl refl)
+    either-ends (is_taken_back row.number s.ledger) (aborts s 180) (cond (has_capacity s) (taken_back s row) (aborts s 255)) refl
+    (either-ends (has_capacity s) (taken_back s row) (aborts s 255) refl refl)
 
 reverses-ends : (s : TerminalState) (receipt : Option (List ℕ)) → EndsLast (speech (reverses s receipt))
 reverses-ends s None = refl
@@ -226,7 +226,7 @@ payment-settles s a named v book u st h =
     let still = still-covered s.ledger book u h in
     let taken = cond (takes_currency s.currency named) (decides s a v) (refuses s 111) in
     either-settles s (is_ready s) (authorises s (Some a) named v) (refuses s 131) book u a st
-    (either-settles s (has_room s) taken (refuses s 255) book u a st
+    (either-settles s (has_capacity s) taken (refuses s 255) book u a st
     (either-settles s (takes_currency s.currency named) (decides s a v) (refuses s 111) book u a st (decides-settles s a v book u st h) (inl still)) (inl still)) (inl still)
 
 fits-pledges : (s : TerminalState) (m : Asked) (v : Verdict) (o : Order) (book : List Entry) (u : List (ℕ × Cause)) (st : Statuses)

@@ -1,6 +1,6 @@
 -- What the terminal says, now or later, is true of its ledger, and so is what the till books.
 use Rattle.std.proofs.Common.{◌≡◌, ℕ, zero, suc, ◌≤◌, Bool, true, false, cond, ◌&&◌, List, [], ◌∷◌, ◌++◌, Option, Some, None, fold, map, refl, sym, ap, subst, ◌∙◌, slice_get, option_map, option_to_list}
-use Rattle.zvt_apdu.specs.declared.brief.Brief.TheVariants.{Reverse as ReverseBrief}
+use Rattle.zvt_apdu.specs.declared.till_message.TillMessage.TheVariants.{Reverse as ReverseTillMessage}
 use Rattle.zvt_till.specs.declared.happenings.Happening.TheVariants.{Heard as HeardIn, Lost}
 use Rattle.zvt_till.specs.declared.entries.Entry.{Entry}
 use Rattle.zvt_till.specs.declared.messages.CurrencyFact.{CurrencyFact}
@@ -13,7 +13,7 @@ use Rattle.zvt_till.specs.Events.{run_settings}
 use Rattle.zvt_till.specs.Refusals.{refusal}
 use Rattle.zvt_till.specs.Sending.{Settings, message_of, receipt_at, outgoing}
 use Rattle.zvt_till.specs.Till.{facts_of}
-use Rattle.zvt_till.proofs.Kept.{settings-accepted, settings-step}
+use Rattle.zvt_till.proofs.BookStepLemmas.{settings-accepted, settings-step}
 use Rattle.zvt_term.specs.declared.messages.Asked.{Asked}
 use Rattle.zvt_term.specs.declared.messages.Asked.TheVariants.{Registration, Authorisation, Reversal, EndOfDay, AbortOrder, Answer, Unknown}
 use Rattle.zvt_term.specs.declared.ledger.Row.{Row}
@@ -26,11 +26,11 @@ use Rattle.zvt_term.specs.declared.world.Move.{Move}
 use Rattle.zvt_term.specs.declared.world.Move.TheVariants.{Connect, Order as Ordered, ToTerminal, ToTill, TillLost, TerminalLost}
 use Rattle.zvt_term.specs.Inside.{IsSound}
 use Rattle.zvt_term.specs.Ledger.{approval_by, is_approval_named, is_taken_back}
-use Rattle.zvt_term.specs.Terminal.{TerminalState, has_room, next_number, is_idle, is_ready, aborts, refuses, registers, takes_currency, decides, authorises, takes_back_row, reverses_found, reverses, closes, goes_on, when, turn_of, after, reports_of}
+use Rattle.zvt_term.specs.Terminal.{TerminalState, has_capacity, next_number, is_idle, is_ready, aborts, refuses, registers, takes_currency, decides, authorises, takes_back_row, reverses_found, reverses, closes, goes_on, when, turn_of, after, reports_of}
 use Rattle.zvt_term.proofs.TurnLemmas.{AllShort, Short, short-found, taken_back, sound-after, short-of}
 use Rattle.zvt_term.proofs.Facts.{Facts, heard_of, approval_status, asked_out, answer_to, orders, reaches_terminal, reaches_till, move}
 use Rattle.zvt_term.proofs.Matching.{euro, ToldStatus, AllTold, all_told-more, all_told-append, told-at, TillHolds, till-more, accept-holds, heard-holds, lost-holds}
-use Rattle.zvt_term.proofs.Told.{approval-told, code-told, reversal-told}
+use Rattle.zvt_term.proofs.HeardLemmas.{approval-told, code-told, reversal-told}
 
 -- what a turn says is true of the ledger after it
 abbrev TurnTold : TerminalState → Turn → Type 0
@@ -49,7 +49,7 @@ decides-told s amount (Decline code) e = (tt, (code-told (s.ledger ++ []) code, 
 
 authorises-told : (s : TerminalState) (amount : Option ℕ) (named : CurrencyFact) (v : Verdict) → s.currency ≡ Some euro → TurnTold s (authorises s amount named v)
 authorises-told s None named v e = (tt, tt)
-authorises-told s (Some amount) named v e = by_both (has_room s) (takes_currency s.currency named)
+authorises-told s (Some amount) named v e = by_both (has_capacity s) (takes_currency s.currency named)
   where
     by_both : (a b : Bool) → TurnTold s (cond a (cond b (decides s amount v) (refuses s 111)) (refuses s 255))
     by_both true true = decides-told s amount v e
@@ -57,7 +57,7 @@ authorises-told s (Some amount) named v e = by_both (has_room s) (takes_currency
     by_both false b = (tt, tt)
 
 takes_back-told : (s : TerminalState) (row : Row) → row.number ≤ 9999 → TurnTold s (takes_back_row s row)
-takes_back-told s row few = by_both (is_taken_back row.number s.ledger) (has_room s)
+takes_back-told s row few = by_both (is_taken_back row.number s.ledger) (has_capacity s)
   where
     by_both : (a b : Bool) → TurnTold s (cond a (aborts s 180) (cond b (taken_back s row) (aborts s 255)))
     by_both true b = (tt, (tt, tt))
@@ -121,7 +121,7 @@ order-named s book Register e = (ap (λ (k : Settings). Some k.currency) e, tt)
 order-named s book (Pay amount) e = (tt, tt)
 order-named s book (Reverse place) e = by_receipt (receipt_at (slice_get book place))
   where
-    by_receipt : (receipt : Option (List ℕ)) → AllNamed (asked_out (option_map (λ r. outgoing (ReverseBrief s.password r)) receipt))
+    by_receipt : (receipt : Option (List ℕ)) → AllNamed (asked_out (option_map (λ r. outgoing (ReverseTillMessage s.password r)) receipt))
     by_receipt None = tt
     by_receipt (Some r) = (tt, tt)
 order-named s book CloseDay e = (tt, tt)
@@ -151,7 +151,7 @@ decides-keeps s amount (Decline code) k = k
 authorises-keeps : (s : TerminalState) (amount : Option ℕ) (named : CurrencyFact) (v : Verdict) → IsKept s.registered s.currency → TurnKeeps (authorises s amount named v)
 authorises-keeps s None named v k = k
 authorises-keeps s (Some amount) named v k =
-    either-keeps (has_room s) (cond (takes_currency s.currency named) (decides s amount v) (refuses s 111)) (refuses s 255)
+    either-keeps (has_capacity s) (cond (takes_currency s.currency named) (decides s amount v) (refuses s 111)) (refuses s 255)
     (either-keeps (takes_currency s.currency named) (decides s amount v) (refuses s 111) (decides-keeps s amount v k) k) k
 
 reverses-keeps : (s : TerminalState) (receipt : Option (List ℕ)) → IsKept s.registered s.currency → TurnKeeps (reverses s receipt)
@@ -161,8 +161,8 @@ reverses-keeps s (Some receipt) k = by_row (approval_by receipt s.ledger)
     by_row : (row : Option Row) → TurnKeeps (reverses_found s row)
     by_row None = k
     by_row (Some row) =
-        either-keeps (is_taken_back row.number s.ledger) (aborts s 180) (cond (has_room s) (taken_back s row) (aborts s 255)) k
-        (either-keeps (has_room s) (taken_back s row) (aborts s 255) k k)
+        either-keeps (is_taken_back row.number s.ledger) (aborts s 180) (cond (has_capacity s) (taken_back s row) (aborts s 255)) k
+        (either-keeps (has_capacity s) (taken_back s row) (aborts s 255) k k)
 
 goes_on-keeps : (s : TerminalState) (phase : Phase) → IsKept s.registered s.currency → TurnKeeps (goes_on s phase)
 goes_on-keeps s Idle k = k

@@ -3,7 +3,7 @@ pub mod SpellingLemmas
 pub mod TurnLemmas
 pub mod Facts
 pub mod Matching
-pub mod Told
+pub mod HeardLemmas
 pub mod FactsMatch
 pub mod Meanings
 pub mod WorldMeans

@@ -1,6 +1,6 @@
 -- Whatever comes, comes again, comes late or never: the till's entries are approvals of the terminal's ledger.
 use Rattle.std.proofs.Common.{◌≡◌, ℕ, zero, suc, Bool, true, false, cond, List, [], ◌∷◌, ◌++◌, length, Option, Some, None, refl, subst, slice_get, slice_set, option_map}
-use Rattle.zvt_apdu.specs.Briefs.{digits}
+use Rattle.zvt_apdu.specs.TillMessages.{digits}
 use Rattle.zvt_till.specs.declared.happenings.Happening.{Happening}
 use Rattle.zvt_till.specs.declared.happenings.Happening.TheVariants.{Connected, Sent as SentOut, Heard as HeardIn, Malformed, Lost}
 use Rattle.zvt_till.specs.declared.messages.Heard.{Heard}
@@ -26,7 +26,7 @@ use Rattle.zvt_till.specs.Outcomes.{charged, demand_of, note, note_if, note_clas
 use Rattle.zvt_till.specs.Sending.{Settings}
 use Rattle.zvt_till.specs.Events.{run_settings}
 use Rattle.zvt_till.specs.Till.{TillState, entry_after, book_after, finish, meet, accept, step}
-use Rattle.zvt_till.proofs.Tied.{state}
+use Rattle.zvt_till.proofs.LogStateLemmas.{state}
 use Rattle.zvt_term.specs.declared.ledger.Row.{Row}
 use Rattle.zvt_term.specs.World.{IsApproved, IsTakenBack, EntryMatches, AllMatch}
 
@@ -36,20 +36,20 @@ euro = run_settings.currency
 
 -- a ledger that grows
 
-pub slice_get-front : {X : Type 0} (xs ys : List X) (k : ℕ) (x : X) → slice_get xs k ≡ Some x → slice_get (xs ++ ys) k ≡ Some x
-slice_get-front [] ys k x e = absurd cc
-slice_get-front (y ∷ xs) ys zero x e = e
-slice_get-front (y ∷ xs) ys (suc k) x e = slice_get-front xs ys k x e
+pub slice_get-prefix : {X : Type 0} (xs ys : List X) (k : ℕ) (x : X) → slice_get xs k ≡ Some x → slice_get (xs ++ ys) k ≡ Some x
+slice_get-prefix [] ys k x e = absurd cc
+slice_get-prefix (y ∷ xs) ys zero x e = e
+slice_get-prefix (y ∷ xs) ys (suc k) x e = slice_get-prefix xs ys k x e
 
 pub slice_get-last : {X : Type 0} (xs : List X) (x : X) → slice_get (xs ++ x ∷ []) (length xs) ≡ Some x
 slice_get-last [] x = refl
 slice_get-last (y ∷ xs) x = slice_get-last xs x
 
 approved-more : (l more : List Row) (a n : ℕ) → IsApproved l euro a n → IsApproved (l ++ more) euro a n
-approved-more l more a n w = (w.0, slice_get-front l more w.0 (record { number = n; amount = a; currency = Some euro; reverses = None }) w.1)
+approved-more l more a n w = (w.0, slice_get-prefix l more w.0 (record { number = n; amount = a; currency = Some euro; reverses = None }) w.1)
 
 taken-more : (l more : List Row) (n : ℕ) → IsTakenBack l n → IsTakenBack (l ++ more) n
-taken-more l more n w = (w.0, w.1, slice_get-front l more w.0 w.1 w.2, w.3)
+taken-more l more n w = (w.0, w.1, slice_get-prefix l more w.0 w.1 w.2, w.3)
 
 -- what a status may claim, where it came from the terminal of this ledger, whatever currency is in force
 pub record ToldStatus (l : List Row) (f : StatusFacts) : Type 0 where

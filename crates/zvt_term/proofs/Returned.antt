@@ -28,7 +28,7 @@ use Rattle.zvt_term.proofs.WorldMeans.{meaning, first-holds}
 use Rattle.zvt_term.proofs.Accounts.{orders_in, words}
 use Rattle.zvt_term.proofs.Answering.{script_of, ledger_after}
 use Rattle.zvt_term.proofs.Accounting.{and-left, and-right, next-of, asked-more, said-more, asked_on, rest_on, Standing, LineHolds, down_of, no_orders, offline, online, terminal-delivered, till-delivered, move-holds, MovesKeep, orderly-worlds, start}
-use Rattle.zvt_term.proofs.Returning.{known-same, Awaits, Returns, till-hears-returns, till-loses-returns, connected-returns, front-returns, till-accepts-returns}
+use Rattle.zvt_term.proofs.Returning.{known-same, Awaits, Returns, till-hears-returns, till-loses-returns, connected-returns, prefix-returns, till-accepts-returns}
 use Rattle.zvt_term.proofs.Reverting.{terminal-hears-returns}
 
 abbrev Returning : Facts → Line → Type 0
@@ -107,7 +107,7 @@ move-returns w l (ToTill j) e i h k = till-delivered Returning w l j e (λ lt up
 move-returns w l TillLost e i h k = till-loses-returns w.terminal.ledger (asked_on w l) w.till (rest_on w l) (rest_on w l) k
 move-returns w l TerminalLost e i h k =
     let said = words (drop l.to_till w.from_terminal) in
-    subst (λ x. Returns w.terminal.ledger (asked_on w l) w.till x) (sym (append-nil said)) (front-returns w.terminal.ledger (asked_on w l) w.till said (words (script_of w.terminal.phase)) k)
+    subst (λ x. Returns w.terminal.ledger (asked_on w l) w.till x) (sym (append-nil said)) (prefix-returns w.terminal.ledger (asked_on w l) w.till said (words (script_of w.terminal.phase)) k)
 
 -- what holds of both ends and of the line between them
 record Stands (w : Facts) (l : Line) : Type 0 where

@@ -1,7 +1,7 @@
 -- What the till hears, loses and orders leaves each payment that was taken back known to it, or its reversal runs.
 use Rattle.std.proofs.Common.{◌≡◌, ℕ, zero, suc, ◌⊎◌, inl, inr, Bool, true, false, not, cond, ◌||◌, ◌==◌, List, [], ◌∷◌, ◌++◌, Option, Some, None, IsTrue, refl, sym, ap, subst, ◌∙◌, append-nil, slice_get, slice_set, option_map}
-use Rattle.zvt_apdu.specs.Briefs.{digits}
-use Rattle.zvt_apdu.specs.declared.brief.Brief.TheVariants.{Reverse}
+use Rattle.zvt_apdu.specs.TillMessages.{digits}
+use Rattle.zvt_apdu.specs.declared.till_message.TillMessage.TheVariants.{Reverse}
 use Rattle.zvt_till.specs.declared.happenings.Happening.{Happening}
 use Rattle.zvt_till.specs.declared.happenings.Happening.TheVariants.{Connected, Heard as HeardIn, Lost}
 use Rattle.zvt_till.specs.declared.messages.Heard.{Heard}
@@ -26,15 +26,15 @@ use Rattle.zvt_till.specs.Outcomes.{charged, demand_of, note, reversal_outcome, 
 use Rattle.zvt_till.specs.Refusals.{session_refusal}
 use Rattle.zvt_till.specs.Sending.{Settings, message_of, receipt_at, outgoing}
 use Rattle.zvt_till.specs.Till.{TillState, entry_after, book_after, finish, meet_running, meet, fresh, accept, step, facts_of}
-use Rattle.zvt_till.proofs.Kept.{same-row}
-use Rattle.zvt_till.proofs.Tied.{state}
+use Rattle.zvt_till.proofs.BookStepLemmas.{same-row}
+use Rattle.zvt_till.proofs.LogStateLemmas.{state}
 use Rattle.zvt_term.specs.declared.messages.Asked.{Asked}
 use Rattle.zvt_term.specs.declared.messages.Asked.TheVariants.{Reversal}
 use Rattle.zvt_term.specs.declared.ledger.Row.{Row}
 use Rattle.zvt_term.specs.Returned.{is_doubted, is_told, Reverses}
 use Rattle.zvt_term.specs.World.{IsTakenBack, AllMatch}
 use Rattle.zvt_term.proofs.Facts.{asked_out}
-use Rattle.zvt_term.proofs.Matching.{euro, slice_get-front, match-at}
+use Rattle.zvt_term.proofs.Matching.{euro, slice_get-prefix, match-at}
 use Rattle.zvt_term.proofs.Accounts.{orders_in, words, IsClaimed, Stage, Asking, TakenUp, Dialogue}
 
 -- one entry
@@ -85,7 +85,7 @@ follows-same : (book : List Entry) → Follows book book
 follows-same book place entry e = (entry, e, refl, λ k. k)
 
 follows-push : (book : List Entry) (x : Entry) → Follows book (book ++ x ∷ [])
-follows-push book x place entry e = (entry, slice_get-front book (x ∷ []) place entry e, refl, λ k. k)
+follows-push book x place entry e = (entry, slice_get-prefix book (x ∷ []) place entry e, refl, λ k. k)
 
 follows-set : (book : List Entry) (i : ℕ) (out : Outcome) (row : Entry) → slice_get book i ≡ Some row → Follows book (slice_set book i (entry_after row out))
 follows-set [] i out row q place entry e = absurd cc
@@ -322,23 +322,23 @@ connected-returns l asked s rest e k =
 
 -- the terminal loses the line: what it had still to say is never said
 
-will_tell-front : (st : Statuses) (xs ys : List Heard) → WillTell st (xs ++ ys) → WillTell st xs
-will_tell-front st [] ys h = tt
-will_tell-front st (Status f ∷ xs) ys h = λ d. will_tell-front (note (Some d) st f) xs ys (h d)
-will_tell-front st (Negative c ∷ xs) ys h = (h.0, will_tell-front st xs ys h.1)
-will_tell-front st (Completion ∷ xs) ys h = (h.0, will_tell-front st xs ys h.1)
-will_tell-front st (Abort c ∷ xs) ys h = (h.0, will_tell-front st xs ys h.1)
-will_tell-front st (m ∷ xs) ys h = will_tell-front st xs ys h
+will_tell-prefix : (st : Statuses) (xs ys : List Heard) → WillTell st (xs ++ ys) → WillTell st xs
+will_tell-prefix st [] ys h = tt
+will_tell-prefix st (Status f ∷ xs) ys h = λ d. will_tell-prefix (note (Some d) st f) xs ys (h d)
+will_tell-prefix st (Negative c ∷ xs) ys h = (h.0, will_tell-prefix st xs ys h.1)
+will_tell-prefix st (Completion ∷ xs) ys h = (h.0, will_tell-prefix st xs ys h.1)
+will_tell-prefix st (Abort c ∷ xs) ys h = (h.0, will_tell-prefix st xs ys h.1)
+will_tell-prefix st (m ∷ xs) ys h = will_tell-prefix st xs ys h
 
-awaits-front : (place : ℕ) (asked : List Asked) (run : Option Running) (xs ys : List Heard) → Awaits place asked run (xs ++ ys) → Awaits place asked run xs
-awaits-front place asked None xs ys p = p
-awaits-front place asked (Some r) xs ys (o, e, w) = (o, e, will_tell-front r.statuses xs ys w)
+awaits-prefix : (place : ℕ) (asked : List Asked) (run : Option Running) (xs ys : List Heard) → Awaits place asked run (xs ++ ys) → Awaits place asked run xs
+awaits-prefix place asked None xs ys p = p
+awaits-prefix place asked (Some r) xs ys (o, e, w) = (o, e, will_tell-prefix r.statuses xs ys w)
 
-pub front-returns : (l : List Row) (asked : List Asked) (s : TillState) (xs ys : List Heard) → Returns l asked s (xs ++ ys) → Returns l asked s xs
-front-returns l asked s xs ys k =
+pub prefix-returns : (l : List Row) (asked : List Asked) (s : TillState) (xs ys : List Heard) → Returns l asked s (xs ++ ys) → Returns l asked s xs
+prefix-returns l asked s xs ys k =
     record {
       asks = k.asks;
-      taken = λ n w. known-same s.book (λ place. Awaits place asked s.running (xs ++ ys)) (λ place. Awaits place asked s.running xs) (λ place p. awaits-front place asked s.running xs ys p) n (k.taken n w);
+      taken = λ n w. known-same s.book (λ place. Awaits place asked s.running (xs ++ ys)) (λ place. Awaits place asked s.running xs) (λ place p. awaits-prefix place asked s.running xs ys p) n (k.taken n w);
     }
 
 -- the till orders

@@ -1,7 +1,7 @@
 -- What the terminal takes back the till will be told of.
 use Rattle.std.proofs.Common.{◌≡◌, ℕ, zero, suc, ◌≤◌, ◌⊎◌, inl, inr, Bool, true, false, cond, ◌==◌, List, [], ◌∷◌, ◌++◌, Option, Some, None, refl, sym, subst, ◌∙◌, append-nil, slice_get, eqb-true, option_to_list, arith}
 use Rattle.std.specs.List.{find, list_all}
-use Rattle.zvt_apdu.specs.Briefs.{digits}
+use Rattle.zvt_apdu.specs.TillMessages.{digits}
 use Rattle.zvt_bcd.specs.Digits.{is_digit_pair, number_of}
 use Rattle.zvt_till.specs.declared.entries.Entry.{Entry}
 use Rattle.zvt_till.specs.declared.messages.CurrencyFact.{CurrencyFact}
@@ -23,7 +23,7 @@ use Rattle.zvt_term.specs.declared.turns.Phase.TheVariants.{Idle, Printing, Comp
 use Rattle.zvt_term.specs.declared.turns.Turn.{Turn}
 use Rattle.zvt_term.specs.Ledger.{is_approval, approval_by, is_approval_named, is_taken_back}
 use Rattle.zvt_term.specs.Returned.{Reverses}
-use Rattle.zvt_term.specs.Terminal.{TerminalState, has_room, next_number, is_idle, is_ready, aborts, refuses, registers, takes_currency, decides, authorises, reverses_found, reverses, closes, goes_on, turn_of}
+use Rattle.zvt_term.specs.Terminal.{TerminalState, has_capacity, next_number, is_idle, is_ready, aborts, refuses, registers, takes_currency, decides, authorises, reverses_found, reverses, closes, goes_on, turn_of}
 use Rattle.zvt_term.specs.World.{IsTakenBack, AllMatch}
 use Rattle.zvt_term.proofs.DigitLemmas.{number_of-digits}
 use Rattle.zvt_term.proofs.TurnLemmas.{AllShort, taken_back}
@@ -103,9 +103,9 @@ reverses-reverts s (Some named) = by_row (approval_by named s.ledger) refl
     by_row : (o : Option Row) → approval_by named s.ledger ≡ o → Reverts s (Some named) (reverses_found s o)
     by_row None e = λ row n is q. absurd cc
     by_row (Some old) e =
-        let rest : Reverts s (Some named) (cond (has_room s) (taken_back s old) (aborts s 255)) =
-        either-reverts s (Some named) (has_room s) (taken_back s old) (aborts s 255) (taken_back-reverts s named old e) (λ row n is q. absurd cc) in
-        either-reverts s (Some named) (is_taken_back old.number s.ledger) (aborts s 180) (cond (has_room s) (taken_back s old) (aborts s 255)) (λ row n is q. absurd cc) rest
+        let rest : Reverts s (Some named) (cond (has_capacity s) (taken_back s old) (aborts s 255)) =
+        either-reverts s (Some named) (has_capacity s) (taken_back s old) (aborts s 255) (taken_back-reverts s named old e) (λ row n is q. absurd cc) in
+        either-reverts s (Some named) (is_taken_back old.number s.ledger) (aborts s 180) (cond (has_capacity s) (taken_back s old) (aborts s 255)) (λ row n is q. absurd cc) rest
 
 reversal-reverts : (s : TerminalState) (receipt : Option (List ℕ)) (v : Verdict) → Reverts s receipt (turn_of s (Reversal receipt) v)
 reversal-reverts s receipt v = either-reverts s receipt (is_ready s) (reverses s receipt) (refuses s 131) (reverses-reverts s receipt) (λ row n is q. absurd cc)
@@ -128,7 +128,7 @@ decides-none s a (Decline code) row n is q = cc
 authorises-none : (s : TerminalState) (o : Option ℕ) (named : CurrencyFact) (v : Verdict) → TakesNone (authorises s o named v)
 authorises-none s None named v = λ row n is q. cc
 authorises-none s (Some a) named v =
-    either-none (has_room s) (cond (takes_currency s.currency named) (decides s a v) (refuses s 111)) (refuses s 255)
+    either-none (has_capacity s) (cond (takes_currency s.currency named) (decides s a v) (refuses s 111)) (refuses s 255)
     (either-none (takes_currency s.currency named) (decides s a v) (refuses s 111) (decides-none s a v) (λ row n is q. cc)) (λ row n is q. cc)
 
 goes_on-none : (s : TerminalState) (phase : Phase) → TakesNone (goes_on s phase)

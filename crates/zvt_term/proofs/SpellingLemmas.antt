@@ -1,6 +1,6 @@
 -- What is written for each report is a spelling of its message.
 use Rattle.std.proofs.Common.{◌≡◌, ℕ, ◌<◌, ◌≤◌, ◌^◌, Option, Some, List, [], ◌∷◌, ◌++◌, length, true, false, get_or, refl, sym, subst, arith}
-use Rattle.zvt_spelling.specs.Reading.{AreBytes, shortest}
+use Rattle.zvt_grammar.specs.Reading.{AreBytes, shortest}
 use Rattle.zvt_tlv.specs.Sizes.{Puts}
 use Rattle.zvt_field.specs.Grammar.{Field, plain, FieldOf, FieldList, IsHead}
 use Rattle.zvt_field.specs.Shapes.{shape_of}
@@ -8,7 +8,7 @@ use Rattle.zvt_field.specs.declared.shapes.Shape.{Shape}
 use Rattle.zvt_field.specs.declared.shapes.Shape.TheVariants.{Fixed, Digits}
 use Rattle.zvt_apdu.specs.Message.{Message, status, completion, print_line}
 use Rattle.zvt_apdu.specs.Grammar.{IsControl, Data}
-use Rattle.zvt_apdu.specs.Briefs.{digits, PutsMessage}
+use Rattle.zvt_apdu.specs.TillMessages.{digits, PutsMessage}
 use Rattle.zvt_term.specs.declared.messages.Report.TheVariants.{Registered, Approved, TakenBack}
 use Rattle.zvt_term.specs.Reports.{currency_field, message_of_report}
 use Rattle.zvt_term.proofs.DigitLemmas.{length-digits, are-digits, three-digits, bytes_of}

@@ -15,14 +15,14 @@ use Rattle.zvt_till.specs.declared.outcomes.Cause.{Cause}
 use Rattle.zvt_till.specs.declared.orders.Order.{Order}
 use Rattle.zvt_till.specs.declared.orders.Order.TheVariants.{Register as RegisterOrder, Pay as PayOrder, Reverse as ReverseOrder, CloseDay as CloseDayOrder, Cancel as CancelOrder}
 use Rattle.zvt_till.specs.declared.orders.OrderRefusal.TheVariants.{AlreadyReversed, NoReceipt}
-use Rattle.zvt_apdu.specs.declared.brief.Brief.TheVariants.{Reverse}
+use Rattle.zvt_apdu.specs.declared.till_message.TillMessage.TheVariants.{Reverse}
 use Rattle.zvt_till.specs.declared.outcomes.Outcome.{Outcome}
 use Rattle.zvt_till.specs.Segments.{ends}
 use Rattle.zvt_till.specs.Outcomes.{charged, demand_of, note, outcome_by, listened}
 use Rattle.zvt_till.specs.Refusals.{session_refusal, asked_refusal, row_refusal}
 use Rattle.zvt_till.specs.Sending.{Settings, message_of, receipt_at, outgoing}
 use Rattle.zvt_till.specs.Till.{TillState, book_after, unclear_after, finish, meet_running, meet, fresh, accept, step, facts_of}
-use Rattle.zvt_till.proofs.Tied.{state}
+use Rattle.zvt_till.proofs.LogStateLemmas.{state}
 use Rattle.zvt_term.specs.declared.messages.Asked.{Asked}
 use Rattle.zvt_term.specs.declared.messages.Asked.TheVariants.{Registration, Authorisation, Reversal, EndOfDay}
 use Rattle.zvt_term.specs.declared.ledger.Row.{Row}
@@ -172,35 +172,35 @@ nothing-last (x ∷ xs) ys e = absurd cc
 
 -- the terminal loses the line: what it had still to say is never said
 
-ends_last-front : (xs ys : List Heard) → EndsLast (xs ++ ys) → EndsLast xs
-ends_last-front [] ys h = tt
-ends_last-front (Negative c ∷ xs) ys h = nothing-first xs ys h
-ends_last-front (Completion ∷ xs) ys h = nothing-first xs ys h
-ends_last-front (Abort c ∷ xs) ys h = nothing-first xs ys h
-ends_last-front (m ∷ xs) ys h = ends_last-front xs ys h
+ends_last-prefix : (xs ys : List Heard) → EndsLast (xs ++ ys) → EndsLast xs
+ends_last-prefix [] ys h = tt
+ends_last-prefix (Negative c ∷ xs) ys h = nothing-first xs ys h
+ends_last-prefix (Completion ∷ xs) ys h = nothing-first xs ys h
+ends_last-prefix (Abort c ∷ xs) ys h = nothing-first xs ys h
+ends_last-prefix (m ∷ xs) ys h = ends_last-prefix xs ys h
 
-keeps-front : (a : ℕ) (st : Statuses) (xs ys : List Heard) → Keeps a st (xs ++ ys) → Keeps a st xs
-keeps-front a st [] ys h = tt
-keeps-front a st (Negative c ∷ xs) ys h = h
-keeps-front a st (Status f ∷ xs) ys h = λ currency. keeps-front a (note (Some (Payment (charged currency a))) st f) xs ys (h currency)
-keeps-front a st (Completion ∷ xs) ys h = h
-keeps-front a st (Abort c ∷ xs) ys h = h
-keeps-front a st (m ∷ xs) ys h = keeps-front a st xs ys h
+keeps-prefix : (a : ℕ) (st : Statuses) (xs ys : List Heard) → Keeps a st (xs ++ ys) → Keeps a st xs
+keeps-prefix a st [] ys h = tt
+keeps-prefix a st (Negative c ∷ xs) ys h = h
+keeps-prefix a st (Status f ∷ xs) ys h = λ currency. keeps-prefix a (note (Some (Payment (charged currency a))) st f) xs ys (h currency)
+keeps-prefix a st (Completion ∷ xs) ys h = h
+keeps-prefix a st (Abort c ∷ xs) ys h = h
+keeps-prefix a st (m ∷ xs) ys h = keeps-prefix a st xs ys h
 
-pledges-front : (l : List Row) (asked : List Asked) (book : List Entry) (u : List (ℕ × Cause)) (o : Order) (st : Statuses) (xs ys : List Heard)
+pledges-prefix : (l : List Row) (asked : List Asked) (book : List Entry) (u : List (ℕ × Cause)) (o : Order) (st : Statuses) (xs ys : List Heard)
     → Pledges l asked book u o st (xs ++ ys) → Pledges l asked book u o st xs
-pledges-front l asked book u (PayOrder a) st xs ys (inl covered) = inl covered
-pledges-front l asked book u (PayOrder a) st xs ys (inr keeps) = inr (keeps-front a st xs ys keeps)
-pledges-front l asked book u o st xs ys h = tt
+pledges-prefix l asked book u (PayOrder a) st xs ys (inl covered) = inl covered
+pledges-prefix l asked book u (PayOrder a) st xs ys (inr keeps) = inr (keeps-prefix a st xs ys keeps)
+pledges-prefix l asked book u o st xs ys h = tt
 
-stage-front : (l : List Row) (asked : List Asked) (book : List Entry) (u : List (ℕ × Cause)) (r : Running) (xs ys : List Heard) → Stage l asked book u r (xs ++ ys) → Stage l asked book u r xs
-stage-front l asked book u r xs ys (Asking m e f p) = Asking m e f (nothing-first xs ys p)
-stage-front l asked book u r xs ys (TakenUp e n k) = TakenUp e (ends_last-front xs ys n) (pledges-front l asked book u r.order r.statuses xs ys k)
+stage-prefix : (l : List Row) (asked : List Asked) (book : List Entry) (u : List (ℕ × Cause)) (r : Running) (xs ys : List Heard) → Stage l asked book u r (xs ++ ys) → Stage l asked book u r xs
+stage-prefix l asked book u r xs ys (Asking m e f p) = Asking m e f (nothing-first xs ys p)
+stage-prefix l asked book u r xs ys (TakenUp e n k) = TakenUp e (ends_last-prefix xs ys n) (pledges-prefix l asked book u r.order r.statuses xs ys k)
 
-pub dialogue-front : (l : List Row) (asked : List Asked) (book : List Entry) (u : List (ℕ × Cause)) (run : Option Running) (xs ys : List Heard)
+pub dialogue-prefix : (l : List Row) (asked : List Asked) (book : List Entry) (u : List (ℕ × Cause)) (run : Option Running) (xs ys : List Heard)
     → Dialogue l asked book u run (xs ++ ys) → Dialogue l asked book u run xs
-dialogue-front l asked book u None xs ys (e, p) = (e, nothing-first xs ys p)
-dialogue-front l asked book u (Some r) xs ys k = stage-front l asked book u r xs ys k
+dialogue-prefix l asked book u None xs ys (e, p) = (e, nothing-first xs ys p)
+dialogue-prefix l asked book u (Some r) xs ys k = stage-prefix l asked book u r xs ys k
 
 -- the till orders
 

@@ -16,7 +16,7 @@ use Rattle.zvt_term.specs.declared.turns.Turn.{Turn}
 use Rattle.zvt_term.specs.Inside.{IsSound}
 use Rattle.zvt_term.specs.Ledger.{NumberedFrom, approval_by, is_approval_named, is_taken_back}
 use Rattle.zvt_term.specs.Steps.{AreWritable, IsNext}
-use Rattle.zvt_term.specs.Terminal.{TerminalState, most_rows, has_room, next_number, is_idle, is_ready, writes, aborts, refuses, registers, takes_currency, decides, authorises, takes_back_row, reverses_found, reverses, closes, goes_on, when, turn_of, after, state_after, reports_of}
+use Rattle.zvt_term.specs.Terminal.{TerminalState, most_rows, has_capacity, next_number, is_idle, is_ready, writes, aborts, refuses, registers, takes_currency, decides, authorises, takes_back_row, reverses_found, reverses, closes, goes_on, when, turn_of, after, state_after, reports_of}
 
 pub numbered-append : (n : ℕ) (rows : List Row) (row : Row) → NumberedFrom n rows → row.number ≡ n + length rows → NumberedFrom n (rows ++ row ∷ [])
 numbered-append n [] row h e = (omega arith, tt)
@@ -65,9 +65,9 @@ decides-sound s amount (Decline code) h = record { next = tt; writable = λ k. (
 
 authorises-sound : (s : TerminalState) (amount : Option ℕ) (named : CurrencyFact) (v : Verdict) → Sound s (authorises s amount named v)
 authorises-sound s None named v = refuses-sound s 255
-authorises-sound s (Some amount) named v = by_both (has_room s) (takes_currency s.currency named) refl
+authorises-sound s (Some amount) named v = by_both (has_capacity s) (takes_currency s.currency named) refl
   where
-    by_both : (a b : Bool) → has_room s ≡ a → Sound s (cond a (cond b (decides s amount v) (refuses s 111)) (refuses s 255))
+    by_both : (a b : Bool) → has_capacity s ≡ a → Sound s (cond a (cond b (decides s amount v) (refuses s 111)) (refuses s 255))
     by_both true true is = decides-sound s amount v (ltb-true (length s.ledger) most_rows is)
     by_both true false is = refuses-sound s 111
     by_both false b is = refuses-sound s 255
@@ -78,9 +78,9 @@ taken_back s row =
     (TakenBack row.amount (next_number s) row.number s.currency)
 
 takes_back-sound : (s : TerminalState) (row : Row) → (Short s → row.number ≤ 9999) → Sound s (takes_back_row s row)
-takes_back-sound s row few = by_both (is_taken_back row.number s.ledger) (has_room s) refl
+takes_back-sound s row few = by_both (is_taken_back row.number s.ledger) (has_capacity s) refl
   where
-    by_both : (a b : Bool) → has_room s ≡ b → Sound s (cond a (aborts s 180) (cond b (taken_back s row) (aborts s 255)))
+    by_both : (a b : Bool) → has_capacity s ≡ b → Sound s (cond a (aborts s 180) (cond b (taken_back s row) (aborts s 255)))
     by_both true b is = aborts-sound s 180
     by_both false true is = let h : length s.ledger < most_rows = ltb-true (length s.ledger) most_rows is in record { next = (h, refl); writable = λ k. (tt, ((omega (arith, h), few k), tt)) }
     by_both false false is = aborts-sound s 255

@@ -18,7 +18,7 @@ use Rattle.zvt_till.specs.Refusals.{refusal, sent_as}
 use Rattle.zvt_till.specs.Sending.{Settings, message_of, reply_to}
 use Rattle.zvt_till.specs.Till.{TillState, new_till, accept, step, state_after, facts_of}
 use Rattle.zvt_till.proofs.Distinct.{traces_stay_distinct}
-use Rattle.zvt_till.proofs.Kept.{settings-accepted, settings-step}
+use Rattle.zvt_till.proofs.BookStepLemmas.{settings-accepted, settings-step}
 use Rattle.zvt_term.specs.declared.turns.Verdict.{Verdict}
 use Rattle.zvt_term.specs.declared.world.Move.{Move}
 use Rattle.zvt_term.specs.declared.world.Move.TheVariants.{Connect, Order as Ordered, ToTerminal, ToTill, TillLost, TerminalLost}

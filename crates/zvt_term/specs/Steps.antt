@@ -22,7 +22,7 @@ pub record Adds (report : Report) (old new : Answered) : Type 0 where
   pub bytes : List ℕ
   pub spelled : Spells (message_of_report report) bytes
   pub short : length bytes ≤ 32
-  pub behind : new.bytes ≡ old.bytes ++ bytes
+  pub after : new.bytes ≡ old.bytes ++ bytes
   pub counted : new.count ≡ old.count + 1
 
 -- the answers are the reports, one after another

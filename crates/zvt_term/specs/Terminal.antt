@@ -7,8 +7,8 @@ use Rattle.zvt_term.specs.declared.messages.Asked.TheVariants.{Registration, Aut
 use Rattle.zvt_term.specs.declared.messages.Line.TheVariants.{Approved as ApprovedLine, Reversed as ReversedLine, DayClosed}
 use Rattle.zvt_term.specs.declared.messages.Report.{Report}
 use Rattle.zvt_term.specs.declared.messages.Report.TheVariants.{Ack, Nack, Registered, Approved, Result, TakenBack, Line, Done, Aborted}
-use Rattle.zvt_term.specs.declared.messages.Reply.{Reply}
-use Rattle.zvt_term.specs.declared.messages.Reply.TheVariants.{Nothing, One, Two}
+use Rattle.zvt_term.specs.declared.messages.Response.{Response}
+use Rattle.zvt_term.specs.declared.messages.Response.TheVariants.{Nothing, One, Two}
 use Rattle.zvt_term.specs.declared.ledger.Row.{Row}
 use Rattle.zvt_term.specs.declared.turns.Verdict.{Verdict}
 use Rattle.zvt_term.specs.declared.turns.Verdict.TheVariants.{Approve, Decline}
@@ -35,8 +35,8 @@ abbrev pub most_rows : ℕ
 most_rows = 9999
 
 -- the next number is free
-abbrev pub has_room : TerminalState → Bool
-has_room s = nat_lt (length s.ledger) most_rows
+abbrev pub has_capacity : TerminalState → Bool
+has_capacity s = nat_lt (length s.ledger) most_rows
 
 abbrev pub next_number : TerminalState → ℕ
 next_number s = length s.ledger + 1
@@ -49,7 +49,7 @@ is_idle (Aborting code) = false
 is_idle Ending = false
 
 -- nothing changes but for the answer
-abbrev pub stays : TerminalState → Reply → Turn
+abbrev pub stays : TerminalState → Response → Turn
 stays s reply = record { registered = s.registered; currency = s.currency; phase = s.phase; row = None; reply = reply }
 
 -- the order is taken, with a first report
@@ -84,13 +84,13 @@ takes_currency (Some own) named = is_in_currency (Some own) named
 -- 255 is FF, 111 is 6F in hexadecimal
 abbrev pub authorises : TerminalState → Option ℕ → CurrencyFact → Verdict → Turn
 authorises s None named v = refuses s 255
-authorises s (Some amount) named v = cond (has_room s) (cond (takes_currency s.currency named) (decides s amount v) (refuses s 111)) (refuses s 255)
+authorises s (Some amount) named v = cond (has_capacity s) (cond (takes_currency s.currency named) (decides s amount v) (refuses s 111)) (refuses s 255)
 
 -- 180 is B4 in hexadecimal
 abbrev pub takes_back_row : TerminalState → Row → Turn
 takes_back_row s row =
     cond (is_taken_back row.number s.ledger) (aborts s 180)
-    (cond (has_room s)
+    (cond (has_capacity s)
     (writes s (Printing (ReversedLine row.amount)) (record { number = next_number s; amount = row.amount; currency = s.currency; reverses = Some row.number })
     (TakenBack row.amount (next_number s) row.number s.currency))
     (aborts s 255))
@@ -108,7 +108,7 @@ abbrev pub closes : TerminalState → Turn
 closes s = runs s (Printing DayClosed) (Result 0)
 
 -- on to that phase
-abbrev pub moves_on : TerminalState → Phase → Reply → Turn
+abbrev pub moves_on : TerminalState → Phase → Response → Turn
 moves_on s phase reply = record { registered = s.registered; currency = s.currency; phase = phase; row = None; reply = reply }
 
 -- the till answered what was said last
@@ -139,7 +139,7 @@ turn_of s Unknown v = refuses s 131
 abbrev pub after : TerminalState → Turn → TerminalState
 after s turn = record { tid = s.tid; registered = turn.registered; currency = turn.currency; phase = turn.phase; ledger = s.ledger ++ option_to_list turn.row }
 
-abbrev pub reports_of : Reply → List Report
+abbrev pub reports_of : Response → List Report
 reports_of Nothing = []
 reports_of (One report) = report ∷ []
 reports_of (Two first second) = first ∷ second ∷ []

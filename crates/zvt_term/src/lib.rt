@@ -2,7 +2,7 @@
 #![tactic(auto)]
 
 mod answers;
-pub mod asking;
+pub mod asked;
 pub mod laws;
 mod ledger;
 mod messages;
@@ -13,9 +13,9 @@ mod world;
 mod writer;
 
 pub use ledger::Row;
-pub use messages::{Asked, Line, Reply, Report};
+pub use messages::{Asked, Line, Report, Response};
 pub use served::Served;
-pub use terminal::{Input, MOST_ROWS, Terminal};
+pub use terminal::{Input, MAX_LEDGER_ROWS, Terminal};
 pub use turns::{Phase, Verdict};
-pub use world::{Move, USUAL_TID, World, run_world};
-pub use writer::{REPORT_ROOM, put_report, report_message};
+pub use world::{DEFAULT_TID, Move, World, run_world};
+pub use writer::{MAX_REPORT_LEN, put_report, report_message};

@@ -71,7 +71,7 @@ pub enum Report {
 
 /// What the terminal answers to one message.
 #[derive(Clone, Copy, Debug, PartialEq, Eq)]
-pub enum Reply {
+pub enum Response {
     Nothing,
     One(Report),
     Two(Report, Report),

@@ -3,9 +3,9 @@ ghost use Rattle.std.specs.Prelude.{◌≡◌, ◌≤◌, length, IfOk, IsOk, On
 ghost use Rattle.zvt_term.specs.Ledger.{NumberedFrom};
 
 use crate::answers::answers_of;
-use crate::asking::{asked, asked_view};
+use crate::asked::{asked, asked_view};
 use crate::ledger::{Row, approval_by, is_taken_back};
-use crate::messages::{Asked, Line, Reply, Report};
+use crate::messages::{Asked, Line, Report, Response};
 use crate::turns::{Phase, Turn, Verdict};
 use std::alloc::{AllocError, Global};
 use std::marker::Model;
@@ -15,7 +15,7 @@ use zvt_stream::Answers;
 use zvt_till::CurrencyFact;
 
 /// The rows that the ledger can have at most, since a row's number has four digits.
-pub const MOST_ROWS: usize = 9_999;
+pub const MAX_LEDGER_ROWS: usize = 9_999;
 
 /// The code of an order that the terminal does not take now.
 const NOT_POSSIBLE: u8 = 0x83;
@@ -69,7 +69,7 @@ impl Model for Terminal {
 }
 
 impl Terminal {
-    ghost use Rattle.zvt_term.specs.Terminal.{most_rows, new_terminal, lost_terminal, has_room, next_number, is_idle, is_ready, stays, runs, writes, aborts, refuses, registers, takes_currency, decides, authorises, takes_back_row, reverses, closes, goes_on, turn_of, after};
+    ghost use Rattle.zvt_term.specs.Terminal.{most_rows, new_terminal, lost_terminal, has_capacity, next_number, is_idle, is_ready, stays, runs, writes, aborts, refuses, registers, takes_currency, decides, authorises, takes_back_row, reverses, closes, goes_on, turn_of, after};
     ghost use Rattle.zvt_term.specs.Inside.{IsSound};
     ghost use Rattle.zvt_term.specs.Steps.{HearsAsked, IsNext, Steps, row_added};
 
@@ -90,7 +90,7 @@ impl Terminal {
     /// What it approved and took back, in the order in which it did.
     pub fn ledger(&self) -> &[Row]
         ensures rows { result.now ≡ self.now.ledger }
-        ensures most { length result.now ≤ MOST_ROWS }
+        ensures most { length result.now ≤ MAX_LEDGER_ROWS }
         ensures numbered { NumberedFrom 1 result.now }
     {
         self.ledger.as_slice()
@@ -111,7 +111,7 @@ impl Terminal {
     }
 
     /// Nothing changes but for the answer.
-    fn stays(&self, reply: Reply) -> Turn
+    fn stays(&self, reply: Response) -> Turn
         ensures { result ≡ stays self.now reply }
     {
         Turn {
@@ -127,7 +127,7 @@ impl Terminal {
     fn refuses(&self, code: u8) -> Turn
         ensures { result ≡ refuses self.now code }
     {
-        self.stays(Reply::One(Report::Nack(code)))
+        self.stays(Response::One(Report::Nack(code)))
     }
 
     /// The order is taken, with a first report.
@@ -139,7 +139,7 @@ impl Terminal {
             currency: self.currency,
             phase,
             row: None,
-            reply: Reply::Two(Report::Ack, report),
+            reply: Response::Two(Report::Ack, report),
         }
     }
 
@@ -152,7 +152,7 @@ impl Terminal {
             currency: self.currency,
             phase,
             row: Some(row),
-            reply: Reply::Two(Report::Ack, report),
+            reply: Response::Two(Report::Ack, report),
         }
     }
 
@@ -165,10 +165,10 @@ impl Terminal {
 
     /// The number of the next row, if one is free.
     fn next_number(&self) -> Option<u16>
-        ensures { result ≡ (if has_room self.now then Some (next_number self.now) else None) }
+        ensures { result ≡ (if has_capacity self.now then Some (next_number self.now) else None) }
     {
         let rows = self.ledger.len();
-        if rows < MOST_ROWS {
+        if rows < MAX_LEDGER_ROWS {
             Some(rows as u16 + 1)
         } else {
             None
@@ -184,7 +184,7 @@ impl Terminal {
             currency: *currency,
             phase: Phase::Ending,
             row: None,
-            reply: Reply::Two(
+            reply: Response::Two(
                 Report::Ack,
                 Report::Registered {
                     tid: self.tid,
@@ -279,11 +279,11 @@ impl Terminal {
         ensures { result ≡ goes_on self.now self.now.phase }
     {
         let (phase, reply) = match self.phase {
-            Phase::Idle => (Phase::Idle, Reply::Nothing),
-            Phase::Printing(line) => (Phase::Completing, Reply::One(Report::Line(line))),
-            Phase::Completing => (Phase::Ending, Reply::One(Report::Done)),
-            Phase::Aborting(code) => (Phase::Ending, Reply::One(Report::Aborted(code))),
-            Phase::Ending => (Phase::Idle, Reply::Nothing),
+            Phase::Idle => (Phase::Idle, Response::Nothing),
+            Phase::Printing(line) => (Phase::Completing, Response::One(Report::Line(line))),
+            Phase::Completing => (Phase::Ending, Response::One(Report::Done)),
+            Phase::Aborting(code) => (Phase::Ending, Response::One(Report::Aborted(code))),
+            Phase::Ending => (Phase::Idle, Response::Nothing),
         };
         Turn {
             registered: self.registered,
@@ -307,7 +307,7 @@ impl Terminal {
             Asked::EndOfDay if self.is_ready() => {
                 self.runs(Phase::Printing(Line::DayClosed), Report::Result(0))
             }
-            Asked::AbortOrder => self.stays(Reply::One(Report::Ack)),
+            Asked::AbortOrder => self.stays(Response::One(Report::Ack)),
             Asked::Answer => self.goes_on(),
             _ => self.refuses(NOT_POSSIBLE),
         }

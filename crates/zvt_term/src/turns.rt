@@ -1,6 +1,6 @@
 //! What a message makes of the terminal.
 use crate::ledger::Row;
-use crate::messages::{Line, Reply};
+use crate::messages::{Line, Response};
 use zvt_bcd::Currency;
 
 /// What the terminal decides of an authorisation.
@@ -35,5 +35,5 @@ pub(crate) struct Turn {
     pub phase: Phase,
     /// The row that it writes down.
     pub row: Option<Row>,
-    pub reply: Reply,
+    pub reply: Response,
 }

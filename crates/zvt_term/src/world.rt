@@ -10,14 +10,14 @@ ghost use Rattle.zvt_term.specs.Orderly.{are_orderly, IsAccounted};
 ghost use Rattle.zvt_term.specs.Returned.{KeepsReversals};
 ghost use Rattle.zvt_term.specs.Simulation.{ends_of};
 
-use crate::asking::asked;
-use crate::messages::Reply;
+use crate::asked::asked;
+use crate::messages::Response;
 use crate::terminal::Terminal;
 use crate::turns::Verdict;
 use crate::writer::report_message;
 use std::alloc::{AllocError, Global};
 use zvt_apdu::Apdu;
-use zvt_till::hearing::heard;
+use zvt_till::heard::heard;
 use zvt_till::{Order, OrderRefusal, Outgoing, Till};
 
 /// What happens to the two ends. A delivery names a message by its number among all that the other end ever sent,
@@ -48,7 +48,7 @@ pub struct World {
 }
 
 /// The terminal's number where none is chosen.
-pub const USUAL_TID: u32 = 12_345_678;
+pub const DEFAULT_TID: u32 = 12_345_678;
 
 /// Keeps a message that the till sends, if there is one.
 fn keep_sent(
@@ -65,14 +65,14 @@ fn keep_sent(
 }
 
 /// Keeps what the terminal says.
-fn keep_said(said: &mut Vec<Apdu>, alloc: Global, reply: &Reply) -> Result<(), AllocError>
+fn keep_said(said: &mut Vec<Apdu>, alloc: Global, reply: &Response) -> Result<(), AllocError>
     requires { AreWritable (reports_of reply.now) }
     ensures { OnOk result (said.new.items ≡ said.old.items ++ map message_of_report (reports_of reply.now)) }
 {
     match reply {
-        Reply::Nothing => {}
-        Reply::One(report) => said.push(report_message(alloc, report)?)?,
-        Reply::Two(first, second) => {
+        Response::Nothing => {}
+        Response::One(report) => said.push(report_message(alloc, report)?)?,
+        Response::Two(first, second) => {
             said.push(report_message(alloc, first)?)?;
             said.push(report_message(alloc, second)?)?;
         }
@@ -95,7 +95,7 @@ impl World {
     {
         World {
             till: Till::with_defaults(alloc),
-            terminal: Terminal::new(alloc, USUAL_TID),
+            terminal: Terminal::new(alloc, DEFAULT_TID),
             from_till: Vec::new(alloc),
             from_terminal: Vec::new(alloc),
         }

@@ -1,10 +1,10 @@
 //! The messages of the terminal, written without memory.
 ghost use Rattle.std.specs.Prelude.{◌≡◌, ◌+◌, ◌++◌, [], ◌∷◌, ◌<◌, ◌≤◌, ◌^◌, length, codes, IfOk};
 ghost use Rattle.std.specs.Fmt.{decimal};
-ghost use Rattle.zvt_spelling.specs.Reading.{AreBytes};
+ghost use Rattle.zvt_grammar.specs.Reading.{AreBytes};
 ghost use Rattle.zvt_tlv.specs.Sizes.{Puts};
 ghost use Rattle.zvt_apdu.specs.Message.{print_line};
-ghost use Rattle.zvt_apdu.specs.Briefs.{digits, PutsMessage};
+ghost use Rattle.zvt_apdu.specs.TillMessages.{digits, PutsMessage};
 ghost use Rattle.zvt_term.specs.Reports.{IsWritable, currency_field, message_of_report, text_of};
 
 use crate::messages::{Line, Report};
@@ -12,10 +12,10 @@ use itoa::Buffer;
 use std::alloc::{AllocError, Global};
 use zvt_apdu::{Apdu, scan};
 use zvt_bcd::{Amount, Currency, put};
-use zvt_spelling::Scan;
+use zvt_grammar::Scan;
 
 /// The size of a buffer that each report fits in.
-pub const REPORT_ROOM: usize = 32;
+pub const MAX_REPORT_LEN: usize = 32;
 
 /// An amount's six bytes of digits.
 fn amount_digits(amount: Amount) -> [u8; 6]
@@ -67,7 +67,7 @@ fn put_bytes(bytes: &[u8], out: &mut [u8]) -> usize
 }
 
 /// Puts bytes at the front, and others behind them, and says how many.
-fn put_behind(first: &[u8], bytes: &[u8], out: &mut [u8]) -> usize
+fn put_after(first: &[u8], bytes: &[u8], out: &mut [u8]) -> usize
     requires { length first.now + length bytes.now ≤ length out.old }
     ensures written { Puts (first.now ++ bytes.now) out.old out.new result }
     ensures size { result ≡ length first.now + length bytes.now }
@@ -78,18 +78,18 @@ fn put_behind(first: &[u8], bytes: &[u8], out: &mut [u8]) -> usize
 }
 
 /// Puts a message of these control bytes and data at the front, and says its size.
-fn put_data(high: u8, low: u8, bytes: &[u8], out: &mut [u8; REPORT_ROOM]) -> usize
+fn put_data(high: u8, low: u8, bytes: &[u8], out: &mut [u8; MAX_REPORT_LEN]) -> usize
     requires { length bytes.now ≤ 29 }
     ensures written { Puts (high ∷ low ∷ length bytes.now ∷ bytes.now) out.old out.new result }
     ensures fits { result ≤ 32 }
     ensures are_bytes { AreBytes bytes.now }
     ensures byte { low < 256 }
 {
-    put_behind(&[high, low, bytes.len() as u8], bytes, out)
+    put_after(&[high, low, bytes.len() as u8], bytes, out)
 }
 
 /// Puts a registration's completion at the front, and says its size.
-fn put_registration(tid: u32, currency: Option<Currency>, out: &mut [u8; REPORT_ROOM]) -> usize
+fn put_registration(tid: u32, currency: Option<Currency>, out: &mut [u8; MAX_REPORT_LEN]) -> usize
     requires { tid ≤ 99999999 }
     ensures written { PutsMessage (message_of_report (Report.Registered tid currency)) out.old out.new result }
     ensures fits { result ≤ 32 }
@@ -109,7 +109,7 @@ fn put_approval(
     amount: Amount,
     number: u16,
     currency: Option<Currency>,
-    out: &mut [u8; REPORT_ROOM],
+    out: &mut [u8; MAX_REPORT_LEN],
 ) -> usize
     requires { number ≤ 9999 }
     ensures written { PutsMessage (message_of_report (Report.Approved amount number currency)) out.old out.new result }
@@ -141,7 +141,7 @@ fn put_reversal(
     number: u16,
     original: u16,
     currency: Option<Currency>,
-    out: &mut [u8; REPORT_ROOM],
+    out: &mut [u8; MAX_REPORT_LEN],
 ) -> usize
     requires number { number ≤ 9999 }
     requires original { original ≤ 9999 }
@@ -178,12 +178,12 @@ fn put_text(words: &[u8], more: &[u8], out: &mut [u8]) -> usize
     ensures fits { result ≤ 32 }
 {
     let size = (1 + words.len() + more.len()) as u8;
-    let at = put_behind(&[0x06, 0xD1, size, 0x00], words, out);
+    let at = put_after(&[0x06, 0xD1, size, 0x00], words, out);
     at + put_bytes(more, &mut out[at..])
 }
 
 /// Puts a line of words and an amount at the front, and says its size.
-fn put_amount(words: &[u8], amount: Amount, out: &mut [u8; REPORT_ROOM]) -> usize
+fn put_amount(words: &[u8], amount: Amount, out: &mut [u8; MAX_REPORT_LEN]) -> usize
     requires { length words.now ≤ 16 }
     ensures written { PutsMessage (print_line 0 (words.now ++ decimal amount)) out.old out.new result }
     ensures fits { result ≤ 32 }
@@ -193,7 +193,7 @@ fn put_amount(words: &[u8], amount: Amount, out: &mut [u8; REPORT_ROOM]) -> usiz
 }
 
 /// Puts the line at the front, and says its size.
-fn put_line(line: &Line, out: &mut [u8; REPORT_ROOM]) -> usize
+fn put_line(line: &Line, out: &mut [u8; MAX_REPORT_LEN]) -> usize
     ensures written { PutsMessage (message_of_report (Report.Line line.now)) out.old out.new result }
     ensures fits { result ≤ 32 }
 {
@@ -206,7 +206,7 @@ fn put_line(line: &Line, out: &mut [u8; REPORT_ROOM]) -> usize
 
 /// Writes the message's spelling at the front of the buffer, and says its size. It always fits, and what stands behind
 /// it stays.
-pub fn put_report(report: &Report, buffer: &mut [u8; REPORT_ROOM]) -> usize
+pub fn put_report(report: &Report, buffer: &mut [u8; MAX_REPORT_LEN]) -> usize
     requires { IsWritable report.now }
     ensures written { PutsMessage (message_of_report report.now) buffer.old buffer.new result }
     ensures fits { result ≤ 32 }
@@ -238,7 +238,7 @@ pub fn report_message(alloc: Global, report: &Report) -> Result<Apdu, AllocError
     requires { IsWritable report.now }
     ensures { IfOk result (λ apdu. apdu ≡ message_of_report report.now) }
 {
-    let mut buffer = [0; REPORT_ROOM];
+    let mut buffer = [0; MAX_REPORT_LEN];
     let size = put_report(report, &mut buffer);
     let Scan::Whole((apdu, _)) = scan(alloc, &buffer[..size])? else {
         unreachable!()

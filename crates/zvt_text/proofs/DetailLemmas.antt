@@ -4,7 +4,7 @@ use Rattle.zvt_apdu.specs.Message.{Message, registration, abort}
 use Rattle.zvt_apdu.specs.Kinds.{kind_of}
 use Rattle.zvt_apdu.specs.declared.kinds.Kind.TheVariants as kind
 use Rattle.zvt_apdu.specs.Views.{code_in, config_in, currency_in, payload_in}
-use Rattle.zvt_text.specs.Said.{config_text, data_text, detail_text, named_currency, part_text, words_part}
+use Rattle.zvt_text.specs.MessageTexts.{config_text, data_text, detail_text, named_currency, part_text, words_part}
 
 two_parts : {A B : Type 0} → (f : A → List ℕ) (g : B → List ℕ) (a c : Option A) (b d : Option B) → a ≡ c → b ≡ d → part_text f a ++ part_text g b ≡ part_text f c ++ part_text g d
 two_parts f g a c b d p q = ap (λ x. part_text f x ++ part_text g b) p ∙ ap (λ x. part_text f c ++ part_text g x) q

@@ -2,7 +2,7 @@
 use Rattle.std.proofs.Common.{◌≡◌, ℕ, ◌<◌, true, Some, None, List, [], ◌∷◌, ◌++◌, length, ◌∙◌, ap, sym, append_assoc}
 use Rattle.std.proofs.Math.Bool.{Bool-set}
 use Rattle.std.proofs.Math.Logic.{∥∥₁_elim}
-use Rattle.zvt_spelling.specs.Reading.{padded}
+use Rattle.zvt_grammar.specs.Reading.{padded}
 use Rattle.zvt_tlv.specs.Grammar.{Objects}
 use Rattle.zvt_tlv.specs.Checks.{is_shallow}
 use Rattle.zvt_tlv.proofs.CheckLemmas.{spelled_shallow}
@@ -14,7 +14,7 @@ use Rattle.zvt_field.specs.Views.{FieldBytes, tree_of}
 use Rattle.zvt_field.specs.declared.views.FieldView.{FieldView}
 use Rattle.zvt_field.proofs.ViewLemmas.{name_is, plain_of}
 use Rattle.zvt_text.specs.Lines.{field_line, named_text, object_lines, value_text}
-use Rattle.zvt_text.proofs.RoomLemmas.{front_full}
+use Rattle.zvt_text.proofs.RoomLemmas.{prefix_full}
 
 named_plain : (f : Field) (bmp : ℕ) (content : List ℕ) → name_of f ≡ bmp → bytes_of f ≡ Some content → f ≡ plain bmp content
 named_plain (plain n c) bmp content name bytes = let same : c ≡ content = cc (bytes) in cc (name, same)
@@ -48,7 +48,7 @@ named_first (plain n content) bmp name =
 named_first (tree n objects) bmp name = let same : bmp ≡ n = sym name in (10 ∷ object_lines 1 objects, ap (λ (b : ℕ). named_text b ++ 10 ∷ object_lines 1 objects) same)
 
 -- where a room is full at the name, it has no room for the line
-pub name_full : (v : FieldView) (room : ℕ) (before : List ℕ) → room < length (before ++ named_text v.bmp) → room < length (before ++ field_line (shown v))
-name_full v room before full =
+pub name_full : (v : FieldView) (buffer : ℕ) (before : List ℕ) → buffer < length (before ++ named_text v.bmp) → buffer < length (before ++ field_line (shown v))
+name_full v buffer before full =
     let first = named_first (shown v) v.bmp (name_is v.bmp v.content.now v.field) in
-    front_full room (before ++ named_text v.bmp) first.0 (before ++ field_line (shown v)) (append_assoc before (named_text v.bmp) first.0 ∙ ap (λ (line : List ℕ). before ++ line) first.1) full
+    prefix_full buffer (before ++ named_text v.bmp) first.0 (before ++ field_line (shown v)) (append_assoc before (named_text v.bmp) first.0 ∙ ap (λ (line : List ℕ). before ++ line) first.1) full

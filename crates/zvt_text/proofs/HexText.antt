@@ -17,12 +17,12 @@ digits_at : (table : List ℕ) (n k : ℕ) → digits_below table n ≡ true →
 digits_at table zero k all lt = absurd (omega arith)
 digits_at table (suc n) k all lt =
     let parts = and_parts (slice_index table (2 * n) == slice_index upper_digits (n / 16)) _ all in
-    let behind = and_parts (slice_index table (2 * n + 1) == slice_index upper_digits (n % 16)) (digits_below table n) parts.1 in
+    let trailing = and_parts (slice_index table (2 * n + 1) == slice_index upper_digits (n % 16)) (digits_below table n) parts.1 in
     elim (cases_lt k n) [
-      | inl below ↦ digits_at table n k behind.1 below
+      | inl below ↦ digits_at table n k trailing.1 below
       | inr top ↦
           let e : k ≡ n = omega arith in
-          rw e (eqb-true _ _ parts.0, eqb-true _ _ behind.0)
+          rw e (eqb-true _ _ parts.0, eqb-true _ _ trailing.0)
     ]
 
 pub two_digits : (table : List ℕ) (byte : ℕ) → byte < 256 → digits_below table 256 ≡ true → slice_index table (2 * byte) ∷ slice_index table (2 * byte + 1) ∷ [] ≡ encode_upper (byte ∷ [])

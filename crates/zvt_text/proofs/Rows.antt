@@ -6,7 +6,7 @@ use Rattle.zvt_tlv.specs.Grammar.{none, primitive, constructed}
 use Rattle.zvt_field.specs.Grammar.{plain, tree}
 use Rattle.zvt_apdu.specs.Message.{abort, nack, other, print_line, registration, reversal}
 use Rattle.zvt_text.specs.Lines.{field_line}
-use Rattle.zvt_text.specs.Said.{said}
+use Rattle.zvt_text.specs.MessageTexts.{said}
 
 -- 04 00 00 00 00 12 34
 pub amount : field_line (plain 0x04 (0x00 ∷ 0x00 ∷ 0x00 ∷ 0x00 ∷ 0x12 ∷ 0x34 ∷ [])) ≡ codes "  04 amount 1234\n"

@@ -3,7 +3,7 @@ use Rattle.std.specs.Prelude.{◌≡◌, ℕ, Option, List, ◌∷◌, ◌++◌,
 use Rattle.zvt_field.specs.Grammar.{Field, plain}
 use Rattle.zvt_apdu.specs.Message.{registration, reversal, end_of_day}
 use Rattle.zvt_text.specs.Lines.{field_lines}
-use Rattle.zvt_text.specs.Said.{said}
+use Rattle.zvt_text.specs.MessageTexts.{said}
 
 -- Two messages that differ in their passwords alone have one text.
 abbrev pub PasswordsStayHidden : Type 0

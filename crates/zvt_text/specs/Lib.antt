@@ -2,6 +2,6 @@ pub mod Bytes
 pub mod Numbers
 pub mod Results
 pub mod Lines
-pub mod Said
-pub mod Whole
+pub mod MessageTexts
+pub mod Writing
 pub mod Laws

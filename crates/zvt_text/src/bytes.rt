@@ -1,56 +1,56 @@
 //! The text of bytes.
 ghost use Rattle.std.specs.Prelude.{◌≡◌, ◌≤◌, length, take};
-ghost use Rattle.zvt_text.specs.Whole.{Puts};
+ghost use Rattle.zvt_text.specs.Writing.{Puts};
 ghost use Rattle.zvt_text.specs.Bytes.{escaped, escaped_text, hex_of, hex_or_dash, is_plain, quoted};
 
+use crate::cursor::{Full, fixed, hexadecimal, push, word};
 use crate::digits::digits;
-use crate::room::{Full, fixed, hexadecimal, push, word};
 
 /// One byte in hexadecimal.
 #[inline(always)]
-pub(crate) fn byte(room: &mut [u8], at: usize, byte: u8) -> Result<usize, Full>
-    requires { at ≤ length room.old }
-    ensures { Puts result at room.old room.new (hex_of byte) }
+pub(crate) fn byte(buffer: &mut [u8], at: usize, byte: u8) -> Result<usize, Full>
+    requires { at ≤ length buffer.old }
+    ensures { Puts result at buffer.old buffer.new (hex_of byte) }
 {
-    word(room, at, &digits(byte))
+    word(buffer, at, &digits(byte))
 }
 
 /// The bytes in hexadecimal, or a dash.
-pub(crate) fn bytes_or_dash(room: &mut [u8], at: usize, bytes: &[u8]) -> Result<usize, Full>
-    requires { at ≤ length room.old }
-    ensures { Puts result at room.old room.new (hex_or_dash bytes.now) }
+pub(crate) fn bytes_or_dash(buffer: &mut [u8], at: usize, bytes: &[u8]) -> Result<usize, Full>
+    requires { at ≤ length buffer.old }
+    ensures { Puts result at buffer.old buffer.new (hex_or_dash bytes.now) }
 {
     if bytes.is_empty() {
-        return push(room, at, b'-');
+        return push(buffer, at, b'-');
     }
-    hexadecimal(room, at, bytes)
+    hexadecimal(buffer, at, bytes)
 }
 
 /// The bytes between quotation marks, with escapes.
-pub(crate) fn quote(room: &mut [u8], at: usize, bytes: &[u8]) -> Result<usize, Full>
-    requires { at ≤ length room.old }
-    ensures { Puts result at room.old room.new (quoted bytes.now) }
+pub(crate) fn quote(buffer: &mut [u8], at: usize, bytes: &[u8]) -> Result<usize, Full>
+    requires { at ≤ length buffer.old }
+    ensures { Puts result at buffer.old buffer.new (quoted bytes.now) }
 {
-    let at = push(room, at, b'"')?;
-    let at = escape_all(room, at, bytes)?;
-    push(room, at, b'"')
+    let at = push(buffer, at, b'"')?;
+    let at = escape_all(buffer, at, bytes)?;
+    push(buffer, at, b'"')
 }
 
 /// Bytes with escapes, those that stand as they are in one word with their neighbours.
-pub(crate) fn escape_all(room: &mut [u8], at: usize, bytes: &[u8]) -> Result<usize, Full>
-    requires { at ≤ length room.old }
-    ensures { Puts result at room.old room.new (escaped_text bytes.now) }
+pub(crate) fn escape_all(buffer: &mut [u8], at: usize, bytes: &[u8]) -> Result<usize, Full>
+    requires { at ≤ length buffer.old }
+    ensures { Puts result at buffer.old buffer.new (escaped_text bytes.now) }
 {
     let mut end = at;
     let mut rest = bytes;
     'runs: loop {
         let (plain, after) = rest.split_at(plain_first(rest));
-        end = word(room, end, plain)?;
-        let [other, behind @ ..] = after else {
+        end = word(buffer, end, plain)?;
+        let [other, trailing @ ..] = after else {
             return Ok(end);
         };
-        end = escape(room, end, *other)?;
-        rest = behind;
+        end = escape(buffer, end, *other)?;
+        rest = trailing;
     }
 }
 
@@ -67,15 +67,15 @@ fn plain_first(bytes: &[u8]) -> usize
     count
 }
 
-fn escape(room: &mut [u8], at: usize, character: u8) -> Result<usize, Full>
-    requires { at ≤ length room.old }
-    ensures { Puts result at room.old room.new (escaped character) }
+fn escape(buffer: &mut [u8], at: usize, character: u8) -> Result<usize, Full>
+    requires { at ≤ length buffer.old }
+    ensures { Puts result at buffer.old buffer.new (escaped character) }
 {
     if is_plain(character) {
-        return push(room, at, character);
+        return push(buffer, at, character);
     }
-    let at = fixed(room, at, *b"\\x")?;
-    byte(room, at, character)
+    let at = fixed(buffer, at, *b"\\x")?;
+    byte(buffer, at, character)
 }
 
 /// Whether the byte stands as it is.

@@ -2,127 +2,127 @@
 ghost use Rattle.std.specs.Prelude.{◌≤◌, ◌+◌, ◌∷◌, [], length};
 ghost use Rattle.std.specs.Option.{option_copied};
 ghost use Rattle.hex.specs.Hex.{encode_upper};
-ghost use Rattle.zvt_text.specs.Said.{config_text, data_text, four_digits, hex_part, named_currency, part_text, quoted_part, words_part};
-ghost use Rattle.zvt_text.specs.Whole.{Puts};
+ghost use Rattle.zvt_text.specs.MessageTexts.{config_text, data_text, four_digits, hex_part, named_currency, part_text, quoted_part, words_part};
+ghost use Rattle.zvt_text.specs.Writing.{Puts};
 
 use crate::bytes::{byte, quote};
+use crate::cursor::{Full, fixed, hexadecimal, push};
 use crate::results::put_result;
-use crate::room::{Full, fixed, hexadecimal, push};
 use zvt_bcd::Currency;
 
 /// The payload, if there is any.
 #[inline(always)]
-pub(crate) fn data(room: &mut [u8], at: usize, payload: Option<&[u8]>) -> Result<usize, Full>
-    requires { at ≤ length room.old }
-    ensures { Puts result at room.old room.new (part_text data_text (option_copied payload.entry)) }
+pub(crate) fn data(buffer: &mut [u8], at: usize, payload: Option<&[u8]>) -> Result<usize, Full>
+    requires { at ≤ length buffer.old }
+    ensures { Puts result at buffer.old buffer.new (part_text data_text (option_copied payload.entry)) }
 {
     match payload {
-        Some(payload) => payload_data(room, at, payload),
+        Some(payload) => payload_data(buffer, at, payload),
         None => Ok(at),
     }
 }
 
-fn payload_data(room: &mut [u8], at: usize, payload: &[u8]) -> Result<usize, Full>
-    requires { at ≤ length room.old }
-    ensures { Puts result at room.old room.new (data_text payload.now) }
+fn payload_data(buffer: &mut [u8], at: usize, payload: &[u8]) -> Result<usize, Full>
+    requires { at ≤ length buffer.old }
+    ensures { Puts result at buffer.old buffer.new (data_text payload.now) }
 {
     if payload.is_empty() {
         return Ok(at);
     }
-    let at = fixed(room, at, *b" data ")?;
-    hexadecimal(room, at, payload)
+    let at = fixed(buffer, at, *b" data ")?;
+    hexadecimal(buffer, at, payload)
 }
 
 /// A code, a status or an attribute, in hexadecimal.
 #[inline(always)]
-pub(crate) fn byte_part(room: &mut [u8], at: usize, part: Option<u8>) -> Result<usize, Full>
-    requires { at ≤ length room.old }
-    ensures { Puts result at room.old room.new (part_text hex_part part) }
+pub(crate) fn byte_part(buffer: &mut [u8], at: usize, part: Option<u8>) -> Result<usize, Full>
+    requires { at ≤ length buffer.old }
+    ensures { Puts result at buffer.old buffer.new (part_text hex_part part) }
 {
     let Some(part) = part else {
         return Ok(at);
     };
-    let at = push(room, at, b' ')?;
-    byte(room, at, part)
+    let at = push(buffer, at, b' ')?;
+    byte(buffer, at, part)
 }
 
 /// A result code, in words.
-pub(crate) fn outcome(room: &mut [u8], at: usize, code: Option<u8>) -> Result<usize, Full>
-    requires { at ≤ length room.old }
-    ensures { Puts result at room.old room.new (part_text words_part code) }
+pub(crate) fn outcome(buffer: &mut [u8], at: usize, code: Option<u8>) -> Result<usize, Full>
+    requires { at ≤ length buffer.old }
+    ensures { Puts result at buffer.old buffer.new (part_text words_part code) }
 {
     let Some(code) = code else {
         return Ok(at);
     };
-    let at = push(room, at, b' ')?;
-    put_result(room, at, code)
+    let at = push(buffer, at, b' ')?;
+    put_result(buffer, at, code)
 }
 
 /// A quoted line.
-pub(crate) fn printed(room: &mut [u8], at: usize, line: Option<&[u8]>) -> Result<usize, Full>
-    requires { at ≤ length room.old }
-    ensures { Puts result at room.old room.new (part_text quoted_part (option_copied line.entry)) }
+pub(crate) fn printed(buffer: &mut [u8], at: usize, line: Option<&[u8]>) -> Result<usize, Full>
+    requires { at ≤ length buffer.old }
+    ensures { Puts result at buffer.old buffer.new (part_text quoted_part (option_copied line.entry)) }
 {
     let Some(line) = line else {
         return Ok(at);
     };
-    let at = push(room, at, b' ')?;
-    quote(room, at, line)
+    let at = push(buffer, at, b' ')?;
+    quote(buffer, at, line)
 }
 
 /// The control field.
-pub(crate) fn control(room: &mut [u8], at: usize, control: [u8; 2]) -> Result<usize, Full>
-    requires { at ≤ length room.old }
-    ensures { Puts result at room.old room.new (32 ∷ encode_upper control) }
+pub(crate) fn control(buffer: &mut [u8], at: usize, control: [u8; 2]) -> Result<usize, Full>
+    requires { at ≤ length buffer.old }
+    ensures { Puts result at buffer.old buffer.new (32 ∷ encode_upper control) }
 {
-    let at = push(room, at, b' ')?;
-    hexadecimal(room, at, control.as_slice())
+    let at = push(buffer, at, b' ')?;
+    hexadecimal(buffer, at, control.as_slice())
 }
 
 /// The configuration of a registration.
-pub(crate) fn config(room: &mut [u8], at: usize, config: Option<u8>) -> Result<usize, Full>
-    requires { at ≤ length room.old }
-    ensures { Puts result at room.old room.new (part_text config_text config) }
+pub(crate) fn config(buffer: &mut [u8], at: usize, config: Option<u8>) -> Result<usize, Full>
+    requires { at ≤ length buffer.old }
+    ensures { Puts result at buffer.old buffer.new (part_text config_text config) }
 {
     let Some(config) = config else {
         return Ok(at);
     };
-    let at = fixed(room, at, *b" config ")?;
-    byte(room, at, config)
+    let at = fixed(buffer, at, *b" config ")?;
+    byte(buffer, at, config)
 }
 
 /// The currency of a registration.
 pub(crate) fn currency(
-    room: &mut [u8],
+    buffer: &mut [u8],
     at: usize,
     currency: Option<Currency>,
 ) -> Result<usize, Full>
-    requires { at ≤ length room.old }
-    ensures { Puts result at room.old room.new (part_text named_currency currency) }
+    requires { at ≤ length buffer.old }
+    ensures { Puts result at buffer.old buffer.new (part_text named_currency currency) }
 {
     let Some(currency) = currency else {
         return Ok(at);
     };
-    let at = fixed(room, at, *b" currency ")?;
-    four(room, at, currency.get())
+    let at = fixed(buffer, at, *b" currency ")?;
+    four(buffer, at, currency.get())
 }
 
 /// Four decimal digits.
-fn four(room: &mut [u8], at: usize, number: u16) -> Result<usize, Full>
+fn four(buffer: &mut [u8], at: usize, number: u16) -> Result<usize, Full>
     requires digits { number ≤ 9999 }
-    requires inside { at ≤ length room.old }
-    ensures { Puts result at room.old room.new (four_digits number) }
+    requires inside { at ≤ length buffer.old }
+    ensures { Puts result at buffer.old buffer.new (four_digits number) }
 {
-    let at = digit(room, at, number / 1000 % 10)?;
-    let at = digit(room, at, number / 100 % 10)?;
-    let at = digit(room, at, number / 10 % 10)?;
-    digit(room, at, number % 10)
+    let at = digit(buffer, at, number / 1000 % 10)?;
+    let at = digit(buffer, at, number / 100 % 10)?;
+    let at = digit(buffer, at, number / 10 % 10)?;
+    digit(buffer, at, number % 10)
 }
 
-fn digit(room: &mut [u8], at: usize, value: u16) -> Result<usize, Full>
+fn digit(buffer: &mut [u8], at: usize, value: u16) -> Result<usize, Full>
     requires digit { value ≤ 9 }
-    requires inside { at ≤ length room.old }
-    ensures { Puts result at room.old room.new ((48 + value) ∷ []) }
+    requires inside { at ≤ length buffer.old }
+    ensures { Puts result at buffer.old buffer.new ((48 + value) ∷ []) }
 {
-    push(room, at, b'0' + value as u8)
+    push(buffer, at, b'0' + value as u8)
 }

@@ -5,14 +5,14 @@ ghost use Rattle.zvt_text.specs.Bytes.{hex_of};
 
 /// Writes two digits for each byte.
 #[inline(always)]
-pub(crate) fn write_digits(bytes: &[u8], room: &mut [u8])
-    requires { length room.old ≡ 2 * length bytes.now }
-    ensures { room.new ≡ encode_upper bytes.now }
+pub(crate) fn write_digits(bytes: &[u8], buffer: &mut [u8])
+    requires { length buffer.old ≡ 2 * length bytes.now }
+    ensures { buffer.new ≡ encode_upper bytes.now }
 {
     'bytes: for at in 0..bytes.len() {
         let [high, low] = digits(bytes[at]);
-        room[2 * at] = high;
-        room[2 * at + 1] = low;
+        buffer[2 * at] = high;
+        buffer[2 * at + 1] = low;
     }
 }
 

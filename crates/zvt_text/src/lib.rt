@@ -2,20 +2,20 @@
 #![tactic(auto)]
 
 mod bytes;
+mod cursor;
 mod details;
 mod digits;
 mod heads;
-mod kept;
 pub mod laws;
 mod lines;
+mod message_text;
 mod objects;
+mod receipt_numbers;
 mod results;
-mod room;
-mod said;
 mod text;
 mod values;
-mod whole;
+mod write;
 
 pub use heads::kind_name;
 pub use text::Text;
-pub use whole::{escaped_line, hexadecimal, line, message, numbers, result_words};
+pub use write::{escaped_line, hexadecimal, line, message, numbers, result_words};

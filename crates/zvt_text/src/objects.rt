@@ -2,35 +2,35 @@
 ghost use Rattle.std.specs.Prelude.{◌≡◌, ◌+◌, ◌≤◌, true, length};
 ghost use Rattle.zvt_tlv.specs.Checks.{is_shallow};
 ghost use Rattle.zvt_text.specs.Lines.{object_head, object_lines};
-ghost use Rattle.zvt_text.specs.Whole.{Puts};
+ghost use Rattle.zvt_text.specs.Writing.{Puts};
 
 use crate::bytes::bytes_or_dash;
-use crate::room::{Full, fixed, hexadecimal, push, repeat};
+use crate::cursor::{Full, fixed, hexadecimal, push, repeat};
 use zvt_tlv::ForestView;
 
 /// A line for each object that stands at a depth; those of the objects in a constructed one follow its own.
 pub(crate) fn object_lines(
-    room: &mut [u8],
+    buffer: &mut [u8],
     at: usize,
     objects: ForestView<'_>,
     depth: usize,
 ) -> Result<usize, Full>
     requires shallow { is_shallow depth objects ≡ true }
     requires most { depth ≤ 6 }
-    requires inside { at ≤ length room.old }
-    ensures { Puts result at room.old room.new (object_lines depth objects.entry) }
+    requires inside { at ≤ length buffer.old }
+    ensures { Puts result at buffer.old buffer.new (object_lines depth objects.entry) }
 {
     let mut end = at;
     for object in objects {
-        let at = head(room, end, object.tag, depth)?;
+        let at = head(buffer, end, object.tag, depth)?;
         match object.children() {
             None => {
-                let at = bytes_or_dash(room, at, object.content)?;
-                end = push(room, at, b'\n')?;
+                let at = bytes_or_dash(buffer, at, object.content)?;
+                end = push(buffer, at, b'\n')?;
             }
             Some(inner) => {
-                let at = fixed(room, at, *b"constructed\n")?;
-                end = object_lines(room, at, inner, depth + 1)?;
+                let at = fixed(buffer, at, *b"constructed\n")?;
+                end = object_lines(buffer, at, inner, depth + 1)?;
             }
         }
     }
@@ -38,12 +38,12 @@ pub(crate) fn object_lines(
 }
 
 /// What stands before an object's content.
-fn head(room: &mut [u8], at: usize, tag: &[u8], depth: usize) -> Result<usize, Full>
+fn head(buffer: &mut [u8], at: usize, tag: &[u8], depth: usize) -> Result<usize, Full>
     requires most { depth ≤ 6 }
-    requires inside { at ≤ length room.old }
-    ensures { Puts result at room.old room.new (object_head depth tag.now) }
+    requires inside { at ≤ length buffer.old }
+    ensures { Puts result at buffer.old buffer.new (object_head depth tag.now) }
 {
-    let at = repeat(room, at, b' ', 2 + 2 * depth)?;
-    let at = hexadecimal(room, at, tag)?;
-    push(room, at, b' ')
+    let at = repeat(buffer, at, b' ', 2 + 2 * depth)?;
+    let at = hexadecimal(buffer, at, tag)?;
+    push(buffer, at, b' ')
 }

@@ -1,25 +1,25 @@
 //! The words of result codes.
 ghost use Rattle.std.specs.Prelude.{◌≡◌, ◌≤◌, length, option_map};
 ghost use Rattle.zvt_text.specs.Results.{meaning_of, result_words};
-ghost use Rattle.zvt_text.specs.Whole.{Puts};
+ghost use Rattle.zvt_text.specs.Writing.{Puts};
 
 use crate::bytes::byte;
-use crate::room::{Full, fixed, push, word};
+use crate::cursor::{Full, fixed, push, word};
 
 /// A result code and what it means.
-pub(crate) fn put_result(room: &mut [u8], at: usize, code: u8) -> Result<usize, Full>
-    requires { at ≤ length room.old }
-    ensures { Puts result at room.old room.new (result_words code) }
+pub(crate) fn put_result(buffer: &mut [u8], at: usize, code: u8) -> Result<usize, Full>
+    requires { at ≤ length buffer.old }
+    ensures { Puts result at buffer.old buffer.new (result_words code) }
 {
     match meaning(code) {
         Some(meaning) => {
-            let at = byte(room, at, code)?;
-            let at = push(room, at, b' ')?;
-            word(room, at, meaning.as_bytes())
+            let at = byte(buffer, at, code)?;
+            let at = push(buffer, at, b' ')?;
+            word(buffer, at, meaning.as_bytes())
         }
         None => {
-            let at = fixed(room, at, *b"code ")?;
-            byte(room, at, code)
+            let at = fixed(buffer, at, *b"code ")?;
+            byte(buffer, at, code)
         }
     }
 }

@@ -1,20 +1,20 @@
 //! Bytes of text, written one behind another.
 ghost use Rattle.std.specs.Prelude.{◌≡◌, ℕ, ◌<◌, ◌≤◌, List, [], ◌∷◌, length, take, IfOk, OnErr, OnOk};
-ghost use Rattle.zvt_text.specs.Whole.{Adds, Puts};
+ghost use Rattle.zvt_text.specs.Writing.{Adds, Puts};
 
-use crate::room::{self, Full};
+use crate::cursor::{self, Full};
 use itoa::{Buffer, Integer};
 use std::alloc::{AllocError, Global};
 use std::marker::Model;
 
 /// The room of the first text that is written.
-const FIRST_ROOM: usize = 128;
+const FIRST_CAPACITY: usize = 128;
 
 /// Text that grows. Where memory is refused nothing of what was to be written stands in it.
 #[derive(Drop)]
 pub struct Text {
     /// The text, and room behind it.
-    room: Vec<u8>,
+    buffer: Vec<u8>,
     size: usize,
 }
 
@@ -26,9 +26,9 @@ impl Model for Text {
 
     ghost coded = { coded_list coded_ℕ };
 
-    ghost view = { λ t. take t.size t.room.items };
+    ghost view = { λ t. take t.size t.buffer.items };
 
-    ghost invariant = { λ t. t.size ≤ length t.room.items };
+    ghost invariant = { λ t. t.size ≤ length t.buffer.items };
 }
 
 impl Text {
@@ -37,7 +37,7 @@ impl Text {
         ensures { result ≡ [] }
     {
         Text {
-            room: Vec::new(alloc),
+            buffer: Vec::new(alloc),
             size: 0,
         }
     }
@@ -46,9 +46,9 @@ impl Text {
     pub fn with_room(alloc: Global, size: usize) -> Result<Text, AllocError>
         ensures { IfOk result (λ text. text ≡ []) }
     {
-        let mut room = Vec::new(alloc);
-        room.resize(size, 0)?;
-        Ok(Text { room, size: 0 })
+        let mut buffer = Vec::new(alloc);
+        buffer.resize(size, 0)?;
+        Ok(Text { buffer, size: 0 })
     }
 
     /// Its bytes.
@@ -56,7 +56,7 @@ impl Text {
     pub fn bytes(&self) -> &[u8]
         ensures { result.now ≡ self.now }
     {
-        &self.room[..self.size]
+        &self.buffer[..self.size]
     }
 
     /// How many bytes it has.
@@ -104,11 +104,11 @@ impl Text {
         ensures { Adds result self.old self.new (S.said what.now) }
     {
         'tries: loop {
-            if let Ok(end) = put_behind(&mut self.room, self.size, what) {
+            if let Ok(end) = put_after(&mut self.buffer, self.size, what) {
                 self.size = end;
                 return Ok(());
             }
-            grow(&mut self.room)?;
+            grow(&mut self.buffer)?;
         }
     }
 }
@@ -118,8 +118,8 @@ pub(crate) trait Says {
     ghost said: { Self → List ℕ };
 
     /// Writes it where the room begins, and answers its size.
-    fn put(&self, room: &mut [u8]) -> Result<usize, Full>
-        ensures { Puts result 0 room.old room.new (said self.now) };
+    fn put(&self, buffer: &mut [u8]) -> Result<usize, Full>
+        ensures { Puts result 0 buffer.old buffer.new (said self.now) };
 }
 
 /// One character.
@@ -130,8 +130,8 @@ impl Says for Character {
     ghost said = { λ c. c.0 ∷ [] };
 
     #[inline(always)]
-    fn put(&self, room: &mut [u8]) -> Result<usize, Full> {
-        room::push(room, 0, self.0)
+    fn put(&self, buffer: &mut [u8]) -> Result<usize, Full> {
+        cursor::push(buffer, 0, self.0)
     }
 }
 
@@ -143,30 +143,30 @@ impl Says for Word<'_> {
     ghost said = { λ w. w.0.now };
 
     #[inline(always)]
-    fn put(&self, room: &mut [u8]) -> Result<usize, Full> {
-        room::word(room, 0, self.0)
+    fn put(&self, buffer: &mut [u8]) -> Result<usize, Full> {
+        cursor::word(buffer, 0, self.0)
     }
 }
 
 /// Writes what is said behind what stands in the room, and answers where it ends.
 #[inline(always)]
-fn put_behind<S: Says>(room: &mut [u8], size: usize, what: &S) -> Result<usize, Full>
-    requires { size ≤ length room.old }
-    ensures puts { Puts result size room.old room.new (S.said what.now) }
-    ensures keeps { take size room.new ≡ take size room.old }
+fn put_after<S: Says>(buffer: &mut [u8], size: usize, what: &S) -> Result<usize, Full>
+    requires { size ≤ length buffer.old }
+    ensures puts { Puts result size buffer.old buffer.new (S.said what.now) }
+    ensures keeps { take size buffer.new ≡ take size buffer.old }
 {
-    let end = what.put(&mut room[size..])?;
+    let end = what.put(&mut buffer[size..])?;
     Ok(size + end)
 }
 
 /// Adds as much room as there is.
 #[cold]
-fn grow(room: &mut Vec<u8>) -> Result<(), AllocError>
-    ensures ok { OnOk result ((length room.old.items < length room.new.items) × (take (length room.old.items) room.new.items ≡ room.old.items)) }
-    ensures err { OnErr result (room.new.items ≡ room.old.items) }
+fn grow(buffer: &mut Vec<u8>) -> Result<(), AllocError>
+    ensures ok { OnOk result ((length buffer.old.items < length buffer.new.items) × (take (length buffer.old.items) buffer.new.items ≡ buffer.old.items)) }
+    ensures err { OnErr result (buffer.new.items ≡ buffer.old.items) }
 {
-    let Some(twice) = room.len().checked_mul(2) else {
+    let Some(twice) = buffer.len().checked_mul(2) else {
         return Err(AllocError);
     };
-    room.resize(twice.max(FIRST_ROOM), 0)
+    buffer.resize(twice.max(FIRST_CAPACITY), 0)
 }

@@ -4,7 +4,7 @@ use Rattle.zvt_apdu.specs.Message.{Message}
 use Rattle.zvt_stream.specs.Answered.{Answered}
 use Rattle.zvt_stream.specs.StreamState.{StreamState}
 use Rattle.zvt_stream.specs.Hearing.{Hears}
-use Rattle.zvt_stream.specs.Course.{Breaks, Told}
+use Rattle.zvt_stream.specs.LineRun.{Breaks, Told}
 use Rattle.zvt_stream.specs.declared.line.LineFault.{LineFault}
 use Rattle.zvt_stream.specs.declared.line.LineFault.TheVariants as faults
 use Rattle.zvt_till.specs.declared.happenings.Happening.{Happening}

@@ -8,7 +8,7 @@ use Rattle.zvt_till.specs.declared.orders.Order.TheVariants.{Pay as PayOrder}
 use Rattle.zvt_till.specs.declared.entries.Entry.{Entry}
 use Rattle.zvt_till.specs.declared.outcomes.Outcome.{Outcome}
 use Rattle.zvt_till.specs.declared.outcomes.Outcome.TheVariants.{Registered, Paid, Declined, Refused, Aborted, Unclear, Reversed, DayClosed}
-use Rattle.zvt_till.specs.declared.judging.OpenPayment.{OpenPayment}
+use Rattle.zvt_till.specs.declared.log_books.OpenPayment.{OpenPayment}
 use Rattle.zvt_till.specs.Statuses.{Charge}
 use Rattle.zvt_till.specs.Segments.{Opening, Segment, Ended, begun, in_force, segments, ends, is_positive, status_of, statuses, end_of}
 use Rattle.zvt_till.specs.Books.{Books, Booked, charge_of, traces, verdict_by, write_down, judge_as, books_of, books}
@@ -19,7 +19,7 @@ use Rattle.zvt_till.specs.Judging.{as_book, written, paying, is_open_as, open_af
 use Rattle.zvt_till.proofs.Segments.{heard_last, grown, segments-snoc, end_grown, end_of-snoc, list_any-snoc, fold-snoc, heard_last-snoc, split_last}
 use Rattle.zvt_till.proofs.Summaries.{summary, summary-snoc}
 use Rattle.zvt_till.proofs.Payment.{verdict_of, payment-verdict}
-use Rattle.zvt_till.proofs.Worth.{seg, begun_by, books-snoc, end-missing, end-reached}
+use Rattle.zvt_till.proofs.SegmentEndLemmas.{seg, begun_by, books-snoc, end-missing, end-reached}
 
 -- what is written is the verdict
 written-verdict : (b : Books) (a : ℕ) (out : Outcome) → written b a out ≡ write_down b a (verdict_of a out)

@@ -18,7 +18,7 @@ use Rattle.zvt_till.specs.Outcomes.{trace_used, payment_outcome, broken_outcome,
 use Rattle.zvt_till.specs.Books.{Booked}
 use Rattle.zvt_till.specs.Till.{TillState, step, new_till, book_after}
 use Rattle.zvt_till.specs.Laws.{trace_of, row_of, TracesStayDistinct}
-use Rattle.zvt_till.proofs.Kept.{BookStep, book-step, reversed-rows}
+use Rattle.zvt_till.proofs.BookStepLemmas.{BookStep, book-step, reversed-rows}
 
 abbrev AreApart : List Entry → Type 0
 AreApart book = IsDistinct nat_eq (map trace_of book)

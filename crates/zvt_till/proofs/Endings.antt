@@ -25,7 +25,7 @@ use Rattle.zvt_till.proofs.Payment.{verdict_of, payment-verdict}
 use Rattle.zvt_till.proofs.Marks.{mark-idle, IsPlaced, Placed, mark-snoc, mark-traces, row_at, entry_at, after_end, changed_at, mark-reversal}
 use Rattle.zvt_till.proofs.Reversals.{reversal-after}
 use Rattle.zvt_till.proofs.Settled.{IsSettled, sound-summary, settled-outcome}
-use Rattle.zvt_till.proofs.Worth.{seg, opened, begun_by, rows, loose, books-snoc, entries-by}
+use Rattle.zvt_till.proofs.SegmentEndLemmas.{seg, opened, begun_by, rows, loose, books-snoc, entries-by}
 
 entries-shut : (closed : List Segment) (o : Opening) (hs : List Happening) (end : Option Ended) → end_of hs ≡ end
     → entries_of (closed ++ seg o hs ∷ []) ≡ mark (closed ++ seg o hs ∷ []) 0 (judge_end (books_of closed) o end).booked

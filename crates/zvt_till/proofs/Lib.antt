@@ -7,24 +7,24 @@ pub mod Payment
 pub mod Marks
 pub mod Settled
 pub mod Reversals
-pub mod Worth
+pub mod SegmentEndLemmas
 pub mod Endings
-pub mod Tied
+pub mod LogStateLemmas
 pub mod Registrations
 pub mod Restored
 pub mod Steps
 pub mod Approvals
-pub mod Kept
+pub mod BookStepLemmas
 pub mod Distinct
 pub mod Runs
 pub mod Lines
 pub mod Accepted
 pub mod Pieces
-pub mod Carrying
+pub mod TillHistoryLemmas
 pub mod Ordering
 pub mod BooksLemmas
-pub mod Noted
+pub mod HeardLemmas
 pub mod Unclear
 mod Rows
 mod Room
-mod Once
+mod DistinctLemmas

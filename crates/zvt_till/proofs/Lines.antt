@@ -3,15 +3,15 @@ use Rattle.std.proofs.Common.{◌≡◌, ℕ, suc, Bool, true, false, cond, List
 use Rattle.std.proofs.lemmas.Bool.{false≢true}
 use Rattle.std.proofs.lemmas.List.{map-append, take-append-drop}
 use Rattle.zvt_apdu.specs.Message.{Message}
-use Rattle.zvt_spelling.specs.Reading.{Reading, shortest}
+use Rattle.zvt_grammar.specs.Reading.{Reading, shortest}
 use Rattle.zvt_apdu.specs.Grammar.{Spells}
 use Rattle.zvt_stream.specs.Apdus.{Alive, Spelled, Cut, UnfinishedIn, IsRefusedIn}
 use Rattle.zvt_stream.specs.StreamState.{StreamState, at_start}
 use Rattle.zvt_stream.specs.Feeds.{Feeds}
-use Rattle.zvt_stream.specs.declared.feeding.Fed.TheVariants as fed
-use Rattle.zvt_spelling.specs.declared.why.Why.{Why}
-use Rattle.zvt_stream.proofs.Beginnings.{spelled_more, spelled_append, front_alive, nothing_begun}
-use Rattle.zvt_stream.proofs.Going.{split}
+use Rattle.zvt_stream.specs.declared.stream.Fed.TheVariants as fed
+use Rattle.zvt_grammar.specs.declared.why.Why.{Why}
+use Rattle.zvt_stream.proofs.Beginnings.{spelled_more, spelled_append, prefix_alive, nothing_begun}
+use Rattle.zvt_stream.proofs.LineRunLemmas.{split}
 use Rattle.zvt_till.specs.declared.happenings.Happening.{Happening}
 use Rattle.zvt_till.specs.declared.happenings.Happening.TheVariants.{Connected, Sent as SentOut, Malformed, Lost}
 use Rattle.zvt_till.specs.declared.events.Event.{Event}
@@ -75,7 +75,7 @@ reads-refused log now held piece rest stream after place why r f =
       rest = bytes;
       end = Malformed ∷ [];
       cut = record { spelled = r.spelled; none_whole = refused.0 };
-      ends = inr ((λ a. refused.1.dead (front_alive (take (suc place) bytes) (drop (suc place) bytes) (subst Alive (sym (take-append-drop (suc place) bytes)) a))), refl);
+      ends = inr ((λ a. refused.1.dead (prefix_alive (take (suc place) bytes) (drop (suc place) bytes) (subst Alive (sym (take-append-drop (suc place) bytes)) a))), refl);
       heard = ap (λ x. x ++ Malformed ∷ []) r.heard ∙ append_assoc log (map hears r.messages) (Malformed ∷ []);
       goes_on = λ e. absurd cc;
       strict = f.3 ∙ r.strict;

@@ -96,9 +96,9 @@ pub Placed-snoc : (n : ℕ) (ss : List Segment) (s : Segment) → Placed n ss �
 Placed-snoc n [] s p q = (q, tt)
 Placed-snoc n (t ∷ ss) s p q = (p.0, Placed-snoc n ss s p.1 q)
 
-pub Placed-front : (n : ℕ) (ss : List Segment) (s : Segment) → Placed n (ss ++ s ∷ []) → Placed n ss
-Placed-front n [] s p = tt
-Placed-front n (t ∷ ss) s p = (p.0, Placed-front n ss s p.1)
+pub Placed-prefix : (n : ℕ) (ss : List Segment) (s : Segment) → Placed n (ss ++ s ∷ []) → Placed n ss
+Placed-prefix n [] s p = tt
+Placed-prefix n (t ∷ ss) s p = (p.0, Placed-prefix n ss s p.1)
 
 pub Placed-last : (n : ℕ) (ss : List Segment) (s : Segment) → Placed n (ss ++ s ∷ []) → IsPlaced n s.opening.order
 Placed-last n [] s p = p.0

@@ -19,10 +19,10 @@ use Rattle.zvt_till.specs.View.{TillValue}
 use Rattle.zvt_till.specs.Log.{facts_in}
 use Rattle.zvt_till.specs.Events.{hears}
 use Rattle.zvt_till.specs.Line.{Fails}
-use Rattle.zvt_till.specs.Carried.{Stands, told_of, UnsentAreLogged, Takes, Readies, TakesAll, sent_by, sent_by_all, sent_in, OrdersAreLogged}
+use Rattle.zvt_till.specs.TillHistory.{Stands, told_of, UnsentAreLogged, Takes, Readies, TakesAll, sent_by, sent_by_all, sent_in, OrdersAreLogged}
 use Rattle.zvt_till.proofs.Steps.{steps_meet_log}
 use Rattle.zvt_till.proofs.Runs.{follows-order, step-order}
-use Rattle.zvt_till.proofs.Carrying.{stands-more, runs_are_logged, faults_are_logged}
+use Rattle.zvt_till.proofs.TillHistoryLemmas.{stands-more, runs_are_logged, faults_are_logged}
 
 pub unsent_are_logged : UnsentAreLogged
 unsent_are_logged settings log fault order old new first last t n =
@@ -47,13 +47,13 @@ sent-told faults.Memory = refl
 sent-told faults.Write = refl
 sent-told faults.Stopped = refl
 
-sent-append : (front back : List Happening) → sent_in (front ++ back) ≡ sent_in front ++ sent_in back
+sent-append : (prefix back : List Happening) → sent_in (prefix ++ back) ≡ sent_in prefix ++ sent_in back
 sent-append [] back = refl
-sent-append (Connected ∷ front) back = sent-append front back
-sent-append (SentOut order ∷ front) back = ap (λ x. order ∷ x) (sent-append front back)
-sent-append (HeardIn m ∷ front) back = sent-append front back
-sent-append (Malformed ∷ front) back = sent-append front back
-sent-append (Lost ∷ front) back = sent-append front back
+sent-append (Connected ∷ prefix) back = sent-append prefix back
+sent-append (SentOut order ∷ prefix) back = ap (λ x. order ∷ x) (sent-append prefix back)
+sent-append (HeardIn m ∷ prefix) back = sent-append prefix back
+sent-append (Malformed ∷ prefix) back = sent-append prefix back
+sent-append (Lost ∷ prefix) back = sent-append prefix back
 
 -- what happens next to a till, and the orders in it
 record Adds (settings : Settings) (log : List Happening) (state : TillState) (orders : List Sent) : Type 0 where
@@ -96,13 +96,13 @@ took settings log order (Ok outcome) old new t k =
 took settings log order (Err fault) old new t k =
     failed settings log fault order k.before k.after old new k.coming k.left k.first k.last k.turns k.reads_before k.reads_after t k.went
 
-joined : (settings : Settings) (log : List Happening) (state : TillState) (front : List Happening) (first rest : List Sent)
-    → sent_in front ≡ first → Adds settings (log ++ front) state rest → Adds settings log state (first ++ rest)
-joined settings log state front first rest e a =
+joined : (settings : Settings) (log : List Happening) (state : TillState) (prefix : List Happening) (first rest : List Sent)
+    → sent_in prefix ≡ first → Adds settings (log ++ prefix) state rest → Adds settings log state (first ++ rest)
+joined settings log state prefix first rest e a =
     record {
-      added = front ++ a.added;
-      stands = subst (λ l. Stands settings l state) (append_assoc log front a.added) a.stands;
-      sent = sent-append front a.added ∙ ap (λ x. x ++ sent_in a.added) e ∙ ap (λ x. first ++ x) a.sent;
+      added = prefix ++ a.added;
+      stands = subst (λ l. Stands settings l state) (append_assoc log prefix a.added) a.stands;
+      sent = sent-append prefix a.added ∙ ap (λ x. x ++ sent_in a.added) e ∙ ap (λ x. first ++ x) a.sent;
     }
 
 took-all : (settings : Settings) (log : List Happening) (taken : List (Order × Result Outcome RunFault)) (old new : TillValue) → Stands settings log old.state → TakesAll old taken new

@@ -3,12 +3,12 @@ use Rattle.std.proofs.Common.{◌≡◌, ℕ, Bool, true, false, cond, List, [],
 use Rattle.std.proofs.lemmas.Bool.{false≢true}
 use Rattle.std.proofs.lemmas.List.{map-append, append_cancel_left}
 use Rattle.std.proofs.lemmas.List.Sums.{fold-append}
-use Rattle.zvt_spelling.specs.Reading.{shortest}
-use Rattle.zvt_spelling.proofs.CutLemmas.{cuts_are_one}
+use Rattle.zvt_grammar.specs.Reading.{shortest}
+use Rattle.zvt_grammar.proofs.CutLemmas.{cuts_are_one}
 use Rattle.zvt_apdu.specs.Message.{Message}
 use Rattle.zvt_apdu.proofs.OneMessage.{messages_end_themselves}
 use Rattle.zvt_stream.specs.Apdus.{Spells, Alive, NoneWhole, Spelled, Cut}
-use Rattle.zvt_stream.proofs.Beginnings.{spelled_more, front_alive}
+use Rattle.zvt_stream.proofs.Beginnings.{spelled_more, prefix_alive}
 use Rattle.zvt_till.specs.declared.happenings.Happening.{Happening}
 use Rattle.zvt_till.specs.declared.happenings.Happening.TheVariants.{Lost}
 use Rattle.zvt_till.specs.declared.events.Event.{Event}
@@ -58,13 +58,13 @@ pub logs_are_one : LogsAreOne
 logs_are_one events log other p q = one-leads events [] [] log other p.0 q.0 p.1 q.1
 
 -- of two fronts of one list one is a front of the other
-fronts : (a b x y : List ℕ) → a ++ x ≡ b ++ y → ((z : List ℕ) × (a ≡ b ++ z)) ⊎ ((z : List ℕ) × (b ≡ a ++ z))
-fronts [] b x y e = inr (b, refl)
-fronts (c ∷ a) [] x y e = inl (c ∷ a, refl)
-fronts (c ∷ a) (d ∷ b) x y e =
+prefixes : (a b x y : List ℕ) → a ++ x ≡ b ++ y → ((z : List ℕ) × (a ≡ b ++ z)) ⊎ ((z : List ℕ) × (b ≡ a ++ z))
+prefixes [] b x y e = inr (b, refl)
+prefixes (c ∷ a) [] x y e = inl (c ∷ a, refl)
+prefixes (c ∷ a) (d ∷ b) x y e =
     let head : c ≡ d = cc in
     let tail : a ++ x ≡ b ++ y = cc in
-    longer head (fronts a b x y tail)
+    longer head (prefixes a b x y tail)
   where
     longer : c ≡ d → ((z : List ℕ) × (a ≡ b ++ z)) ⊎ ((z : List ℕ) × (b ≡ a ++ z)) → ((z : List ℕ) × (c ∷ a ≡ d ∷ (b ++ z))) ⊎ ((z : List ℕ) × (d ∷ b ≡ c ∷ (a ++ z)))
     longer head (inl p) = let same = p.1 in inl (p.0, cc)
@@ -72,11 +72,11 @@ fronts (c ∷ a) (d ∷ b) x y e =
 
 -- what is dead stays dead, and holds no message, whatever follows
 dead-longer : (rest more : List ℕ) → NoneWhole rest → (Alive rest → ⊥) → NoneWhole (rest ++ more)
-dead-longer rest more none dead message front later e s = by-front (fronts rest front more later e)
+dead-longer rest more none dead message prefix later e s = by-prefix (prefixes rest prefix more later e)
   where
-    by-front : ((z : List ℕ) × (rest ≡ front ++ z)) ⊎ ((z : List ℕ) × (front ≡ rest ++ z)) → ⊥
-    by-front (inl p) = none message front p.0 p.1 s
-    by-front (inr p) = dead (record { value = message; rest = p.0; spelled = subst (λ (b : List ℕ). Spells message b) p.1 s })
+    by-prefix : ((z : List ℕ) × (rest ≡ prefix ++ z)) ⊎ ((z : List ℕ) × (prefix ≡ rest ++ z)) → ⊥
+    by-prefix (inl p) = none message prefix p.0 p.1 s
+    by-prefix (inr p) = dead (record { value = message; rest = p.0; spelled = subst (λ (b : List ℕ). Spells message b) p.1 s })
 
 -- messages leave the line as it is
 up-hears : (up : Bool) (ms : List Message) → fold line_after up (map hears ms) ≡ up
@@ -87,12 +87,12 @@ up-after : (log : List Happening) (ms : List Message) → line_up log ≡ true �
 up-after log ms up = ap (λ x. line_up (log ++ x)) (append-nil (map hears ms)) ∙ fold-append line_after false log (map hears ms) ∙ up-hears (line_up log) ms ∙ up
 
 -- a piece that leaves the line up, and one more
-both : (bytes front back : List ℕ) (added more : List Happening) (h : HearsPiece bytes front added) → h.end ≡ [] → HearsPiece (bytes ++ front) back more → HearsPiece bytes (front ++ back) (added ++ more)
-both bytes front back added more h none k =
-    let earlier : k.earlier ≡ h.earlier ++ h.more = (one-cut (bytes ++ front) k.earlier (h.earlier ++ h.more) k.left h.rest k.cut_before h.cut).0 in
+both : (bytes prefix back : List ℕ) (added more : List Happening) (h : HearsPiece bytes prefix added) → h.end ≡ [] → HearsPiece (bytes ++ prefix) back more → HearsPiece bytes (prefix ++ back) (added ++ more)
+both bytes prefix back added more h none k =
+    let earlier : k.earlier ≡ h.earlier ++ h.more = (one-cut (bytes ++ prefix) k.earlier (h.earlier ++ h.more) k.left h.rest k.cut_before h.cut).0 in
     let messages : k.earlier ++ k.more ≡ h.earlier ++ (h.more ++ k.more) = ap (λ ms. ms ++ k.more) earlier ∙ append_assoc h.earlier h.more k.more in
-    let cut : Cut (bytes ++ (front ++ back)) (h.earlier ++ (h.more ++ k.more)) k.rest =
-    subst (λ (b : List ℕ). Cut b (h.earlier ++ (h.more ++ k.more)) k.rest) (append_assoc bytes front back) (subst (λ (ms : List Message). Cut ((bytes ++ front) ++ back) ms k.rest) messages k.cut) in
+    let cut : Cut (bytes ++ (prefix ++ back)) (h.earlier ++ (h.more ++ k.more)) k.rest =
+    subst (λ (b : List ℕ). Cut b (h.earlier ++ (h.more ++ k.more)) k.rest) (append_assoc bytes prefix back) (subst (λ (ms : List Message). Cut ((bytes ++ prefix) ++ back) ms k.rest) messages k.cut) in
     let first : added ≡ map hears h.more = h.heard ∙ ap (λ e. map hears h.more ++ e) none ∙ append-nil (map hears h.more) in
     record {
       earlier = h.earlier;
@@ -109,10 +109,10 @@ both bytes front back added more h none k =
     }
 
 -- a piece that ends the line, and more
-ended : (bytes front back : List ℕ) (added : List Happening) (h : HearsPiece bytes front added) → (Alive h.rest → ⊥) → HearsPiece bytes (front ++ back) added
-ended bytes front back added h dead =
-    let longer : Spelled (bytes ++ (front ++ back)) (h.earlier ++ h.more) (h.rest ++ back) =
-    subst (λ (b : List ℕ). Spelled b (h.earlier ++ h.more) (h.rest ++ back)) (append_assoc bytes front back) (spelled_more (h.earlier ++ h.more) (bytes ++ front) h.rest back h.cut.spelled) in
+ended : (bytes prefix back : List ℕ) (added : List Happening) (h : HearsPiece bytes prefix added) → (Alive h.rest → ⊥) → HearsPiece bytes (prefix ++ back) added
+ended bytes prefix back added h dead =
+    let longer : Spelled (bytes ++ (prefix ++ back)) (h.earlier ++ h.more) (h.rest ++ back) =
+    subst (λ (b : List ℕ). Spelled b (h.earlier ++ h.more) (h.rest ++ back)) (append_assoc bytes prefix back) (spelled_more (h.earlier ++ h.more) (bytes ++ prefix) h.rest back h.cut.spelled) in
     record {
       earlier = h.earlier;
       more = h.more;
@@ -127,39 +127,39 @@ ended bytes front back added h dead =
   where
     still-dead : EndsLine h.rest h.end → EndsLine (h.rest ++ back) h.end
     still-dead (inl a) = absurd (dead a.0)
-    still-dead (inr d) = inr ((λ a. dead (front_alive h.rest back a)), d.1)
+    still-dead (inr d) = inr ((λ a. dead (prefix_alive h.rest back a)), d.1)
 
 -- where a line goes on, its bytes are these too
 abbrev AgreesOn : List Happening → List ℕ → List ℕ → Type 0
 AgreesOn log bytes other = line_up log ≡ true → bytes ≡ other
 
-joined-down : (log next last : List Happening) (bytes front back middle later : List ℕ) (up : Bool) → line_up next ≡ up → up ≡ false → FollowsPiece up next middle back last later → (last ≡ next) × (later ≡ middle)
-joined-down log next last bytes front back middle later false e d f = (f.0, f.1)
-joined-down log next last bytes front back middle later true e d f = absurd (false≢true (sym d))
+joined-down : (log next last : List Happening) (bytes prefix back middle later : List ℕ) (up : Bool) → line_up next ≡ up → up ≡ false → FollowsPiece up next middle back last later → (last ≡ next) × (later ≡ middle)
+joined-down log next last bytes prefix back middle later false e d f = (f.0, f.1)
+joined-down log next last bytes prefix back middle later true e d f = absurd (false≢true (sym d))
 
 joined-up : (next last : List Happening) (back middle later : List ℕ) (up : Bool) → up ≡ true → FollowsPiece up next middle back last later → FollowsPiece true next middle back last later
 joined-up next last back middle later true e f = f
 joined-up next last back middle later false e f = absurd (false≢true e)
 
-joined-by : (log next last : List Happening) (bytes front back middle later : List ℕ) (up : Bool) → line_up log ≡ up → FollowsPiece up log bytes front next middle → FollowsPiece (line_up next) next middle back last later
-    → (whole : List ℕ) × FollowsPiece up log bytes (front ++ back) last whole × AgreesOn last later whole
-joined-by log next last bytes front back middle later false e f g =
+joined-by : (log next last : List Happening) (bytes prefix back middle later : List ℕ) (up : Bool) → line_up log ≡ up → FollowsPiece up log bytes prefix next middle → FollowsPiece (line_up next) next middle back last later
+    → (whole : List ℕ) × FollowsPiece up log bytes (prefix ++ back) last whole × AgreesOn last later whole
+joined-by log next last bytes prefix back middle later false e f g =
     let down : line_up next ≡ false = ap line_up f.0 ∙ e in
-    let same = joined-down log next last bytes front back middle later (line_up next) refl down g in
+    let same = joined-down log next last bytes prefix back middle later (line_up next) refl down g in
     (bytes, (same.0 ∙ f.0, refl), λ still. same.1 ∙ f.1)
-joined-by log next last bytes front back middle later true e f g = by-end f.1.ends
+joined-by log next last bytes prefix back middle later true e f g = by-end f.1.ends
   where
-    by-end : EndsLine f.1.rest f.1.end → (whole : List ℕ) × FollowsPiece true log bytes (front ++ back) last whole × AgreesOn last later whole
+    by-end : EndsLine f.1.rest f.1.end → (whole : List ℕ) × FollowsPiece true log bytes (prefix ++ back) last whole × AgreesOn last later whole
     by-end (inl alive) =
         let up : line_up next ≡ true = ap line_up (f.2 ∙ ap (λ a. log ++ a) (f.1.heard ∙ ap (λ x. map hears f.1.more ++ x) alive.1)) ∙ up-after log f.1.more e in
         let h = joined-up next last back middle later (line_up next) up g in
-        let second : HearsPiece (bytes ++ front) back h.0 = subst (λ (b : List ℕ). HearsPiece b back h.0) f.3 h.1 in
+        let second : HearsPiece (bytes ++ prefix) back h.0 = subst (λ (b : List ℕ). HearsPiece b back h.0) f.3 h.1 in
         let last-is : last ≡ log ++ (f.0 ++ h.0) = h.2 ∙ ap (λ x. x ++ h.0) f.2 ∙ append_assoc log f.0 h.0 in
-        (bytes ++ (front ++ back), (f.0 ++ h.0, both bytes front back f.0 h.0 f.1 alive.1 second, last-is, refl), λ still. h.3 ∙ ap (λ (b : List ℕ). b ++ back) f.3 ∙ append_assoc bytes front back)
+        (bytes ++ (prefix ++ back), (f.0 ++ h.0, both bytes prefix back f.0 h.0 f.1 alive.1 second, last-is, refl), λ still. h.3 ∙ ap (λ (b : List ℕ). b ++ back) f.3 ∙ append_assoc bytes prefix back)
     by-end (inr dead) =
         let down : line_up next ≡ false = ap line_up (f.2 ∙ ap (λ a. log ++ a) (f.1.heard ∙ ap (λ x. map hears f.1.more ++ x) dead.1)) ∙ down-malformed log (map hears f.1.more) in
-        let same = joined-down log next last bytes front back middle later (line_up next) refl down g in
-        (bytes ++ (front ++ back), (f.0, ended bytes front back f.0 f.1 dead.0, same.0 ∙ f.2, refl), λ still. absurd (false≢true (sym down ∙ sym (ap line_up same.0) ∙ still)))
+        let same = joined-down log next last bytes prefix back middle later (line_up next) refl down g in
+        (bytes ++ (prefix ++ back), (f.0, ended bytes prefix back f.0 f.1 dead.0, same.0 ∙ f.2, refl), λ still. absurd (false≢true (sym down ∙ sym (ap line_up same.0) ∙ still)))
 
 -- a piece's event is its bytes
 as-piece : (log : List Happening) (bytes piece : List ℕ) (event : Event) (next : List Happening) (more : List ℕ) → Brings piece event → Follows log bytes event next more → FollowsPiece (line_up log) log bytes piece next more
@@ -196,17 +196,17 @@ leads-other (event ∷ events) log last bytes other later a f =
     let more = leads-other events f.0 last f.1 one.0 later one.2 f.3 in
     (more.0, (f.0, one.0, one.1, more.1))
 
-merged : (before after : List Event) (one other whole : Event) (front back : List ℕ) (log last : List Happening) (bytes later : List ℕ) → Brings front one → Brings back other → Brings (front ++ back) whole
+merged : (before after : List Event) (one other whole : Event) (prefix back : List ℕ) (log last : List Happening) (bytes later : List ℕ) → Brings prefix one → Brings back other → Brings (prefix ++ back) whole
     → Leads log bytes (before ++ one ∷ other ∷ after) last later → (others : List ℕ) × Leads log bytes (before ++ whole ∷ after) last others
-merged [] after one other whole front back log last bytes later p q r f =
-    let first = as-piece log bytes front one f.0 f.1 p f.2 in
+merged [] after one other whole prefix back log last bytes later p q r f =
+    let first = as-piece log bytes prefix one f.0 f.1 p f.2 in
     let second = as-piece f.0 f.1 back other f.3.0 f.3.1 q f.3.2 in
-    let all = joined-by log f.0 f.3.0 bytes front back f.1 f.3.1 (line_up log) refl first second in
+    let all = joined-by log f.0 f.3.0 bytes prefix back f.1 f.3.1 (line_up log) refl first second in
     let more = leads-other after f.3.0 last f.3.1 all.0 later all.2 f.3.3 in
-    (more.0, (f.3.0, all.0, of-piece log bytes (front ++ back) whole f.3.0 all.0 r all.1, more.1))
-merged (event ∷ before) after one other whole front back log last bytes later p q r f =
-    let more = merged before after one other whole front back f.0 last f.1 later p q r f.3 in
+    (more.0, (f.3.0, all.0, of-piece log bytes (prefix ++ back) whole f.3.0 all.0 r all.1, more.1))
+merged (event ∷ before) after one other whole prefix back log last bytes later p q r f =
+    let more = merged before after one other whole prefix back f.0 last f.1 later p q r f.3 in
     (more.0, (f.0, f.1, f.2, more.1))
 
 pub cuttings_agree : CuttingsAgree
-cuttings_agree before after one other whole front back log p q r f = merged before after one other whole front back [] log [] f.0 p q r f.1
+cuttings_agree before after one other whole prefix back log p q r f = merged before after one other whole prefix back [] log [] f.0 p q r f.1

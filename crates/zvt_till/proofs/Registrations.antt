@@ -23,8 +23,8 @@ use Rattle.zvt_till.specs.Outcomes.{demand_of, trace_used, outcome_by, reversal_
 use Rattle.zvt_till.specs.Sending.{Settings}
 use Rattle.zvt_till.specs.Log.{is_break, registered_as, registered_by, registered_after, registered_of, awaited_of}
 use Rattle.zvt_till.proofs.Segments.{heard_last, list_any-snoc, fold-snoc, heard_last-snoc, split_last}
-use Rattle.zvt_till.proofs.Worth.{seg, opened, end-kept, has-ended, end-missing, end-reached}
-use Rattle.zvt_till.proofs.Tied.{Open, TiedTo, state, IsQuiet, meet-quiet}
+use Rattle.zvt_till.proofs.SegmentEndLemmas.{seg, opened, end-kept, has-ended, end-missing, end-reached}
+use Rattle.zvt_till.proofs.LogStateLemmas.{Open, TiedTo, state, IsQuiet, meet-quiet}
 
 pub registered-snoc : (closed : List Segment) (o : Opening) (hs : List Happening) (end : Option Ended) (broken : Bool) → end_of hs ≡ end → list_any is_break hs ≡ broken
     → registered_of (closed ++ seg o hs ∷ []) ≡ cond broken false (registered_by (registered_of closed) o end)

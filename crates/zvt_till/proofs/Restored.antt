@@ -20,8 +20,8 @@ use Rattle.zvt_till.specs.UsedTraces.{has, AreTracesOf}
 use Rattle.zvt_till.specs.Till.{TillState, entry_after, book_after, unclear_after, meet_running, meet}
 use Rattle.zvt_till.specs.View.{CanEnd, CanEndRunning}
 use Rattle.zvt_till.proofs.UsedTraces.{read_is}
-use Rattle.zvt_till.proofs.Once.{once-changed}
-use Rattle.zvt_till.proofs.Kept.{same-row}
+use Rattle.zvt_till.proofs.DistinctLemmas.{once-changed}
+use Rattle.zvt_till.proofs.BookStepLemmas.{same-row}
 
 pub traces-more : (book : List Entry) (i : ℕ) (row : Entry) (used more : List ℕ) → i < length book → row ≡ get_or book i row
     → AreTracesOf used (take i book) → ((number : ℕ) → has more number ≡ (nat_eq row.trace number || has used number))

@@ -20,7 +20,7 @@ use Rattle.zvt_till.specs.Sending.{Settings}
 use Rattle.zvt_till.specs.Till.{facts_of, state_after}
 use Rattle.zvt_till.specs.Refusals.{refusal}
 use Rattle.zvt_till.specs.Log.{IsLog, facts_in}
-use Rattle.zvt_till.specs.Carried.{sent_in}
+use Rattle.zvt_till.specs.TillHistory.{sent_in}
 
 euro : Settings
 euro = record { password = 0 ∷ 0 ∷ 0 ∷ []; config = 190; currency = 978 }

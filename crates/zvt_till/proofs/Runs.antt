@@ -3,7 +3,7 @@ use Rattle.std.proofs.Common.{◌≡◌, ℕ, true, cond, List, [], ◌∷◌, �
 use Rattle.std.proofs.lemmas.List.{map-append}
 use Rattle.std.proofs.Math.Seq.{take-append_seam}
 use Rattle.zvt_apdu.specs.Message.{Message}
-use Rattle.zvt_apdu.specs.Briefs.{PutsMessage}
+use Rattle.zvt_apdu.specs.TillMessages.{PutsMessage}
 use Rattle.zvt_stream.specs.Apdus.{Spelled}
 use Rattle.zvt_till.specs.declared.happenings.Happening.{Happening}
 use Rattle.zvt_till.specs.declared.happenings.Happening.TheVariants.{Sent as SentOut, Heard as HeardIn}
@@ -23,7 +23,7 @@ use Rattle.zvt_till.specs.Events.{run_settings, sends, sent_from, message_out, s
 use Rattle.zvt_stream.proofs.Beginnings.{spelled_more, spelled_append}
 use Rattle.zvt_till.proofs.Segments.{fold-snoc}
 use Rattle.zvt_till.proofs.Steps.{steps_meet_log}
-use Rattle.zvt_till.proofs.Kept.{settings-kept}
+use Rattle.zvt_till.proofs.BookStepLemmas.{settings-kept}
 
 pub is_log-snoc : (settings : Settings) (past log : List Happening) (h : Happening) → IsLogFrom settings past log → CanFollow settings (facts_in (past ++ log)) h → IsLogFrom settings past (log ++ h ∷ [])
 is_log-snoc settings past [] h k c = (subst (λ x. CanFollow settings (facts_in x) h) (append-nil past) c, tt)
@@ -147,6 +147,6 @@ tied-answered log s before after m out t up e more =
 -- one message more
 pub sent-more : (m : Message) (old new sent after : List ℕ) (count : ℕ) → PutsMessage m old new count → after ≡ sent ++ take count new → (ms : List Message) → Spelled sent ms [] → Spelled after (ms ++ m ∷ []) []
 sent-more m old new sent after count p e ms s =
-    let front : take count new ≡ p.bytes = ap (λ (t : List ℕ). take count t) p.puts.0 ∙ ap (λ (k : ℕ). take k (p.bytes ++ drop (length p.bytes) old)) p.puts.1 ∙ take-append_seam p.bytes (drop (length p.bytes) old) in
+    let prefix : take count new ≡ p.bytes = ap (λ (t : List ℕ). take count t) p.puts.0 ∙ ap (λ (k : ℕ). take k (p.bytes ++ drop (length p.bytes) old)) p.puts.1 ∙ take-append_seam p.bytes (drop (length p.bytes) old) in
     let whole : Spelled (sent ++ p.bytes) (ms ++ m ∷ []) [] = spelled_append ms (m ∷ []) (sent ++ p.bytes) p.bytes [] (spelled_more ms sent [] p.bytes s) (p.bytes, [], sym (append-nil p.bytes), p.spelled, refl) in
-    subst (λ (t : List ℕ). Spelled t (ms ++ m ∷ []) []) (sym (e ∙ ap (λ (t : List ℕ). sent ++ t) front)) whole
+    subst (λ (t : List ℕ). Spelled t (ms ++ m ∷ []) []) (sym (e ∙ ap (λ (t : List ℕ). sent ++ t) prefix)) whole

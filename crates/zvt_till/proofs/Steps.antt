@@ -21,10 +21,10 @@ use Rattle.zvt_till.specs.Sending.{Settings}
 use Rattle.zvt_till.specs.Log.{line_after, line_up, registered_by, registered_of, awaited_by_end, awaited_of, facts_in_segments, facts_in, CanFollow, IsLogFrom, IsLog, StepsMeetLog}
 use Rattle.zvt_till.proofs.Segments.{heard_last, grown, segments-snoc, fold-snoc}
 use Rattle.zvt_till.proofs.Marks.{IsPlaced, Placed, Placed-snoc, mark-length}
-use Rattle.zvt_till.proofs.Worth.{seg, opened, begun_by, rows, rows-open, loose-open, entries-open, awaited-snoc}
-use Rattle.zvt_till.proofs.Tied.{TiedTo, Core, CoreAt, state, core-meet, core-quiet, quiet-connected, quiet-cancel}
+use Rattle.zvt_till.proofs.SegmentEndLemmas.{seg, opened, begun_by, rows, rows-open, loose-open, entries-open, awaited-snoc}
+use Rattle.zvt_till.proofs.LogStateLemmas.{TiedTo, Core, CoreAt, state, core-meet, core-quiet, quiet-connected, quiet-cancel}
 use Rattle.zvt_till.proofs.Registrations.{registered-snoc, registered-break, registered-meet, registered-quiet, Unregistered, unregistered, unregistered-heard}
-use Rattle.zvt_till.proofs.Kept.{settings-by-running, settings-step}
+use Rattle.zvt_till.proofs.BookStepLemmas.{settings-by-running, settings-step}
 
 line-met-running : (s : TillState) (r : Running) (h : Happening) (b : Bool)
     → (cond b (finish s r.order (outcome_by s.book r.order r.statuses h)) (record s { running = Some (listened (demand_of (Some s.settings.currency) s.book r.order) r h) })).line_up ≡ s.line_up

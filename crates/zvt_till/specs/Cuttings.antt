@@ -19,6 +19,6 @@ Brings bytes Lost = ⊥
 -- two pieces are as good as one of all their bytes
 abbrev pub CuttingsAgree : Type 0
 CuttingsAgree =
-    (before after : List Event) (one other whole : Event) (front back : List ℕ) (log : List Happening)
-    → Brings front one → Brings back other → Brings (front ++ back) whole
+    (before after : List Event) (one other whole : Event) (prefix back : List ℕ) (log : List Happening)
+    → Brings prefix one → Brings back other → Brings (prefix ++ back) whole
     → IsLogOf (before ++ one ∷ other ∷ after) log → IsLogOf (before ++ whole ∷ after) log

@@ -2,7 +2,7 @@
 use Rattle.std.specs.Prelude.{ℕ, cond, ◌-◌, ◌≤◌, min, length, vec_len, vec_capacity}
 use Rattle.zvt_till.specs.Refusals.{most_rows}
 use Rattle.zvt_till.specs.Restoring.{OnceBelow}
-use Rattle.zvt_till.specs.UsedTraces.{has_room, AreTracesOf}
+use Rattle.zvt_till.specs.UsedTraces.{has_capacity, AreTracesOf}
 use Rattle.zvt_till.specs.View.{TillValue, CanEndRunning}
 use Rattle.zvt_till.specs.declared.till.Till.TheInside.{Inside}
 
@@ -12,7 +12,7 @@ rows_of t = min (vec_capacity t.book - vec_len t.book) (vec_capacity t.unclear -
 
 -- none without room for their trace numbers
 abbrev pub spare_of : Inside → ℕ
-spare_of t = cond (has_room t.used) (rows_of t) 0
+spare_of t = cond (has_capacity t.used) (rows_of t) 0
 
 abbrev pub value_of : Inside → TillValue
 value_of t =

@@ -9,9 +9,9 @@ use Rattle.zvt_till.specs.declared.entries.Entry.{Entry}
 use Rattle.zvt_till.specs.declared.outcomes.Outcome.{Outcome}
 use Rattle.zvt_till.specs.declared.outcomes.Outcome.TheVariants.{Registered, Paid, Declined, Refused, Aborted, Unclear, Reversed, DayClosed}
 use Rattle.zvt_till.specs.declared.statuses.Statuses.TheVariants.{Nothing}
-use Rattle.zvt_till.specs.declared.judging.Booked.{Booked as BookedRow}
-use Rattle.zvt_till.specs.declared.judging.Books.{Books as BooksFound}
-use Rattle.zvt_till.specs.declared.judging.OpenPayment.{OpenPayment}
+use Rattle.zvt_till.specs.declared.log_books.Booked.{Booked as BookedRow}
+use Rattle.zvt_till.specs.declared.log_books.Books.{Books as BooksFound}
+use Rattle.zvt_till.specs.declared.log_books.OpenPayment.{OpenPayment}
 use Rattle.zvt_till.specs.Statuses.{Demand, Payment}
 use Rattle.zvt_till.specs.Segments.{Segment, Ended, in_force, segments, is_positive, end_of, statuses}
 use Rattle.zvt_till.specs.Books.{Booked, booked_as, Books, books_of}

@@ -17,6 +17,6 @@ pub mod Hearing
 pub mod Events
 pub mod Line
 pub mod Cuttings
-pub mod Carried
+pub mod TillHistory
 pub mod Judging
 pub mod Names

@@ -5,7 +5,7 @@ use Rattle.zvt_apdu.specs.Message.{Message}
 use Rattle.zvt_stream.specs.Apdus.{Spells}
 use Rattle.zvt_stream.specs.StreamState.{StreamState}
 use Rattle.zvt_stream.specs.Answered.{Answered}
-use Rattle.zvt_stream.specs.Course.{Pumped, Broken, Told, failed_reads, failed_writes}
+use Rattle.zvt_stream.specs.LineRun.{Pumped, Broken, Told, failed_reads, failed_writes}
 use Rattle.zvt_stream.specs.Turns.{Ends, Falters, line_state, line_ends}
 use Rattle.zvt_stream.specs.declared.line.LineFault.{LineFault}
 use Rattle.zvt_stream.specs.declared.line.LineFault.TheVariants.{Write}

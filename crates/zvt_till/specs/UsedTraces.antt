@@ -5,8 +5,8 @@ use Rattle.zvt_till.specs.declared.entries.Entry.{Entry}
 use Rattle.zvt_till.specs.Outcomes.{trace_used}
 
 -- there is a bit for each number from 0 to 999,999
-abbrev pub has_room : List ℕ → Bool
-has_room words = nat_le 15625 (length words)
+abbrev pub has_capacity : List ℕ → Bool
+has_capacity words = nat_le 15625 (length words)
 
 -- the number is used; 64 numbers stand in a word
 unfoldable pub has : List ℕ → ℕ → Bool

@@ -1,6 +1,6 @@
 //! What holds of every till and every log, as functions whose contracts are these laws.
 ghost use Rattle.zvt_till.specs.Log.{StepsMeetLog};
-ghost use Rattle.zvt_till.specs.Carried.{RunsAreLogged, FaultsAreLogged, UnsentAreLogged, OrdersAreLogged};
+ghost use Rattle.zvt_till.specs.TillHistory.{RunsAreLogged, FaultsAreLogged, UnsentAreLogged, OrdersAreLogged};
 ghost use Rattle.zvt_till.specs.Cuttings.{LogsAreOne, CuttingsAgree};
 ghost use Rattle.zvt_till.specs.Laws.{NoApprovalDropped, NoReversalDropped, DoubtsStay, TracesStayDistinct, EntriesStay};
 

@@ -4,12 +4,12 @@ ghost use Rattle.std.specs.Result.{IsErrOf};
 ghost use Rattle.zvt_stream.specs.StreamState.{IsReserved};
 ghost use Rattle.zvt_till.specs.Line.{Sends, NotSent, Runs, Fails, IsOver, reads_failed, writes_failed};
 
-use crate::hearing::heard_view;
+use crate::heard::heard_view;
 use crate::orders::{Order, OrderRefusal};
 use crate::outcomes::Outcome;
 use crate::till::Till;
 use std::alloc::{AllocError, Global};
-use zvt_apdu::{ApduView, BRIEF_ROOM};
+use zvt_apdu::{ApduView, MAX_TILL_MESSAGE_LEN};
 use zvt_io::{Sink, Source};
 use zvt_stream::{Answers, LineFault, Machine, Stream, Until, pump, send};
 
@@ -32,7 +32,7 @@ impl Machine for Till {
         let answer = Till::hear(self, heard_view(apdu)).send;
         let mut answers = Answers::new();
         if let Some(outgoing) = answer {
-            let mut buffer = [0; BRIEF_ROOM];
+            let mut buffer = [0; MAX_TILL_MESSAGE_LEN];
             let size = outgoing.put(&mut buffer);
             answers.add(&buffer[..size]);
         }
@@ -73,7 +73,7 @@ pub fn send_order<W: Sink>(writer: &mut W, till: &mut Till, order: Order) -> Res
         Err(why) => return Err(RunFault::Order(why)),
         Ok(outgoing) => outgoing,
     };
-    let mut buffer = [0; BRIEF_ROOM];
+    let mut buffer = [0; MAX_TILL_MESSAGE_LEN];
     let size = outgoing.put(&mut buffer);
     if let Err(fault) = send(writer, &buffer[..size]) {
         let _ = Till::lost(till);

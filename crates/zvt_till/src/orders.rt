@@ -2,7 +2,7 @@
 use crate::outcomes::Outcome;
 use std::alloc::{AllocError, Global};
 use std::fmt;
-use zvt_apdu::{Apdu, BRIEF_ROOM, Brief, brief_message, put_brief};
+use zvt_apdu::{Apdu, MAX_TILL_MESSAGE_LEN, TillMessage, put_till_message, till_message_apdu};
 use zvt_bcd::Amount;
 
 /// What a caller asks of the till.
@@ -80,27 +80,27 @@ impl fmt::Display for OrderRefusal {
 #[derive(Clone, Copy, Debug, PartialEq, Eq)]
 pub struct Outgoing {
     /// The values that it is made of.
-    pub brief: Brief,
+    pub till_message: TillMessage,
 }
 
 impl Outgoing {
     ghost use Rattle.std.specs.Prelude.{◌≡◌, ◌≤◌, IfOk};
-    ghost use Rattle.zvt_apdu.specs.Briefs.{message_of_brief, PutsMessage};
+    ghost use Rattle.zvt_apdu.specs.TillMessages.{message_of_till_message, PutsMessage};
 
     /// Writes its bytes at the front of the buffer, and says how many. They always fit, and what stands behind them
     /// stays.
-    pub fn put(&self, buffer: &mut [u8; BRIEF_ROOM]) -> usize
-        ensures written { PutsMessage (message_of_brief self.now.brief) buffer.old buffer.new result }
+    pub fn put(&self, buffer: &mut [u8; MAX_TILL_MESSAGE_LEN]) -> usize
+        ensures written { PutsMessage (message_of_till_message self.now.till_message) buffer.old buffer.new result }
         ensures fits { result ≤ 32 }
     {
-        put_brief(&self.brief, buffer)
+        put_till_message(&self.till_message, buffer)
     }
 
     /// The message itself.
     pub fn message(&self, alloc: Global) -> Result<Apdu, AllocError>
-        ensures { IfOk result (λ apdu. apdu ≡ message_of_brief self.now.brief) }
+        ensures { IfOk result (λ apdu. apdu ≡ message_of_till_message self.now.till_message) }
     {
-        brief_message(alloc, &self.brief)
+        till_message_apdu(alloc, &self.till_message)
     }
 }
 

@@ -18,7 +18,7 @@ use std::marker::Model;
 use zvt_bcd::{Amount, Currency};
 
 /// The rows that the book, and the list of unclear payments, can have at most.
-pub const MOST_ROWS: usize = 10_000;
+pub const MAX_BOOK_ENTRIES: usize = 10_000;
 
 /// The number of the euro.
 const EURO: u16 = 978;
@@ -128,7 +128,7 @@ impl Till {
     /// The payments that were booked, in the order of their completions.
     pub fn book(&self) -> &[Entry]
         ensures rows { result.now ≡ self.now.state.book }
-        ensures most { length result.now ≤ MOST_ROWS }
+        ensures most { length result.now ≤ MAX_BOOK_ENTRIES }
     {
         self.book.as_slice()
     }
@@ -136,7 +136,7 @@ impl Till {
     /// The payments of which it is not known whether they happened, in the order of their ends.
     pub fn unclear(&self) -> &[(Amount, Cause)]
         ensures rows { result.now ≡ self.now.state.unclear }
-        ensures most { length result.now ≤ MOST_ROWS }
+        ensures most { length result.now ≤ MAX_BOOK_ENTRIES }
     {
         self.unclear.as_slice()
     }

@@ -25,7 +25,7 @@ impl Model for UsedTraces {
 }
 
 impl UsedTraces {
-    ghost use Rattle.zvt_till.specs.UsedTraces.{has_room, has};
+    ghost use Rattle.zvt_till.specs.UsedTraces.{has_capacity, has};
 
     /// No numbers, and no room for any.
     pub fn new(alloc: Global) -> UsedTraces
@@ -37,17 +37,17 @@ impl UsedTraces {
     }
 
     /// Whether any number can be inserted without more memory.
-    pub fn has_room(&self) -> bool
-        ensures { result ≡ has_room self.now }
+    pub fn has_capacity(&self) -> bool
+        ensures { result ≡ has_capacity self.now }
     {
         WORDS <= self.words.len()
     }
 
     /// Sees to it that any number can be inserted without more memory.
-    pub fn make_room(&mut self) -> Result<(), AllocError>
-        ensures room { OnOk result (has_room self.new ≡ true) }
+    pub fn reserve_for(&mut self) -> Result<(), AllocError>
+        ensures room { OnOk result (has_capacity self.new ≡ true) }
         ensures has { OnOk result ((number : ℕ) → has self.new number ≡ has self.old number) }
-        ensures full { OnErr result (has_room self.old ≡ false) }
+        ensures full { OnErr result (has_capacity self.old ≡ false) }
         ensures unchanged { OnErr result (self.new ≡ self.old) }
     {
         if self.words.len() < WORDS {
@@ -69,8 +69,8 @@ impl UsedTraces {
 
     /// The number is used from now on.
     pub fn insert(&mut self, trace: Trace)
-        requires { has_room self.old ≡ true }
-        ensures room { has_room self.new ≡ true }
+        requires { has_capacity self.old ≡ true }
+        ensures room { has_capacity self.new ≡ true }
         ensures has { (number : ℕ) → has self.new number ≡ (nat_eq trace number || has self.old number) }
     {
         let number = trace.get() as usize;

@@ -1,12 +1,12 @@
 -- Which beginnings can be completed.
 use Rattle.std.proofs.Common.{◌≡◌, ◌≢◌, ℕ, ◌+◌, ◌-◌, ◌<◌, ◌≤◌, Bool, true, false, Option, List, [], ◌∷◌, ◌++◌, length, refl, sym, ◌∙◌, ap, subst, append_assoc, arith, length-append, ◌⊎◌, suc, zero, inl, inr}
-use Rattle.zvt_spelling.specs.declared.why.Why.{Why}
-use Rattle.zvt_spelling.specs.Reading.{Reading, AreBytes}
+use Rattle.zvt_grammar.specs.declared.why.Why.{Why}
+use Rattle.zvt_grammar.specs.Reading.{Reading, AreBytes}
 use Rattle.zvt_tlv.specs.Grammar.{Objects, IsLength, Spells}
-use Rattle.zvt_spelling.proofs.CutLemmas.{fronts_alive}
+use Rattle.zvt_grammar.proofs.CutLemmas.{prefixes_alive}
 use Rattle.zvt_tlv.specs.Judging.{Next, byte, content, wrong, next, Filled, AliveIn, Role, first_tag, second_tag, third_tag, first_length, after_81, high_length, low_length, in_content, Tagged, Begins, Opener, Position, fault}
 use Rattle.zvt_tlv.proofs.Spelling.{not_single, filler, filling, filling_size, filled, after_objects, spells_joined, joined}
-use Rattle.zvt_tlv.proofs.Follows.{Inside, Follows, Leads, leads_on, leads_follow, follow_led, begins_leads, opener_follows, follow_opened, opener_leads, forest_follows, follows_forest}
+use Rattle.zvt_tlv.proofs.NextByteLemmas.{Inside, Follows, Leads, leads_on, leads_follow, follow_led, begins_leads, opener_follows, follow_opened, opener_leads, forest_follows, follows_forest}
 use Rattle.zvt_tlv.proofs.Room.{Fits, Nested, Shallow, fits_before, fitting_byte, Says, says}
 
 -- what follows fits
@@ -125,8 +125,8 @@ fit_here r d room b role left x ne begins e lt a =
     )
 
 -- fronts of what is alive
-pub alive_front : (r : Reading) (d room : ℕ) (a b : List ℕ) → AliveIn r d room (a ++ b) → AliveIn r d room a
-alive_front r d room a b h = fronts_alive (Filled r d room) a b h
+pub alive_prefix : (r : Reading) (d room : ℕ) (a b : List ℕ) → AliveIn r d room (a ++ b) → AliveIn r d room a
+alive_prefix r d room a b h = prefixes_alive (Filled r d room) a b h
 
 pub alive_size : (r : Reading) (d room : ℕ) (b : List ℕ) → AliveIn r d room b → length b ≤ room
 alive_size r d room b h = omega (arith, length-append b h.rest, h.spelled.1)
@@ -159,7 +159,7 @@ pub opener_fits : (r : Reading) (d n left : ℕ) (nests : Bool) (tag size b : Li
 opener_fits r d n left nests tag size b p l h =
     alive_fits r d (length tag + (length size + left)) (tag ++ size) (content nests n) left (opener_leads r d n nests tag size p l)
     (omega (arith, length-append tag size))
-    (alive_front r d _ (tag ++ size) b (subst (AliveIn r d (length tag + (length size + left))) (sym (append_assoc tag size b)) h))
+    (alive_prefix r d _ (tag ++ size) b (subst (AliveIn r d (length tag + (length size + left))) (sym (append_assoc tag size b)) h))
 
 -- an opener and the beginning of its content, where the content can be completed and fits
 pub alive_opened : (r : Reading) (d n left : ℕ) (nests : Bool) (tag size b s : List ℕ) → Tagged d nests tag → IsLength r n size →
@@ -186,22 +186,22 @@ alive_within r d n left tag size b p l f h =
     alive_opened r d n left true tag size b h.rest p l f.0 h.spelled.1 (p.deep refl, record { objects = h.value; spelled = h.spelled.0 })
 
 -- a front of a longer list's front
-pub front_of : (a b c e : List ℕ) → a ++ b ≡ c ++ e → length a ≤ length c → (m : List ℕ) × (c ≡ a ++ m)
-front_of [] b c e q h = (c, refl)
-front_of (x ∷ a) b [] e q h = absurd (omega arith)
-front_of (x ∷ a) b (y ∷ c) e q h =
+pub prefix_of : (a b c e : List ℕ) → a ++ b ≡ c ++ e → length a ≤ length c → (m : List ℕ) × (c ≡ a ++ m)
+prefix_of [] b c e q h = (c, refl)
+prefix_of (x ∷ a) b [] e q h = absurd (omega arith)
+prefix_of (x ∷ a) b (y ∷ c) e q h =
     let heads : x ≡ y = cc in
-    let more = front_of a b c e (cc) (omega arith) in
+    let more = prefix_of a b c e (cc) (omega arith) in
     (more.0, cc (heads, more.1))
 
 -- what is alive behind an opener begins a content
-content_front : (r : Reading) (d n left : ℕ) (nests : Bool) (tag size b : List ℕ) → Tagged d nests tag → IsLength r n size → length b ≤ n →
+content_prefix : (r : Reading) (d n left : ℕ) (nests : Bool) (tag size b : List ℕ) → Tagged d nests tag → IsLength r n size → length b ≤ n →
     AliveIn r d (length tag + (length size + left)) (tag ++ (size ++ b)) → (m : List ℕ) × Inside r d nests (b ++ m) × (length (b ++ m) ≡ n)
-content_front r d n left nests tag size b p l short h =
+content_prefix r d n left nests tag size b p l short h =
     let same : (tag ++ (size ++ b)) ++ h.rest ≡ tag ++ (size ++ (b ++ h.rest)) = simp append_assoc in
     let c = follow_opened r d n nests tag size (b ++ h.rest) p l
     (subst (Follows r d (byte first_tag)) {y = tag ++ (size ++ (b ++ h.rest))} same (forest_follows r d h.value ((tag ++ (size ++ b)) ++ h.rest) h.spelled.0)) in
-    begun c.content (front_of b h.rest c.content c.after c.whole (omega (arith, c.size))) c.inside c.size
+    begun c.content (prefix_of b h.rest c.content c.after c.whole (omega (arith, c.size))) c.inside c.size
   where
     begun : (c : List ℕ) → ((m : List ℕ) × (c ≡ b ++ m)) → Inside r d nests c → length c ≡ n → (m : List ℕ) × Inside r d nests (b ++ m) × (length (b ++ m) ≡ n)
     begun c m inside size = (m.0, subst (Inside r d nests) m.1 inside, ap length (sym m.1) ∙ size)
@@ -209,12 +209,12 @@ content_front r d n left nests tag size b p l short h =
 pub alive_inside : (r : Reading) (d n left : ℕ) (tag size b : List ℕ) → Tagged d true tag → IsLength r n size → length b ≤ n →
     AliveIn r d (length tag + (length size + left)) (tag ++ (size ++ b)) → AliveIn r (suc d) n b
 alive_inside r d n left tag size b p l short h =
-    let c = content_front r d n left true tag size b p l short h in record { value = c.1.1.objects; rest = c.0; spelled = (c.1.1.spelled, c.2) }
+    let c = content_prefix r d n left true tag size b p l short h in record { value = c.1.1.objects; rest = c.0; spelled = (c.1.1.spelled, c.2) }
 
 -- one more byte of a primitive content
-pub bytes_front : (a b : List ℕ) → AreBytes (a ++ b) → AreBytes a
-bytes_front [] b h = tt
-bytes_front (x ∷ a) b h = (h.0, bytes_front a b h.1)
+pub bytes_prefix : (a b : List ℕ) → AreBytes (a ++ b) → AreBytes a
+bytes_prefix [] b h = tt
+bytes_prefix (x ∷ a) b h = (h.0, bytes_prefix a b h.1)
 
 pub bytes_joined : (a b : List ℕ) → AreBytes a → AreBytes b → AreBytes (a ++ b)
 bytes_joined [] b p q = q
@@ -230,7 +230,7 @@ alive_bytes r d n left tag size b p l f bytes short =
 pub bytes_alive : (r : Reading) (d n left : ℕ) (tag size b : List ℕ) → Tagged d false tag → IsLength r n size → length b ≤ n →
     AliveIn r d (length tag + (length size + left)) (tag ++ (size ++ b)) → AreBytes b
 bytes_alive r d n left tag size b p l short h =
-    let c = content_front r d n left false tag size b p l short h in bytes_front b c.0 c.1
+    let c = content_prefix r d n left false tag size b p l short h in bytes_prefix b c.0 c.1
 
 -- a fact that stands for another
 pub says_of : (o : Option Why) (P Q : Type 0) → (P → Q) → (Q → P) → Says o P → Says o Q

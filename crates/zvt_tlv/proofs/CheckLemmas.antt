@@ -6,7 +6,7 @@ use Rattle.zvt_tlv.specs.declared.trees.Tlv.{Tlv}
 use Rattle.std.specs.declared.vec.Vec.{Vec}
 use Rattle.std.specs.declared.alloc.Global.{Global}
 use Rattle.zvt_tlv.specs.declared.trees.Body.TheVariants.{Prim}
-use Rattle.zvt_spelling.specs.Reading.{Reading, shortest, AreBytes}
+use Rattle.zvt_grammar.specs.Reading.{Reading, shortest, AreBytes}
 use Rattle.zvt_tlv.specs.Grammar.{Objects, none, primitive, constructed, IsTag, Spells}
 use Rattle.zvt_tlv.specs.Trees.{before, objects_of}
 use Rattle.zvt_tlv.specs.Sizes.{size_of, length_bytes, spelling}

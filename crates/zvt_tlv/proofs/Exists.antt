@@ -1,13 +1,13 @@
 -- Each beginning that can be completed, and is not whole, stands at a position.
 use Rattle.std.proofs.Common.{◌≡◌, ℕ, ◌+◌, ◌-◌, ◌<◌, ◌≤◌, Bool, true, false, List, [], ◌∷◌, ◌++◌, length, refl, sym, ◌∙◌, ap, subst, append_assoc, arith, length-append, ◌⊎◌, suc, inl, inr}
 use Rattle.std.proofs.lemmas.List.{append-nil}
-use Rattle.zvt_spelling.specs.Reading.{Reading}
+use Rattle.zvt_grammar.specs.Reading.{Reading}
 use Rattle.zvt_tlv.specs.Grammar.{Objects, none, primitive, constructed, IsLength, Spells}
 use Rattle.zvt_tlv.specs.Judging.{AliveIn, Role, first_tag, second_tag, third_tag, first_length, after_81, high_length, low_length, in_content, Tagged, Begins, Opener, Position}
-use Rattle.zvt_spelling.specs.Beginnings.{Unfinished}
+use Rattle.zvt_grammar.specs.Beginnings.{Unfinished}
 use Rattle.zvt_tlv.specs.Sized.{Sized, SizedIn, PositionSized}
 use Rattle.zvt_tlv.proofs.Spelling.{parts_size}
-use Rattle.zvt_tlv.proofs.Follows.{least_high}
+use Rattle.zvt_tlv.proofs.NextByteLemmas.{least_high}
 use Rattle.zvt_tlv.proofs.Levels.{position_after}
 
 pub record Part (r : Reading) (d : ℕ) (b : List ℕ) : Type 0 where
@@ -147,8 +147,8 @@ pub record SizedStands (r : Reading) (room : ℕ) (b : List ℕ) : Type 0 where
   pub position : PositionSized r room openers b at role left
 
 -- a front of a length and its objects
-pub sized_front : (r : Reading) (room : ℕ) (f : Objects) (one b : List ℕ) (y : ℕ) (x : List ℕ) → Sized r f one → one ≡ b ++ y ∷ x → length one ≤ room → SizedStands r room b
-sized_front r room f one b y x p e within = by_size (split p.size p.content b (y ∷ x) (sym p.whole ∙ e))
+pub sized_prefix : (r : Reading) (room : ℕ) (f : Objects) (one b : List ℕ) (y : ℕ) (x : List ℕ) → Sized r f one → one ≡ b ++ y ∷ x → length one ≤ room → SizedStands r room b
+sized_prefix r room f one b y x p e within = by_size (split p.size p.content b (y ∷ x) (sym p.whole ∙ e))
   where
     by_size : (((m : List ℕ) × (z : ℕ) × (p.size ≡ b ++ z ∷ m)) ⊎ ((m : List ℕ) × (b ≡ p.size ++ m) × (p.content ≡ m ++ y ∷ x))) → SizedStands r room b
     by_size (inl q) =
@@ -176,4 +176,4 @@ sized_stands r room b u = by_rest u.alive.rest refl
     by_rest : (rest : List ℕ) → u.alive.rest ≡ rest → SizedStands r room b
     by_rest [] e = absurd (u.none_whole u.alive.value b [] (sym (append-nil b)) (subst (SizedIn r room u.alive.value) (ap (λ (v : List ℕ). b ++ v) e ∙ append-nil b) u.alive.spelled))
     by_rest (y ∷ x) e =
-        sized_front r room u.alive.value (b ++ u.alive.rest) b y x u.alive.spelled.spelled (ap (λ (v : List ℕ). b ++ v) e) (omega (arith, u.alive.spelled.filled))
+        sized_prefix r room u.alive.value (b ++ u.alive.rest) b y x u.alive.spelled.spelled (ap (λ (v : List ℕ). b ++ v) e) (omega (arith, u.alive.spelled.filled))

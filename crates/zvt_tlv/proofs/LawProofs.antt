@@ -2,16 +2,16 @@
 use Rattle.std.proofs.Common.{◌≡◌, ℕ, ◌≤◌, Option, Some, None, List, [], ◌∷◌, ◌++◌, length, take, drop, refl, sym, ◌∙◌, ap, subst, append_assoc, arith, length-append, suc}
 use Rattle.std.proofs.lemmas.List.{append-nil, length-take-le, take-append-drop, take-append-le}
 use Rattle.std.proofs.Math.Seq.{take-length}
-use Rattle.zvt_spelling.specs.declared.why.Why.{Why}
-use Rattle.zvt_spelling.specs.declared.answer.Scan.{Scan}
-use Rattle.zvt_spelling.specs.declared.answer.Scan.TheVariants.{Whole, More, Refused}
-use Rattle.zvt_spelling.specs.Beginnings.{Alive, Place}
-use Rattle.zvt_spelling.specs.Reading.{Reading}
+use Rattle.zvt_grammar.specs.declared.why.Why.{Why}
+use Rattle.zvt_grammar.specs.declared.answer.Scan.{Scan}
+use Rattle.zvt_grammar.specs.declared.answer.Scan.TheVariants.{Whole, More, Refused}
+use Rattle.zvt_grammar.specs.Beginnings.{Alive, Place}
+use Rattle.zvt_grammar.specs.Reading.{Reading}
 use Rattle.zvt_tlv.specs.Grammar.{Objects, none, primitive, constructed, IsTag, IsLength, Spells}
 use Rattle.zvt_tlv.specs.Judging.{Filled, AliveIn, PlaceIn, WhyIn, fault, Position}
 use Rattle.zvt_tlv.specs.Sized.{SizedIn, SizedFound, WhySized, PositionSized}
 use Rattle.zvt_tlv.specs.Laws.{EachSizeIsFilled, EachBeginningStands, PositionsAreOne, TestsDecide, EachSizedBeginningStands, SizedPositionsAreOne, SizedTestsDecide, AnswersAreOne, SizedAnswersAreOne, AnswersStay, SizedAnswersStay, IsOne, ObjectsEndThemselves, RoomsEndThemselves, SizedEndThemselves, SpellingsAreOne, SizedSpellingsAreOne, FaultsAreOne, SpelledIsFaultless}
-use Rattle.zvt_tlv.proofs.Spelling.{filler, filling, filling_size, filled, one_tree, shared, length_front, same_front}
+use Rattle.zvt_tlv.proofs.Spelling.{filler, filling, filling_size, filled, one_tree, shared, length_prefix, same_prefix}
 use Rattle.zvt_tlv.proofs.Alive.{fit}
 use Rattle.zvt_tlv.proofs.Room.{Says}
 use Rattle.zvt_tlv.proofs.Places.{dead_beyond, place_once, place_more, none_more, byte_more}
@@ -86,14 +86,14 @@ objects_end_themselves r d f g a b x y p q e =
 
 pub rooms_end_themselves : RoomsEndThemselves
 rooms_end_themselves r d room f g a b x y p q e =
-    let same = (same_front a b x y (p.1 ∙ sym q.1) e).0 in (one_tree r d f g a b same p.0 q.0, same)
+    let same = (same_prefix a b x y (p.1 ∙ sym q.1) e).0 in (one_tree r d f g a b same p.0 q.0, same)
 
 pub sized_end_themselves : SizedEndThemselves
 sized_end_themselves r f g a b x y p q e =
     let whole : p.size ++ (p.content ++ x) ≡ q.size ++ (q.content ++ y) =
     sym (append_assoc p.size p.content x) ∙ ap (λ (v : List ℕ). v ++ x) (sym p.whole) ∙ e ∙ ap (λ (v : List ℕ). v ++ y) q.whole ∙ append_assoc q.size q.content y in
-    let sizes = length_front r (length p.content) (length q.content) p.size q.size (p.content ++ x) (q.content ++ y) p.is_length q.is_length whole in
-    let contents = (same_front p.content q.content x y sizes.1 sizes.2).0 in
+    let sizes = length_prefix r (length p.content) (length q.content) p.size q.size (p.content ++ x) (q.content ++ y) p.is_length q.is_length whole in
+    let contents = (same_prefix p.content q.content x y sizes.1 sizes.2).0 in
     (one_tree r 1 f g p.content q.content contents p.inside q.inside, p.whole ∙ ap (λ (v : List ℕ). v ++ p.content) sizes.0 ∙ ap (λ (v : List ℕ). q.size ++ v) contents ∙ sym q.whole)
 
 pub spellings_are_one : SpellingsAreOne

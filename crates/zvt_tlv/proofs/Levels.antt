@@ -5,18 +5,18 @@ use Rattle.std.proofs.lemmas.List.{length-take-le, take-append-drop, append-nil,
 use Rattle.std.proofs.lemmas.Option.{slice_get-get_or, get_or_from_slice_get}
 use Rattle.std.specs.declared.vec.Vec.{Vec}
 use Rattle.std.specs.declared.alloc.Global.{Global}
-use Rattle.zvt_spelling.specs.declared.why.Why.{Why}
+use Rattle.zvt_grammar.specs.declared.why.Why.{Why}
 use Rattle.zvt_tlv.specs.declared.heads.Head as declared
 use Rattle.zvt_tlv.specs.declared.trees.Tlv.{Tlv}
 use Rattle.zvt_tlv.specs.declared.trees.Body.TheVariants.{Prim, Cons}
-use Rattle.zvt_spelling.specs.Reading.{Reading, AreBytes}
+use Rattle.zvt_grammar.specs.Reading.{Reading, AreBytes}
 use Rattle.zvt_tlv.specs.Grammar.{Objects, none, IsLength, Spells}
 use Rattle.zvt_tlv.specs.Judging.{content, AliveIn, PlaceIn, WhyIn, Role, Tagged, Opener, Position}
 use Rattle.zvt_tlv.specs.Trees.{before, objects_of}
 use Rattle.zvt_tlv.specs.Answers.{HeadFound, ObjectFound, ObjectsFound}
 use Rattle.zvt_tlv.proofs.Spelling.{joined, spells_joined, not_single}
 use Rattle.zvt_tlv.proofs.Room.{Fits}
-use Rattle.zvt_tlv.proofs.Alive.{alive_size, alive_joined, alive_apart, alive_within, alive_inside, opener_fits, alive_bytes, bytes_front}
+use Rattle.zvt_tlv.proofs.Alive.{alive_size, alive_joined, alive_apart, alive_within, alive_inside, opener_fits, alive_bytes, bytes_prefix}
 use Rattle.zvt_tlv.proofs.TreeLemmas.{before_prim, before_cons, before_some, objects_joined}
 
 -- a position behind complete objects
@@ -216,7 +216,7 @@ pub found_bytes : (r : Reading) (d room : ℕ) (bytes tag size : List ℕ) (n k 
     ObjectFound r d room bytes (record { tag = tag; body = Prim v }) (k + n)
 found_bytes r d room bytes tag size n k v w short are e =
     let inner : length (take n (drop k bytes)) ≡ n = length-take-le n (drop k bytes) short in
-    let some : AreBytes (take n (drop k bytes)) = bytes_front (take n (drop k bytes)) (drop n (drop k bytes)) (subst AreBytes (sym (take-append-drop n (drop k bytes))) are) in
+    let some : AreBytes (take n (drop k bytes)) = bytes_prefix (take n (drop k bytes)) (drop n (drop k bytes)) (subst AreBytes (sym (take-append-drop n (drop k bytes))) are) in
     record {
       present = omega (arith, short, length-drop k bytes, w.present);
       spelled = subst (λ (o : Objects). Spells r d o (take (k + n) bytes)) (sym (before_prim tag v none))

@@ -1,5 +1,5 @@
 pub mod Spelling
-pub mod Follows
+pub mod NextByteLemmas
 pub mod Room
 pub mod Alive
 pub mod TreeLemmas

@@ -1,9 +1,9 @@
 -- Where a reader takes memory.
 use Rattle.std.proofs.Common.{◌≡◌, ℕ, ◌+◌, ◌-◌, ◌<◌, ◌≤◌, true, List, [], ◌∷◌, ◌++◌, length, take, drop, refl, sym, ◌∙◌, ap, subst, append_assoc, arith, length-append, ◌⊎◌, suc, zero, inl, inr}
 use Rattle.std.proofs.lemmas.List.{take_rest, length-take-le, take-append-drop}
-use Rattle.zvt_spelling.specs.Reading.{Reading}
-use Rattle.zvt_spelling.specs.declared.answer.Scan.{Scan}
-use Rattle.zvt_spelling.specs.declared.answer.Scan.TheVariants.{Whole}
+use Rattle.zvt_grammar.specs.Reading.{Reading}
+use Rattle.zvt_grammar.specs.declared.answer.Scan.{Scan}
+use Rattle.zvt_grammar.specs.declared.answer.Scan.TheVariants.{Whole}
 use Rattle.zvt_tlv.specs.declared.heads.Head.{Head}
 use Rattle.zvt_tlv.specs.declared.trees.Tlv.{Tlv}
 use Rattle.zvt_tlv.specs.Grammar.{Objects, none, primitive, constructed, is_constructed, Spells}
@@ -24,7 +24,7 @@ head_takes r d room bytes head some h kept =
       tag = h.tag;
       size = h.size;
       content = head.content;
-      behind = rest;
+      trailing = rest;
       whole = sym (take-append-drop head.size bytes) ∙ ap (λ (s : List ℕ). s ++ rest) h.whole ∙ append_assoc h.tag h.size rest;
       is_tag = h.tagged.is_tag;
       is_length = h.is_length;
@@ -43,25 +43,25 @@ bytes_take r d room bytes head some h enough =
     head_takes r d room bytes head some h (inr (subst (λ (s : List ℕ). head.content ≤ length s) (take_rest bytes head.size) enough))
 
 -- where objects stand first
-spelled_takes : (r : Reading) (d room : ℕ) (f : Objects) (front rest bytes : List ℕ) → 0 < room → Spells r d f front → 0 < length front → bytes ≡ front ++ rest → TakesMemory r room bytes
-spelled_takes r d room none front rest bytes some p lt e = absurd (omega (arith, ap length p, lt))
-spelled_takes r d room (primitive tag c others) front rest bytes some p lt e = record {
+spelled_takes : (r : Reading) (d room : ℕ) (f : Objects) (prefix rest bytes : List ℕ) → 0 < room → Spells r d f prefix → 0 < length prefix → bytes ≡ prefix ++ rest → TakesMemory r room bytes
+spelled_takes r d room none prefix rest bytes some p lt e = absurd (omega (arith, ap length p, lt))
+spelled_takes r d room (primitive tag c others) prefix rest bytes some p lt e = record {
   some = some;
   tag = tag;
   size = p.size;
   content = length p.content;
-  behind = p.content ++ (p.after ++ rest);
+  trailing = p.content ++ (p.after ++ rest);
   whole = e ∙ ap (λ (s : List ℕ). s ++ rest) p.whole ∙ simp append_assoc;
   is_tag = p.is_tag;
   is_length = p.is_length;
   kept = inr (omega (arith, length-append p.content (p.after ++ rest)));
 }
-spelled_takes r d room (constructed tag inner others) front rest bytes some p lt e = record {
+spelled_takes r d room (constructed tag inner others) prefix rest bytes some p lt e = record {
   some = some;
   tag = tag;
   size = p.size;
   content = length p.content;
-  behind = p.content ++ (p.after ++ rest);
+  trailing = p.content ++ (p.after ++ rest);
   whole = e ∙ ap (λ (s : List ℕ). s ++ rest) p.whole ∙ simp append_assoc;
   is_tag = p.is_tag;
   is_length = p.is_length;
@@ -88,7 +88,7 @@ pub sized_takes : (r : Reading) (room : ℕ) (bytes : List ℕ) (size content : 
 sized_takes r room bytes size content h t = record {
   size = take size bytes;
   content = content;
-  behind = drop size bytes;
+  trailing = drop size bytes;
   whole = sym (take-append-drop size bytes);
   is_length = h.is_length;
   inside = subst (λ (s : List ℕ). TakesMemory r content s) (take_rest bytes size) t;

@@ -3,14 +3,14 @@ use Rattle.std.proofs.Common.{◌≡◌, ◌≢◌, ℕ, ◌+◌, ◌-◌, ◌<�
 use Rattle.std.proofs.lemmas.List.{take_rest, length-take-le}
 use Rattle.std.specs.declared.vec.Vec.{Vec}
 use Rattle.std.specs.declared.alloc.Global.{Global}
-use Rattle.zvt_spelling.specs.declared.why.Why.{Why}
-use Rattle.zvt_spelling.specs.declared.answer.Scan.{Scan}
-use Rattle.zvt_spelling.specs.declared.answer.Scan.TheVariants.{Whole, More, Refused}
+use Rattle.zvt_grammar.specs.declared.why.Why.{Why}
+use Rattle.zvt_grammar.specs.declared.answer.Scan.{Scan}
+use Rattle.zvt_grammar.specs.declared.answer.Scan.TheVariants.{Whole, More, Refused}
 use Rattle.zvt_tlv.specs.declared.heads.Head.{Head}
 use Rattle.zvt_tlv.specs.declared.trees.Tlv.{Tlv, rolls-Tlv'}
 use Rattle.zvt_tlv.specs.declared.trees.Body.TheViews.{roll-Tlv}
 use Rattle.zvt_tlv.specs.declared.trees.Body.TheVariants.{Prim, Cons}
-use Rattle.zvt_spelling.specs.Reading.{Reading, AreBytes}
+use Rattle.zvt_grammar.specs.Reading.{Reading, AreBytes}
 use Rattle.zvt_tlv.specs.Grammar.{Spells}
 use Rattle.zvt_tlv.specs.Judging.{AliveIn, PlaceIn, WhyIn}
 use Rattle.zvt_tlv.specs.Trees.{objects_of}

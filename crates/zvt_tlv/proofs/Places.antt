@@ -4,16 +4,16 @@ use Rattle.std.proofs.lemmas.Bool.{cases_lt}
 use Rattle.std.proofs.lemmas.List.{take-append-drop, take-append-le, get_or_append_left}
 use Rattle.std.proofs.lemmas.Option.{slice_get_within, slice_get-get_or, get_or_from_slice_get}
 use Rattle.std.proofs.Math.Seq.{take-add}
-use Rattle.zvt_spelling.specs.Beginnings.{Alive, NoneWhole, Place}
-use Rattle.zvt_spelling.proofs.CutLemmas.{fronts_alive}
-use Rattle.zvt_tlv.proofs.Alive.{front_of}
+use Rattle.zvt_grammar.specs.Beginnings.{Alive, NoneWhole, Place}
+use Rattle.zvt_grammar.proofs.CutLemmas.{prefixes_alive}
+use Rattle.zvt_tlv.proofs.Alive.{prefix_of}
 
 module _ {V : Type 0} (spells : V → List ℕ → Type 0) where
   -- nothing beyond the place is alive
   pub dead_beyond : (bytes : List ℕ) (place n : ℕ) → Place spells bytes place → place < n → Alive spells (take n bytes) → ⊥
   dead_beyond bytes place n p lt a =
       let e : suc place + (n - suc place) ≡ n = omega arith in
-      p.dead (fronts_alive spells (take (suc place) bytes) (take (n - suc place) (drop (suc place) bytes))
+      p.dead (prefixes_alive spells (take (suc place) bytes) (take (n - suc place) (drop (suc place) bytes))
       (subst (Alive spells) (sym (ap (λ (m : ℕ). take m bytes) e) ∙ take-add (suc place) (n - suc place) bytes) a))
 
   -- there is one place
@@ -35,14 +35,14 @@ module _ {V : Type 0} (spells : V → List ℕ → Type 0) where
 
   -- behind it nothing becomes whole
   pub none_more : (bytes more : List ℕ) (k : ℕ) → NoneWhole spells bytes → Place spells bytes k → NoneWhole spells (bytes ++ more)
-  none_more bytes more k none p v front rest e s = by_size (cases_lt (length bytes) (length front))
+  none_more bytes more k none p v prefix rest e s = by_size (cases_lt (length bytes) (length prefix))
     where
-      by_size : ((length bytes < length front) ⊎ (length front ≤ length bytes)) → ⊥
+      by_size : ((length bytes < length prefix) ⊎ (length prefix ≤ length bytes)) → ⊥
       by_size (inl lt) =
-          let m = front_of bytes more front rest e (omega arith) in
-          p.dead (fronts_alive spells (take (suc k) bytes) (drop (suc k) bytes)
+          let m = prefix_of bytes more prefix rest e (omega arith) in
+          p.dead (prefixes_alive spells (take (suc k) bytes) (drop (suc k) bytes)
           (subst (Alive spells) (sym (take-append-drop (suc k) bytes)) (record { value = v; rest = m.0; spelled = subst (spells v) m.1 s })))
-      by_size (inr le) = let m = front_of front rest bytes more (sym e) le in none v front m.0 m.1 s
+      by_size (inr le) = let m = prefix_of prefix rest bytes more (sym e) le in none v prefix m.0 m.1 s
 
 -- the bytes that are there stay
 pub byte_more : (bytes more : List ℕ) (k x : ℕ) → slice_get bytes k ≡ Some x → slice_get (bytes ++ more) k ≡ Some x

@@ -3,15 +3,15 @@ use Rattle.std.proofs.Common.{◌≡◌, ◌≢◌, ℕ, ◌+◌, ◌-◌, ◌<�
 use Rattle.std.proofs.lemmas.Bool.{cases_Bool, cases_lt, cases_eq}
 use Rattle.std.proofs.Math.Seq.{take-suc, take-length, take-add}
 use Rattle.zvt_tlv.specs.Answers.{TagFound, HeadFound}
-use Rattle.zvt_tlv.proofs.Spelling.{filler, filling, filling_size, filled, tag_front, tag_size}
+use Rattle.zvt_tlv.proofs.Spelling.{filler, filling, filling_size, filled, tag_prefix, tag_size}
 use Rattle.std.proofs.lemmas.List.{length-take-le, append-nil}
 use Rattle.std.proofs.lemmas.Option.{slice_get-get_or}
-use Rattle.zvt_spelling.specs.declared.why.Why.{Why}
-use Rattle.zvt_spelling.specs.declared.why.Why.TheVariants.{NotShortest, LengthForm, TooDeep, TagTooLong}
-use Rattle.zvt_spelling.specs.Reading.{Reading, least}
+use Rattle.zvt_grammar.specs.declared.why.Why.{Why}
+use Rattle.zvt_grammar.specs.declared.why.Why.TheVariants.{NotShortest, LengthForm, TooDeep, TagTooLong}
+use Rattle.zvt_grammar.specs.Reading.{Reading, least}
 use Rattle.zvt_tlv.specs.Grammar.{none, Spells, IsTag, IsLength, holds_objects, continues}
 use Rattle.zvt_tlv.specs.Judging.{Next, byte, content, wrong, next, AliveIn, PlaceIn, WhyIn, Role, first_tag, second_tag, third_tag, first_length, after_81, high_length, low_length, in_content, Tagged, Begins, Position, fault}
-use Rattle.zvt_tlv.proofs.Follows.{next_first_again, next_first_once, next_first_deep, next_second_last, next_second_more, next_third_last, next_third_long, next_short, next_81, next_82, next_no_length, next_after_81, next_after_81_less, next_high, next_high_less, least_both}
+use Rattle.zvt_tlv.proofs.NextByteLemmas.{next_first_again, next_first_once, next_first_deep, next_second_last, next_second_more, next_third_last, next_third_long, next_short, next_81, next_82, next_no_length, next_after_81, next_after_81_less, next_high, next_high_less, least_both}
 use Rattle.zvt_tlv.proofs.Alive.{alive_size, fit}
 use Rattle.zvt_tlv.proofs.Room.{Says}
 use Rattle.zvt_tlv.proofs.Unique.{Unfinished, begins_unfinished}
@@ -182,7 +182,7 @@ head_failed r d room role bytes k why i some present lt e = (
 pub same_tag : (m j : ℕ) (bytes tag size : List ℕ) → IsTag (take m bytes) → IsTag tag → m ≤ length bytes → m ≤ j → take j bytes ≡ tag ++ size → take m bytes ≡ tag
 same_tag m j bytes tag size p q short le e =
     let parts : take m bytes ++ take (j - m) (drop m bytes) ≡ tag ++ size = sym (take-add m (j - m) bytes) ∙ ap (λ (n : ℕ). take n bytes) (omega arith) ∙ e in
-    (tag_front (take m bytes) tag (take (j - m) (drop m bytes)) size p q parts).0
+    (tag_prefix (take m bytes) tag (take (j - m) (drop m bytes)) size p q parts).0
 
 pub tag_room : (r : Reading) (d room m : ℕ) (bytes : List ℕ) (nests : Bool) → TagFound r d room bytes m nests → 0 < room
 tag_room r d room m bytes nests t = omega (arith, tag_size (take m bytes) t.tagged.is_tag, alive_size r d room (take m bytes) t.alive)

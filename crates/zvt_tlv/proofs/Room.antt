@@ -1,13 +1,13 @@
 -- How many bytes can follow the beginning of an object, and what a byte's tests say of that.
 use Rattle.std.proofs.Common.{◌≡◌, ◌≢◌, ℕ, ◌+◌, ◌*◌, ◌<◌, ◌≤◌, ◌==◌, ◌&&◌, not, nat_le, Bool, true, false, cond, Option, Some, None, refl, sym, ◌∙◌, ap, subst, arith, ◌⊎◌, suc, inl, inr}
 use Rattle.std.proofs.lemmas.Bool.{cond-true, cond-false, lt-ltb, le-ltb, le-leb, lt-leb, leb-true, leb-false, eqb-true, eqb-false, ne_eqb, cases_Bool, cases_lt, cases_eq, and_from, and_parts, and_cases, or_cases, or_parts, not-true, not-false}
-use Rattle.zvt_spelling.specs.declared.why.Why.{Why}
-use Rattle.zvt_spelling.specs.declared.why.Why.TheVariants.{NotShortest, DoesNotFit, LengthForm, TooDeep, TagTooLong}
-use Rattle.zvt_spelling.specs.Reading.{Reading, shortest, padded, least}
+use Rattle.zvt_grammar.specs.declared.why.Why.{Why}
+use Rattle.zvt_grammar.specs.declared.why.Why.TheVariants.{NotShortest, DoesNotFit, LengthForm, TooDeep, TagTooLong}
+use Rattle.zvt_grammar.specs.Reading.{Reading, shortest, padded, least}
 use Rattle.zvt_tlv.specs.Grammar.{holds_objects, continues}
-use Rattle.zvt_spelling.specs.Tests.{check, fits}
+use Rattle.zvt_grammar.specs.Tests.{check, fits}
 use Rattle.zvt_tlv.specs.Judging.{Next, byte, content, wrong, next, Role, first_tag, second_tag, third_tag, first_length, after_81, high_length, low_length, in_content, fault, avoids, content_fits, long_form}
-use Rattle.zvt_tlv.proofs.Follows.{next_first_again, next_first_once, next_first_deep, next_second_last, next_second_more, next_third_last, next_third_long, next_short, next_81, next_82, next_no_length, next_after_81, next_after_81_less, next_high, next_high_less, least_both}
+use Rattle.zvt_tlv.proofs.NextByteLemmas.{next_first_again, next_first_once, next_first_deep, next_second_last, next_second_more, next_third_last, next_third_long, next_short, next_81, next_82, next_no_length, next_after_81, next_after_81_less, next_high, next_high_less, least_both}
 
 -- in the shortest reading, a constructed object is not of that size
 abbrev pub Apart : Reading → Bool → ℕ → ℕ → Type 0

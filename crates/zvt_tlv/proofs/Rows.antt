@@ -1,7 +1,7 @@
 -- Worked rows of the definitions: in a room, the tests of each byte on both sides of each border, and small spellings.
 use Rattle.std.proofs.Common.{◌≡◌, ℕ, Some, None, List, [], ◌∷◌, ◌++◌, true, false, refl, arith, inr}
-use Rattle.zvt_spelling.specs.declared.why.Why.TheVariants.{NotShortest, DoesNotFit, LengthForm, TooDeep, TagTooLong}
-use Rattle.zvt_spelling.specs.Reading.{shortest, padded}
+use Rattle.zvt_grammar.specs.declared.why.Why.TheVariants.{NotShortest, DoesNotFit, LengthForm, TooDeep, TagTooLong}
+use Rattle.zvt_grammar.specs.Reading.{shortest, padded}
 use Rattle.zvt_tlv.specs.Grammar.{Objects, none, primitive, constructed, IsTag, Spells}
 use Rattle.zvt_tlv.specs.Answers.{TakesMemory}
 use Rattle.zvt_tlv.specs.Judging.{first_tag, second_tag, third_tag, first_length, after_81, high_length, low_length, fault}
@@ -151,7 +151,7 @@ kept = record {
   tag = 0x07 ∷ [];
   size = 0x01 ∷ [];
   content = 1;
-  behind = 0x41 ∷ [];
+  trailing = 0x41 ∷ [];
   whole = refl;
   is_tag = (omega arith, refl);
   is_length = (omega arith, refl);
@@ -159,7 +159,7 @@ kept = record {
 }
 
 nothing_kept : (room : ℕ) → TakesMemory shortest room [] → ⊥
-nothing_kept room t = no_tag t.tag (t.size ++ t.behind) t.is_tag t.whole
+nothing_kept room t = no_tag t.tag (t.size ++ t.trailing) t.is_tag t.whole
   where
     no_tag : (tag rest : List ℕ) → IsTag tag → [] ≡ tag ++ rest → ⊥
     no_tag [] rest i e = i

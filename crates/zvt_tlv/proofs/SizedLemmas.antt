@@ -2,13 +2,13 @@
 use Rattle.std.proofs.Common.{◌≡◌, ℕ, ◌<◌, ◌≤◌, true, List, [], ◌∷◌, ◌++◌, length, refl, sym, ◌∙◌, ap, subst, append_assoc, arith, length-append, ◌⊎◌, suc, inl, inr}
 use Rattle.std.proofs.lemmas.Bool.{cases_lt}
 use Rattle.std.proofs.lemmas.List.{append-nil, append_cancel_left}
-use Rattle.zvt_spelling.specs.Reading.{Reading}
+use Rattle.zvt_grammar.specs.Reading.{Reading}
 use Rattle.zvt_tlv.specs.Grammar.{Objects, none, primitive, constructed, Spells, is_constructed}
 use Rattle.zvt_tlv.specs.Judging.{AliveIn, Role, Tagged, Opener, Position, fault}
-use Rattle.zvt_spelling.specs.Beginnings.{Alive}
+use Rattle.zvt_grammar.specs.Beginnings.{Alive}
 use Rattle.zvt_tlv.specs.Sized.{Sized, SizedIn, PositionSized}
-use Rattle.zvt_tlv.proofs.Spelling.{tag_front, not_single, filler, filling, filling_size, filled}
-use Rattle.zvt_tlv.proofs.Alive.{front_of, fit, says_of}
+use Rattle.zvt_tlv.proofs.Spelling.{tag_prefix, not_single, filler, filling, filling_size, filled}
+use Rattle.zvt_tlv.proofs.Alive.{prefix_of, fit, says_of}
 use Rattle.zvt_tlv.proofs.Room.{Says}
 use Rattle.zvt_tlv.proofs.Unique.{Unfinished, begins_unfinished, opened_unfinished}
 
@@ -34,7 +34,7 @@ as_objects r f g one after p q = record {
 }
 
 -- what stands behind the tag
-pub record Behind (r : Reading) (s : List ℕ) : Type 0 where
+pub record After (r : Reading) (s : List ℕ) : Type 0 where
   pub objects : Objects
   pub others : Objects
   pub one : List ℕ
@@ -43,13 +43,13 @@ pub record Behind (r : Reading) (s : List ℕ) : Type 0 where
   pub sized : Sized r objects one
   pub spelled : Spells r 0 others after
 
-pub behind : (r : Reading) (f : Objects) (s : List ℕ) → Spells r 0 f (0x25 ∷ s) → Behind r s
-behind r none s p = absurd (omega (arith, ap length p))
-behind r (primitive tag c rest) s p =
-    let one = tag_front opening tag s (p.size ++ (p.content ++ p.after)) opening_tag.is_tag p.is_tag p.whole in
+pub trailing : (r : Reading) (f : Objects) (s : List ℕ) → Spells r 0 f (0x25 ∷ s) → After r s
+trailing r none s p = absurd (omega (arith, ap length p))
+trailing r (primitive tag c rest) s p =
+    let one = tag_prefix opening tag s (p.size ++ (p.content ++ p.after)) opening_tag.is_tag p.is_tag p.whole in
     absurd (cc (ap is_constructed one.0, p.is_kind))
-behind r (constructed tag inner rest) s p =
-    let one = tag_front opening tag s (p.size ++ (p.content ++ p.after)) opening_tag.is_tag p.is_tag p.whole in
+trailing r (constructed tag inner rest) s p =
+    let one = tag_prefix opening tag s (p.size ++ (p.content ++ p.after)) opening_tag.is_tag p.is_tag p.whole in
     record {
       objects = inner;
       others = rest;
@@ -80,8 +80,8 @@ sized_object r room c h =
 
 pub object_sized : (r : Reading) (room : ℕ) (c : List ℕ) → NotLonger r c → AliveIn r 0 (suc room) (0x25 ∷ c) → Alive (SizedIn r room) c
 object_sized r room c longer h =
-    let b = behind r h.value (c ++ h.rest) h.spelled.0 in
-    let m = front_of c h.rest b.one b.after b.whole (longer b.objects b.one h.rest b.after b.sized b.whole) in
+    let b = trailing r h.value (c ++ h.rest) h.spelled.0 in
+    let m = prefix_of c h.rest b.one b.after b.whole (longer b.objects b.one h.rest b.after b.sized b.whole) in
     let tail : h.rest ≡ m.0 ++ b.after = append_cancel_left c h.rest (m.0 ++ b.after) (b.whole ∙ ap (λ (s : List ℕ). s ++ b.after) m.1 ∙ append_assoc c m.0 b.after) in
     record {
       value = b.objects;
@@ -124,7 +124,7 @@ open_shorter r b u f one x y p e = by_size (cases_lt (length b) (length one))
     by_size : ((length b < length one) ⊎ (length one ≤ length b)) → length b < length one
     by_size (inl lt) = lt
     by_size (inr ge) =
-        let m = front_of one y b x (sym e) ge in
+        let m = prefix_of one y b x (sym e) ge in
         let q = as_objects r f none one [] p refl in
         absurd (u (constructed opening f none) (0x25 ∷ (one ++ [])) m.0 q (omega arith)
         (ap (λ (s : List ℕ). 0x25 ∷ s) (m.1 ∙ ap (λ (s : List ℕ). s ++ m.0) (sym (append-nil one)))))

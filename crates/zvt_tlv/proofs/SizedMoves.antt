@@ -5,17 +5,17 @@ use Rattle.std.proofs.lemmas.Option.{get_or_from_slice_get}
 use Rattle.std.proofs.Math.Seq.{take-suc}
 use Rattle.std.specs.declared.vec.Vec.{Vec}
 use Rattle.std.specs.declared.alloc.Global.{Global}
-use Rattle.zvt_spelling.specs.declared.why.Why.{Why}
-use Rattle.zvt_spelling.specs.declared.answer.Scan.{Scan}
-use Rattle.zvt_spelling.specs.declared.answer.Scan.TheVariants.{Whole, More, Refused}
+use Rattle.zvt_grammar.specs.declared.why.Why.{Why}
+use Rattle.zvt_grammar.specs.declared.answer.Scan.{Scan}
+use Rattle.zvt_grammar.specs.declared.answer.Scan.TheVariants.{Whole, More, Refused}
 use Rattle.zvt_tlv.specs.declared.trees.Tlv.{Tlv}
-use Rattle.zvt_spelling.specs.Reading.{Reading}
+use Rattle.zvt_grammar.specs.Reading.{Reading}
 use Rattle.zvt_tlv.specs.Grammar.{none, IsLength}
 use Rattle.zvt_tlv.specs.Judging.{AliveIn, Role, Opener, Position}
 use Rattle.zvt_tlv.specs.Trees.{objects_of}
-use Rattle.zvt_spelling.specs.Beginnings.{Alive, NoneWhole, Unfinished, Place}
+use Rattle.zvt_grammar.specs.Beginnings.{Alive, NoneWhole, Unfinished, Place}
 use Rattle.zvt_tlv.specs.Sized.{SizedIn, PositionSized, WhySized, SizedFound, SizeFound}
-use Rattle.zvt_tlv.proofs.Spelling.{length_front, not_single, from}
+use Rattle.zvt_tlv.proofs.Spelling.{length_prefix, not_single, from}
 use Rattle.zvt_tlv.proofs.Exists.{alive_stands}
 use Rattle.zvt_tlv.proofs.Levels.{byte_from, take_from}
 use Rattle.zvt_tlv.proofs.Moves.{Inner, inner_at}
@@ -33,7 +33,7 @@ pub left_of : (r : Reading) (room : ℕ) (bytes : List ℕ) (k n : ℕ) → Size
 left_of r room bytes k n s =
     let a = s.alive in
     let p = a.spelled.spelled in
-    let one = length_front r n (length p.content) (take k bytes) p.size a.rest p.content s.is_length p.is_length p.whole in
+    let one = length_prefix r n (length p.content) (take k bytes) p.size a.rest p.content s.is_length p.is_length p.whole in
     record {
       left = a.spelled.left;
       filled = omega (arith, a.spelled.filled, length-append (take k bytes) a.rest, length-take-le k bytes s.present, one.1, ap length one.2);

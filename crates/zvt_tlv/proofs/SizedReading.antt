@@ -4,14 +4,14 @@ use Rattle.std.proofs.lemmas.Bool.{cases_eq}
 use Rattle.std.proofs.lemmas.List.{append-nil, length-take-le, take-append-drop}
 use Rattle.std.proofs.lemmas.Option.{slice_get-get_or}
 use Rattle.std.proofs.Math.Seq.{take-length}
-use Rattle.zvt_spelling.specs.declared.why.Why.{Why}
-use Rattle.zvt_spelling.specs.Reading.{Reading, shortest, padded}
+use Rattle.zvt_grammar.specs.declared.why.Why.{Why}
+use Rattle.zvt_grammar.specs.Reading.{Reading, shortest, padded}
 use Rattle.zvt_tlv.specs.Grammar.{Objects, none, IsLength}
 use Rattle.zvt_tlv.specs.Judging.{Role, Next, next, Begins, Opener, fault}
-use Rattle.zvt_spelling.specs.Beginnings.{Alive, NoneWhole, Unfinished, Place}
+use Rattle.zvt_grammar.specs.Beginnings.{Alive, NoneWhole, Unfinished, Place}
 use Rattle.zvt_tlv.specs.Sized.{SizedIn, PositionSized, WhySized, SizeFound}
-use Rattle.zvt_tlv.proofs.Spelling.{tag_front}
-use Rattle.zvt_tlv.proofs.Alive.{front_of}
+use Rattle.zvt_tlv.proofs.Spelling.{tag_prefix}
+use Rattle.zvt_tlv.proofs.Alive.{prefix_of}
 use Rattle.zvt_tlv.proofs.Reading.{Opened, Landing, landed, room_left, one_byte}
 use Rattle.zvt_tlv.proofs.SizedLemmas.{opening, sized_object, position_unfinished, open_shorter, fit_sized}
 
@@ -51,12 +51,12 @@ refused_sized r room os bytes k at role left x why p a present is more lt e = (
     dead : Alive (SizedIn r room) (take (suc k) bytes) → ⊥
     dead h = (fit_sized r room os (take k bytes) at role left x p lt a).1 why e (subst (Alive (SizedIn r room)) (sym more) h)
 
-    whole : (f : Objects) (front rest : List ℕ) → bytes ≡ front ++ rest → SizedIn r room f front → ⊥
-    whole f front rest w s =
+    whole : (f : Objects) (prefix rest : List ℕ) → bytes ≡ prefix ++ rest → SizedIn r room f prefix → ⊥
+    whole f prefix rest w s =
         let u = position_unfinished r room os (take k bytes) at role left p in
-        let less = open_shorter r (take k bytes) u f front (drop k bytes) rest s.spelled (take-append-drop k bytes ∙ w) in
-        let size : length (take (suc k) bytes) ≤ length front = omega (arith, less, length-take-le k bytes (omega arith), length-take-le (suc k) bytes (omega arith)) in
-        let m = front_of (take (suc k) bytes) (drop (suc k) bytes) front rest (take-append-drop (suc k) bytes ∙ w) size in
+        let less = open_shorter r (take k bytes) u f prefix (drop k bytes) rest s.spelled (take-append-drop k bytes ∙ w) in
+        let size : length (take (suc k) bytes) ≤ length prefix = omega (arith, less, length-take-le k bytes (omega arith), length-take-le (suc k) bytes (omega arith)) in
+        let m = prefix_of (take (suc k) bytes) (drop (suc k) bytes) prefix rest (take-append-drop (suc k) bytes ∙ w) size in
         dead (record { value = f; rest = m.0; spelled = subst (SizedIn r room f) m.1 s })
 
 -- a position at the end of the bytes
@@ -64,9 +64,9 @@ pub more_sized : (r : Reading) (room : ℕ) (os : List Opener) (bytes : List ℕ
     Alive (SizedIn r room) bytes → Unfinished (SizedIn r room) bytes
 more_sized r room os bytes at role left p a = record {
   alive = a;
-  none_whole = λ f front rest w s.
-      let less = open_shorter r bytes (position_unfinished r room os bytes at role left p) f front [] rest s.spelled (append-nil bytes ∙ w) in
-      omega (arith, less, ap length w, length-append front rest);
+  none_whole = λ f prefix rest w s.
+      let less = open_shorter r bytes (position_unfinished r room os bytes at role left p) f prefix [] rest s.spelled (append-nil bytes ∙ w) in
+      omega (arith, less, ap length w, length-append prefix rest);
 }
 
 -- a reader stands in the length
@@ -108,5 +108,5 @@ length_more r room role bytes k i all =
 -- the length that was read
 pub length_found : (r : Reading) (room : ℕ) (bytes : List ℕ) (k n : ℕ) → k ≤ length bytes → Alive (SizedIn r room) (take k bytes) → Opened r 0 true n (0x25 ∷ take k bytes) → SizeFound r room bytes k n
 length_found r room bytes k n short a o =
-    let one = tag_front opening o.tag (take k bytes) o.size (omega arith, refl) o.tagged.is_tag o.whole in
+    let one = tag_prefix opening o.tag (take k bytes) o.size (omega arith, refl) o.tagged.is_tag o.whole in
     record { present = short; is_length = subst (IsLength r n) (sym one.1) o.is_length; alive = a }

@@ -1,9 +1,9 @@
 -- Facts on spellings: each size but 1 is filled.
 use Rattle.std.proofs.Common.{◌≡◌, ◌≢◌, ℕ, ◌<◌, ◌≤◌, List, [], ◌∷◌, ◌++◌, length, refl, ap, arith, ◌⊎◌, suc, zero, inl, inr, ◌*◌, ◌/◌, ◌%◌}
 use Rattle.std.proofs.lemmas.Bool.{cases_lt}
-use Rattle.zvt_spelling.specs.Reading.{Reading, shortest}
+use Rattle.zvt_grammar.specs.Reading.{Reading, shortest}
 use Rattle.zvt_tlv.specs.Grammar.{Objects, none, primitive, constructed, IsLength, Spells}
-pub use Rattle.zvt_tlv.specs.Once.{tag_front, length_front, from, same_front, tag_size, length_size, parts_size, parts_some, not_single, joined, regroup, spells_joined, Shared, shared, shared_parts, after_objects, one_tree}
+pub use Rattle.zvt_tlv.specs.UniqueDecoding.{tag_prefix, length_prefix, from, same_prefix, tag_size, length_size, parts_size, parts_some, not_single, joined, regroup, spells_joined, Shared, shared, shared_parts, after_objects, one_tree}
 
 -- objects of a size, each of two bytes or the last of three
 abbrev pub filler : ℕ → Objects

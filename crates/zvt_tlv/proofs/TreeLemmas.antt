@@ -8,7 +8,7 @@ use Rattle.zvt_tlv.specs.declared.trees.Body.TheOpen.{Body-F}
 use Rattle.zvt_tlv.specs.declared.trees.Body.TheOpen as open'
 use Rattle.zvt_tlv.specs.declared.trees.Body.TheFolds.{map-Body}
 use Rattle.zvt_tlv.specs.declared.trees.Body.TheVariants.{Prim, Cons, outs-Prim, outs-Cons}
-use Rattle.zvt_spelling.specs.Reading.{Reading}
+use Rattle.zvt_grammar.specs.Reading.{Reading}
 use Rattle.zvt_tlv.specs.Grammar.{Spells, Objects, primitive, constructed}
 use Rattle.zvt_tlv.specs.Trees.{body_step, object_step, before, objects_of}
 use Rattle.zvt_tlv.proofs.Spelling.{joined, parts_size, tag_size}

@@ -2,13 +2,13 @@
 use Rattle.std.proofs.Common.{◌≡◌, ◌≢◌, ℕ, ◌<◌, ◌≤◌, Bool, true, false, Some, List, [], ◌∷◌, ◌++◌, length, take, refl, sym, ◌∙◌, ap, subst, append_assoc, arith, length-append, ◌⊎◌, suc, inl, inr}
 use Rattle.std.proofs.lemmas.Bool.{cases_lt}
 use Rattle.std.proofs.lemmas.List.{append_cancel_left, append-nil}
-use Rattle.zvt_spelling.specs.declared.why.Why.{Why}
-use Rattle.zvt_spelling.specs.Reading.{Reading}
+use Rattle.zvt_grammar.specs.declared.why.Why.{Why}
+use Rattle.zvt_grammar.specs.Reading.{Reading}
 use Rattle.zvt_tlv.specs.Grammar.{Parts, Objects, none, primitive, constructed, IsTag, IsLength, Spells, is_constructed}
 use Rattle.zvt_tlv.specs.Judging.{Next, byte, content, wrong, next, WhyIn, Role, first_tag, in_content, Tagged, Begins, Opener, Position, fault}
-use Rattle.zvt_tlv.proofs.Spelling.{tag_front, length_front, after_objects}
-use Rattle.zvt_tlv.proofs.Follows.{Leads, begins_leads, opener_leads}
-use Rattle.zvt_tlv.proofs.Alive.{front_of, is_content}
+use Rattle.zvt_tlv.proofs.Spelling.{tag_prefix, length_prefix, after_objects}
+use Rattle.zvt_tlv.proofs.NextByteLemmas.{Leads, begins_leads, opener_leads}
+use Rattle.zvt_tlv.proofs.Alive.{prefix_of, is_content}
 
 -- bytes lead to one state
 pub leads_rest : (r : Reading) (d : ℕ) (from mid to : Next) (a c : List ℕ) → Leads r d from a mid → Leads r d from (a ++ c) to → Leads r d mid c to
@@ -63,8 +63,8 @@ pub opened_unfinished : (r : Reading) (d n : ℕ) (tag size part b : List ℕ) �
 unfolding Unfinished
 opened_unfinished r d n tag size part b t l e short f m x p some whole =
     let o = first_of r d f m x b p some whole in
-    let one = tag_front tag o.tag (size ++ part) (o.size ++ (o.content ++ o.x)) t o.tagged.is_tag (sym e ∙ o.whole) in
-    let two = length_front r n (length o.content) size o.size part (o.content ++ o.x) l o.is_length one.1 in
+    let one = tag_prefix tag o.tag (size ++ part) (o.size ++ (o.content ++ o.x)) t o.tagged.is_tag (sym e ∙ o.whole) in
+    let two = length_prefix r n (length o.content) size o.size part (o.content ++ o.x) l o.is_length one.1 in
     omega (arith, two.1, ap length two.2, length-append o.content o.x)
 
 pub begins_unfinished : (r : Reading) (d : ℕ) (role : Role) (b : List ℕ) → Begins r d role b → Unfinished r d b
@@ -87,12 +87,12 @@ part_once r d f g a b a' b' p q u v e = by_size (cases_lt (length a') (length a)
   where
     shorter : (f g : Objects) (a b a' b' : List ℕ) → Spells r d f a → Spells r d g a' → Unfinished r d b → a ++ b ≡ a' ++ b' → length a ≤ length a' → (a ≡ a') × (b ≡ b')
     shorter f g a b a' b' p q u e le =
-        let m = front_of a b a' b' e le in
+        let m = prefix_of a b a' b' e le in
         let h = after_objects r d f g a m.0 p (subst (Spells r d g) m.1 q) in
         let same : b ≡ m.0 ++ b' = append_cancel_left a b (m.0 ++ b') (e ∙ ap (λ (s : List ℕ). s ++ b') m.1 ∙ append_assoc a m.0 b') in
         ended m.0 m.1 h.1 same
       where
-        ended : (m : List ℕ) → a' ≡ a ++ m → Spells r d (after_objects r d f g a (front_of a b a' b' e le).0 p (subst (Spells r d g) (front_of a b a' b' e le).1 q)).0 m → b ≡ m ++ b' → (a ≡ a') × (b ≡ b')
+        ended : (m : List ℕ) → a' ≡ a ++ m → Spells r d (after_objects r d f g a (prefix_of a b a' b' e le).0 p (subst (Spells r d g) (prefix_of a b a' b' e le).1 q)).0 m → b ≡ m ++ b' → (a ≡ a') × (b ≡ b')
         ended [] k s same = (sym (k ∙ append-nil a), same)
         ended (y ∷ m) k s same = absurd (u _ (y ∷ m) b' s (omega arith) same)
 
@@ -127,7 +127,7 @@ not_opened r d n role tag size inside b h t l e = by_role (is_content role)
     by_role : ((role ≡ in_content) ⊎ (role ≢ in_content)) → ⊥
     by_role (inl is) =
         let c = subst (λ (k : Role). Begins r d k b) is h in
-        let same = tag_front c.0 tag (c.1 ++ c.2) (size ++ inside) c.5.is_tag t.is_tag (sym c.4 ∙ e) in
+        let same = tag_prefix c.0 tag (c.1 ++ c.2) (size ++ inside) c.5.is_tag t.is_tag (sym c.4 ∙ e) in
         cc (ap is_constructed same.0, c.5.is_kind, t.is_kind)
     by_role (inr ne) = no_head r d n true role tag size inside b t l e (begins_leads r d role b ne h)
 
@@ -145,8 +145,8 @@ position_once r (q ∷ qs) [] d room b at at' role role' left left' (inside, e',
 position_once r (o ∷ os) (q ∷ qs) d room b at at' role role' left left' (inside, e, s, t, l, short, position) (inside', e', s', t', l', short', position') =
     let same = part_once r d o.items q.items o.done (o.tag ++ (o.size ++ inside)) q.done (q.tag ++ (q.size ++ inside')) s s'
     (opened_unfinished r d o.content o.tag o.size inside _ t.is_tag l refl short) (opened_unfinished r d q.content q.tag q.size inside' _ t'.is_tag l' refl short') (sym e ∙ e') in
-    let one = tag_front o.tag q.tag (o.size ++ inside) (q.size ++ inside') t.is_tag t'.is_tag same.1 in
-    let two = length_front r o.content q.content o.size q.size inside inside' l l' one.1 in
+    let one = tag_prefix o.tag q.tag (o.size ++ inside) (q.size ++ inside') t.is_tag t'.is_tag same.1 in
+    let two = length_prefix r o.content q.content o.size q.size inside inside' l l' one.1 in
     position_once r os qs (suc d) o.content inside at at' role role' left left' position
     (subst (λ (m : ℕ). Position r (suc d) m qs inside at' role' left') (sym two.1) (subst (λ (x : List ℕ). Position r (suc d) q.content qs x at' role' left') (sym two.2) position'))
 

@@ -5,19 +5,19 @@ use Rattle.std.proofs.lemmas.List.{length-take-le, take-append-drop}
 use Rattle.std.proofs.Math.Seq.{take-length}
 use Rattle.std.proofs.Math.Logic.{∥∥₁_elim, ∥∥₁_map}
 use Rattle.std.specs.Coded.{Coded-set, coded_list, coded_ℕ, coded_bool}
-use Rattle.zvt_spelling.specs.Reading.{shortest, padded}
+use Rattle.zvt_grammar.specs.Reading.{shortest, padded}
 use Rattle.zvt_tlv.specs.declared.views.TlvView.{TlvView}
 use Rattle.zvt_tlv.specs.Coding.{objects_code}
 use Rattle.zvt_tlv.specs.Grammar.{Parts, Objects, none, primitive, constructed, IsTag, IsLength, Spells, is_constructed, continues}
 use Rattle.zvt_tlv.specs.Views.{ForestBytes, LengthFirst, ObjectFirst, Starts, count}
 use Rattle.zvt_tlv.specs.Lent.{IsFirst}
-use Rattle.zvt_tlv.proofs.Spelling.{same_front, one_tree, tag_size, length_size, shallower}
+use Rattle.zvt_tlv.proofs.Spelling.{same_prefix, one_tree, tag_size, length_size, shallower}
 
 -- the bytes from a place on
 pub cut_at : (n : ℕ) (b a x : List ℕ) → n ≡ length a → b ≡ a ++ x → (n ≤ length b) × (take n b ≡ a) × (drop n b ≡ x)
 cut_at n b a x e w =
     let le : n ≤ length b = omega (arith, e, ap length w, length-append a x) in
-    let same = same_front (take n b) a (drop n b) x (length-take-le n b le ∙ e) (take-append-drop n b ∙ w) in
+    let same = same_prefix (take n b) a (drop n b) x (length-take-le n b le ∙ e) (take-append-drop n b ∙ w) in
     (le, same.0, same.1)
 
 pub rest_at : (n : ℕ) (b a x : List ℕ) → n ≡ length a → b ≡ a ++ x → take (length b - n) (drop n b) ≡ x

@@ -7,7 +7,7 @@ use Rattle.std.specs.declared.alloc.Global.{Global}
 use borrow.Rule.Slice.PartMut.{put_mid}
 use Rattle.zvt_tlv.specs.declared.trees.Tlv.{Tlv}
 use Rattle.zvt_tlv.specs.declared.trees.Body.TheVariants.{Prim, Cons}
-use Rattle.zvt_spelling.specs.Reading.{shortest}
+use Rattle.zvt_grammar.specs.Reading.{shortest}
 use Rattle.zvt_tlv.specs.Grammar.{Parts, Objects, none, primitive, constructed, IsLength, Spells}
 use Rattle.zvt_tlv.specs.Trees.{before, objects_of}
 use Rattle.zvt_tlv.specs.Sizes.{length_size, size_of, length_bytes, whole, spelling, Puts, Writes}
@@ -21,12 +21,12 @@ PutAll bytes n m old mid sub = (put_mid n (length mid - n) mid sub ≡ bytes ++ 
 
 pub puts_after : (a b old mid sub : List ℕ) (n m : ℕ) → Puts a old mid n → Puts b (from n mid) sub m → PutAll (a ++ b) n m old mid sub
 puts_after a b old mid sub n m p q =
-    let front : take n mid ≡ a = ap (take n) p.0 ∙ take_at a (drop (length a) old) n (sym p.1) in
-    let behind : from n mid ≡ drop (length a) old = take_rest mid n ∙ ap (drop n) p.0 ∙ drop_at a (drop (length a) old) n (sym p.1) in
-    let later : sub ≡ b ++ drop (length a + length b) old = q.0 ∙ ap (λ (s : List ℕ). b ++ drop (length b) s) behind ∙ ap (λ (s : List ℕ). b ++ s) (drop-drop (length b) (length a) old) in
+    let prefix : take n mid ≡ a = ap (take n) p.0 ∙ take_at a (drop (length a) old) n (sym p.1) in
+    let trailing : from n mid ≡ drop (length a) old = take_rest mid n ∙ ap (drop n) p.0 ∙ drop_at a (drop (length a) old) n (sym p.1) in
+    let later : sub ≡ b ++ drop (length a + length b) old = q.0 ∙ ap (λ (s : List ℕ). b ++ drop (length b) s) trailing ∙ ap (λ (s : List ℕ). b ++ s) (drop-drop (length b) (length a) old) in
     let none : drop (length mid - n) (drop n mid) ≡ [] = drop_all (length mid - n) (drop n mid) (omega (arith, length-drop n mid)) in
     let size : length (a ++ b) ≡ length a + length b = length-append a b in (
-      ap (λ (s : List ℕ). s ++ (sub ++ drop (length mid - n) (drop n mid))) front
+      ap (λ (s : List ℕ). s ++ (sub ++ drop (length mid - n) (drop n mid))) prefix
           ∙ ap (λ (s : List ℕ). a ++ (sub ++ s)) none
           ∙ ap (λ (s : List ℕ). a ++ s) (append-nil sub)
           ∙ ap (λ (s : List ℕ). a ++ s) later
@@ -161,7 +161,7 @@ room_sized f g size old mid n same sized p room =
 -- what is written is the spelling
 pub writes_spelling : (f : Objects) (old new : List ℕ) (n : ℕ) → HasSpelling f → Puts (spelling f) old new n → Writes (Spells shortest 1 f) old new n
 writes_spelling f old new n h p =
-    record { bytes = spelling f; spelled = subst (Spells shortest 1 f) (spelled 1 f h.bytes h.spelled) h.spelled; front = p.0; size = p.1 }
+    record { bytes = spelling f; spelled = subst (Spells shortest 1 f) (spelled 1 f h.bytes h.spelled) h.spelled; prefix = p.0; size = p.1 }
 
 -- and so is what is written behind its length
 pub writes_sized : (f g : Objects) (size : ℕ) (old mid sub : List ℕ) (n m : ℕ) → HasSpelling f → f ≡ g → size ≡ size_of f → Puts (length_bytes size) old mid n → Puts (spelling g) (from n mid) sub m →
@@ -179,6 +179,6 @@ writes_sized f g size old mid sub n m h same sized p q =
         is_length = subst (λ (k : ℕ). IsLength shortest k (length_bytes size)) sizes (is_length size (omega (arith, sizes, ap length whole, h.small)));
         inside = subst (Spells shortest 1 f) (sym whole) h.spelled;
       };
-      front = all.0;
+      prefix = all.0;
       size = all.1;
     }

@@ -1,21 +1,21 @@
 -- What the calls answer, in the terms of the grammar.
 use Rattle.std.specs.Prelude.{◌≡◌, ◌⊎◌, ℕ, ◌<◌, ◌≤◌, Bool, true, false, Some, None, Result, Ok, Err, List, ◌++◌, length, take}
-use Rattle.zvt_spelling.specs.declared.why.Why.{Why}
-use Rattle.zvt_spelling.specs.declared.why.Why.TheVariants.{DoesNotFit}
-use Rattle.zvt_spelling.specs.declared.answer.Scan.{Scan}
-use Rattle.zvt_spelling.specs.declared.answer.Scan.TheVariants.{Whole, More, Refused}
-use Rattle.zvt_tlv.specs.declared.judging.TagAt.{TagAt}
-use Rattle.zvt_tlv.specs.declared.judging.TagAt.TheVariants as tag_at
-use Rattle.zvt_tlv.specs.declared.judging.TagNext.{TagNext}
-use Rattle.zvt_tlv.specs.declared.judging.TagNext.TheVariants as tag_next
-use Rattle.zvt_tlv.specs.declared.judging.LengthAt.{LengthAt}
-use Rattle.zvt_tlv.specs.declared.judging.LengthAt.TheVariants as length_at
-use Rattle.zvt_tlv.specs.declared.judging.LengthNext.{LengthNext}
-use Rattle.zvt_tlv.specs.declared.judging.LengthNext.TheVariants as length_next
+use Rattle.zvt_grammar.specs.declared.why.Why.{Why}
+use Rattle.zvt_grammar.specs.declared.why.Why.TheVariants.{DoesNotFit}
+use Rattle.zvt_grammar.specs.declared.answer.Scan.{Scan}
+use Rattle.zvt_grammar.specs.declared.answer.Scan.TheVariants.{Whole, More, Refused}
+use Rattle.zvt_tlv.specs.declared.judge.TagAt.{TagAt}
+use Rattle.zvt_tlv.specs.declared.judge.TagAt.TheVariants as tag_at
+use Rattle.zvt_tlv.specs.declared.judge.TagNext.{TagNext}
+use Rattle.zvt_tlv.specs.declared.judge.TagNext.TheVariants as tag_next
+use Rattle.zvt_tlv.specs.declared.judge.LengthAt.{LengthAt}
+use Rattle.zvt_tlv.specs.declared.judge.LengthAt.TheVariants as length_at
+use Rattle.zvt_tlv.specs.declared.judge.LengthNext.{LengthNext}
+use Rattle.zvt_tlv.specs.declared.judge.LengthNext.TheVariants as length_next
 use Rattle.zvt_tlv.specs.declared.heads.Head.{Head}
 use Rattle.zvt_tlv.specs.declared.trees.Tlv.{Tlv}
 use Rattle.zvt_tlv.specs.Trees.{before, objects_of}
-use Rattle.zvt_spelling.specs.Reading.{Reading}
+use Rattle.zvt_grammar.specs.Reading.{Reading}
 use Rattle.zvt_tlv.specs.Grammar.{Objects, none, Spells, IsTag, IsLength, is_constructed}
 use Rattle.zvt_tlv.specs.Judging.{AliveIn, PlaceIn, WhyIn, Role, first_tag, second_tag, third_tag, first_length, after_81, high_length, low_length, Next, byte, content, next, Tagged, fault, content_fits}
 
@@ -96,8 +96,8 @@ pub record TakesMemory (r : Reading) (room : ℕ) (bytes : List ℕ) : Type 0 wh
   pub tag : List ℕ
   pub size : List ℕ
   pub content : ℕ
-  pub behind : List ℕ
-  pub whole : bytes ≡ tag ++ (size ++ behind)
+  pub trailing : List ℕ
+  pub whole : bytes ≡ tag ++ (size ++ trailing)
   pub is_tag : IsTag tag
   pub is_length : IsLength r content size
-  pub kept : (is_constructed tag ≡ true) ⊎ (content ≤ length behind)
+  pub kept : (is_constructed tag ≡ true) ⊎ (content ≤ length trailing)

@@ -1,6 +1,6 @@
 -- What a list of objects needs to have a spelling.
 use Rattle.std.specs.Prelude.{◌≡◌, ℕ, suc, ◌≤◌, ◌^◌, ◌&&◌, not, nat_lt, Bool, true, false}
-use Rattle.zvt_spelling.specs.Reading.{AreBytes}
+use Rattle.zvt_grammar.specs.Reading.{AreBytes}
 use Rattle.zvt_tlv.specs.Grammar.{Objects, none, primitive, constructed, is_constructed, IsTag}
 use Rattle.zvt_tlv.specs.Sizes.{size_of}
 use Rattle.zvt_tlv.specs.declared.trees.BadForest.{BadForest}

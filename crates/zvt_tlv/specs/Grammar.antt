@@ -1,7 +1,7 @@
 -- The spelling of trees of objects: tag, length, content (PA00P015, TLV container).
 -- Lists are whole spellings; no cursor and no count of what is left stands in these definitions.
 use Rattle.std.specs.Prelude.{◌≡◌, ℕ, ◌+◌, ◌*◌, ◌/◌, ◌%◌, ◌<◌, ◌≤◌, ◌==◌, Bool, true, false, List, [], ◌∷◌, ◌++◌, length, suc}
-use Rattle.zvt_spelling.specs.Reading.{Reading, least, AreBytes}
+use Rattle.zvt_grammar.specs.Reading.{Reading, least, AreBytes}
 
 -- The objects of a level, in order.
 pub data Objects : Type 0 where

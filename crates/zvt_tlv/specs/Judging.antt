@@ -1,11 +1,11 @@
 -- Which bytes may follow in a level of objects, and why a byte may not (PA00P015, TLV container).
 use Rattle.std.specs.Prelude.{◌≡◌, ℕ, ◌+◌, ◌*◌, ◌<◌, ◌≤◌, ◌==◌, ◌&&◌, not, nat_lt, nat_le, Bool, true, false, cond, Option, Some, None, List, [], ◌∷◌, ◌++◌, length, take, slice_get, suc}
-use Rattle.zvt_spelling.specs.declared.why.Why.{Why}
-use Rattle.zvt_spelling.specs.declared.why.Why.TheVariants.{NotShortest, DoesNotFit, LengthForm, TooDeep, TagTooLong}
-use Rattle.zvt_spelling.specs.Beginnings.{Alive, Place}
-use Rattle.zvt_spelling.specs.Reading.{Reading, shortest, padded, least}
+use Rattle.zvt_grammar.specs.declared.why.Why.{Why}
+use Rattle.zvt_grammar.specs.declared.why.Why.TheVariants.{NotShortest, DoesNotFit, LengthForm, TooDeep, TagTooLong}
+use Rattle.zvt_grammar.specs.Beginnings.{Alive, Place}
+use Rattle.zvt_grammar.specs.Reading.{Reading, shortest, padded, least}
 use Rattle.zvt_tlv.specs.Grammar.{Objects, Spells, IsTag, IsLength, is_constructed, holds_objects, continues}
-use Rattle.zvt_spelling.specs.Tests.{check, fits}
+use Rattle.zvt_grammar.specs.Tests.{check, fits}
 
 -- The bytes are a spelling of the objects in exactly so many bytes.
 abbrev pub Filled : Reading → (depth room : ℕ) → Objects → List ℕ → Type 0

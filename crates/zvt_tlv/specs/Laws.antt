@@ -1,11 +1,11 @@
 -- Laws of the grammar. Each holds in both readings of lengths, where it doesn't say which.
 use Rattle.std.specs.Prelude.{◌≡◌, ◌≢◌, ◌↔◌, ℕ, ◌<◌, None, List, [], ◌∷◌, ◌++◌, length}
-use Rattle.zvt_spelling.specs.Beginnings.{Alive, Unfinished}
-use Rattle.zvt_spelling.specs.Laws.{EndThemselves}
-use Rattle.zvt_spelling.specs.Laws as spelling
-use Rattle.zvt_spelling.specs.Reading.{Reading, shortest}
-use Rattle.zvt_spelling.specs.declared.answer.Scan.{Scan}
-use Rattle.zvt_spelling.specs.declared.answer.Scan.TheVariants.{More}
+use Rattle.zvt_grammar.specs.Beginnings.{Alive, Unfinished}
+use Rattle.zvt_grammar.specs.Laws.{EndThemselves}
+use Rattle.zvt_grammar.specs.Laws as spelling
+use Rattle.zvt_grammar.specs.Reading.{Reading, shortest}
+use Rattle.zvt_grammar.specs.declared.answer.Scan.{Scan}
+use Rattle.zvt_grammar.specs.declared.answer.Scan.TheVariants.{More}
 use Rattle.zvt_tlv.specs.declared.trees.BadForest.{BadForest}
 use Rattle.zvt_tlv.specs.Answers.{AnswersForest}
 use Rattle.zvt_tlv.specs.Checks.{HasFault}

@@ -8,7 +8,6 @@ pub mod Laws
 pub mod Sizes
 pub mod Checks
 pub mod Sized
-pub mod Lengths
-pub mod Once
+pub mod UniqueDecoding
 pub mod Views
 pub mod Lent

@@ -1,13 +1,13 @@
 -- A length and the objects that it counts, within a room.
 use Rattle.std.specs.Prelude.{◌≡◌, ◌≢◌, ℕ, ◌+◌, ◌<◌, ◌≤◌, Some, List, [], ◌∷◌, ◌++◌, length, take, slice_get, suc}
-use Rattle.zvt_spelling.specs.declared.why.Why.{Why}
-use Rattle.zvt_spelling.specs.declared.answer.Scan.{Scan}
-use Rattle.zvt_spelling.specs.declared.answer.Scan.TheVariants.{Whole, More, Refused}
-use Rattle.zvt_spelling.specs.Reading.{Reading}
+use Rattle.zvt_grammar.specs.declared.why.Why.{Why}
+use Rattle.zvt_grammar.specs.declared.answer.Scan.{Scan}
+use Rattle.zvt_grammar.specs.declared.answer.Scan.TheVariants.{Whole, More, Refused}
+use Rattle.zvt_grammar.specs.Reading.{Reading}
 use Rattle.zvt_tlv.specs.Grammar.{Objects, IsLength, Spells}
 use Rattle.zvt_tlv.specs.Judging.{Role, Begins, Opener, Position, fault}
 use Rattle.zvt_tlv.specs.Answers.{TakesMemory}
-use Rattle.zvt_spelling.specs.Beginnings.{Alive, NoneWhole, Unfinished, Place}
+use Rattle.zvt_grammar.specs.Beginnings.{Alive, NoneWhole, Unfinished, Place}
 
 -- A length, then objects of that size at depth 1.
 pub record Sized (r : Reading) (objects : Objects) (bytes : List ℕ) : Type 0 where
@@ -70,7 +70,7 @@ AnswersSize r room bytes (Refused place why) =
 pub record SizedTakesMemory (r : Reading) (bytes : List ℕ) : Type 0 where
   pub size : List ℕ
   pub content : ℕ
-  pub behind : List ℕ
-  pub whole : bytes ≡ size ++ behind
+  pub trailing : List ℕ
+  pub whole : bytes ≡ size ++ trailing
   pub is_length : IsLength r content size
-  pub inside : TakesMemory r content behind
+  pub inside : TakesMemory r content trailing

@@ -34,7 +34,7 @@ spelling (constructed tag inner rest) = whole tag (spelling inner) ++ spelling r
 pub record Writes (Spelling : List ℕ → Type 0) (old new : List ℕ) (count : ℕ) : Type 0 where
   pub bytes : List ℕ
   pub spelled : Spelling bytes
-  pub front : new ≡ bytes ++ drop (length bytes) old
+  pub prefix : new ≡ bytes ++ drop (length bytes) old
   pub size : count ≡ length bytes
 
 -- These bytes stand at the front, and what was behind them stays; the count is their size.

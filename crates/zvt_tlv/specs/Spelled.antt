@@ -1,6 +1,6 @@
 -- What has a spelling.
 use Rattle.std.specs.Prelude.{ℕ, ◌<◌, ◌^◌, List, length}
-use Rattle.zvt_spelling.specs.Reading.{shortest}
+use Rattle.zvt_grammar.specs.Reading.{shortest}
 use Rattle.zvt_tlv.specs.Grammar.{Objects, Spells}
 
 -- The objects have a spelling from depth 1 on, of at most 65,535 bytes.

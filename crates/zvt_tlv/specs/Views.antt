@@ -4,10 +4,10 @@ use Rattle.std.specs.Coded.{Coded, Coded-set}
 use mathlib.Core.HLevel.{Σ_prop_path, Π_prop}
 use mathlib.Core.Logic.{∥∥₁_elim, ∥∥₁_prop}
 use Rattle.std.proofs.Common.{refl, suc}
-use Rattle.zvt_spelling.specs.Reading.{padded}
+use Rattle.zvt_grammar.specs.Reading.{padded}
 use Rattle.zvt_tlv.specs.Grammar.{Objects, none, primitive, constructed, IsTag, IsLength, is_constructed, Spells}
 use Rattle.zvt_tlv.specs.Coding.{objects_code}
-use Rattle.zvt_tlv.specs.Once.{one_tree}
+use Rattle.zvt_tlv.specs.UniqueDecoding.{one_tree}
 
 -- A value that the bytes spell.
 abbrev pub OneOf : {V : Type 0} → (V → List ℕ → Type 0) → List ℕ → Type 0

@@ -2,7 +2,7 @@
 
 ghost use Rattle.std.specs.Prelude.{◌≡◌, ℕ, List, length, ◌+◌, ◌<◌, ◌≤◌, ◌^◌, nat_lt, ◌&&◌, not, min, suc, MatchOption};
 ghost use Rattle.std.specs.Bool.{OnTrue};
-ghost use Rattle.zvt_spelling.specs.Reading.{AreBytes};
+ghost use Rattle.zvt_grammar.specs.Reading.{AreBytes};
 ghost use Rattle.zvt_tlv.specs.Grammar.{none, is_constructed};
 ghost use Rattle.zvt_tlv.specs.Trees.{before, objects_of};
 ghost use Rattle.zvt_tlv.specs.Sizes.{size_of};

@@ -1,14 +1,13 @@
 //! The reader of what stands before a content.
 
 ghost use Rattle.std.specs.Prelude.{◌≢◌, [], ◌<◌};
-ghost use Rattle.zvt_spelling.specs.Beginnings.{Alive};
+ghost use Rattle.zvt_grammar.specs.Beginnings.{Alive};
 ghost use Rattle.zvt_tlv.specs.Answers.{Answers, TagFound, HeadFound};
-ghost use Rattle.zvt_tlv.specs.Lengths.{reading_of};
+ghost use Rattle.zvt_grammar.specs.Lengths.{reading_of};
 ghost use Rattle.zvt_tlv.specs.Sized.{SizedIn, AnswersSize};
 
-use crate::judging::{LengthAt, LengthNext, TagAt, TagNext, judge_length, judge_tag};
-use crate::lengths::Lengths;
-use zvt_spelling::Scan;
+use crate::judge::{LengthAt, LengthNext, TagAt, TagNext, judge_length, judge_tag};
+use zvt_grammar::{Lengths, Scan};
 
 /// The tag and the length of an object.
 #[derive(Clone, Copy)]

@@ -6,10 +6,9 @@
 
 mod checks;
 mod heads;
-mod judging;
+mod judge;
 pub mod laws;
-mod lengths;
-mod owning;
+mod owned_forest;
 pub mod reader;
 mod sizes;
 mod tags;
@@ -17,12 +16,11 @@ mod trees;
 mod views;
 mod writer;
 
-pub use judging::{LengthAt, LengthNext, TagAt, TagNext, judge_length, judge_tag};
-pub use lengths::Lengths;
-pub use owning::owned;
+pub use judge::{LengthAt, LengthNext, TagAt, TagNext, judge_length, judge_tag};
+pub use owned_forest::owned;
 pub use sizes::{length_size, size};
 pub use tags::Tag;
 pub use trees::{BadForest, Body, Forest, Tlv};
 pub use views::{ForestView, TlvView, length_first};
 pub use writer::{put_sized, write_into};
-pub use zvt_spelling::{Scan, Why};
+pub use zvt_grammar::{Scan, Why};

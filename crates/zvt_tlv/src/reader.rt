@@ -3,18 +3,17 @@
 //! the tag and the length of the first object, and behind its content where that is bytes (`TakesMemory`).
 
 ghost use Rattle.std.specs.Prelude.{◌≢◌, [], ◌≤◌, ◌<◌, ◌^◌, MatchResult};
-ghost use Rattle.zvt_spelling.specs.Beginnings.{Alive};
-ghost use Rattle.zvt_spelling.specs.Reading.{shortest, padded};
+ghost use Rattle.zvt_grammar.specs.Beginnings.{Alive};
+ghost use Rattle.zvt_grammar.specs.Reading.{shortest, padded};
 ghost use Rattle.zvt_tlv.specs.Answers.{Answers, AnswersForest, ObjectFound, ObjectsFound, TakesMemory};
-ghost use Rattle.zvt_tlv.specs.Lengths.{reading_of};
+ghost use Rattle.zvt_grammar.specs.Lengths.{reading_of};
 ghost use Rattle.zvt_tlv.specs.Sized.{SizedIn, AnswersSized, SizedTakesMemory};
 
 use crate::heads::{scan_head, scan_size};
-use crate::lengths::Lengths;
 use crate::tags::Tag;
 use crate::trees::{Body, Forest, Tlv};
 use std::alloc::{AllocError, Global};
-use zvt_spelling::Scan;
+use zvt_grammar::{Lengths, Scan};
 
 /// Reads the objects at that depth whose bytes are exactly the first `room` bytes, each length in its shortest form.
 /// No objects fill a room of a single byte.

@@ -1,7 +1,7 @@
 //! The sizes of spellings.
 
 ghost use Rattle.std.specs.Prelude.{◌≡◌, ℕ, List, length, ◌+◌, ◌<◌, ◌^◌, nat_lt};
-ghost use Rattle.zvt_spelling.specs.Reading.{shortest};
+ghost use Rattle.zvt_grammar.specs.Reading.{shortest};
 ghost use Rattle.zvt_tlv.specs.Grammar.{none, Spells};
 ghost use Rattle.zvt_tlv.specs.Sizes.{length_size, whole_size, size_of};
 ghost use Rattle.zvt_tlv.specs.Spelled.{HasSpelling};

@@ -2,7 +2,7 @@
 //! takes each length in any form that holds it, so one view serves the bytes of either reading.
 
 ghost use Rattle.std.specs.Prelude.{◌≡◌, ℕ, List, ◌++◌, length};
-ghost use Rattle.zvt_spelling.specs.Reading.{padded};
+ghost use Rattle.zvt_grammar.specs.Reading.{padded};
 ghost use Rattle.zvt_tlv.specs.Grammar.{IsTag, IsLength, Objects, Spells};
 ghost use Rattle.zvt_tlv.specs.Views.{ForestBytes, forest_once, ContentOf, content_once, TagFirst, LengthFirst, ObjectFirst, Starts};
 

@@ -1,7 +1,7 @@
 //! The writers. Each answers how many bytes it wrote at the front, and leaves those behind them.
 
 ghost use Rattle.std.specs.Prelude.{◌≡◌, length, ◌+◌, ◌<◌, ◌≤◌, ◌^◌, ◌++◌, nat_lt};
-ghost use Rattle.zvt_spelling.specs.Reading.{shortest};
+ghost use Rattle.zvt_grammar.specs.Reading.{shortest};
 ghost use Rattle.zvt_tlv.specs.Grammar.{none, Spells};
 ghost use Rattle.zvt_tlv.specs.Sized.{Sized};
 ghost use Rattle.zvt_tlv.specs.Sizes.{size_of, length_size, length_bytes, spelling, Puts, Writes};

@@ -3,7 +3,7 @@ ghost use Rattle.std.specs.Prelude.{◌≡◌};
 ghost use Rattle.zvt_tool.specs.declared.fault.ToolFault.TheVariants as tool;
 
 use thiserror::Error;
-use zvt_run::EndFault;
+use zvt_session::EndFault;
 use zvt_trace::TraceFault;
 
 /// Why a command of the program ended early.

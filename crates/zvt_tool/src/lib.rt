@@ -5,18 +5,20 @@
 mod fault;
 
 pub use fault::ToolFault;
-pub use zvt_audit::{Found, audit, audit_loose, audit_trace};
-pub use zvt_choice::{Choice, ChoiceFault, words};
-pub use zvt_notes::{hint_on, write_notes};
-pub use zvt_run::{
-    BothEnds, End, EndFault, Ends, LineEnd, NetFault, Planned, Recorded, Step, TillSettings, Way,
-    config_of, currency_of, end_trace, password_of, plan, result_code, run_both_ends, run_loop,
-    run_terminal, run_till, run_till_end, serve, step_of,
+pub use zvt_audit::{AuditSummary, audit, audit_loose, audit_trace};
+pub use zvt_cli::{Choice, ChoiceFault, words};
+pub use zvt_diagnostics::{hint_on, write_notes};
+pub use zvt_grammar::Lengths;
+pub use zvt_session::{
+    BothEnds, EndFault, Endpoint, Ends, LineEnd, NetFault, Planned, Recorded, Step, TillSettings,
+    Way, config_of, currency_of, end_trace, password_of, plan, result_code, run_both_ends,
+    run_loop, run_terminal, run_till, run_till_end, serve, step_of,
 };
 pub use zvt_show::{
     join, join_trace, normalise_trace, receipts, receipts_loose, receipts_trace, show, show_loose,
     show_trace,
 };
-pub use zvt_tlv::Lengths;
-pub use zvt_trace::{Failure, Scope, Tally, TraceFault, What, next_line, read_trace};
+pub use zvt_trace::{
+    ListenerError, Scope, Tally, TraceFault, TraceLineError, next_line, read_trace,
+};
 pub use zvt_vectors::vectors;

@@ -3,12 +3,12 @@ use Rattle.std.proofs.Common.{◌≡◌, inl, inr, ℕ, ◌+◌, List, [], ◌�
 use Rattle.std.proofs.lemmas.List.Sums.{sum_by-append, sum_by-cons}
 use Rattle.zvt_apdu.specs.Message.{Message}
 use Rattle.zvt_trace.specs.Listening.{Fails, FailsIn, Hears, HearsAll, Stops}
-use Rattle.zvt_trace.specs.Told.{At, Tallies, bad_count, bad_in, message, message_count, messages_in, on}
-use Rattle.zvt_trace.specs.Telling.{FrontOf, messages_told}
+use Rattle.zvt_trace.specs.TraceEvent.{At, Tallies, bad_count, bad_in, message, message_count, messages_in, on}
+use Rattle.zvt_trace.specs.Emitting.{PrefixOf, messages_emitted}
 use Rattle.zvt_trace.specs.declared.direction.Direction.{Direction}
 use Rattle.zvt_trace.specs.declared.fault.Tally.{Tally}
-use Rattle.zvt_trace.specs.declared.listener.Failure.{Failure}
-use Rattle.zvt_trace.specs.declared.listener.Failure.TheVariants.{Memory}
+use Rattle.zvt_trace.specs.declared.listener.ListenerError.{ListenerError}
+use Rattle.zvt_trace.specs.declared.listener.ListenerError.TheVariants.{Memory}
 
 -- ---- what is heard
 
@@ -19,8 +19,8 @@ hears_append hears (event ∷ a) b x y z some later = (some.0, some.1, hears_app
 pub hears_one : {S : Type 0} (hears : Hears S) (event : At) (x y : S) → hears x event y → HearsAll hears x (event ∷ []) y
 hears_one hears event x y heard = (y, heard, refl)
 
-pub hears_told : {S : Type 0} (hears : Hears S) (events : List At) (event : At) (x y : S) → events ≡ event ∷ [] → hears x event y → HearsAll hears x events y
-hears_told hears events event x y is heard = subst (λ (es : List At). HearsAll hears x es y) (sym is) (hears_one hears event x y heard)
+pub hears_event : {S : Type 0} (hears : Hears S) (events : List At) (event : At) (x y : S) → events ≡ event ∷ [] → hears x event y → HearsAll hears x events y
+hears_event hears events event x y is heard = subst (λ (es : List At). HearsAll hears x es y) (sym is) (hears_one hears event x y heard)
 
 pub hears_push : {S : Type 0} (hears : Hears S) (a : List At) (event : At) (x y z : S) → HearsAll hears x a y → hears y event z → HearsAll hears x (a ++ event ∷ []) z
 hears_push hears a event x y z so heard = hears_append hears a (event ∷ []) x y z so (hears_one hears event y z heard)
@@ -28,20 +28,20 @@ hears_push hears a event x y z so heard = hears_append hears a (event ∷ []) x 
 -- ---- counts
 
 pub messages_append : (a b : List At) → messages_in (a ++ b) ≡ messages_in a + messages_in b
-messages_append a b = sum_by-append (λ (event : At). message_count event.told) a b
+messages_append a b = sum_by-append (λ (event : At). message_count event.trace_event) a b
 
 pub bad_append : (a b : List At) → bad_in (a ++ b) ≡ bad_in a + bad_in b
-bad_append a b = sum_by-append (λ (event : At). bad_count event.told) a b
+bad_append a b = sum_by-append (λ (event : At). bad_count event.trace_event) a b
 
-pub messages_of : (line : ℕ) (from : Direction) (messages : List Message) → messages_in (messages_told line from messages) ≡ length messages
+pub messages_of : (line : ℕ) (from : Direction) (messages : List Message) → messages_in (messages_emitted line from messages) ≡ length messages
 messages_of line from [] = refl
 messages_of line from (m ∷ messages) =
-    sum_by-cons (λ (event : At). message_count event.told) (on line (message from m)) (messages_told line from messages) ∙ ap (λ n. 1 + n) (messages_of line from messages) ∙ omega arith
+    sum_by-cons (λ (event : At). message_count event.trace_event) (on line (message from m)) (messages_emitted line from messages) ∙ ap (λ n. 1 + n) (messages_of line from messages) ∙ omega arith
 
-pub none_bad : (line : ℕ) (from : Direction) (messages : List Message) → bad_in (messages_told line from messages) ≡ 0
+pub none_bad : (line : ℕ) (from : Direction) (messages : List Message) → bad_in (messages_emitted line from messages) ≡ 0
 none_bad line from [] = refl
 none_bad line from (m ∷ messages) =
-    sum_by-cons (λ (event : At). bad_count event.told) (on line (message from m)) (messages_told line from messages) ∙ ap (λ (n : ℕ). 0 + n) (none_bad line from messages)
+    sum_by-cons (λ (event : At). bad_count event.trace_event) (on line (message from m)) (messages_emitted line from messages) ∙ ap (λ (n : ℕ). 0 + n) (none_bad line from messages)
 
 pub tallies_both : (s t all : Tally) (a b : List At) → Tallies s a → Tallies t b → all.messages ≡ s.messages + t.messages → all.bad ≡ s.bad + t.bad → Tallies all (a ++ b)
 tallies_both s t all a b first second messages bad = record {
@@ -51,26 +51,26 @@ tallies_both s t all a b first second messages bad = record {
 
 -- ---- fronts
 
-pub front_whole : {Tell : List At → Type 0} (all : List At) → Tell all → FrontOf Tell all
-front_whole all tell = record { all = all; later = []; tell = tell; is_front = sym (append-nil all) }
+pub prefix_whole : {Emit : List At → Type 0} (all : List At) → Emit all → PrefixOf Emit all
+prefix_whole all emit = record { all = all; later = []; emit = emit; is_prefix = sym (append-nil all) }
 
 -- what follows is told too
-pub front_before : {Tell More : List At → Type 0} (events : List At) → FrontOf Tell events → ((all : List At) → Tell all → (rest : List At) × More (all ++ rest)) → FrontOf More events
-front_before events front more =
-    let longer = more front.all front.tell in record {
-      all = front.all ++ longer.0;
-      later = front.later ++ longer.0;
-      tell = longer.1;
-      is_front = ap (λ (a : List At). a ++ longer.0) front.is_front ∙ append_assoc events front.later longer.0;
+pub prefix_before : {Emit More : List At → Type 0} (events : List At) → PrefixOf Emit events → ((all : List At) → Emit all → (rest : List At) × More (all ++ rest)) → PrefixOf More events
+prefix_before events prefix more =
+    let longer = more prefix.all prefix.emit in record {
+      all = prefix.all ++ longer.0;
+      later = prefix.later ++ longer.0;
+      emit = longer.1;
+      is_prefix = ap (λ (a : List At). a ++ longer.0) prefix.is_prefix ∙ append_assoc events prefix.later longer.0;
     }
 
 -- what stands before is told too
-pub front_behind : {Tell More : List At → Type 0} (before events : List At) → FrontOf Tell events → ((all : List At) → Tell all → More (before ++ all)) → FrontOf More (before ++ events)
-front_behind before events front more = record {
-  all = before ++ front.all;
-  later = front.later;
-  tell = more front.all front.tell;
-  is_front = ap (λ (a : List At). before ++ a) front.is_front ∙ sym (append_assoc before events front.later);
+pub prefix_after : {Emit More : List At → Type 0} (before events : List At) → PrefixOf Emit events → ((all : List At) → Emit all → More (before ++ all)) → PrefixOf More (before ++ events)
+prefix_after before events prefix more = record {
+  all = before ++ prefix.all;
+  later = prefix.later;
+  emit = more prefix.all prefix.emit;
+  is_prefix = ap (λ (a : List At). before ++ a) prefix.is_prefix ∙ sym (append_assoc before events prefix.later);
 }
 
 -- ---- failures
@@ -78,14 +78,14 @@ front_behind before events front more = record {
 pub fails_here : {S : Type 0} (hears : Hears S) (fails : Fails S) {So : List At → Type 0} (events : List At) (old new : S) → HearsAll hears old events new → So events → FailsIn hears fails Memory So old new
 fails_here hears fails events old new heard so = record { events = events; middle = new; heard = heard; stops = inl (refl, so, refl) }
 
-pub fails_next : {S : Type 0} (hears : Hears S) (fails : Fails S) (why : Failure) {So : List At → Type 0} (events : List At) (event : At) (old middle new : S)
+pub fails_next : {S : Type 0} (hears : Hears S) (fails : Fails S) (why : ListenerError) {So : List At → Type 0} (events : List At) (event : At) (old middle new : S)
     → HearsAll hears old events middle → So (events ++ event ∷ []) → fails middle event why new → FailsIn hears fails why So old new
 fails_next hears fails why events event old middle new heard so failed = record { events = events; middle = middle; heard = heard; stops = inr (event, so, failed) }
 
 -- behind what was heard before
-pub fails_behind : {S : Type 0} (hears : Hears S) (fails : Fails S) (why : Failure) {So More : List At → Type 0} (before : List At) (old middle new : S)
+pub fails_after : {S : Type 0} (hears : Hears S) (fails : Fails S) (why : ListenerError) {So More : List At → Type 0} (before : List At) (old middle new : S)
     → HearsAll hears old before middle → FailsIn hears fails why So middle new → ((events : List At) → So events → More (before ++ events)) → FailsIn hears fails why More old new
-fails_behind {S = S} hears fails why {So = So} {More = More} before old middle new heard failed more = record {
+fails_after {S = S} hears fails why {So = So} {More = More} before old middle new heard failed more = record {
   events = before ++ failed.events;
   middle = failed.middle;
   heard = hears_append hears before failed.events old middle failed.middle heard failed.heard;
@@ -96,6 +96,6 @@ fails_behind {S = S} hears fails why {So = So} {More = More} before old middle n
     by (inl (is, so, same)) = inl (is, more failed.events so, same)
     by (inr (event, so, left)) = inr (event, subst More (sym (append_assoc before failed.events (event ∷ []))) (more (failed.events ++ event ∷ []) so), left)
 
-pub fails_as : {S : Type 0} (hears : Hears S) (fails : Fails S) (why : Failure) {So More : List At → Type 0} (old new : S)
+pub fails_as : {S : Type 0} (hears : Hears S) (fails : Fails S) (why : ListenerError) {So More : List At → Type 0} (old new : S)
     → FailsIn hears fails why So old new → ((events : List At) → So events → More events) → FailsIn hears fails why More old new
-fails_as hears fails why old new failed more = fails_behind hears fails why [] old old new refl failed more
+fails_as hears fails why old new failed more = fails_after hears fails why [] old old new refl failed more

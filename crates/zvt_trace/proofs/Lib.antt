@@ -1,4 +1,4 @@
-pub mod BehindLemmas
+pub mod AfterLemmas
 pub mod EventLemmas
 pub mod InputLemmas
 pub mod LineLemmas
@@ -8,5 +8,5 @@ pub mod PlainLemmas
 pub mod SidesLemmas
 pub mod SpelledLemmas
 pub mod StartLemmas
-pub mod TellLemmas
+pub mod EmitLemmas
 pub mod WalkedLemmas

@@ -10,7 +10,7 @@ abbrev pub pair_at : List ℕ → ℕ → ℕ
 pair_at text count = worth (slice_index text (2 * count)) * 16 + worth (slice_index text (2 * count + 1))
 
 pub none_read : (text room : List ℕ) → ReadsPairs text 0 room
-none_read text room = (tt, λ behind. reads_none (spells (without_spaces behind)))
+none_read text room = (tt, λ undecoded. reads_none (spells (without_spaces undecoded)))
 
 -- one pair more, where it is one of digits
 pub one_more : (text room : List ℕ) (count pair : ℕ) → count < length room → 2 * count + 1 < length text → pair ≡ pair_at text count → pair < 256
@@ -19,7 +19,7 @@ one_more text room count pair fits some is few so =
     let both = are_digits (slice_index text (2 * count)) (slice_index text (2 * count + 1)) (omega (arith, is, few)) in
     let sum : pair ≡ both.high * 16 + both.low = is ∙ both.is_sum in (
       hex_more text count both.high both.low some both.is_high both.is_low both.high_small both.low_small so.0,
-      λ behind. rw sum (read_plain text room behind count both.high both.low fits some both.is_high both.is_low both.high_small both.low_small so.1),
+      λ undecoded. rw sum (read_plain text room undecoded count both.high both.low fits some both.is_high both.is_low both.high_small both.low_small so.1),
     )
 
 -- two characters of which one is no digit

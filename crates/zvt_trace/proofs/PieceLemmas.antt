@@ -1,19 +1,19 @@
 -- What a piece brings, and what a feed of it answers.
 use Rattle.std.proofs.Common.{◌≡◌, ℕ, Bool, true, false, subst, List, [], ◌∷◌, ◌++◌, length, refl, sym, ◌∙◌, arith, append-nil}
-use Rattle.zvt_spelling.proofs.CutLemmas.{spelled_append, spelled_more}
-use Rattle.zvt_spelling.specs.Beginnings.{NoneWhole}
-use Rattle.zvt_spelling.specs.Cuts.{Cut, Spelled}
-use Rattle.zvt_spelling.specs.Reading.{Reading, padded, shortest}
+use Rattle.zvt_grammar.proofs.CutLemmas.{spelled_append, spelled_more}
+use Rattle.zvt_grammar.specs.Beginnings.{NoneWhole}
+use Rattle.zvt_grammar.specs.Cuts.{Cut, Spelled}
+use Rattle.zvt_grammar.specs.Reading.{Reading, padded, shortest}
 use Rattle.zvt_apdu.specs.Grammar.{Spells}
 use Rattle.zvt_apdu.specs.Message.{Message}
-use Rattle.zvt_spelling.specs.declared.why.Why.{Why}
+use Rattle.zvt_grammar.specs.declared.why.Why.{Why}
 use Rattle.zvt_apdu.proofs.ViewLemmas.{message_loosened}
 use Rattle.zvt_stream.specs.Apdus.{UnfinishedIn, IsRefusedIn}
 use Rattle.zvt_stream.specs.StreamState.{StreamState, Holds, HasRefused}
 use Rattle.zvt_stream.specs.Feeds.{Lends}
-use Rattle.zvt_stream.specs.declared.feeding.FedView.{FedView}
-use Rattle.zvt_stream.specs.declared.feeding.FeedError.{FeedError}
-use Rattle.zvt_stream.specs.declared.feeding.FeedError.TheVariants.{Stopped}
+use Rattle.zvt_stream.specs.declared.stream.FedView.{FedView}
+use Rattle.zvt_stream.specs.declared.stream.FeedError.{FeedError}
+use Rattle.zvt_stream.specs.declared.stream.FeedError.TheVariants.{Stopped}
 use Rattle.std.specs.Prelude.{Result, Ok, Err, Option, Some, IfSome, IsSome}
 use Rattle.std.specs.Result.{IsErrOf}
 use Rattle.zvt_trace.specs.Trace.{Arrives, Ending, EndsIn, begun, running, refused, side_after}
@@ -44,12 +44,12 @@ arrived {r = r} before bytes rest start messages ending follows spelled none end
   ends = ended;
 }
 
-pub behind : {r : Reading} (before bytes rest : List ℕ) (next : StreamState) (messages : List Message) (ending : Ending) → Arrives r before bytes messages rest ending → EndsAs next rest ending
+pub undecoded : {r : Reading} (before bytes rest : List ℕ) (next : StreamState) (messages : List Message) (ending : Ending) → Arrives r before bytes messages rest ending → EndsAs next rest ending
     → Follows r next (side_after (before ++ bytes) ending)
-behind {r = r} before bytes rest next messages begun arrives is =
+undecoded {r = r} before bytes rest next messages begun arrives is =
     let earlier = arrives.earlier in
     (is.1, earlier ++ messages, subst (λ (held : List ℕ). Cut (Spells r) (before ++ bytes) (earlier ++ messages) held) (sym is.0) arrives.now)
-behind before bytes rest next messages (refused place why) arrives is = is
+undecoded before bytes rest next messages (refused place why) arrives is = is
 
 -- ---- what a feed answered
 
@@ -78,8 +78,8 @@ refused_by k r bytes place why e = subst (λ (x : Reading). IsRefusedIn x bytes 
 -- the bytes that are lent are a spelling of the message that is
 pub lent_spelling : {A : Type 0} (k r : Reading) → k ≡ r → (now : A → List ℕ) (shown : Option A) (bytes : A) (lent : Option Message) (m : Message) → lent ≡ Some m
     → IfSome lent (λ n. IfSome shown (λ b. Spells k n (now b)) × IsSome shown) → shown ≡ Some bytes → Spells r m (now bytes)
-lent_spelling k r same now shown bytes lent m is told found =
-    let here = subst (λ l. IfSome l (λ n. IfSome shown (λ b. Spells k n (now b)) × IsSome shown)) is told in
+lent_spelling k r same now shown bytes lent m is trace_event found =
+    let here = subst (λ l. IfSome l (λ n. IfSome shown (λ b. Spells k n (now b)) × IsSome shown)) is trace_event in
     spells_by k r m (now bytes) same (subst (λ s. IfSome s (λ b. Spells k m (now b))) found here.0)
 
 -- and a padded spelling of it, as each spelling is

@@ -8,15 +8,15 @@ use Rattle.std.proofs.lemmas.List.{length-take, length-take-le, take-append-drop
 use Rattle.std.proofs.Math.Seq.{take-append_seam, drop-append-add}
 use Rattle.hex.specs.Hex.{decode_of, hex_digit_value}
 use Rattle.zvt_trace.specs.Meanings.{Begins, IsSign, SpellsBytes, bytes_of, meaning_of, piece, without_spaces}
-use Rattle.zvt_trace.specs.Spelled.{AreHex, behind_bytes, spells}
+use Rattle.zvt_trace.specs.Spelled.{AreHex, after_bytes, spells}
 use Rattle.zvt_trace.specs.declared.direction.Direction.{Direction}
 use Rattle.zvt_trace.specs.declared.direction.Direction.TheVariants.{FromTill, FromTerminal}
 use Rattle.zvt_trace.proofs.LineLemmas.{lines-first, newline}
 use Rattle.zvt_trace.proofs.SpelledLemmas.{no_bytes_of, no_text, reads_all}
 
 -- what stands behind so many
-abbrev pub behind_first : ℕ → List ℕ → List ℕ
-behind_first n text = take (length text - n) (drop n text)
+abbrev pub after_first : ℕ → List ℕ → List ℕ
+after_first n text = take (length text - n) (drop n text)
 
 no_digit_at : (n : ℕ) (digit : ℕ) → IsSome (hex_digit_value digit) → (IsSome (hex_digit_value n) → ⊥) → digit ≢ n
 no_digit_at n digit is never e = never (subst (λ (k : ℕ). IsSome (hex_digit_value k)) e is)
@@ -49,12 +49,12 @@ first_is sign digits after other all =
     let size : length text ≡ length line + suc (length after) = length-append line (10 ∷ after) in
     let within : length line < length text = omega (arith, size) in
     let found : position newline text ≡ Some (length line) = rw place (grind (arith, nat_tests)) in
-    let front : take (length line) text ≡ line = take-append_seam line (10 ∷ after) in
+    let prefix : take (length line) text ≡ line = take-append_seam line (10 ∷ after) in
     let rest : drop (length line + 1) text ≡ after = drop-append-add line (10 ∷ after) 1 in
     let last : slice_index (32 ∷ digits) (length digits) ≢ 13 = last_other 32 digits (λ e. cc e) all in
     let at : length line - 1 ≡ suc (length digits) = omega arith in
     let kept : strip_carriage_return line ≡ line = strip_other line (subst (λ (k : ℕ). slice_index line k ≢ 13) (sym at) last) in
-    lines-first text (length line) found ∙ ap (λ (t : List ℕ). strip_carriage_return t ∷ lines (drop (length line + 1) text)) front
+    lines-first text (length line) found ∙ ap (λ (t : List ℕ). strip_carriage_return t ∷ lines (drop (length line + 1) text)) prefix
     ∙ ap (λ (t : List ℕ). t ∷ lines (drop (length line + 1) text)) kept ∙ ap (λ (t : List ℕ). line ∷ lines t) rest
 
 -- what the signs of a piece mean
@@ -66,7 +66,7 @@ sign_means sign FromTerminal digits bytes is decoded = rw is ((λ e. cc e), rw d
 -- a piece in the usual form was read
 pub plain_begins : (sign : ℕ) (from : Direction) (text near room after : List ℕ) (count : ℕ) → IsSign sign from
     → take (2 * count) near ≡ take (2 * count) text → drop (2 * count) text ≡ 10 ∷ after → AreHex (take (2 * count) near)
-    → ((behind : List ℕ) → behind_bytes (take count room) (spells (without_spaces behind)) ≡ spells (without_spaces (take (2 * count) near ++ behind)))
+    → ((undecoded : List ℕ) → after_bytes (take count room) (spells (without_spaces undecoded)) ≡ spells (without_spaces (take (2 * count) near ++ undecoded)))
     → 2 * count ≤ length text
     → Begins (sign ∷ 32 ∷ text) (λ line. (meaning_of line ≡ Ok (piece from (take count room))) × (count ≤ length line)) after
 plain_begins sign from text near room after count is same cut all so fits =
@@ -74,7 +74,7 @@ plain_begins sign from text near room after count is same cut all so fits =
     let bytes = take count room in
     let whole : digits ++ 10 ∷ after ≡ text = ap (λ (t : List ℕ). digits ++ t) (sym cut) ∙ take-append-drop (2 * count) text in
     let hex : AreHex digits = subst (λ (t : List ℕ). AreHex t) same all in
-    let read : behind_bytes bytes (spells (without_spaces [])) ≡ spells (without_spaces digits) =
+    let read : after_bytes bytes (spells (without_spaces [])) ≡ spells (without_spaces digits) =
     so [] ∙ ap (λ (t : List ℕ). spells (without_spaces t)) (append-nil (take (2 * count) near) ∙ same) in
     let means = sign_means sign from digits bytes is (reads_all bytes digits [] (omega arith) read) in
     let size : length digits ≡ 2 * count = length-take-le (2 * count) text fits in
@@ -86,11 +86,11 @@ plain_begins sign from text near room after count is same cut all so fits =
       omega (arith, left),
     )
 
-behind_is : (n : ℕ) (text : List ℕ) → behind_first n text ≡ drop n text
-behind_is n text = take_all _ _ (rw (length-drop n text) (omega arith))
+after_is : (n : ℕ) (text : List ℕ) → after_first n text ≡ drop n text
+after_is n text = take_all _ _ (rw (length-drop n text) (omega arith))
 
-few_of_front : (n m : ℕ) (text : List ℕ) → n ≤ length (take m text) → (n ≤ m) × (n ≤ length text)
-few_of_front n m text few = let size = length-take m text in (omega (arith, size, few), omega (arith, size, few))
+few_of_prefix : (n m : ℕ) (text : List ℕ) → n ≤ length (take m text) → (n ≤ m) × (n ≤ length text)
+few_of_prefix n m text few = let size = length-take m text in (omega (arith, size, few), omega (arith, size, few))
 
 feed_first : (text : List ℕ) → 1 ≤ length text → slice_index text 0 ≡ 10 → text ≡ 10 ∷ drop 1 text
 feed_first [] some is = absurd (omega arith)
@@ -98,22 +98,22 @@ feed_first (x ∷ text) some is = ap (λ (k : ℕ). k ∷ text) is
 
 pub plain_read : (rest room : List ℕ) (m count : ℕ) (from : Direction) → 2 ≤ length rest → slice_index rest 1 ≡ 32
     → IsSign (slice_index rest 0) from
-    → 2 * count ≤ length (take m (behind_first 2 rest)) → AreHex (take (2 * count) (take m (behind_first 2 rest)))
-    → ((behind : List ℕ) → behind_bytes (take count room) (spells (without_spaces behind)) ≡ spells (without_spaces (take (2 * count) (take m (behind_first 2 rest)) ++ behind)))
-    → 1 ≤ length (behind_first (2 * count) (behind_first 2 rest)) → slice_index (behind_first (2 * count) (behind_first 2 rest)) 0 ≡ 10
-    → Begins rest (λ line. (meaning_of line ≡ Ok (piece from (take count room))) × (count ≤ length line)) (behind_first 1 (behind_first (2 * count) (behind_first 2 rest)))
+    → 2 * count ≤ length (take m (after_first 2 rest)) → AreHex (take (2 * count) (take m (after_first 2 rest)))
+    → ((undecoded : List ℕ) → after_bytes (take count room) (spells (without_spaces undecoded)) ≡ spells (without_spaces (take (2 * count) (take m (after_first 2 rest)) ++ undecoded)))
+    → 1 ≤ length (after_first (2 * count) (after_first 2 rest)) → slice_index (after_first (2 * count) (after_first 2 rest)) 0 ≡ 10
+    → Begins rest (λ line. (meaning_of line ≡ Ok (piece from (take count room))) × (count ≤ length line)) (after_first 1 (after_first (2 * count) (after_first 2 rest)))
 plain_read [] room m count from some space is fits all so more feed = absurd (omega arith)
 plain_read (sign ∷ []) room m count from some space is fits all so more feed = absurd (omega arith)
 plain_read (sign ∷ blank ∷ after) room m count from some space is fits all so more feed =
-    let text = behind_first 2 (sign ∷ blank ∷ after) in
-    let whole : text ≡ after = behind_is 2 (sign ∷ blank ∷ after) in
-    let rest = behind_first (2 * count) text in
-    let few = few_of_front (2 * count) m text fits in
-    let cut : drop (2 * count) text ≡ 10 ∷ behind_first 1 rest =
-    sym (behind_is (2 * count) text) ∙ feed_first rest more feed ∙ ap (λ (t : List ℕ). 10 ∷ t) (sym (behind_is 1 rest)) in
-    let begins = plain_begins sign from text (take m text) room (behind_first 1 rest) count is (take-take (2 * count) m text few.0) cut all so few.1 in
+    let text = after_first 2 (sign ∷ blank ∷ after) in
+    let whole : text ≡ after = after_is 2 (sign ∷ blank ∷ after) in
+    let rest = after_first (2 * count) text in
+    let few = few_of_prefix (2 * count) m text fits in
+    let cut : drop (2 * count) text ≡ 10 ∷ after_first 1 rest =
+    sym (after_is (2 * count) text) ∙ feed_first rest more feed ∙ ap (λ (t : List ℕ). 10 ∷ t) (sym (after_is 1 rest)) in
+    let begins = plain_begins sign from text (take m text) room (after_first 1 rest) count is (take-take (2 * count) m text few.0) cut all so few.1 in
     let same : sign ∷ 32 ∷ text ≡ sign ∷ blank ∷ after = ap (λ (t : List ℕ). sign ∷ 32 ∷ t) whole ∙ ap (λ (k : ℕ). sign ∷ k ∷ after) (sym space) in
-    subst (λ (t : List ℕ). Begins t (λ line. (meaning_of line ≡ Ok (piece from (take count room))) × (count ≤ length line)) (behind_first 1 rest)) same begins
+    subst (λ (t : List ℕ). Begins t (λ line. (meaning_of line ≡ Ok (piece from (take count room))) × (count ≤ length line)) (after_first 1 rest)) same begins
 
 -- a piece in the usual form leaves no text
 pub plain_line : (rest after room : List ℕ) (count : ℕ) (from : Direction) → count ≤ length room → Begins rest (λ line. (meaning_of line ≡ Ok (piece from (take count room))) × (count ≤ length line)) after

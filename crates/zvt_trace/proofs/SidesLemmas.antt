@@ -1,24 +1,24 @@
 -- What both sides of the line tell.
 use Rattle.std.proofs.Common.{◌≡◌, ℕ, ◌+◌, Bool, true, false, subst, List, [], ◌∷◌, ◌++◌, refl, sym, ◌∙◌, arith, append-nil}
 use Rattle.std.proofs.lemmas.Bool.{false≢true}
-use Rattle.zvt_spelling.specs.Reading.{Reading}
+use Rattle.zvt_grammar.specs.Reading.{Reading}
 use Rattle.zvt_stream.specs.StreamState.{StreamState}
 use Rattle.zvt_trace.specs.Listening.{BesideBegins, Fails, FailsIn, FollowBoth, FollowsUntil, Hears, HearsBeside, HearsEnd, HearsLine, HearsPiece, PieceBegins, is_stopped}
-use Rattle.zvt_trace.specs.Meanings.{lost, piece, remark}
-use Rattle.zvt_trace.specs.Told.{At, Tallies, on, unread}
-use Rattle.zvt_trace.specs.Told as told
-use Rattle.zvt_trace.specs.Telling.{FrontOf, Leaves, LineEnds, LineTells, MeaningBegins, PieceTells, SideEnds, both_sides, cut_off_told, other}
+use Rattle.zvt_trace.specs.Meanings.{lost, piece, comment}
+use Rattle.zvt_trace.specs.TraceEvent.{At, Tallies, on, unread}
+use Rattle.zvt_trace.specs.TraceEvent as trace_event
+use Rattle.zvt_trace.specs.Emitting.{PrefixOf, Leaves, LineEnds, LineEmits, MeaningBegins, PieceEmits, SideEnds, both_sides, cut_off_event, other}
 use Rattle.zvt_trace.specs.Trace.{Side, Sides, new_line, running, stopped}
 use Rattle.zvt_trace.specs.Written.{Follows}
 use Rattle.zvt_trace.specs.declared.both_sides.BothSides.{BothSides}
 use Rattle.zvt_trace.specs.declared.direction.Direction.{Direction}
 use Rattle.zvt_trace.specs.declared.direction.Direction.TheVariants.{FromTill, FromTerminal}
 use Rattle.zvt_trace.specs.declared.fault.Tally.{Tally}
-use Rattle.zvt_trace.specs.declared.listener.Failure.{Failure}
+use Rattle.zvt_trace.specs.declared.listener.ListenerError.{ListenerError}
 use Rattle.zvt_trace.specs.declared.listener.Scope.{Scope}
 use Rattle.zvt_trace.specs.declared.listener.Scope.TheVariants.{OneSide, WholeLine}
-use Rattle.zvt_trace.specs.declared.tell.Hearing.{Hearing}
-use Rattle.zvt_trace.proofs.EventLemmas.{fails_as, fails_behind, fails_next, front_before, front_behind, front_whole, hears_append, hears_one, hears_push, messages_append, bad_append, tallies_both}
+use Rattle.zvt_trace.specs.declared.emit.Hearing.{Hearing}
+use Rattle.zvt_trace.proofs.EventLemmas.{fails_as, fails_after, fails_next, prefix_before, prefix_after, prefix_whole, hears_append, hears_one, hears_push, messages_append, bad_append, tallies_both}
 
 -- ---- a piece, and the other side
 
@@ -35,10 +35,10 @@ goes_on {r = r} hears scope line from side beside bytes state others hearing who
   events = heard.events;
   after = heard.after;
   beside_after = beside;
-  tells = record {
+  emits = record {
     own = heard.events;
     others = [];
-    tells = heard.tells;
+    emits = heard.emits;
     leaves = leaves_all r scope line from heard.after beside (λ is. sym heard.ends ∙ going is);
     is_all = sym (append-nil heard.events);
   };
@@ -59,15 +59,15 @@ pub gives_up : {S : Type 0} {r : Reading} (hears : Hears S) (scope : Scope) (lin
 gives_up {r = r} hears scope line from there side beside bytes state others hearing whole bad old middle new is_whole is_other heard over cut messages bads still =
     let after : heard.after ≡ stopped = is_end heard.after (sym heard.ends ∙ over) in
     let ended : SideEnds r line (other from) beside cut.events = subst (λ (d : Direction). SideEnds r line d beside cut.events) is_other cut.ends in
-    let tells : PieceTells r line from side bytes heard.events stopped = subst (λ (s : Side). PieceTells r line from side bytes heard.events s) after heard.tells in
+    let emits : PieceEmits r line from side bytes heard.events stopped = subst (λ (s : Side). PieceEmits r line from side bytes heard.events s) after heard.emits in
     record {
       events = heard.events ++ cut.events;
       after = stopped;
       beside_after = stopped;
-      tells = record {
+      emits = record {
         own = heard.events;
         others = cut.events;
-        tells = tells;
+        emits = emits;
         leaves = rw is_whole (ended, refl);
         is_all = refl;
       };
@@ -79,7 +79,7 @@ gives_up {r = r} hears scope line from there side beside bytes state others hear
 
 -- there is something that a refusal leaves
 ends_some : (r : Reading) (line : ℕ) (from : Direction) (side : Side) (state : StreamState) → Follows r state side → (events : List At) × SideEnds r line from side events
-ends_some r line from (running bytes) state follows = (cut_off_told line from state.held, (follows.1, state.held, follows.2, refl))
+ends_some r line from (running bytes) state follows = (cut_off_event line from state.held, (follows.1, state.held, follows.2, refl))
 ends_some r line from stopped state follows = ([], refl)
 
 leaves_some : (r : Reading) (scope : Scope) (line : ℕ) (from : Direction) (side beside : Side) (others : StreamState) → Follows r others beside → (after : Side) × (events : List At) × Leaves r scope line from side beside events after
@@ -96,30 +96,30 @@ beside_begins {r = r} scope line from side beside bytes others events follows be
       after = begins.after;
       beside_after = leaves.0;
       cut = begins.cut;
-      tells = front_before events begins.tells (λ all tells. (leaves.1, record { own = all; others = leaves.1; tells = tells; leaves = leaves.2; is_all = refl }));
+      emits = prefix_before events begins.emits (λ all emits. (leaves.1, record { own = all; others = leaves.1; emits = emits; leaves = leaves.2; is_all = refl }));
     }
 
-pub piece_fails : {S : Type 0} {r : Reading} (hears : Hears S) (fails : Fails S) (why : Failure) (scope : Scope) (line : ℕ) (from : Direction) (side beside : Side) (bytes : List ℕ) (others : StreamState) (old new : S)
+pub piece_fails : {S : Type 0} {r : Reading} (hears : Hears S) (fails : Fails S) (why : ListenerError) (scope : Scope) (line : ℕ) (from : Direction) (side beside : Side) (bytes : List ℕ) (others : StreamState) (old new : S)
     → FailsIn hears fails why (PieceBegins r line from side bytes) old new → Follows r others beside → FailsIn hears fails why (BesideBegins r scope line from side beside bytes) old new
 piece_fails hears fails why scope line from side beside bytes others old new failed follows =
     fails_as hears fails why old new failed (λ events so. beside_begins scope line from side beside bytes others events follows so)
 
-pub cut_off_fails : {S : Type 0} {r : Reading} (hears : Hears S) (fails : Fails S) (why : Failure) (scope : Scope) (line : ℕ) (from there : Direction) (side beside : Side) (bytes : List ℕ) (state : StreamState) (hearing : Hearing) (old middle new : S)
-    → scope ≡ WholeLine → there ≡ other from → HearsPiece r hears line from side bytes state hearing old middle → hearing.stopped ≡ true → FailsIn hears fails why (FrontOf (SideEnds r line there beside)) middle new
+pub cut_off_fails : {S : Type 0} {r : Reading} (hears : Hears S) (fails : Fails S) (why : ListenerError) (scope : Scope) (line : ℕ) (from there : Direction) (side beside : Side) (bytes : List ℕ) (state : StreamState) (hearing : Hearing) (old middle new : S)
+    → scope ≡ WholeLine → there ≡ other from → HearsPiece r hears line from side bytes state hearing old middle → hearing.stopped ≡ true → FailsIn hears fails why (PrefixOf (SideEnds r line there beside)) middle new
     → FailsIn hears fails why (BesideBegins r scope line from side beside bytes) old new
 cut_off_fails {r = r} hears fails why scope line from there side beside bytes state hearing old middle new is_whole is_other heard over failed =
     let after : heard.after ≡ stopped = is_end heard.after (sym heard.ends ∙ over) in
-    let tells : PieceTells r line from side bytes heard.events stopped = subst (λ (s : Side). PieceTells r line from side bytes heard.events s) after heard.tells in
-    fails_behind hears fails why heard.events old middle new heard.heard failed (λ events front. record {
+    let emits : PieceEmits r line from side bytes heard.events stopped = subst (λ (s : Side). PieceEmits r line from side bytes heard.events s) after heard.emits in
+    fails_after hears fails why heard.events old middle new heard.heard failed (λ events prefix. record {
       first = bytes;
       more = [];
       after = stopped;
       beside_after = stopped;
       cut = sym (append-nil bytes);
-      tells = front_behind heard.events events front (λ all ended. record {
+      emits = prefix_after heard.events events prefix (λ all ended. record {
         own = heard.events;
         others = all;
-        tells = tells;
+        emits = emits;
         leaves = rw is_whole (subst (λ (d : Direction). SideEnds r line d beside all) is_other ended, refl);
         is_all = refl;
       });
@@ -127,11 +127,11 @@ cut_off_fails {r = r} hears fails why scope line from there side beside bytes st
 
 -- ---- both sides
 
-pub until : (r : Reading) (deaf : Bool) (state : StreamState) (side : Side) → deaf ≡ false → FollowsUntil r deaf state side → Follows r state side
+pub until : (r : Reading) (rejected : Bool) (state : StreamState) (side : Side) → rejected ≡ false → FollowsUntil r rejected state side → Follows r state side
 until r false state side e follows = follows
 until r true state side e follows = absurd (false≢true (sym e))
 
-until_end : (r : Reading) (deaf : Bool) (state : StreamState) (side : Side) → deaf ≡ true → FollowsUntil r deaf state side → side ≡ stopped
+until_end : (r : Reading) (rejected : Bool) (state : StreamState) (side : Side) → rejected ≡ true → FollowsUntil r rejected state side → side ≡ stopped
 until_end r false state side e follows = absurd (false≢true e)
 until_end r true state side e follows = follows
 
@@ -141,100 +141,100 @@ silent = record { till = stopped; terminal = stopped }
 silent_is : {a b : Side} → a ≡ stopped → b ≡ stopped → (let both : Sides = record { till = a; terminal = b } in both) ≡ silent
 silent_is e f = rw (e, f) refl
 
-is_silent : {r : Reading} (state : BothSides) (sides : Sides) → FollowBoth r state sides → state.deaf ≡ true → sides ≡ silent
-is_silent {r = r} state sides follow deaf = silent_is (until_end r state.deaf state.till sides.till deaf follow.till) (until_end r state.deaf state.terminal sides.terminal deaf follow.terminal)
+is_silent : {r : Reading} (state : BothSides) (sides : Sides) → FollowBoth r state sides → state.rejected ≡ true → sides ≡ silent
+is_silent {r = r} state sides follow rejected = silent_is (until_end r state.rejected state.till sides.till rejected follow.till) (until_end r state.rejected state.terminal sides.terminal rejected follow.terminal)
 
 leaves_silent : (r : Reading) (scope : Scope) (line : ℕ) (from : Direction) → Leaves r scope line from stopped stopped [] stopped
 leaves_silent r OneSide line from = (refl, refl)
 leaves_silent r WholeLine line from = (refl, refl)
 
-silent_piece : {r : Reading} (scope : Scope) (line : ℕ) (from : Direction) (bytes : List ℕ) → LineTells r scope line (piece from bytes) silent (on line (unread from) ∷ []) silent
+silent_piece : {r : Reading} (scope : Scope) (line : ℕ) (from : Direction) (bytes : List ℕ) → LineEmits r scope line (piece from bytes) silent (on line (unread from) ∷ []) silent
 silent_piece {r = r} scope line FromTill bytes =
-    (stopped, stopped, record { own = on line (unread FromTill) ∷ []; others = []; tells = (refl, refl); leaves = leaves_silent r scope line FromTill; is_all = refl }, refl)
+    (stopped, stopped, record { own = on line (unread FromTill) ∷ []; others = []; emits = (refl, refl); leaves = leaves_silent r scope line FromTill; is_all = refl }, refl)
 silent_piece {r = r} scope line FromTerminal bytes =
-    (stopped, stopped, record { own = on line (unread FromTerminal) ∷ []; others = []; tells = (refl, refl); leaves = leaves_silent r scope line FromTerminal; is_all = refl }, refl)
+    (stopped, stopped, record { own = on line (unread FromTerminal) ∷ []; others = []; emits = (refl, refl); leaves = leaves_silent r scope line FromTerminal; is_all = refl }, refl)
 
-pub unheard : {S : Type 0} {r : Reading} (hears : Hears S) (scope : Scope) (line : ℕ) (from : Direction) (bytes : List ℕ) (sides : Sides) (state : BothSides) (tally : Tally) (old new : S) → FollowBoth r state sides → state.deaf ≡ true
+pub unheard : {S : Type 0} {r : Reading} (hears : Hears S) (scope : Scope) (line : ℕ) (from : Direction) (bytes : List ℕ) (sides : Sides) (state : BothSides) (tally : Tally) (old new : S) → FollowBoth r state sides → state.rejected ≡ true
     → hears old (on line (unread from)) new → tally.messages ≡ 0 → tally.bad ≡ 0 → HearsLine r hears scope line (piece from bytes) sides state tally old new
-unheard {r = r} hears scope line from bytes sides state tally old new follow deaf heard messages bad =
-    let is = is_silent state sides follow deaf in record {
+unheard {r = r} hears scope line from bytes sides state tally old new follow rejected heard messages bad =
+    let is = is_silent state sides follow rejected in record {
       events = on line (unread from) ∷ [];
       after = silent;
-      tells = subst (λ (s : Sides). LineTells r scope line (piece from bytes) s (on line (unread from) ∷ []) silent) (sym is) (silent_piece scope line from bytes);
+      emits = subst (λ (s : Sides). LineEmits r scope line (piece from bytes) s (on line (unread from) ∷ []) silent) (sym is) (silent_piece scope line from bytes);
       heard = hears_one hears (on line (unread from)) old new heard;
       follow = subst (λ (s : Sides). FollowBoth r state s) is follow;
       counts = record { messages = messages; bad = bad };
     }
 
-pub unheard_fails : {S : Type 0} {r : Reading} (hears : Hears S) (fails : Fails S) (why : Failure) (scope : Scope) (line : ℕ) (from : Direction) (bytes : List ℕ) (sides : Sides) (state : BothSides) (old new : S) → FollowBoth r state sides → state.deaf ≡ true
+pub unheard_fails : {S : Type 0} {r : Reading} (hears : Hears S) (fails : Fails S) (why : ListenerError) (scope : Scope) (line : ℕ) (from : Direction) (bytes : List ℕ) (sides : Sides) (state : BothSides) (old new : S) → FollowBoth r state sides → state.rejected ≡ true
     → fails old (on line (unread from)) why new → FailsIn hears fails why (MeaningBegins r scope line (piece from bytes) sides) old new
-unheard_fails {r = r} hears fails why scope line from bytes sides state old new follow deaf failed =
-    let is = is_silent state sides follow deaf in
-    let tells = subst (λ (s : Sides). LineTells r scope line (piece from bytes) s (on line (unread from) ∷ []) silent) (sym is) (silent_piece scope line from bytes) in
+unheard_fails {r = r} hears fails why scope line from bytes sides state old new follow rejected failed =
+    let is = is_silent state sides follow rejected in
+    let emits = subst (λ (s : Sides). LineEmits r scope line (piece from bytes) s (on line (unread from) ∷ []) silent) (sym is) (silent_piece scope line from bytes) in
     fails_next hears fails why [] (on line (unread from)) old old new refl
-    (record { front = piece from bytes; after = silent; begins = (bytes, [], refl, sym (append-nil bytes)); tells = front_whole (on line (unread from) ∷ []) tells }) failed
+    (record { prefix = piece from bytes; after = silent; begins = (bytes, [], refl, sym (append-nil bytes)); emits = prefix_whole (on line (unread from) ∷ []) emits }) failed
 
 -- a piece of the till is heard
 pub till_heard : {S : Type 0} {r : Reading} (hears : Hears S) (scope : Scope) (line : ℕ) (from : Direction) (bytes : List ℕ) (sides : Sides) (start state : BothSides) (hearing : Hearing) (old new : S) → from ≡ FromTill
-    → HearsBeside r hears scope line from sides.till sides.terminal bytes state.till start.terminal hearing old new → state.terminal ≡ start.terminal → state.deaf ≡ hearing.stopped
+    → HearsBeside r hears scope line from sides.till sides.terminal bytes state.till start.terminal hearing old new → state.terminal ≡ start.terminal → state.rejected ≡ hearing.stopped
     → HearsLine r hears scope line (piece from bytes) sides state hearing.tally old new
 till_heard {r = r} hears scope line from bytes sides start state hearing old new is heard same over =
-    let told = rw is at heard in rw is (record {
-      events = told.events;
-      after = both_sides FromTill told.after told.beside_after;
-      tells = (told.after, told.beside_after, told.tells, refl);
-      heard = told.heard;
+    let trace_event = rw is at heard in rw is (record {
+      events = trace_event.events;
+      after = both_sides FromTill trace_event.after trace_event.beside_after;
+      emits = (trace_event.after, trace_event.beside_after, trace_event.emits, refl);
+      heard = trace_event.heard;
       follow = record {
-        till = subst (λ (b : Bool). FollowsUntil r b state.till told.after) (sym over) told.follows;
-        terminal = subst (λ (b : Bool). FollowsUntil r b state.terminal told.beside_after) (sym over) (subst (λ (s : StreamState). FollowsUntil r hearing.stopped s told.beside_after) (sym same) told.follows_beside);
+        till = subst (λ (b : Bool). FollowsUntil r b state.till trace_event.after) (sym over) trace_event.follows;
+        terminal = subst (λ (b : Bool). FollowsUntil r b state.terminal trace_event.beside_after) (sym over) (subst (λ (s : StreamState). FollowsUntil r hearing.stopped s trace_event.beside_after) (sym same) trace_event.follows_beside);
       };
-      counts = told.counts;
+      counts = trace_event.counts;
     })
 
 -- and one of the terminal
 pub terminal_heard : {S : Type 0} {r : Reading} (hears : Hears S) (scope : Scope) (line : ℕ) (from : Direction) (bytes : List ℕ) (sides : Sides) (start state : BothSides) (hearing : Hearing) (old new : S) → from ≡ FromTerminal
-    → HearsBeside r hears scope line from sides.terminal sides.till bytes state.terminal start.till hearing old new → state.till ≡ start.till → state.deaf ≡ hearing.stopped
+    → HearsBeside r hears scope line from sides.terminal sides.till bytes state.terminal start.till hearing old new → state.till ≡ start.till → state.rejected ≡ hearing.stopped
     → HearsLine r hears scope line (piece from bytes) sides state hearing.tally old new
 terminal_heard {r = r} hears scope line from bytes sides start state hearing old new is heard same over =
-    let told = rw is at heard in rw is (record {
-      events = told.events;
-      after = both_sides FromTerminal told.after told.beside_after;
-      tells = (told.after, told.beside_after, told.tells, refl);
-      heard = told.heard;
+    let trace_event = rw is at heard in rw is (record {
+      events = trace_event.events;
+      after = both_sides FromTerminal trace_event.after trace_event.beside_after;
+      emits = (trace_event.after, trace_event.beside_after, trace_event.emits, refl);
+      heard = trace_event.heard;
       follow = record {
-        till = subst (λ (b : Bool). FollowsUntil r b state.till told.beside_after) (sym over) (subst (λ (s : StreamState). FollowsUntil r hearing.stopped s told.beside_after) (sym same) told.follows_beside);
-        terminal = subst (λ (b : Bool). FollowsUntil r b state.terminal told.after) (sym over) told.follows;
+        till = subst (λ (b : Bool). FollowsUntil r b state.till trace_event.beside_after) (sym over) (subst (λ (s : StreamState). FollowsUntil r hearing.stopped s trace_event.beside_after) (sym same) trace_event.follows_beside);
+        terminal = subst (λ (b : Bool). FollowsUntil r b state.terminal trace_event.after) (sym over) trace_event.follows;
       };
-      counts = told.counts;
+      counts = trace_event.counts;
     })
 
-pub till_fails : {S : Type 0} {r : Reading} (hears : Hears S) (fails : Fails S) (why : Failure) (scope : Scope) (line : ℕ) (from : Direction) (bytes : List ℕ) (sides : Sides) (old new : S) → from ≡ FromTill
+pub till_fails : {S : Type 0} {r : Reading} (hears : Hears S) (fails : Fails S) (why : ListenerError) (scope : Scope) (line : ℕ) (from : Direction) (bytes : List ℕ) (sides : Sides) (old new : S) → from ≡ FromTill
     → FailsIn hears fails why (BesideBegins r scope line from sides.till sides.terminal bytes) old new → FailsIn hears fails why (MeaningBegins r scope line (piece from bytes) sides) old new
 till_fails hears fails why scope line from bytes sides old new is failed =
-    let told = rw is at failed in
-    rw is (fails_as hears fails why old new told (λ events so. record {
-      front = piece FromTill so.first;
+    let trace_event = rw is at failed in
+    rw is (fails_as hears fails why old new trace_event (λ events so. record {
+      prefix = piece FromTill so.first;
       after = both_sides FromTill so.after so.beside_after;
       begins = (so.first, so.more, refl, so.cut);
-      tells = front_behind [] events so.tells (λ all tells. (so.after, so.beside_after, tells, refl));
+      emits = prefix_after [] events so.emits (λ all emits. (so.after, so.beside_after, emits, refl));
     }))
 
-pub terminal_fails : {S : Type 0} {r : Reading} (hears : Hears S) (fails : Fails S) (why : Failure) (scope : Scope) (line : ℕ) (from : Direction) (bytes : List ℕ) (sides : Sides) (old new : S) → from ≡ FromTerminal
+pub terminal_fails : {S : Type 0} {r : Reading} (hears : Hears S) (fails : Fails S) (why : ListenerError) (scope : Scope) (line : ℕ) (from : Direction) (bytes : List ℕ) (sides : Sides) (old new : S) → from ≡ FromTerminal
     → FailsIn hears fails why (BesideBegins r scope line from sides.terminal sides.till bytes) old new → FailsIn hears fails why (MeaningBegins r scope line (piece from bytes) sides) old new
 terminal_fails hears fails why scope line from bytes sides old new is failed =
-    let told = rw is at failed in
-    rw is (fails_as hears fails why old new told (λ events so. record {
-      front = piece FromTerminal so.first;
+    let trace_event = rw is at failed in
+    rw is (fails_as hears fails why old new trace_event (λ events so. record {
+      prefix = piece FromTerminal so.first;
       after = both_sides FromTerminal so.after so.beside_after;
       begins = (so.first, so.more, refl, so.cut);
-      tells = front_behind [] events so.tells (λ all tells. (so.after, so.beside_after, tells, refl));
+      emits = prefix_after [] events so.emits (λ all emits. (so.after, so.beside_after, emits, refl));
     }))
 
 -- ---- the end of the line
 
-pub none_ends : {S : Type 0} {r : Reading} (hears : Hears S) (line : ℕ) (sides : Sides) (state : BothSides) (now : S) → FollowBoth r state sides → state.deaf ≡ true → HearsEnd hears (LineEnds r line sides) 0 now now
-none_ends {r = r} hears line sides state now follow deaf =
-    let is = is_silent state sides follow deaf in record {
+pub none_ends : {S : Type 0} {r : Reading} (hears : Hears S) (line : ℕ) (sides : Sides) (state : BothSides) (now : S) → FollowBoth r state sides → state.rejected ≡ true → HearsEnd hears (LineEnds r line sides) 0 now now
+none_ends {r = r} hears line sides state now follow rejected =
+    let is = is_silent state sides follow rejected in record {
       events = [];
       ends = subst (λ (s : Sides). LineEnds r line s []) (sym is) (record { till = []; terminal = []; till_ends = refl; terminal_ends = refl; is_all = refl });
       heard = refl;
@@ -250,40 +250,40 @@ both_end hears line sides a b all old middle new till terminal is = record {
   counts = tallies_both (record { messages = 0; bad = a }) (record { messages = 0; bad = b }) (record { messages = 0; bad = all }) till.events terminal.events till.counts terminal.counts refl is;
 }
 
-pub till_end_fails : {S : Type 0} {r : Reading} (hears : Hears S) (fails : Fails S) (why : Failure) (line : ℕ) (sides : Sides) (terminal : StreamState) (old new : S) → FailsIn hears fails why (FrontOf (SideEnds r line FromTill sides.till)) old new
-    → Follows r terminal sides.terminal → FailsIn hears fails why (FrontOf (LineEnds r line sides)) old new
+pub till_end_fails : {S : Type 0} {r : Reading} (hears : Hears S) (fails : Fails S) (why : ListenerError) (line : ℕ) (sides : Sides) (terminal : StreamState) (old new : S) → FailsIn hears fails why (PrefixOf (SideEnds r line FromTill sides.till)) old new
+    → Follows r terminal sides.terminal → FailsIn hears fails why (PrefixOf (LineEnds r line sides)) old new
 till_end_fails {r = r} hears fails why line sides terminal old new failed follows =
     let ended = ends_some r line FromTerminal sides.terminal terminal follows in
-    fails_as hears fails why old new failed (λ events so. front_before events so
+    fails_as hears fails why old new failed (λ events so. prefix_before events so
     (λ all till. (ended.0, record { till = all; terminal = ended.0; till_ends = till; terminal_ends = ended.1; is_all = refl })))
 
-pub terminal_end_fails : {S : Type 0} {r : Reading} (hears : Hears S) (fails : Fails S) (why : Failure) (line : ℕ) (sides : Sides) (bad : ℕ) (old middle new : S) → HearsEnd hears (SideEnds r line FromTill sides.till) bad old middle
-    → FailsIn hears fails why (FrontOf (SideEnds r line FromTerminal sides.terminal)) middle new → FailsIn hears fails why (FrontOf (LineEnds r line sides)) old new
+pub terminal_end_fails : {S : Type 0} {r : Reading} (hears : Hears S) (fails : Fails S) (why : ListenerError) (line : ℕ) (sides : Sides) (bad : ℕ) (old middle new : S) → HearsEnd hears (SideEnds r line FromTill sides.till) bad old middle
+    → FailsIn hears fails why (PrefixOf (SideEnds r line FromTerminal sides.terminal)) middle new → FailsIn hears fails why (PrefixOf (LineEnds r line sides)) old new
 terminal_end_fails hears fails why line sides bad old middle new till failed =
-    fails_behind hears fails why till.events old middle new till.heard failed (λ events so. front_behind till.events events so
+    fails_after hears fails why till.events old middle new till.heard failed (λ events so. prefix_after till.events events so
     (λ all terminal. record { till = till.events; terminal = all; till_ends = till.ends; terminal_ends = terminal; is_all = refl }))
 
 -- ---- the other lines
 
-pub remarks : {S : Type 0} {r : Reading} (hears : Hears S) (scope : Scope) (line : ℕ) (sides : Sides) (state : BothSides) (tally : Tally) (now : S) → FollowBoth r state sides → tally.messages ≡ 0 → tally.bad ≡ 0
-    → HearsLine r hears scope line remark sides state tally now now
-remarks hears scope line sides state tally now follow messages bad = record {
+pub comments : {S : Type 0} {r : Reading} (hears : Hears S) (scope : Scope) (line : ℕ) (sides : Sides) (state : BothSides) (tally : Tally) (now : S) → FollowBoth r state sides → tally.messages ≡ 0 → tally.bad ≡ 0
+    → HearsLine r hears scope line comment sides state tally now now
+comments hears scope line sides state tally now follow messages bad = record {
   events = [];
   after = sides;
-  tells = (refl, refl);
+  emits = (refl, refl);
   heard = refl;
   follow = follow;
   counts = record { messages = messages; bad = bad };
 }
 
-pub loses : {S : Type 0} {r : Reading} (hears : Hears S) (scope : Scope) (line : ℕ) (sides : Sides) (state : BothSides) (tally : Tally) (bad : ℕ) (old middle new : S) → HearsEnd hears (LineEnds r line sides) bad old middle → hears middle (on line told.lost) new
+pub loses : {S : Type 0} {r : Reading} (hears : Hears S) (scope : Scope) (line : ℕ) (sides : Sides) (state : BothSides) (tally : Tally) (bad : ℕ) (old middle new : S) → HearsEnd hears (LineEnds r line sides) bad old middle → hears middle (on line trace_event.lost) new
     → FollowBoth r state new_line → tally.messages ≡ 0 → tally.bad ≡ bad → HearsLine r hears scope line lost sides state tally old new
 loses hears scope line sides state tally bad old middle new ended heard fresh messages bads =
-    let last = on line told.lost ∷ [] in record {
+    let last = on line trace_event.lost ∷ [] in record {
       events = ended.events ++ last;
       after = new_line;
-      tells = (ended.events, ended.ends, refl, refl);
-      heard = hears_push hears ended.events (on line told.lost) old middle new ended.heard heard;
+      emits = (ended.events, ended.ends, refl, refl);
+      heard = hears_push hears ended.events (on line trace_event.lost) old middle new ended.heard heard;
       follow = fresh;
       counts = record {
         messages = omega (arith, messages, ended.counts.messages, messages_append ended.events last);
@@ -291,22 +291,22 @@ loses hears scope line sides state tally bad old middle new ended heard fresh me
       };
     }
 
-pub end_fails : {S : Type 0} {r : Reading} (hears : Hears S) (fails : Fails S) (why : Failure) (scope : Scope) (line : ℕ) (sides : Sides) (old new : S) → FailsIn hears fails why (FrontOf (LineEnds r line sides)) old new
+pub end_fails : {S : Type 0} {r : Reading} (hears : Hears S) (fails : Fails S) (why : ListenerError) (scope : Scope) (line : ℕ) (sides : Sides) (old new : S) → FailsIn hears fails why (PrefixOf (LineEnds r line sides)) old new
     → FailsIn hears fails why (MeaningBegins r scope line lost sides) old new
 end_fails hears fails why scope line sides old new failed =
     fails_as hears fails why old new failed (λ events so. record {
-      front = lost;
+      prefix = lost;
       after = new_line;
       begins = refl;
-      tells = front_before events so (λ all ended. (on line told.lost ∷ [], (all, ended, refl, refl)));
+      emits = prefix_before events so (λ all ended. (on line trace_event.lost ∷ [], (all, ended, refl, refl)));
     })
 
-pub loss_fails : {S : Type 0} {r : Reading} (hears : Hears S) (fails : Fails S) (why : Failure) (scope : Scope) (line : ℕ) (sides : Sides) (bad : ℕ) (old middle new : S) → HearsEnd hears (LineEnds r line sides) bad old middle → fails middle (on line told.lost) why new
+pub loss_fails : {S : Type 0} {r : Reading} (hears : Hears S) (fails : Fails S) (why : ListenerError) (scope : Scope) (line : ℕ) (sides : Sides) (bad : ℕ) (old middle new : S) → HearsEnd hears (LineEnds r line sides) bad old middle → fails middle (on line trace_event.lost) why new
     → FailsIn hears fails why (MeaningBegins r scope line lost sides) old new
 loss_fails hears fails why scope line sides bad old middle new ended failed =
-    fails_next hears fails why ended.events (on line told.lost) old middle new ended.heard (record {
-      front = lost;
+    fails_next hears fails why ended.events (on line trace_event.lost) old middle new ended.heard (record {
+      prefix = lost;
       after = new_line;
       begins = refl;
-      tells = front_whole (ended.events ++ on line told.lost ∷ []) (ended.events, ended.ends, refl, refl);
+      emits = prefix_whole (ended.events ++ on line trace_event.lost ∷ []) (ended.events, ended.ends, refl, refl);
     }) failed

@@ -9,9 +9,9 @@ use Rattle.hex.specs.Hex.{decode_of, decode_pairs, digit_or_error, hex_digit_val
 use Rattle.hex.specs.declared.error.FromHexError.{FromHexError}
 use Rattle.hex.proofs.HexLemmas.{decode_of-even, decode_of-odd}
 use Rattle.zvt_trace.specs.Meanings.{SpellsBytes, bytes_of, piece, piece_of, without_spaces}
-use Rattle.zvt_trace.specs.Spelled.{AreHex, IsDigit, pair_before, spells, behind_bytes, worth}
+use Rattle.zvt_trace.specs.Spelled.{AreHex, IsDigit, pair_before, spells, after_bytes, worth}
 use Rattle.zvt_trace.specs.declared.direction.Direction.{Direction}
-use Rattle.zvt_trace.specs.declared.fault.What.TheVariants.{Hex}
+use Rattle.zvt_trace.specs.declared.fault.TraceLineError.TheVariants.{Hex}
 
 -- the bytes of a result
 abbrev pub bytes_in : Result (List ℕ) FromHexError → Option (List ℕ)
@@ -79,23 +79,23 @@ no_digit d v h big = by (hex_digit_value d) refl h
         absurd (omega (arith, h))
 
 -- whether the table has the value of each digit below n
-abbrev pub tells_below : List ℕ → ℕ → Bool
-tells_below table zero = true
-tells_below table (suc n) = slice_index table n == worth n && tells_below table n
+abbrev pub emits_below : List ℕ → ℕ → Bool
+emits_below table zero = true
+emits_below table (suc n) = slice_index table n == worth n && emits_below table n
 
-tells_at : (table : List ℕ) (n k : ℕ) → tells_below table n ≡ true → k < n → slice_index table k ≡ worth k
-tells_at table zero k all lt = absurd (omega arith)
-tells_at table (suc n) k all lt =
-    let parts = and_parts (slice_index table n == worth n) (tells_below table n) all in
+emits_at : (table : List ℕ) (n k : ℕ) → emits_below table n ≡ true → k < n → slice_index table k ≡ worth k
+emits_at table zero k all lt = absurd (omega arith)
+emits_at table (suc n) k all lt =
+    let parts = and_parts (slice_index table n == worth n) (emits_below table n) all in
     elim (cases_lt k n) [
-      | inl below ↦ tells_at table n k parts.1 below
+      | inl below ↦ emits_at table n k parts.1 below
       | inr top ↦
           let e : k ≡ n = omega arith in
           rw e (eqb-true _ _ parts.0)
     ]
 
-pub worth_in : (table : List ℕ) (digit : ℕ) → digit < 256 → tells_below table 256 ≡ true → slice_index table digit ≡ worth digit
-worth_in table digit lt all = tells_at table 256 digit all lt
+pub worth_in : (table : List ℕ) (digit : ℕ) → digit < 256 → emits_below table 256 ≡ true → slice_index table digit ≡ worth digit
+worth_in table digit lt all = emits_at table 256 digit all lt
 
 pub digit_small : (d w : ℕ) → hex_digit_value d ≡ Some w → w ≤ 15
 digit_small d w e = grind arith
@@ -104,12 +104,12 @@ worth_small : (d : ℕ) (o : Option ℕ) → hex_digit_value d ≡ o → unwrap_
 worth_small d None e = omega arith
 worth_small d (Some w) e = omega (arith, digit_small d w e)
 
-told : (o : Option ℕ) (v : ℕ) → v ≡ unwrap_or o 256 → MatchOption o (15 < v) (λ is. v ≡ is)
-told None v e = omega (arith, e)
-told (Some w) v e = e
+trace_event : (o : Option ℕ) (v : ℕ) → v ≡ unwrap_or o 256 → MatchOption o (15 < v) (λ is. v ≡ is)
+trace_event None v e = omega (arith, e)
+trace_event (Some w) v e = e
 
-pub digit_in : (table : List ℕ) (digit : ℕ) → digit < 256 → tells_below table 256 ≡ true → IsDigit digit (slice_index table digit)
-digit_in table digit lt all = told _ _ (worth_in table digit lt all)
+pub digit_in : (table : List ℕ) (digit : ℕ) → digit < 256 → emits_below table 256 ≡ true → IsDigit digit (slice_index table digit)
+digit_in table digit lt all = trace_event _ _ (worth_in table digit lt all)
 
 pub few_worth : (digit : ℕ) → worth digit ≤ 256
 few_worth digit = worth_small digit (hex_digit_value digit) refl
@@ -156,9 +156,9 @@ first_kept (x ∷ xs) some other =
     let differs : (x == 32) ≡ false = grind (arith, nat_tests) in
     rw differs refl
 
-behind_pair : (done : List ℕ) (h l : ℕ) (o : Option (List ℕ)) → behind_bytes (done ++ (h * 16 + l) ∷ []) o ≡ behind_bytes done (pair_before (Some h) (Some l) o)
-behind_pair done h l None = refl
-behind_pair done h l (Some bytes) = ap (λ b. Some b) (append_assoc done ((h * 16 + l) ∷ []) bytes)
+after_pair : (done : List ℕ) (h l : ℕ) (o : Option (List ℕ)) → after_bytes (done ++ (h * 16 + l) ∷ []) o ≡ after_bytes done (pair_before (Some h) (Some l) o)
+after_pair done h l None = refl
+after_pair done h l (Some bytes) = ap (λ b. Some b) (append_assoc done ((h * 16 + l) ∷ []) bytes)
 
 two_kept : (rest low next : List ℕ) → 1 ≤ length rest → slice_index rest 0 ≢ 32 → without_spaces low ≡ without_spaces (drop 1 rest)
     → 1 ≤ length low → slice_index low 0 ≢ 32 → without_spaces next ≡ without_spaces (drop 1 low)
@@ -171,21 +171,21 @@ pub read_pair : (text rest low next room : List ℕ) (count h l : ℕ) → count
     → 1 ≤ length rest → slice_index rest 0 ≢ 32 → without_spaces low ≡ without_spaces (drop 1 rest)
     → 1 ≤ length low → slice_index low 0 ≢ 32 → without_spaces next ≡ without_spaces (drop 1 low)
     → IsDigit (slice_index rest 0) h → IsDigit (slice_index low 0) l → h ≤ 15 → l ≤ 15
-    → behind_bytes (take count room) (spells (without_spaces rest)) ≡ spells (without_spaces text)
-    → behind_bytes (take (count + 1) (slice_set room count (h * 16 + l))) (spells (without_spaces next)) ≡ spells (without_spaces text)
+    → after_bytes (take count room) (spells (without_spaces rest)) ≡ spells (without_spaces text)
+    → after_bytes (take (count + 1) (slice_set room count (h * 16 + l))) (spells (without_spaces next)) ≡ spells (without_spaces text)
 read_pair text rest low next room count h l fits some other same some_low other_low same_next dh dl sh sl so =
     let two = two_kept rest low next some other same some_low other_low same_next in
     let high = digit_is _ h dh sh in
     let last = digit_is _ l dl sl in
     let pair : spells (without_spaces rest) ≡ pair_before (Some h) (Some l) (spells (without_spaces next)) =
     ap spells two ∙ pair_spells _ _ _ ∙ rw (high, last) refl in
-    rw (take_more_set room count (h * 16 + l) fits) (behind_pair (take count room) h l _ ∙ ap (behind_bytes (take count room)) (sym pair) ∙ so)
+    rw (take_more_set room count (h * 16 + l) fits) (after_pair (take count room) h l _ ∙ ap (after_bytes (take count room)) (sym pair) ∙ so)
 
 digit_no_space : (d v : ℕ) → IsDigit d v → v ≤ 15 → d ≢ 32
 digit_no_space d v h small e = absurd (by d e h)
   where
     by : (n : ℕ) → n ≡ 32 → IsDigit n v → ⊥
-    by n is told = let at_space : IsDigit 32 v = subst (λ (k : ℕ). IsDigit k v) is told in omega (arith, at_space, small)
+    by n is trace_event = let at_space : IsDigit 32 v = subst (λ (k : ℕ). IsDigit k v) is trace_event in omega (arith, at_space, small)
 
 kept_one : (x : ℕ) (xs : List ℕ) → x ≢ 32 → without_spaces (x ∷ xs) ≡ x ∷ without_spaces xs
 kept_one x xs other = first_kept (x ∷ xs) (omega arith) other
@@ -202,20 +202,20 @@ pair_more text count some =
     ap (λ (k : ℕ). take k text) end ∙ two_more text (2 * count) some
 
 -- a pair was read that no space stands in
-pub read_plain : (text room behind : List ℕ) (count h l : ℕ) → count < length room → 2 * count + 1 < length text
+pub read_plain : (text room undecoded : List ℕ) (count h l : ℕ) → count < length room → 2 * count + 1 < length text
     → IsDigit (slice_index text (2 * count)) h → IsDigit (slice_index text (2 * count + 1)) l → h ≤ 15 → l ≤ 15
-    → ((more : List ℕ) → behind_bytes (take count room) (spells (without_spaces more)) ≡ spells (without_spaces (take (2 * count) text ++ more)))
-    → behind_bytes (take (count + 1) (slice_set room count (h * 16 + l))) (spells (without_spaces behind)) ≡ spells (without_spaces (take (2 * (count + 1)) text ++ behind))
-read_plain text room behind count h l fits some dh dl sh sl so =
+    → ((more : List ℕ) → after_bytes (take count room) (spells (without_spaces more)) ≡ spells (without_spaces (take (2 * count) text ++ more)))
+    → after_bytes (take (count + 1) (slice_set room count (h * 16 + l))) (spells (without_spaces undecoded)) ≡ spells (without_spaces (take (2 * (count + 1)) text ++ undecoded))
+read_plain text room undecoded count h l fits some dh dl sh sl so =
     let a = slice_index text (2 * count) in
     let b = slice_index text (2 * count + 1) in
-    let kept : without_spaces (a ∷ b ∷ behind) ≡ a ∷ b ∷ without_spaces behind =
-    kept_one a (b ∷ behind) (digit_no_space a h dh sh) ∙ ap (λ (t : List ℕ). a ∷ t) (kept_one b behind (digit_no_space b l dl sl)) in
-    let pair : spells (without_spaces (a ∷ b ∷ behind)) ≡ pair_before (Some h) (Some l) (spells (without_spaces behind)) =
+    let kept : without_spaces (a ∷ b ∷ undecoded) ≡ a ∷ b ∷ without_spaces undecoded =
+    kept_one a (b ∷ undecoded) (digit_no_space a h dh sh) ∙ ap (λ (t : List ℕ). a ∷ t) (kept_one b undecoded (digit_no_space b l dl sl)) in
+    let pair : spells (without_spaces (a ∷ b ∷ undecoded)) ≡ pair_before (Some h) (Some l) (spells (without_spaces undecoded)) =
     ap spells kept ∙ pair_spells _ _ _ ∙ rw (digit_is _ h dh sh, digit_is _ l dl sl) refl in
-    let cut : take (2 * count) text ++ a ∷ b ∷ behind ≡ take (2 * (count + 1)) text ++ behind =
-    sym (ap (λ (t : List ℕ). t ++ behind) (pair_more text count some) ∙ append_assoc (take (2 * count) text) (a ∷ b ∷ []) behind) in
-    rw (take_more_set room count (h * 16 + l) fits) (behind_pair (take count room) h l _ ∙ ap (behind_bytes (take count room)) (sym pair) ∙ so (a ∷ b ∷ behind) ∙ ap (λ (t : List ℕ). spells (without_spaces t)) cut)
+    let cut : take (2 * count) text ++ a ∷ b ∷ undecoded ≡ take (2 * (count + 1)) text ++ undecoded =
+    sym (ap (λ (t : List ℕ). t ++ undecoded) (pair_more text count some) ∙ append_assoc (take (2 * count) text) (a ∷ b ∷ []) undecoded) in
+    rw (take_more_set room count (h * 16 + l) fits) (after_pair (take count room) h l _ ∙ ap (after_bytes (take count room)) (sym pair) ∙ so (a ∷ b ∷ undecoded) ∙ ap (λ (t : List ℕ). spells (without_spaces t)) cut)
 
 is_hex : (d v : ℕ) → IsDigit d v → v ≤ 15 → IsSome (hex_digit_value d)
 is_hex d v h small = rw (digit_is _ v h small) refl
@@ -226,12 +226,12 @@ hex_digit digit true e (inl (inl range)) = grind (arith, range.0, range.1)
 hex_digit digit true e (inl (inr range)) = grind (arith, range.0, range.1)
 hex_digit digit true e (inr range) = grind (arith, range.0, range.1)
 
-pub hex_push : (front : List ℕ) (digit : ℕ) → AreHex front → IsSome (hex_digit_value digit) → AreHex (front ++ digit ∷ [])
+pub hex_push : (prefix : List ℕ) (digit : ℕ) → AreHex prefix → IsSome (hex_digit_value digit) → AreHex (prefix ++ digit ∷ [])
 hex_push [] digit all is = (is, tt)
 hex_push (x ∷ xs) digit all is = (all.0, hex_push xs digit all.1 is)
 
-hex_append : (front : List ℕ) (a b : ℕ) → AreHex front → IsSome (hex_digit_value a) → IsSome (hex_digit_value b) → AreHex (front ++ a ∷ b ∷ [])
-hex_append front a b all is_a is_b = subst AreHex (append_assoc front (a ∷ []) (b ∷ [])) (hex_push (front ++ a ∷ []) b (hex_push front a all is_a) is_b)
+hex_append : (prefix : List ℕ) (a b : ℕ) → AreHex prefix → IsSome (hex_digit_value a) → IsSome (hex_digit_value b) → AreHex (prefix ++ a ∷ b ∷ [])
+hex_append prefix a b all is_a is_b = subst AreHex (append_assoc prefix (a ∷ []) (b ∷ [])) (hex_push (prefix ++ a ∷ []) b (hex_push prefix a all is_a) is_b)
 
 pub hex_more : (text : List ℕ) (count h l : ℕ) → 2 * count + 1 < length text
     → IsDigit (slice_index text (2 * count)) h → IsDigit (slice_index text (2 * count + 1)) l → h ≤ 15 → l ≤ 15
@@ -241,7 +241,7 @@ hex_more text count h l some dh dl sh sl all =
 
 -- what refuses the text behind some bytes refuses all
 pub refused : (done text rest : List ℕ) → spells (without_spaces rest) ≡ None
-    → behind_bytes done (spells (without_spaces rest)) ≡ spells (without_spaces text) → spells (without_spaces text) ≡ None
+    → after_bytes done (spells (without_spaces rest)) ≡ spells (without_spaces text) → spells (without_spaces text) ≡ None
 refused done text rest none so = sym so ∙ rw none refl
 
 no_low : (h : Option ℕ) (rest : Option (List ℕ)) → pair_before h None rest ≡ None
@@ -251,7 +251,7 @@ no_low (Some h) rest = refl
 -- a pair is none of digits
 pub refuses_pair : (done text rest low : List ℕ) (h l : ℕ) → 1 ≤ length rest → slice_index rest 0 ≢ 32 → without_spaces low ≡ without_spaces (drop 1 rest)
     → 1 ≤ length low → slice_index low 0 ≢ 32 → IsDigit (slice_index rest 0) h → IsDigit (slice_index low 0) l → (15 < h) ⊎ (h ≤ 15 × 15 < l)
-    → behind_bytes done (spells (without_spaces rest)) ≡ spells (without_spaces text) → spells (without_spaces text) ≡ None
+    → after_bytes done (spells (without_spaces rest)) ≡ spells (without_spaces text) → spells (without_spaces text) ≡ None
 refuses_pair done text rest low h l some other same some_low other_low dh dl big so =
     let two = two_kept rest low (drop 1 low) some other same some_low other_low refl in
     let pair = ap spells two ∙ pair_spells _ _ _ in
@@ -273,28 +273,28 @@ no_bytes (x ∷ xs) none = absurd (omega arith)
 
 -- a digit stands alone
 pub refuses_one : (done text rest low : List ℕ) → 1 ≤ length rest → slice_index rest 0 ≢ 32 → without_spaces low ≡ without_spaces (drop 1 rest) → length low < 1
-    → behind_bytes done (spells (without_spaces rest)) ≡ spells (without_spaces text) → spells (without_spaces text) ≡ None
+    → after_bytes done (spells (without_spaces rest)) ≡ spells (without_spaces text) → spells (without_spaces text) ≡ None
 refuses_one done text rest low some other same none so =
     let one = ap spells (first_kept rest some other) ∙ one_spells _ _ (rw same at (no_bytes low none)) in
     refused done text rest one so
 
 -- the text was read
 pub reads_all : (done text rest : List ℕ) → length rest < 1
-    → behind_bytes done (spells (without_spaces rest)) ≡ spells (without_spaces text) → decode_of (without_spaces text) ≡ Ok done
+    → after_bytes done (spells (without_spaces rest)) ≡ spells (without_spaces text) → decode_of (without_spaces text) ≡ Ok done
 unfolding spells
 reads_all done text [] none so = some_in _ _ (spells-decode (without_spaces text) ∙ sym so ∙ ap (λ b. Some b) (append-nil done))
 reads_all done text (x ∷ rest) none so = absurd (omega arith)
 
 -- bytes were read, and the text behind them spells others
-reads_more : (done text rest : List ℕ) → behind_bytes done (spells (without_spaces rest)) ≡ spells (without_spaces text) → SpellsBytes rest → spells (without_spaces text) ≡ Some (done ++ bytes_of rest)
+reads_more : (done text rest : List ℕ) → after_bytes done (spells (without_spaces rest)) ≡ spells (without_spaces text) → SpellsBytes rest → spells (without_spaces text) ≡ Some (done ++ bytes_of rest)
 reads_more done text rest so spelled = by (spells (without_spaces rest)) refl spelled
   where
     by : (o : Option (List ℕ)) → spells (without_spaces rest) ≡ o → IsSome o → spells (without_spaces text) ≡ Some (done ++ unwrap_or o [])
     by None e some = absurd (cc some)
-    by (Some bytes) e some = sym so ∙ ap (behind_bytes done) e
+    by (Some bytes) e some = sym so ∙ ap (after_bytes done) e
 
 -- so they are a piece
-pub piece_read : (from : Direction) (done text rest : List ℕ) → behind_bytes done (spells (without_spaces rest)) ≡ spells (without_spaces text) → SpellsBytes rest → piece_of from (decode_of (without_spaces text)) ≡ Ok (piece from (done ++ bytes_of rest))
+pub piece_read : (from : Direction) (done text rest : List ℕ) → after_bytes done (spells (without_spaces rest)) ≡ spells (without_spaces text) → SpellsBytes rest → piece_of from (decode_of (without_spaces text)) ≡ Ok (piece from (done ++ bytes_of rest))
 piece_read from done text rest so spelled = rw (some_in _ _ (spells-decode (without_spaces text) ∙ reads_more done text rest so spelled)) refl
 
 pub no_piece : (from : Direction) (text : List ℕ) → spells (without_spaces text) ≡ None → piece_of from (decode_of (without_spaces text)) ≡ Err Hex
@@ -305,10 +305,10 @@ no_piece from text none = by (decode_of (without_spaces text)) (none_in _ (spell
     by (Err x) e = refl
 
 -- what stands behind the bytes of a text that spells some
-pub goes_on : (done text rest : List ℕ) → behind_bytes done (spells (without_spaces rest)) ≡ spells (without_spaces text) → SpellsBytes text → (bytes_of text ≡ done ++ bytes_of rest) × SpellsBytes rest
+pub goes_on : (done text rest : List ℕ) → after_bytes done (spells (without_spaces rest)) ≡ spells (without_spaces text) → SpellsBytes text → (bytes_of text ≡ done ++ bytes_of rest) × SpellsBytes rest
 goes_on done text rest so spelled = by (spells (without_spaces rest)) (spells (without_spaces text)) so spelled
   where
-    by : (o p : Option (List ℕ)) → behind_bytes done o ≡ p → IsSome p → (unwrap_or p [] ≡ done ++ unwrap_or o []) × IsSome o
+    by : (o p : Option (List ℕ)) → after_bytes done o ≡ p → IsSome p → (unwrap_or p [] ≡ done ++ unwrap_or o []) × IsSome o
     by None None e some = absurd (cc some)
     by None (Some bytes) e some = absurd (cc e)
     by (Some bytes) p e some = (ap (λ (b : Option (List ℕ)). unwrap_or b []) (sym e), refl)
@@ -340,9 +340,9 @@ bytes_few text = let kept = kept_few text in let few = spelled_few (without_spac
 
 pub piece_few : (text rest room : List ℕ) (count : ℕ) → 2 * count + length rest ≤ length text → length (take count room ++ bytes_of rest) ≤ length text
 piece_few text rest room count few =
-    let front = length-take count room in
-    let behind = bytes_few rest in
-    omega (arith, few, front, behind, length-append (take count room) (bytes_of rest))
+    let prefix = length-take count room in
+    let undecoded = bytes_few rest in
+    omega (arith, few, prefix, undecoded, length-append (take count room) (bytes_of rest))
 
 -- ---- digits without spaces
 
@@ -385,6 +385,6 @@ unfolding spells
 no_bytes_of = refl
 
 -- nothing was read yet
-pub reads_none : (o : Option (List ℕ)) → behind_bytes [] o ≡ o
+pub reads_none : (o : Option (List ℕ)) → after_bytes [] o ≡ o
 reads_none None = refl
 reads_none (Some bytes) = refl

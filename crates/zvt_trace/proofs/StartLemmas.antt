@@ -1,6 +1,6 @@
 -- A new stream.
 use Rattle.std.proofs.Common.{◌≡◌, [], refl}
-use Rattle.zvt_spelling.specs.Reading.{Reading}
+use Rattle.zvt_grammar.specs.Reading.{Reading}
 use Rattle.zvt_stream.proofs.Beginnings.{nothing_in}
 use Rattle.zvt_stream.specs.StreamState.{StreamState, start_in}
 use Rattle.zvt_trace.specs.Trace.{running}

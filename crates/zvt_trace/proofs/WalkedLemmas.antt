@@ -1,45 +1,45 @@
 -- What the lines of a trace tell, one after another.
 use Rattle.std.proofs.Common.{◌≡◌, inl, inr, ℕ, ◌+◌, List, [], ◌∷◌, ◌++◌, Ok, Err, length, refl, sym, ◌∙◌, ap, subst, arith, append_assoc, append-nil, length-append}
 use Rattle.std.specs.Str.Lines.{lines}
-use Rattle.zvt_spelling.specs.Reading.{Reading}
+use Rattle.zvt_grammar.specs.Reading.{Reading}
 use Rattle.zvt_trace.specs.Listening.{AnswersWalkBy, Fails, FailsIn, FollowBoth, Hears, HearsAll, HearsEnd, WalksLine, fault_of}
 use Rattle.zvt_trace.specs.Meanings.{Meaning, meaning_of}
-use Rattle.zvt_trace.specs.Told.{At, Tallies}
-use Rattle.zvt_trace.specs.Telling.{FrontOf, LineEnds, LineSoFar, LineTells, LinesTell, MeaningBegins, ToldSoFar}
+use Rattle.zvt_trace.specs.TraceEvent.{At, Tallies}
+use Rattle.zvt_trace.specs.Emitting.{PrefixOf, LineEnds, LineSoFar, LineEmits, LinesEmit, MeaningBegins, EventsSoFar}
 use Rattle.zvt_trace.specs.Trace.{Sides, new_line}
 use Rattle.zvt_trace.specs.declared.both_sides.BothSides.{BothSides}
 use Rattle.zvt_trace.specs.declared.fault.Tally.{Tally}
 use Rattle.zvt_trace.specs.declared.fault.TraceFault.{TraceFault}
 use Rattle.zvt_trace.specs.declared.fault.TraceFault.TheVariants.{Memory, Read, TooLong, Trace, Write}
-use Rattle.zvt_trace.specs.declared.listener.Failure.{Failure}
-use Rattle.zvt_trace.specs.declared.listener.Failure.TheVariants as failure
+use Rattle.zvt_trace.specs.declared.listener.ListenerError.{ListenerError}
+use Rattle.zvt_trace.specs.declared.listener.ListenerError.TheVariants as failure
 use Rattle.zvt_trace.specs.declared.listener.Scope.{Scope}
-use Rattle.zvt_trace.proofs.EventLemmas.{fails_as, fails_behind, front_behind, front_whole, hears_append, tallies_both}
+use Rattle.zvt_trace.proofs.EventLemmas.{fails_as, fails_after, prefix_after, prefix_whole, hears_append, tallies_both}
 
-LinesTell-push : (r : Reading) (scope : Scope) (count : ℕ) (start middle after : Sides) (done : List (List ℕ)) (line : List ℕ) (all own : List At) (meaning : Meaning)
-    → LinesTell r scope count start done all middle → meaning_of line ≡ Ok meaning → LineTells r scope (count + length done + 1) meaning middle own after → LinesTell r scope count start (done ++ line ∷ []) (all ++ own) after
-LinesTell-push r scope count start middle after [] line all own meaning told means tells =
+LinesEmit-push : (r : Reading) (scope : Scope) (count : ℕ) (start middle after : Sides) (done : List (List ℕ)) (line : List ℕ) (all own : List At) (meaning : Meaning)
+    → LinesEmit r scope count start done all middle → meaning_of line ≡ Ok meaning → LineEmits r scope (count + length done + 1) meaning middle own after → LinesEmit r scope count start (done ++ line ∷ []) (all ++ own) after
+LinesEmit-push r scope count start middle after [] line all own meaning trace_event means emits =
     let first : count + 0 + 1 ≡ count + 1 = omega arith in
-    let here = subst (λ (s : Sides). LineTells r scope (count + 0 + 1) meaning s own after) told.1 tells in record {
+    let here = subst (λ (s : Sides). LineEmits r scope (count + 0 + 1) meaning s own after) trace_event.1 emits in record {
       meaning = meaning;
       own = own;
       rest = [];
       middle = after;
       means = means;
-      tells = subst (λ (n : ℕ). LineTells r scope n meaning start own after) first here;
+      emits = subst (λ (n : ℕ). LineEmits r scope n meaning start own after) first here;
       others = (refl, refl);
-      is_all = ap (λ (a : List At). a ++ own) told.0 ∙ sym (append-nil own);
+      is_all = ap (λ (a : List At). a ++ own) trace_event.0 ∙ sym (append-nil own);
     }
-LinesTell-push r scope count start middle after (first ∷ done) line all own meaning told means tells =
+LinesEmit-push r scope count start middle after (first ∷ done) line all own meaning trace_event means emits =
     let next : count + length (first ∷ done) + 1 ≡ count + 1 + length done + 1 = omega arith in record {
-      meaning = told.meaning;
-      own = told.own;
-      rest = told.rest ++ own;
-      middle = told.middle;
-      means = told.means;
-      tells = told.tells;
-      others = LinesTell-push r scope (count + 1) told.middle middle after done line told.rest own meaning told.others means (subst (λ (n : ℕ). LineTells r scope n meaning middle own after) next tells);
-      is_all = ap (λ (a : List At). a ++ own) told.is_all ∙ append_assoc told.own told.rest own;
+      meaning = trace_event.meaning;
+      own = trace_event.own;
+      rest = trace_event.rest ++ own;
+      middle = trace_event.middle;
+      means = trace_event.means;
+      emits = trace_event.emits;
+      others = LinesEmit-push r scope (count + 1) trace_event.middle middle after done line trace_event.rest own meaning trace_event.others means (subst (λ (n : ℕ). LineEmits r scope n meaning middle own after) next emits);
+      is_all = ap (λ (a : List At). a ++ own) trace_event.is_all ∙ append_assoc trace_event.own trace_event.rest own;
     }
 
 -- ---- the lines so far
@@ -50,7 +50,7 @@ pub record Walked {S : Type 0} (r : Reading) (hears : Hears S) (scope : Scope) (
   pub all : List At
   pub sides : Sides
   pub cut : lines trace ≡ done ++ lines rest
-  pub told : LinesTell r scope 0 new_line done all sides
+  pub trace_event : LinesEmit r scope 0 new_line done all sides
   pub count : number ≡ length done
   pub heard : HearsAll hears old all now
   pub follow : FollowBoth r state sides
@@ -62,7 +62,7 @@ none_walked hears scope trace state tally old follow messages bad = record {
   all = [];
   sides = new_line;
   cut = refl;
-  told = (refl, refl);
+  trace_event = (refl, refl);
   count = refl;
   heard = refl;
   follow = follow;
@@ -79,7 +79,7 @@ one_walked {r = r} hears fails scope trace rest content after number state next 
       all = so.all ++ line.events;
       sides = line.after;
       cut = so.cut ∙ ap (λ (ls : List (List ℕ)). so.done ++ ls) first ∙ sym (append_assoc so.done (content ∷ []) (lines after));
-      told = LinesTell-push r scope 0 new_line so.sides line.after so.done content so.all line.events walks.0 so.told walks.1 (subst (λ (n : ℕ). LineTells r scope n walks.0 so.sides line.events line.after) here line.tells);
+      trace_event = LinesEmit-push r scope 0 new_line so.sides line.after so.done content so.all line.events walks.0 so.trace_event walks.1 (subst (λ (n : ℕ). LineEmits r scope n walks.0 so.sides line.events line.after) here line.emits);
       count = omega (arith, so.count, length-append so.done (content ∷ []));
       heard = hears_append hears so.all line.events old now new so.heard line.heard;
       follow = line.follow;
@@ -99,7 +99,7 @@ closed {r = r} hears fails scope trace [] number state tally grown bad old now n
         body = so.all;
         after = so.sides;
         last = last.events;
-        tell = subst (λ (ls : List (List ℕ)). LinesTell r scope 0 new_line ls so.all so.sides) (sym all) so.told;
+        emit = subst (λ (ls : List (List ℕ)). LinesEmit r scope 0 new_line ls so.all so.sides) (sym all) so.trace_event;
         ends = subst (λ (n : ℕ). LineEnds r n so.sides last.events) count last.ends;
         is_all = refl;
       },
@@ -109,37 +109,37 @@ closed {r = r} hears fails scope trace [] number state tally grown bad old now n
 
 -- so much of the next line
 next_reaches : {S : Type 0} {r : Reading} (hears : Hears S) (scope : Scope) (trace rest content after : List ℕ) (number : ℕ) (state : BothSides) (tally : Tally) (old now : S) (events : List At)
-    → (so : Walked r hears scope trace rest number state tally old now) → lines rest ≡ content ∷ lines after → LineSoFar r scope (number + 1) content so.sides events → ToldSoFar r scope (lines trace) (so.all ++ events)
+    → (so : Walked r hears scope trace rest number state tally old now) → lines rest ≡ content ∷ lines after → LineSoFar r scope (number + 1) content so.sides events → EventsSoFar r scope (lines trace) (so.all ++ events)
 next_reaches hears scope trace rest content after number state tally old now events so first (inl none) =
-    front_whole (so.all ++ events) (record {
+    prefix_whole (so.all ++ events) (record {
       done = so.done;
       later = content ∷ lines after;
       before = so.all;
       next = events;
       after = so.sides;
       cut = so.cut ∙ ap (λ (ls : List (List ℕ)). so.done ++ ls) first;
-      tell = so.told;
-      tells = inl none;
+      emit = so.trace_event;
+      emits = inl none;
       is_all = refl;
     })
 next_reaches {r = r} hears scope trace rest content after number state tally old now events so first (inr (meaning, means, so_far)) =
-    front_behind so.all events so_far.tells (λ all tells. record {
+    prefix_after so.all events so_far.emits (λ all emits. record {
       done = so.done;
       later = content ∷ lines after;
       before = so.all;
       next = all;
       after = so.sides;
       cut = so.cut ∙ ap (λ (ls : List (List ℕ)). so.done ++ ls) first;
-      tell = so.told;
-      tells = inr (meaning, so_far.front, so_far.after, means, so_far.begins, subst (λ (n : ℕ). LineTells r scope (n + 1) so_far.front so.sides all so_far.after) so.count tells);
+      emit = so.trace_event;
+      emits = inr (meaning, so_far.prefix, so_far.after, means, so_far.begins, subst (λ (n : ℕ). LineEmits r scope (n + 1) so_far.prefix so.sides all so_far.after) so.count emits);
       is_all = refl;
     })
 
-next_so_far : {S : Type 0} {r : Reading} (hears : Hears S) (fails : Fails S) (why : Failure) (scope : Scope) (trace rest content after : List ℕ) (number : ℕ) (state : BothSides) (tally : Tally) (old now new : S)
+next_so_far : {S : Type 0} {r : Reading} (hears : Hears S) (fails : Fails S) (why : ListenerError) (scope : Scope) (trace rest content after : List ℕ) (number : ℕ) (state : BothSides) (tally : Tally) (old now new : S)
     → (so : Walked r hears scope trace rest number state tally old now) → lines rest ≡ content ∷ lines after → FailsIn hears fails why (LineSoFar r scope (number + 1) content so.sides) now new
-    → FailsIn hears fails why (ToldSoFar r scope (lines trace)) old new
+    → FailsIn hears fails why (EventsSoFar r scope (lines trace)) old new
 next_so_far hears fails why scope trace rest content after number state tally old now new so first failed =
-    fails_behind hears fails why so.all old now new so.heard failed (λ events next. next_reaches hears scope trace rest content after number state tally old now events so first next)
+    fails_after hears fails why so.all old now new so.heard failed (λ events next. next_reaches hears scope trace rest content after number state tally old now events so first next)
 
 -- the next line could not be told
 pub failed : {S : Type 0} {r : Reading} (hears : Hears S) (fails : Fails S) (scope : Scope) (trace rest content after : List ℕ) (number : ℕ) (state next : BothSides) (tally : Tally) (fault : TraceFault) (old now new : S)
@@ -153,7 +153,7 @@ failed {S = S} hears fails scope trace rest content after number state next tall
     later = lines after;
     after = so.sides;
     cut = so.cut ∙ ap (λ (ls : List (List ℕ)). so.done ++ ls) first;
-    tell = so.told;
+    emit = so.trace_event;
     wrong = wrong.1;
     is_number = wrong.0 ∙ ap (λ n. n + 1) so.count;
   },
@@ -165,30 +165,30 @@ failed hears fails scope trace rest content after number state next tally TooLon
 failed hears fails scope trace rest content after number state next tally Read old now new so first never = absurd never
 
 -- so much of the end
-end_so_far : {S : Type 0} {r : Reading} (hears : Hears S) (fails : Fails S) (why : Failure) (scope : Scope) (trace rest : List ℕ) (number : ℕ) (state : BothSides) (tally : Tally) (old now new : S) → length rest ≡ 0
-    → (so : Walked r hears scope trace rest number state tally old now) → FailsIn hears fails why (FrontOf (LineEnds r number so.sides)) now new → FailsIn hears fails why (ToldSoFar r scope (lines trace)) old new
+end_so_far : {S : Type 0} {r : Reading} (hears : Hears S) (fails : Fails S) (why : ListenerError) (scope : Scope) (trace rest : List ℕ) (number : ℕ) (state : BothSides) (tally : Tally) (old now new : S) → length rest ≡ 0
+    → (so : Walked r hears scope trace rest number state tally old now) → FailsIn hears fails why (PrefixOf (LineEnds r number so.sides)) now new → FailsIn hears fails why (EventsSoFar r scope (lines trace)) old new
 end_so_far hears fails why scope trace (byte ∷ rest) number state tally old now new none so fails_there = absurd (omega (arith, none))
 end_so_far {r = r} hears fails why scope trace [] number state tally old now new none so fails_there =
-    fails_behind hears fails why so.all old now new so.heard fails_there (λ events front. front_behind so.all events front (λ all ended. record {
+    fails_after hears fails why so.all old now new so.heard fails_there (λ events prefix. prefix_after so.all events prefix (λ all ended. record {
       done = so.done;
       later = [];
       before = so.all;
       next = all;
       after = so.sides;
       cut = so.cut;
-      tell = so.told;
-      tells = subst (λ (n : ℕ). LineEnds r n so.sides all) so.count ended;
+      emit = so.trace_event;
+      emits = subst (λ (n : ℕ). LineEnds r n so.sides all) so.count ended;
       is_all = refl;
     }))
 
 -- what is cut off could not be told
-pub end_failed : {S : Type 0} {r : Reading} (hears : Hears S) (fails : Fails S) (why : Failure) (scope : Scope) (trace rest : List ℕ) (number : ℕ) (state : BothSides) (tally : Tally) (old now new : S) → length rest ≡ 0
-    → (so : Walked r hears scope trace rest number state tally old now) → FailsIn hears fails why (FrontOf (LineEnds r number so.sides)) now new → AnswersWalkBy r hears fails scope (lines trace) old new (Err (fault_of why))
+pub end_failed : {S : Type 0} {r : Reading} (hears : Hears S) (fails : Fails S) (why : ListenerError) (scope : Scope) (trace rest : List ℕ) (number : ℕ) (state : BothSides) (tally : Tally) (old now new : S) → length rest ≡ 0
+    → (so : Walked r hears scope trace rest number state tally old now) → FailsIn hears fails why (PrefixOf (LineEnds r number so.sides)) now new → AnswersWalkBy r hears fails scope (lines trace) old new (Err (fault_of why))
 end_failed hears fails failure.Memory scope trace rest number state tally old now new none so fault = end_so_far hears fails failure.Memory scope trace rest number state tally old now new none so fault
 end_failed hears fails failure.Write scope trace rest number state tally old now new none so fault = end_so_far hears fails failure.Write scope trace rest number state tally old now new none so fault
 
 -- the line could be read, and not be told
-pub line_failed : {S : Type 0} {r : Reading} (hears : Hears S) (fails : Fails S) (why : Failure) (scope : Scope) (number : ℕ) (line : List ℕ) (meaning : Meaning) (sides : Sides) (state : BothSides) (old new : S) → meaning_of line ≡ Ok meaning
+pub line_failed : {S : Type 0} {r : Reading} (hears : Hears S) (fails : Fails S) (why : ListenerError) (scope : Scope) (number : ℕ) (line : List ℕ) (meaning : Meaning) (sides : Sides) (state : BothSides) (old new : S) → meaning_of line ≡ Ok meaning
     → FailsIn hears fails why (MeaningBegins r scope number meaning sides) old new → WalksLine r hears fails scope number line sides state old new (Err (fault_of why))
 line_failed hears fails failure.Memory scope number line meaning sides state old new means fault = fails_as hears fails failure.Memory old new fault (λ events so. inr (meaning, means, so))
 line_failed hears fails failure.Write scope number line meaning sides state old new means fault = fails_as hears fails failure.Write old new fault (λ events so. inr (meaning, means, so))

@@ -2,7 +2,7 @@ pub mod Lines
 pub mod Listening
 pub mod Meanings
 pub mod Spelled
-pub mod Telling
-pub mod Told
+pub mod Emitting
+pub mod TraceEvent
 pub mod Trace
 pub mod Written

@@ -2,14 +2,14 @@
 use Rattle.std.specs.Prelude.{ℕ, List, codes}
 use Rattle.zvt_trace.specs.declared.direction.Direction.{Direction}
 use Rattle.zvt_trace.specs.declared.direction.Direction.TheVariants.{FromTill, FromTerminal}
-use Rattle.zvt_trace.specs.declared.fault.What.{What}
-use Rattle.zvt_trace.specs.declared.fault.What.TheVariants.{Form, Hex}
+use Rattle.zvt_trace.specs.declared.fault.TraceLineError.{TraceLineError}
+use Rattle.zvt_trace.specs.declared.fault.TraceLineError.TheVariants.{Form, Hex}
 
 abbrev pub direction_text : Direction → List ℕ
 direction_text FromTill = codes ">"
 direction_text FromTerminal = codes "<"
 
 -- what is wrong with a line of a trace, and what one looks like
-abbrev pub what_text : What → List ℕ
+abbrev pub what_text : TraceLineError → List ℕ
 what_text Form = codes "a line begins with '>' or '<' and goes on in hexadecimal, or is '!' alone, or begins with '#'"
 what_text Hex = codes "after '>' or '<' stand two hexadecimal digits for each byte, and spaces"

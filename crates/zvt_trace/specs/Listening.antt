@@ -1,10 +1,10 @@
 -- What a listener is told, and what becomes of it.
 use Rattle.std.specs.Prelude.{◌≡◌, ◌⊎◌, ℕ, Bool, true, false, List, [], ◌∷◌, ◌++◌, Result, Ok, Err}
-use Rattle.zvt_spelling.specs.Reading.{Reading, shortest}
+use Rattle.zvt_grammar.specs.Reading.{Reading, shortest}
 use Rattle.zvt_stream.specs.StreamState.{StreamState}
 use Rattle.zvt_trace.specs.Meanings.{Meaning, meaning_of}
-use Rattle.zvt_trace.specs.Told.{At, Tallies}
-use Rattle.zvt_trace.specs.Telling.{BrokenTrace, FrontOf, LineSoFar, LineTells, MeaningBegins, PieceTells, TellsBeside, ToldSoFar, WholeTrace}
+use Rattle.zvt_trace.specs.TraceEvent.{At, Tallies}
+use Rattle.zvt_trace.specs.Emitting.{BrokenTrace, PrefixOf, LineSoFar, LineEmits, MeaningBegins, PieceEmits, EmitsBeside, EventsSoFar, WholeTrace}
 use Rattle.zvt_trace.specs.Trace.{Side, Sides, running, stopped}
 use Rattle.zvt_trace.specs.Written.{Follows}
 use Rattle.zvt_trace.specs.declared.both_sides.BothSides.{BothSides}
@@ -12,10 +12,10 @@ use Rattle.zvt_trace.specs.declared.direction.Direction.{Direction}
 use Rattle.zvt_trace.specs.declared.fault.Tally.{Tally}
 use Rattle.zvt_trace.specs.declared.fault.TraceFault.{TraceFault}
 use Rattle.zvt_trace.specs.declared.fault.TraceFault.TheVariants.{Memory, Read, TooLong, Trace, Write}
-use Rattle.zvt_trace.specs.declared.listener.Failure.{Failure}
-use Rattle.zvt_trace.specs.declared.listener.Failure.TheVariants as failure
+use Rattle.zvt_trace.specs.declared.listener.ListenerError.{ListenerError}
+use Rattle.zvt_trace.specs.declared.listener.ListenerError.TheVariants as failure
 use Rattle.zvt_trace.specs.declared.listener.Scope.{Scope}
-use Rattle.zvt_trace.specs.declared.tell.Hearing.{Hearing}
+use Rattle.zvt_trace.specs.declared.emit.Hearing.{Hearing}
 
 -- ---- events, one after another
 
@@ -24,18 +24,18 @@ abbrev pub Hears : Type 0 → Type 1
 Hears S = S → At → S → Type 0
 
 abbrev pub Fails : Type 0 → Type 1
-Fails S = S → At → Failure → S → Type 0
+Fails S = S → At → ListenerError → S → Type 0
 
 abbrev pub HearsAll : {S : Type 0} → Hears S → S → List At → S → Type 0
 HearsAll hears old [] new = new ≡ old
 HearsAll {S = S} hears old (event ∷ events) new = (middle : S) × hears old event middle × HearsAll hears middle events new
 
 -- memory was refused to the walk, which left the listener as it was; or hearing the next event failed
-abbrev pub Stops : {S : Type 0} → Fails S → Failure → (So : List At → Type 0) → List At → S → S → Type 0
+abbrev pub Stops : {S : Type 0} → Fails S → ListenerError → (So : List At → Type 0) → List At → S → S → Type 0
 Stops fails why So events middle new = ((why ≡ failure.Memory) × So events × (new ≡ middle)) ⊎ ((event : At) × So (events ++ event ∷ []) × fails middle event why new)
 
 -- these events were heard, and then it failed
-pub record FailsIn {S : Type 0} (hears : Hears S) (fails : Fails S) (why : Failure) (So : List At → Type 0) (old new : S) : Type 0 where
+pub record FailsIn {S : Type 0} (hears : Hears S) (fails : Fails S) (why : ListenerError) (So : List At → Type 0) (old new : S) : Type 0 where
   pub events : List At
   pub middle : S
   pub heard : HearsAll hears old events middle
@@ -51,7 +51,7 @@ is_stopped stopped = true
 pub record HearsPiece {S : Type 0} (r : Reading) (hears : Hears S) (line : ℕ) (from : Direction) (side : Side) (bytes : List ℕ) (state : StreamState) (hearing : Hearing) (old new : S) : Type 0 where
   pub events : List At
   pub after : Side
-  pub tells : PieceTells r line from side bytes events after
+  pub emits : PieceEmits r line from side bytes events after
   pub heard : HearsAll hears old events new
   pub follows : Follows r state after
   pub counts : Tallies hearing.tally events
@@ -63,11 +63,11 @@ pub record PieceBegins (r : Reading) (line : ℕ) (from : Direction) (side : Sid
   pub more : List ℕ
   pub after : Side
   pub cut : bytes ≡ first ++ more
-  pub tells : FrontOf (λ all. PieceTells r line from side first all after) events
+  pub emits : PrefixOf (λ all. PieceEmits r line from side first all after) events
 
-abbrev pub TellsPiece : {S : Type 0} → Reading → Hears S → Fails S → ℕ → Direction → Side → List ℕ → StreamState → (old new : S) → Result Hearing Failure → Type 0
-TellsPiece r hears fails line from side bytes state old new (Ok hearing) = HearsPiece r hears line from side bytes state hearing old new
-TellsPiece r hears fails line from side bytes state old new (Err why) = FailsIn hears fails why (PieceBegins r line from side bytes) old new
+abbrev pub EmitsPiece : {S : Type 0} → Reading → Hears S → Fails S → ℕ → Direction → Side → List ℕ → StreamState → (old new : S) → Result Hearing ListenerError → Type 0
+EmitsPiece r hears fails line from side bytes state old new (Ok hearing) = HearsPiece r hears line from side bytes state hearing old new
+EmitsPiece r hears fails line from side bytes state old new (Err why) = FailsIn hears fails why (PieceBegins r line from side bytes) old new
 
 -- what is cut off was heard
 pub record HearsEnd {S : Type 0} (hears : Hears S) (Ends : List At → Type 0) (bad : ℕ) (old new : S) : Type 0 where
@@ -76,9 +76,9 @@ pub record HearsEnd {S : Type 0} (hears : Hears S) (Ends : List At → Type 0) (
   pub heard : HearsAll hears old events new
   pub counts : Tallies (record { messages = 0; bad = bad }) events
 
-abbrev pub TellsEnd : {S : Type 0} → Hears S → Fails S → (Ends : List At → Type 0) → (old new : S) → Result ℕ Failure → Type 0
-TellsEnd hears fails Ends old new (Ok bad) = HearsEnd hears Ends bad old new
-TellsEnd hears fails Ends old new (Err why) = FailsIn hears fails why (FrontOf Ends) old new
+abbrev pub EmitsEnd : {S : Type 0} → Hears S → Fails S → (Ends : List At → Type 0) → (old new : S) → Result ℕ ListenerError → Type 0
+EmitsEnd hears fails Ends old new (Ok bad) = HearsEnd hears Ends bad old new
+EmitsEnd hears fails Ends old new (Err why) = FailsIn hears fails why (PrefixOf Ends) old new
 
 -- ---- both sides
 
@@ -92,15 +92,15 @@ abbrev pub TakeBy : Reading → BothSides → Type 0
 TakeBy r state = (state.till.reading ≡ r) × (state.terminal.reading ≡ r)
 
 pub record FollowBoth (r : Reading) (state : BothSides) (sides : Sides) : Type 0 where
-  pub till : FollowsUntil r state.deaf state.till sides.till
-  pub terminal : FollowsUntil r state.deaf state.terminal sides.terminal
+  pub till : FollowsUntil r state.rejected state.till sides.till
+  pub terminal : FollowsUntil r state.rejected state.terminal sides.terminal
 
 -- what a piece tells was heard, and what it leaves of the other side
 pub record HearsBeside {S : Type 0} (r : Reading) (hears : Hears S) (scope : Scope) (line : ℕ) (from : Direction) (side beside : Side) (bytes : List ℕ) (state other : StreamState) (hearing : Hearing) (old new : S) : Type 0 where
   pub events : List At
   pub after : Side
   pub beside_after : Side
-  pub tells : TellsBeside r scope line from side beside bytes events after beside_after
+  pub emits : EmitsBeside r scope line from side beside bytes events after beside_after
   pub heard : HearsAll hears old events new
   pub follows : FollowsUntil r hearing.stopped state after
   pub follows_beside : FollowsUntil r hearing.stopped other beside_after
@@ -113,11 +113,11 @@ pub record BesideBegins (r : Reading) (scope : Scope) (line : ℕ) (from : Direc
   pub after : Side
   pub beside_after : Side
   pub cut : bytes ≡ first ++ more
-  pub tells : FrontOf (λ all. TellsBeside r scope line from side beside first all after beside_after) events
+  pub emits : PrefixOf (λ all. EmitsBeside r scope line from side beside first all after beside_after) events
 
-abbrev pub TellsThere : {S : Type 0} → Reading → Hears S → Fails S → Scope → ℕ → Direction → (side beside : Side) → List ℕ → (state other : StreamState) → (old new : S) → Result Hearing Failure → Type 0
-TellsThere r hears fails scope line from side beside bytes state other old new (Ok hearing) = HearsBeside r hears scope line from side beside bytes state other hearing old new
-TellsThere r hears fails scope line from side beside bytes state other old new (Err why) = FailsIn hears fails why (BesideBegins r scope line from side beside bytes) old new
+abbrev pub EmitsThere : {S : Type 0} → Reading → Hears S → Fails S → Scope → ℕ → Direction → (side beside : Side) → List ℕ → (state other : StreamState) → (old new : S) → Result Hearing ListenerError → Type 0
+EmitsThere r hears fails scope line from side beside bytes state other old new (Ok hearing) = HearsBeside r hears scope line from side beside bytes state other hearing old new
+EmitsThere r hears fails scope line from side beside bytes state other old new (Err why) = FailsIn hears fails why (BesideBegins r scope line from side beside bytes) old new
 
 -- ---- one line of the trace
 
@@ -125,17 +125,17 @@ TellsThere r hears fails scope line from side beside bytes state other old new (
 pub record HearsLine {S : Type 0} (r : Reading) (hears : Hears S) (scope : Scope) (number : ℕ) (meaning : Meaning) (sides : Sides) (state : BothSides) (tally : Tally) (old new : S) : Type 0 where
   pub events : List At
   pub after : Sides
-  pub tells : LineTells r scope number meaning sides events after
+  pub emits : LineEmits r scope number meaning sides events after
   pub heard : HearsAll hears old events new
   pub follow : FollowBoth r state after
   pub counts : Tallies tally events
 
-abbrev pub TellsLine : {S : Type 0} → Reading → Hears S → Fails S → Scope → ℕ → Meaning → Sides → BothSides → (old new : S) → Result Tally Failure → Type 0
-TellsLine r hears fails scope number meaning sides state old new (Ok tally) = HearsLine r hears scope number meaning sides state tally old new
-TellsLine r hears fails scope number meaning sides state old new (Err why) = FailsIn hears fails why (MeaningBegins r scope number meaning sides) old new
+abbrev pub EmitsLine : {S : Type 0} → Reading → Hears S → Fails S → Scope → ℕ → Meaning → Sides → BothSides → (old new : S) → Result Tally ListenerError → Type 0
+EmitsLine r hears fails scope number meaning sides state old new (Ok tally) = HearsLine r hears scope number meaning sides state tally old new
+EmitsLine r hears fails scope number meaning sides state old new (Err why) = FailsIn hears fails why (MeaningBegins r scope number meaning sides) old new
 
 -- the fault of a walk that failed
-abbrev pub fault_of : Failure → TraceFault
+abbrev pub fault_of : ListenerError → TraceFault
 fault_of failure.Memory = Memory
 fault_of failure.Write = Write
 
@@ -155,8 +155,8 @@ WalksLine r hears fails scope number line sides state old new (Err Read) = ⊥
 abbrev pub AnswersWalkBy : {S : Type 0} → Reading → Hears S → Fails S → Scope → List (List ℕ) → (old new : S) → Result Tally TraceFault → Type 0
 AnswersWalkBy r hears fails scope lines old new (Ok tally) = (events : List At) × WholeTrace r scope lines events × HearsAll hears old events new × Tallies tally events
 AnswersWalkBy r hears fails scope lines old new (Err (Trace number what)) = (events : List At) × BrokenTrace r scope lines number what events × HearsAll hears old events new
-AnswersWalkBy r hears fails scope lines old new (Err Memory) = FailsIn hears fails failure.Memory (ToldSoFar r scope lines) old new
-AnswersWalkBy r hears fails scope lines old new (Err Write) = FailsIn hears fails failure.Write (ToldSoFar r scope lines) old new
+AnswersWalkBy r hears fails scope lines old new (Err Memory) = FailsIn hears fails failure.Memory (EventsSoFar r scope lines) old new
+AnswersWalkBy r hears fails scope lines old new (Err Write) = FailsIn hears fails failure.Write (EventsSoFar r scope lines) old new
 AnswersWalkBy r hears fails scope lines old new (Err TooLong) = ⊥
 AnswersWalkBy r hears fails scope lines old new (Err Read) = ⊥
 

@@ -4,32 +4,32 @@ use Rattle.std.specs.List.{filter}
 use Rattle.std.specs.Str.Lines.{lines}
 use Rattle.hex.specs.Hex.{decode_of}
 use Rattle.hex.specs.declared.error.FromHexError.{FromHexError}
-use Rattle.zvt_trace.specs.Spelled.{AreHex, behind_bytes, spells}
-use Rattle.zvt_trace.specs.declared.fault.What.{What}
-use Rattle.zvt_trace.specs.declared.fault.What.TheVariants.{Form, Hex}
-use Rattle.zvt_trace.specs.declared.line.Line.{Line}
+use Rattle.zvt_trace.specs.Spelled.{AreHex, after_bytes, spells}
+use Rattle.zvt_trace.specs.declared.fault.TraceLineError.{TraceLineError}
+use Rattle.zvt_trace.specs.declared.fault.TraceLineError.TheVariants.{Form, Hex}
+use Rattle.zvt_trace.specs.declared.line.TraceLine.{TraceLine}
 use Rattle.zvt_trace.specs.declared.line.Plain.{Plain}
-use Rattle.zvt_trace.specs.declared.line.Line.TheVariants as code
+use Rattle.zvt_trace.specs.declared.line.TraceLine.TheVariants as code
 use Rattle.zvt_trace.specs.declared.direction.Direction.{Direction}
 use Rattle.zvt_trace.specs.declared.direction.Direction.TheVariants.{FromTill, FromTerminal}
 
 pub data Meaning : Type 0 where
-  remark : Meaning
+  comment : Meaning
   piece : (from : Direction) → (bytes : List ℕ) → Meaning
   lost : Meaning
 
 abbrev pub without_spaces : List ℕ → List ℕ
 without_spaces = filter (λ byte. not (byte == 32))
 
-abbrev pub piece_of : Direction → Result (List ℕ) FromHexError → Result Meaning What
+abbrev pub piece_of : Direction → Result (List ℕ) FromHexError → Result Meaning TraceLineError
 piece_of from (Ok bytes) = Ok (piece from bytes)
 piece_of from (Err e) = Err Hex
 
 -- nothing or '#' is a remark, '>' and '<' are pieces in hexadecimal, '!' alone is a loss
-abbrev pub meaning_of : List ℕ → Result Meaning What
-meaning_of [] = Ok remark
+abbrev pub meaning_of : List ℕ → Result Meaning TraceLineError
+meaning_of [] = Ok comment
 meaning_of (first ∷ rest) =
-    if first == 35 then Ok remark
+    if first == 35 then Ok comment
     else if first == 62 then piece_of FromTill (decode_of (without_spaces rest))
     else if first == 60 then piece_of FromTerminal (decode_of (without_spaces rest))
     else if first == 33 && length rest == 0 then Ok lost
@@ -46,21 +46,21 @@ bytes_of text = unwrap_or (spells (without_spaces text)) []
 -- the first digits of a text are so many pairs, and the room begins with their bytes
 abbrev pub ReadsPairs : (text : List ℕ) (count : ℕ) (room : List ℕ) → Type 0
 ReadsPairs text count room =
-    AreHex (take (2 * count) text) × ((behind : List ℕ) → behind_bytes (take count room) (spells (without_spaces behind)) ≡ spells (without_spaces (take (2 * count) text ++ behind)))
+    AreHex (take (2 * count) text) × ((undecoded : List ℕ) → after_bytes (take count room) (spells (without_spaces undecoded)) ≡ spells (without_spaces (take (2 * count) text ++ undecoded)))
 
 -- the two characters behind so many pairs spell no byte
 abbrev pub EndsPairs : (text : List ℕ) (count : ℕ) → Type 0
 EndsPairs text count = spells (slice_index text (2 * count) ∷ slice_index text (2 * count + 1) ∷ []) ≡ None
 
 -- the meaning that a line of the code stands for
-abbrev pub meant_by : Line → Meaning
-meant_by code.Remark = remark
-meant_by (code.Piece from bytes behind) = piece from (bytes.now ++ bytes_of behind.now)
+abbrev pub meant_by : TraceLine → Meaning
+meant_by code.Comment = comment
+meant_by (code.Piece from bytes undecoded) = piece from (bytes.now ++ bytes_of undecoded.now)
 meant_by code.Lost = lost
 
 -- how many bytes it brings
 abbrev pub size_of : Meaning → ℕ
-size_of remark = 0
+size_of comment = 0
 size_of (piece from bytes) = length bytes
 size_of lost = 0
 
@@ -70,13 +70,13 @@ IsSign sign FromTill = sign ≡ 62
 IsSign sign FromTerminal = sign ≡ 60
 
 -- what a piece leaves to be read spells bytes
-abbrev pub GoesOn : Line → Type 0
-GoesOn code.Remark = ⊤
-GoesOn (code.Piece from bytes behind) = SpellsBytes behind.now
+abbrev pub GoesOn : TraceLine → Type 0
+GoesOn code.Comment = ⊤
+GoesOn (code.Piece from bytes undecoded) = SpellsBytes undecoded.now
 GoesOn code.Lost = ⊤
 
 -- what was read of a line: what it means, or why it has no meaning
-abbrev pub Reads : List ℕ → Result Line What → Type 0
+abbrev pub Reads : List ℕ → Result TraceLine TraceLineError → Type 0
 Reads line (Ok read) = (meaning_of line ≡ Ok (meant_by read)) × (size_of (meant_by read) ≤ length line) × GoesOn read
 Reads line (Err what) = meaning_of line ≡ Err what
 

@@ -29,6 +29,6 @@ spells (digit ∷ []) = None
 spells (high ∷ low ∷ rest) = pair_before (hex_digit_value high) (hex_digit_value low) (spells rest)
 
 -- bytes that stand before others
-abbrev pub behind_bytes : List ℕ → Option (List ℕ) → Option (List ℕ)
-behind_bytes done None = None
-behind_bytes done (Some bytes) = Some (done ++ bytes)
+abbrev pub after_bytes : List ℕ → Option (List ℕ) → Option (List ℕ)
+after_bytes done None = None
+after_bytes done (Some bytes) = Some (done ++ bytes)

@@ -1,9 +1,9 @@
 -- What both sides of the line have sent, and what arrives with a piece.
 use Rattle.std.specs.Prelude.{ℕ, List, [], ◌++◌}
-use Rattle.zvt_spelling.specs.Beginnings.{Alive, Place}
-use Rattle.zvt_spelling.specs.Cuts.{Cut}
-use Rattle.zvt_spelling.specs.Reading.{Reading}
-use Rattle.zvt_spelling.specs.declared.why.Why.{Why}
+use Rattle.zvt_grammar.specs.Beginnings.{Alive, Place}
+use Rattle.zvt_grammar.specs.Cuts.{Cut}
+use Rattle.zvt_grammar.specs.Reading.{Reading}
+use Rattle.zvt_grammar.specs.declared.why.Why.{Why}
 use Rattle.zvt_apdu.specs.Grammar.{Spells}
 use Rattle.zvt_apdu.specs.Judging.{WhyOf}
 use Rattle.zvt_apdu.specs.Message.{Message}

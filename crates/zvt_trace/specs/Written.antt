@@ -2,9 +2,9 @@
 use Rattle.std.specs.Prelude.{◌≡◌, ℕ, ◌<◌, ◌≤◌, ◌++◌, false, List, length, Option, IfSome, Result, Ok, Err, Vec}
 use Rattle.std.specs.Global.{Global}
 use Rattle.std.specs.Io.KnownBytes.{Appends, Consumes, IsAtEnd, Keeps}
-use Rattle.zvt_io.specs.Devices.{IsFront}
-use Rattle.zvt_spelling.specs.Cuts.{Cut}
-use Rattle.zvt_spelling.specs.Reading.{Reading}
+use Rattle.zvt_io.specs.Devices.{IsPrefix}
+use Rattle.zvt_grammar.specs.Cuts.{Cut}
+use Rattle.zvt_grammar.specs.Reading.{Reading}
 use Rattle.zvt_apdu.specs.Grammar.{Spells}
 use Rattle.zvt_apdu.specs.Message.{Message}
 use Rattle.zvt_stream.specs.StreamState.{StreamState, HasRefused}
@@ -22,8 +22,8 @@ Follows r state stopped = HasRefused state
 -- ---- what a device has that failed
 
 -- the device has besides a front of the text
-abbrev pub AppendsFront : (old new : Option (List ℕ)) → List ℕ → Type 0
-AppendsFront old new text = (front : List ℕ) × IsFront front text × Appends old new front
+abbrev pub AppendsPrefix : (old new : Option (List ℕ)) → List ℕ → Type 0
+AppendsPrefix old new text = (prefix : List ℕ) × IsPrefix prefix text × Appends old new prefix
 
 -- ---- reading
 

@@ -1,28 +1,28 @@
 //! Both sides of the line between a till and its terminal.
 ghost use Rattle.std.specs.Prelude.{◌≡◌, ◌≤◌, ◌++◌, length, IfOk, OnOk};
-ghost use Rattle.zvt_spelling.specs.Reading.{Reading};
-ghost use Rattle.zvt_tlv.specs.Lengths.{reading_of};
+ghost use Rattle.zvt_grammar.specs.Reading.{Reading};
+ghost use Rattle.zvt_grammar.specs.Lengths.{reading_of};
 ghost use Rattle.zvt_trace.specs.Meanings.{GoesOn, SpellsBytes, bytes_of, meant_by, piece, size_of};
 ghost use Rattle.zvt_trace.specs.Trace.{Sides, new_line};
-ghost use Rattle.zvt_trace.specs.Telling.{LineEnds};
-ghost use Rattle.zvt_trace.specs.Listening.{FollowBoth, TakeBy, TellsEnd, TellsLine};
+ghost use Rattle.zvt_trace.specs.Emitting.{LineEnds};
+ghost use Rattle.zvt_trace.specs.Listening.{FollowBoth, TakeBy, EmitsEnd, EmitsLine};
 
 use crate::direction::Direction;
+use crate::emit::{emit_truncation, feed_side};
+use crate::event::TraceEvent;
 use crate::fault::Tally;
-use crate::line::Line;
-use crate::listener::{Failure, Listener, Scope};
-use crate::tell::{tell_beside, tell_cut_off};
-use crate::told::Told;
+use crate::line::TraceLine;
+use crate::listener::{Listener, ListenerError, Scope};
 use std::alloc::Global;
+use zvt_grammar::Lengths;
 use zvt_stream::Stream;
-use zvt_tlv::Lengths;
 
 /// A stream for each side of the line. Once a refusal has left both sides unread, neither is fed.
 #[derive(Drop)]
 pub(crate) struct BothSides {
     pub(crate) till: Stream,
     pub(crate) terminal: Stream,
-    pub(crate) deaf: bool,
+    pub(crate) rejected: bool,
 }
 
 impl BothSides {
@@ -34,13 +34,13 @@ impl BothSides {
         BothSides {
             till: Stream::of(alloc, lengths),
             terminal: Stream::of(alloc, lengths),
-            deaf: false,
+            rejected: false,
         }
     }
 
     /// Tells what the line of that number says.
     #[inline(always)]
-    pub(crate) fn tell<D, L: Listener<D>>(
+    pub(crate) fn emit<D, L: Listener<D>>(
         &mut self,
         listener: &mut L,
         device: &mut D,
@@ -48,27 +48,27 @@ impl BothSides {
         scope: Scope,
         lengths: Lengths,
         number: u64,
-        line: &Line<'_, '_>,
-    ) -> Result<Tally, Failure>
+        line: &TraceLine<'_, '_>,
+    ) -> Result<Tally, ListenerError>
         requires reading { TakeBy (reading_of lengths) self.old }
         requires goes_on { GoesOn line.now }
         ensures reading { OnOk result (TakeBy (reading_of lengths) self.new) }
-        ensures tells { (sides : Sides) → FollowBoth (reading_of lengths) self.old sides → TellsLine (reading_of lengths) L.hears L.fails scope number (meant_by line.now) sides self.new (listener.old, device.old) (listener.new, device.new) result }
+        ensures emits { (sides : Sides) → FollowBoth (reading_of lengths) self.old sides → EmitsLine (reading_of lengths) L.hears L.fails scope number (meant_by line.now) sides self.new (listener.old, device.old) (listener.new, device.new) result }
         ensures few { IfOk result (λ tally. tally.messages ≤ size_of (meant_by line.now)) }
         ensures two { IfOk result (λ tally. tally.bad ≤ 2) }
     {
         match line {
-            Line::Remark => Ok(Tally::none()),
-            Line::Piece {
+            TraceLine::Comment => Ok(Tally::none()),
+            TraceLine::Piece {
                 from,
                 bytes,
-                behind,
-            } => self.tell_piece(
-                listener, device, scope, lengths, number, *from, bytes, behind,
+                undecoded,
+            } => self.feed_piece(
+                listener, device, scope, lengths, number, *from, bytes, undecoded,
             ),
-            Line::Lost => {
-                let bad = self.tell_end(listener, device, number)?;
-                listener.hear(device, number, &Told::Lost)?;
+            TraceLine::Lost => {
+                let bad = self.emit_end(listener, device, number)?;
+                listener.hear(device, number, &TraceEvent::Lost)?;
                 *self = BothSides::new(alloc, lengths);
                 Ok(Tally { messages: 0, bad })
             }
@@ -77,7 +77,7 @@ impl BothSides {
 
     /// Tells what a piece of that side brings, of which some bytes are read and the text behind them spells the others.
     #[inline(always)]
-    fn tell_piece<D, L: Listener<D>>(
+    fn feed_piece<D, L: Listener<D>>(
         &mut self,
         listener: &mut L,
         device: &mut D,
@@ -86,51 +86,53 @@ impl BothSides {
         number: u64,
         from: Direction,
         bytes: &[u8],
-        behind: &[u8],
-    ) -> Result<Tally, Failure>
+        undecoded: &[u8],
+    ) -> Result<Tally, ListenerError>
         requires reading { TakeBy (reading_of lengths) self.old }
-        requires spelled { SpellsBytes behind.now }
+        requires spelled { SpellsBytes undecoded.now }
         ensures reading { OnOk result (TakeBy (reading_of lengths) self.new) }
-        ensures tells { (sides : Sides) → FollowBoth (reading_of lengths) self.old sides → TellsLine (reading_of lengths) L.hears L.fails scope number (piece from (bytes.now ++ bytes_of behind.now)) sides self.new (listener.old, device.old) (listener.new, device.new) result }
-        ensures few { IfOk result (λ tally. tally.messages ≤ length (bytes.now ++ bytes_of behind.now)) }
+        ensures emits { (sides : Sides) → FollowBoth (reading_of lengths) self.old sides → EmitsLine (reading_of lengths) L.hears L.fails scope number (piece from (bytes.now ++ bytes_of undecoded.now)) sides self.new (listener.old, device.old) (listener.new, device.new) result }
+        ensures few { IfOk result (λ tally. tally.messages ≤ length (bytes.now ++ bytes_of undecoded.now)) }
         ensures two { IfOk result (λ tally. tally.bad ≤ 2) }
     {
-        if self.deaf {
-            listener.hear(device, number, &Told::Unread { from })?;
+        if self.rejected {
+            listener.hear(device, number, &TraceEvent::Unread { from })?;
             return Ok(Tally::none());
         }
         let BothSides { till, terminal, .. } = self;
         let hearing = match from {
             Direction::FromTill => {
-                tell_beside(
-                    listener, device, scope, number, from, lengths, till, terminal, bytes, behind,
+                feed_side(
+                    listener, device, scope, number, from, lengths, till, terminal, bytes,
+                    undecoded,
                 )?
             }
             Direction::FromTerminal => {
-                tell_beside(
-                    listener, device, scope, number, from, lengths, terminal, till, bytes, behind,
+                feed_side(
+                    listener, device, scope, number, from, lengths, terminal, till, bytes,
+                    undecoded,
                 )?
             }
         };
-        self.deaf = hearing.stopped;
+        self.rejected = hearing.stopped;
         Ok(hearing.tally)
     }
 
     /// Tells which messages are cut off where the line ends, and answers how many are.
-    pub(crate) fn tell_end<D, L: Listener<D>>(
+    pub(crate) fn emit_end<D, L: Listener<D>>(
         &self,
         listener: &mut L,
         device: &mut D,
         number: u64,
-    ) -> Result<u64, Failure>
-        ensures tells { (r : Reading) (sides : Sides) → FollowBoth r self.now sides → TellsEnd L.hears L.fails (LineEnds r number sides) (listener.old, device.old) (listener.new, device.new) result }
+    ) -> Result<u64, ListenerError>
+        ensures emits { (r : Reading) (sides : Sides) → FollowBoth r self.now sides → EmitsEnd L.hears L.fails (LineEnds r number sides) (listener.old, device.old) (listener.new, device.new) result }
         ensures two { IfOk result (λ bad. bad ≤ 2) }
     {
-        if self.deaf {
+        if self.rejected {
             return Ok(0);
         }
-        let till = tell_cut_off(listener, device, number, Direction::FromTill, &self.till)?;
-        let terminal = tell_cut_off(
+        let till = emit_truncation(listener, device, number, Direction::FromTill, &self.till)?;
+        let terminal = emit_truncation(
             listener,
             device,
             number,

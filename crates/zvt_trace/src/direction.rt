@@ -11,7 +11,7 @@ pub enum Direction {
 impl Direction {
     ghost use Rattle.std.specs.Prelude.{◌≡◌};
     ghost use Rattle.zvt_trace.specs.Lines.{direction_text};
-    ghost use Rattle.zvt_trace.specs.Telling.{other};
+    ghost use Rattle.zvt_trace.specs.Emitting.{other};
 
     /// How a trace marks it.
     pub fn sign(self) -> &'static str

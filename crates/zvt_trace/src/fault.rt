@@ -2,7 +2,7 @@
 ghost use Rattle.std.specs.Prelude.{◌≡◌};
 ghost use Rattle.zvt_trace.specs.declared.fault.TraceFault.TheVariants.{Memory, Write};
 
-use crate::listener::Failure;
+use crate::listener::ListenerError;
 use std::alloc::{AllocError, AllocFailed};
 use std::fmt;
 use thiserror::Error;
@@ -29,14 +29,14 @@ impl Tally {
 
 /// What is wrong with a line of a trace.
 #[derive(Clone, Copy, Debug, PartialEq, Eq)]
-pub enum What {
+pub enum TraceLineError {
     /// It is no piece, no comment and no loss.
     Form,
     /// What follows the direction is no hexadecimal text.
     Hex,
 }
 
-impl fmt::Display for What {
+impl fmt::Display for TraceLineError {
     ghost use Rattle.std.specs.Prelude.{Some};
     ghost use Rattle.zvt_trace.specs.Lines.{what_text};
 
@@ -44,9 +44,10 @@ impl fmt::Display for What {
 
     fn fmt<W: fmt::Write>(&self, f: &mut fmt::Formatter<W>) -> fmt::Result {
         f.write_str(match self {
-            What::Form =>
+            TraceLineError::Form =>
                 "a line begins with '>' or '<' and goes on in hexadecimal, or is '!' alone, or begins with '#'",
-            What::Hex => "after '>' or '<' stand two hexadecimal digits for each byte, and spaces",
+            TraceLineError::Hex =>
+                "after '>' or '<' stand two hexadecimal digits for each byte, and spaces",
         })
     }
 }
@@ -56,7 +57,7 @@ impl fmt::Display for What {
 pub enum TraceFault {
     /// A line of the trace, counted from 1, can't be read.
     #[error("line {line} of the trace: {what}")]
-    Trace { line: u64, what: What },
+    Trace { line: u64, what: TraceLineError },
     /// Nothing was written.
     #[error("the trace has more than 16777216 bytes: cut it at a line, and give the parts one by one")]
     TooLong,
@@ -87,15 +88,15 @@ impl From<Failed> for TraceFault {
     }
 }
 
-impl From<Failure> for TraceFault {
+impl From<ListenerError> for TraceFault {
     ghost use Rattle.zvt_trace.specs.Listening.{fault_of};
 
     ghost from_gives = { λ failure fault. fault ≡ fault_of failure };
 
-    fn from(failure: Failure) -> TraceFault {
+    fn from(failure: ListenerError) -> TraceFault {
         match failure {
-            Failure::Memory => TraceFault::Memory,
-            Failure::Write => TraceFault::Write,
+            ListenerError::Memory => TraceFault::Memory,
+            ListenerError::Write => TraceFault::Write,
         }
     }
 }

@@ -6,21 +6,21 @@
 
 mod both_sides;
 mod direction;
+mod emit;
+mod event;
 mod fault;
 mod input;
 mod line;
 mod lines;
 mod listener;
 mod spelled;
-mod tell;
-mod told;
-mod walking;
+mod walker;
 
 pub use direction::Direction;
-pub use fault::{Tally, TraceFault, What};
+pub use event::TraceEvent;
+pub use fault::{Tally, TraceFault, TraceLineError};
 pub use input::read_trace;
 pub use lines::next_line;
-pub use listener::{Failure, Listener, Scope};
-pub use told::Told;
-pub use walking::{walk, walk_by};
+pub use listener::{Listener, ListenerError, Scope};
+pub use walker::{walk, walk_by};
 pub use zvt_stream::Head;

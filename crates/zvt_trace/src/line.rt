@@ -2,10 +2,10 @@
 ghost use Rattle.std.specs.Prelude.{◌≡◌, ◌<◌, ◌≤◌, length, IfOk, IfSome, Ok, Err};
 ghost use Rattle.hex.specs.Hex.{decode_of};
 ghost use Rattle.zvt_trace.specs.Meanings.{Begins, GoesOn, IsPlain, IsSign, Reads, meant_by, piece_of, size_of, without_spaces};
-ghost use Rattle.zvt_trace.specs.declared.fault.What.{What};
+ghost use Rattle.zvt_trace.specs.declared.fault.TraceLineError.{TraceLineError};
 
 use crate::direction::Direction;
-use crate::fault::What;
+use crate::fault::TraceLineError;
 use crate::lines::next_line;
 use crate::spelled;
 
@@ -14,15 +14,15 @@ pub(crate) const CHUNK: usize = 4_096;
 
 /// What a line of a trace means.
 #[derive(Drop)]
-pub(crate) enum Line<'a, 't> {
+pub(crate) enum TraceLine<'a, 't> {
     /// Nothing.
-    Remark,
+    Comment,
     /// Bytes were sent: those that are read, and those that the text behind them spells, which is empty but in a long
     /// line.
     Piece {
         from: Direction,
         bytes: &'a [u8],
-        behind: &'t [u8],
+        undecoded: &'t [u8],
     },
     /// The line between till and terminal was lost.
     Lost,
@@ -33,16 +33,16 @@ pub(crate) enum Line<'a, 't> {
 pub(crate) fn first_line<'a, 't>(
     buffer: &'a mut [u8],
     rest: &'t [u8],
-) -> (Result<Line<'a, 't>, What>, &'t [u8])
+) -> (Result<TraceLine<'a, 't>, TraceLineError>, &'t [u8])
     requires { 0 < length rest.now }
     ensures { Begins rest.now (λ line. Reads line result.0) result.1.now }
 {
     match plain_piece(buffer, rest) {
         Some(Plain { from, count, after }) => {
-            let line = Line::Piece {
+            let line = TraceLine::Piece {
                 from,
                 bytes: &buffer[..count],
-                behind: &[],
+                undecoded: &[],
             };
             (Ok(line), after)
         }
@@ -95,15 +95,18 @@ fn direction(sign: u8) -> Option<Direction>
 /// Reads a line, which has lost its line feed. Of a piece, as many bytes are read as the buffer takes.
 // Few lines come here, and what reads the others is small enough to be inlined without this.
 #[inline(never)]
-fn read_line<'a, 't>(buffer: &'a mut [u8], line: &'t [u8]) -> Result<Line<'a, 't>, What>
+fn read_line<'a, 't>(
+    buffer: &'a mut [u8],
+    line: &'t [u8],
+) -> Result<TraceLine<'a, 't>, TraceLineError>
     ensures { Reads line.now result }
 {
     match line {
-        [] | [b'#', ..] => Ok(Line::Remark),
+        [] | [b'#', ..] => Ok(TraceLine::Comment),
         [b'>', text @ ..] => read_piece(buffer, Direction::FromTill, text),
         [b'<', text @ ..] => read_piece(buffer, Direction::FromTerminal, text),
-        [b'!'] => Ok(Line::Lost),
-        _ => Err(What::Form),
+        [b'!'] => Ok(TraceLine::Lost),
+        _ => Err(TraceLineError::Form),
     }
 }
 
@@ -113,21 +116,21 @@ fn read_piece<'a, 't>(
     buffer: &'a mut [u8],
     from: Direction,
     text: &'t [u8],
-) -> Result<Line<'a, 't>, What>
+) -> Result<TraceLine<'a, 't>, TraceLineError>
     ensures ok { IfOk result (λ read. piece_of from (decode_of (without_spaces text.now)) ≡ Ok (meant_by read)) }
-    ensures wrong { (what : What) → result ≡ Err what → piece_of from (decode_of (without_spaces text.now)) ≡ Err what }
+    ensures wrong { (what : TraceLineError) → result ≡ Err what → piece_of from (decode_of (without_spaces text.now)) ≡ Err what }
     ensures few { IfOk result (λ read. size_of (meant_by read) ≤ length text.now) }
     ensures on { IfOk result GoesOn }
 {
-    let Some((count, behind)) = spelled::read(text, buffer) else {
-        return Err(What::Hex);
+    let Some((count, undecoded)) = spelled::read(text, buffer) else {
+        return Err(TraceLineError::Hex);
     };
-    if !spelled::is_spelled(behind) {
-        return Err(What::Hex);
+    if !spelled::is_spelled(undecoded) {
+        return Err(TraceLineError::Hex);
     }
-    Ok(Line::Piece {
+    Ok(TraceLine::Piece {
         from,
         bytes: &buffer[..count],
-        behind,
+        undecoded,
     })
 }

@@ -32,7 +32,7 @@ fn without_return(line: &[u8]) -> &[u8]
     ensures shorter { length result.now ≤ length line.now }
 {
     match line {
-        [front @ .., b'\r'] => front,
+        [prefix @ .., b'\r'] => prefix,
         _ => line,
     }
 }

@@ -1,9 +1,9 @@
 //! What listens to a trace.
 ghost use Rattle.std.specs.Prelude.{◌≡◌, MatchResult};
-ghost use Rattle.zvt_trace.specs.Told.{At, HasItsBytes, on, told_of};
-ghost use Rattle.zvt_trace.specs.declared.listener.Failure.{Failure};
+ghost use Rattle.zvt_trace.specs.TraceEvent.{At, HasItsBytes, on, event_of};
+ghost use Rattle.zvt_trace.specs.declared.listener.ListenerError.{ListenerError};
 
-use crate::told::Told;
+use crate::event::TraceEvent;
 use std::alloc::AllocError;
 use zvt_io::Failed;
 
@@ -18,30 +18,30 @@ pub enum Scope {
 
 /// Why a listener could not hear.
 #[derive(Clone, Copy, Debug, Drop, PartialEq, Eq)]
-pub enum Failure {
+pub enum ListenerError {
     /// Memory was refused.
     Memory,
     /// A write to the device failed.
     Write,
 }
 
-impl From<AllocError> for Failure {
-    ghost use Rattle.zvt_trace.specs.declared.listener.Failure.TheVariants.{Memory};
+impl From<AllocError> for ListenerError {
+    ghost use Rattle.zvt_trace.specs.declared.listener.ListenerError.TheVariants.{Memory};
 
     ghost from_gives = { λ _ failure. failure ≡ Memory };
 
-    fn from(_refused: AllocError) -> Failure {
-        Failure::Memory
+    fn from(_refused: AllocError) -> ListenerError {
+        ListenerError::Memory
     }
 }
 
-impl From<Failed> for Failure {
-    ghost use Rattle.zvt_trace.specs.declared.listener.Failure.TheVariants.{Write};
+impl From<Failed> for ListenerError {
+    ghost use Rattle.zvt_trace.specs.declared.listener.ListenerError.TheVariants.{Write};
 
     ghost from_gives = { λ _ failure. failure ≡ Write };
 
-    fn from(_failed: Failed) -> Failure {
-        Failure::Write
+    fn from(_failed: Failed) -> ListenerError {
+        ListenerError::Write
     }
 }
 
@@ -51,12 +51,17 @@ pub trait Listener<D> {
     ghost hears: { (Self × D) → At → (Self × D) → Type 0 };
 
     /// What a failure leaves of a listener with its device that was to hear this.
-    ghost fails: { (Self × D) → At → Failure → (Self × D) → Type 0 };
+    ghost fails: { (Self × D) → At → ListenerError → (Self × D) → Type 0 };
 
     /// Hears what is told at the line of that number.
-    fn hear(&mut self, device: &mut D, line: u64, told: &Told<'_>) -> Result<(), Failure>
-        requires { HasItsBytes told.now }
+    fn hear(
+        &mut self,
+        device: &mut D,
+        line: u64,
+        trace_event: &TraceEvent<'_>,
+    ) -> Result<(), ListenerError>
+        requires { HasItsBytes trace_event.now }
         ensures { MatchResult result
-            (λ _. hears (self.old, device.old) (on line (told_of told.now)) (self.new, device.new))
-            (λ failure. fails (self.old, device.old) (on line (told_of told.now)) failure (self.new, device.new)) };
+            (λ _. hears (self.old, device.old) (on line (event_of trace_event.now)) (self.new, device.new))
+            (λ failure. fails (self.old, device.old) (on line (event_of trace_event.now)) failure (self.new, device.new)) };
 }

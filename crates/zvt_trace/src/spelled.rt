@@ -1,21 +1,21 @@
 //! Bytes that are spelled in hexadecimal text with spaces.
 ghost use Rattle.std.specs.Prelude.{◌≡◌, ◌≢◌, ◌*◌, ◌+◌, ◌++◌, ◌<◌, ◌≤◌, ℕ, List, length, slice_index, take, false, true, IfSome, MatchOption, None};
 ghost use Rattle.zvt_trace.specs.Meanings.{EndsPairs, ReadsPairs, SpellsBytes, without_spaces};
-ghost use Rattle.zvt_trace.specs.Spelled.{AreHex, IsDigit, behind_bytes, spells, worth};
+ghost use Rattle.zvt_trace.specs.Spelled.{AreHex, IsDigit, after_bytes, spells, worth};
 
 /// Reads bytes into the front of the room, until it is full or the text ends: how many, and the text behind them. Where
 /// no bytes are spelled so far, the room ends with anything.
 #[inline(always)]
 pub(crate) fn read<'t>(text: &'t [u8], room: &mut [u8]) -> Option<(usize, &'t [u8])>
-    ensures read { MatchOption result (spells (without_spaces text.now) ≡ None) (λ read. behind_bytes (take read.0 room.new) (spells (without_spaces read.1.now)) ≡ spells (without_spaces text.now)) }
+    ensures read { MatchOption result (spells (without_spaces text.now) ≡ None) (λ read. after_bytes (take read.0 room.new) (spells (without_spaces read.1.now)) ≡ spells (without_spaces text.now)) }
     ensures few { IfSome result (λ read. (read.0 ≤ length room.new) × (2 * read.0 + length read.1.now ≤ length text.now)) }
     ensures full { IfSome result (λ read. 0 < length read.1.now → read.0 ≡ length room.old) }
     ensures size { length room.new ≡ length room.old }
 {
-    let front = skip_spaces(text);
-    let near = &front[..front.len().min(2 * room.len())];
+    let prefix = skip_spaces(text);
+    let near = &prefix[..prefix.len().min(2 * room.len())];
     let mut count = read_pairs(near, room);
-    let mut rest = skip_spaces(&front[2 * count..]);
+    let mut rest = skip_spaces(&prefix[2 * count..]);
     'pairs: while count < room.len() {
         let [high, after @ ..] = rest else {
             return Some((count, rest));
@@ -46,10 +46,10 @@ pub(crate) fn is_spelled(text: &[u8]) -> bool
     let mut buffer = [0; 64];
     let mut rest = text;
     'text: while !rest.is_empty() {
-        let Some((_, behind)) = read(rest, &mut buffer) else {
+        let Some((_, undecoded)) = read(rest, &mut buffer) else {
             return false;
         };
-        rest = behind;
+        rest = undecoded;
     }
     true
 }

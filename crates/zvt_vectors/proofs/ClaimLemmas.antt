@@ -6,33 +6,33 @@ use Rattle.std.proofs.Math.Seq.{drop-append_seam, take-append_seam}
 use Rattle.std.proofs.lemmas.Bool.{false≢true}
 use Rattle.std.specs.List.{All, AllWithin, HoldsAt}
 use Rattle.std.specs.Prelude.{codes}
-use Rattle.zvt_spelling.specs.Names.{why_name}
-use Rattle.zvt_spelling.specs.declared.why.Why.{Why}
-use Rattle.zvt_spelling.specs.declared.why.Why.TheVariants.{NotShortest, DoesNotFit, LengthForm, TooDeep, TagTooLong, UnknownField, NotDigit, LengthDigit}
+use Rattle.zvt_grammar.specs.Names.{why_name}
+use Rattle.zvt_grammar.specs.declared.why.Why.{Why}
+use Rattle.zvt_grammar.specs.declared.why.Why.TheVariants.{NotShortest, DoesNotFit, LengthForm, TooDeep, TagTooLong, UnknownField, NotDigit, LengthDigit}
 use Rattle.zvt_vectors.specs.Vectors.{IsClaim, IsDigit, IsNumber, IsOther, IsReason, IsRefusal, IsSpelling, IsVector}
 use Rattle.zvt_vectors.specs.declared.claims.TheConstants.{REASONS}
 
 -- so many stand before it
-pub count_is : (P : ℕ → Type 0) (c : ℕ) → (P c → ⊥) → (front rest : List ℕ) (n : ℕ) → All P front → n ≤ length (front ++ c ∷ rest) → All P (take n (front ++ c ∷ rest))
-    → (n < length (front ++ c ∷ rest) → P (slice_index (front ++ c ∷ rest) n) → ⊥) → n ≡ length front
+pub count_is : (P : ℕ → Type 0) (c : ℕ) → (P c → ⊥) → (prefix rest : List ℕ) (n : ℕ) → All P prefix → n ≤ length (prefix ++ c ∷ rest) → All P (take n (prefix ++ c ∷ rest))
+    → (n < length (prefix ++ c ∷ rest) → P (slice_index (prefix ++ c ∷ rest) n) → ⊥) → n ≡ length prefix
 count_is P c stop [] rest zero are few first all = refl
 count_is P c stop [] rest (suc n) are few first all = absurd (stop (All-head P c (take n rest) first))
-count_is P c stop (x ∷ front) rest zero are few first all = absurd (all (omega arith) (All-head P x front are))
-count_is P c stop (x ∷ front) rest (suc n) are few first all =
-    let tail = All-tail P x (take n (front ++ c ∷ rest)) first in
-    ap suc (count_is P c stop front rest n (All-tail P x front are) (omega (arith, few)) tail (λ lt p. all (omega (arith, lt)) p))
+count_is P c stop (x ∷ prefix) rest zero are few first all = absurd (all (omega arith) (All-head P x prefix are))
+count_is P c stop (x ∷ prefix) rest (suc n) are few first all =
+    let tail = All-tail P x (take n (prefix ++ c ∷ rest)) first in
+    ap suc (count_is P c stop prefix rest n (All-tail P x prefix are) (omega (arith, few)) tail (λ lt p. all (omega (arith, lt)) p))
 
 -- the parts that it stands between
-pub record Parts (text front rest : List ℕ) (n : ℕ) : Type 0 where
-  pub count : n ≡ length front
-  pub before : take n text ≡ front
-  pub behind : drop n text ≡ rest
+pub record Parts (text prefix rest : List ℕ) (n : ℕ) : Type 0 where
+  pub count : n ≡ length prefix
+  pub before : take n text ≡ prefix
+  pub after : drop n text ≡ rest
 
-pub parts : (P : ℕ → Type 0) (c : ℕ) → (P c → ⊥) → (text front rest : List ℕ) (n : ℕ) → text ≡ front ++ c ∷ rest → All P front → n ≤ length text → All P (take n text) → (n < length text → P (slice_index text n) → ⊥)
-    → Parts text front (c ∷ rest) n
-parts P c stop text front rest n is are few first all =
-    let count = count_is P c stop front rest n are (subst (λ (t : List ℕ). n ≤ length t) is few) (subst (λ (t : List ℕ). All P (take n t)) is first) (subst (λ (t : List ℕ). n < length t → P (slice_index t n) → ⊥) is all) in
-    record { count = count; before = ap (λ (t : List ℕ). take n t) is ∙ ap (λ (m : ℕ). take m (front ++ c ∷ rest)) count ∙ take-append_seam front (c ∷ rest); behind = ap (λ (t : List ℕ). drop n t) is ∙ ap (λ (m : ℕ). drop m (front ++ c ∷ rest)) count ∙ drop-append_seam front (c ∷ rest) }
+pub parts : (P : ℕ → Type 0) (c : ℕ) → (P c → ⊥) → (text prefix rest : List ℕ) (n : ℕ) → text ≡ prefix ++ c ∷ rest → All P prefix → n ≤ length text → All P (take n text) → (n < length text → P (slice_index text n) → ⊥)
+    → Parts text prefix (c ∷ rest) n
+parts P c stop text prefix rest n is are few first all =
+    let count = count_is P c stop prefix rest n are (subst (λ (t : List ℕ). n ≤ length t) is few) (subst (λ (t : List ℕ). All P (take n t)) is first) (subst (λ (t : List ℕ). n < length t → P (slice_index t n) → ⊥) is all) in
+    record { count = count; before = ap (λ (t : List ℕ). take n t) is ∙ ap (λ (m : ℕ). take m (prefix ++ c ∷ rest)) count ∙ take-append_seam prefix (c ∷ rest); after = ap (λ (t : List ℕ). drop n t) is ∙ ap (λ (m : ℕ). drop m (prefix ++ c ∷ rest)) count ∙ drop-append_seam prefix (c ∷ rest) }
 
 pub colon : IsDigit 58 → ⊥
 colon is = omega (arith, is.1)
@@ -45,42 +45,42 @@ space e = omega (arith, e)
 
 -- ---- a place and a reason
 
-pub made : (text front back p reason : List ℕ) (n : ℕ) → front ≡ take n text → back ≡ drop n text → p ≡ codes ": " → back ≡ p ++ reason → IsNumber front → IsReason reason → IsRefusal text
-made text front back p reason n is_front is_back is_p cut number word =
-    let behind : drop n text ≡ codes ": " ++ reason = sym is_back ∙ cut ∙ ap (λ (q : List ℕ). q ++ reason) is_p in
-    let whole : text ≡ front ++ (codes ": " ++ reason) = sym (take-append-drop n text) ∙ ap (λ (t : List ℕ). t ++ drop n text) (sym is_front) ∙ ap (λ (t : List ℕ). front ++ t) behind in
-    (front, reason, number, word, whole ∙ sym (append_assoc front (codes ": ") reason))
+pub made : (text prefix back p reason : List ℕ) (n : ℕ) → prefix ≡ take n text → back ≡ drop n text → p ≡ codes ": " → back ≡ p ++ reason → IsNumber prefix → IsReason reason → IsRefusal text
+made text prefix back p reason n is_prefix is_back is_p cut number word =
+    let after : drop n text ≡ codes ": " ++ reason = sym is_back ∙ cut ∙ ap (λ (q : List ℕ). q ++ reason) is_p in
+    let whole : text ≡ prefix ++ (codes ": " ++ reason) = sym (take-append-drop n text) ∙ ap (λ (t : List ℕ). t ++ drop n text) (sym is_prefix) ∙ ap (λ (t : List ℕ). prefix ++ t) after in
+    (prefix, reason, number, word, whole ∙ sym (append_assoc prefix (codes ": ") reason))
 
-pub record Found (front back : List ℕ) : Type 0 where
+pub record Found (prefix back : List ℕ) : Type 0 where
   pub reason : List ℕ
-  pub number : IsNumber front
+  pub number : IsNumber prefix
   pub word : IsReason reason
-  pub behind : back ≡ codes ": " ++ reason
+  pub after : back ≡ codes ": " ++ reason
 
-pub found : (text front back : List ℕ) (n : ℕ) → IsRefusal text → front ≡ take n text → back ≡ drop n text → n ≤ length text → All IsDigit (take n text) → (n < length text → IsDigit (slice_index text n) → ⊥) → Found front back
-found text front back n (place, reason, number, word, is) is_front is_back few first all =
+pub found : (text prefix back : List ℕ) (n : ℕ) → IsRefusal text → prefix ≡ take n text → back ≡ drop n text → n ≤ length text → All IsDigit (take n text) → (n < length text → IsDigit (slice_index text n) → ⊥) → Found prefix back
+found text prefix back n (place, reason, number, word, is) is_prefix is_back few first all =
     let p = parts IsDigit 58 colon text place (32 ∷ reason) n (is ∙ append_assoc place (codes ": ") reason) number.digits few first all in
-    record { reason = reason; number = subst IsNumber (sym (is_front ∙ p.before)) number; word = word; behind = is_back ∙ p.behind }
+    record { reason = reason; number = subst IsNumber (sym (is_prefix ∙ p.before)) number; word = word; after = is_back ∙ p.after }
 
 pub same_rest : (p q a b : List ℕ) → p ≡ q → p ++ a ≡ q ++ b → a ≡ b
 same_rest p q a b is e = append_cancel_left q a b (ap (λ (r : List ℕ). r ++ a) (sym is) ∙ e)
 
-pub same_front : (p q a : List ℕ) → p ≡ q → p ++ a ≡ q ++ a
-same_front p q a is = ap (λ (r : List ℕ). r ++ a) is
+pub same_prefix : (p q a : List ℕ) → p ≡ q → p ++ a ≡ q ++ a
+same_prefix p q a is = ap (λ (r : List ℕ). r ++ a) is
 
 -- ---- a vector
 
 -- what stands before the first '=', and from there on
-pub record CutAt (front back spelled claim : List ℕ) : Type 0 where
-  pub before : front ≡ spelled ++ codes " "
-  pub behind : back ≡ codes "= " ++ claim
+pub record CutAt (prefix back spelled claim : List ℕ) : Type 0 where
+  pub before : prefix ≡ spelled ++ codes " "
+  pub after : back ≡ codes "= " ++ claim
 
-pub cut_at : (line front back spelled claim : List ℕ) (n : ℕ) → IsVector line spelled claim → front ≡ take n line → back ≡ drop n line → n ≤ length line → All IsOther (take n line) → (n < length line → IsOther (slice_index line n) → ⊥) → CutAt front back spelled claim
-cut_at line front back spelled claim n vector is_front is_back few first all =
+pub cut_at : (line prefix back spelled claim : List ℕ) (n : ℕ) → IsVector line spelled claim → prefix ≡ take n line → back ≡ drop n line → n ≤ length line → All IsOther (take n line) → (n < length line → IsOther (slice_index line n) → ⊥) → CutAt prefix back spelled claim
+cut_at line prefix back spelled claim n vector is_prefix is_back few first all =
     let others : All IsOther (spelled ++ codes " ") = All-append IsOther spelled (codes " ") vector.first (All-cons IsOther 32 [] space (All-nil IsOther)) in
     let whole : line ≡ (spelled ++ codes " ") ++ 61 ∷ 32 ∷ claim = vector.cut ∙ append_assoc spelled (codes " = ") claim ∙ sym (append_assoc spelled (codes " ") (codes "= " ++ claim)) in
     let p = parts IsOther 61 equals line (spelled ++ codes " ") (32 ∷ claim) n whole others few first all in
-    record { before = is_front ∙ p.before; behind = is_back ∙ p.behind }
+    record { before = is_prefix ∙ p.before; after = is_back ∙ p.after }
 
 all_before : (P : ℕ → Type 0) (xs ys : List ℕ) → All P (xs ++ ys) → All P xs
 all_before P [] ys all = All-nil P
@@ -90,11 +90,11 @@ pub same_begin : (p q a b : List ℕ) → p ≡ q → a ++ p ≡ b ++ q → a �
 same_begin p q a b is e = append_cancel_right a b q (ap (λ (r : List ℕ). a ++ r) (sym is) ∙ e)
 
 -- the parts of a line are a vector's, where they have its forms
-pub joined : (line front back p q spelled claim : List ℕ) (n : ℕ) → front ≡ take n line → back ≡ drop n line → p ≡ codes " " → q ≡ codes "= " → front ≡ spelled ++ p → back ≡ q ++ claim → All IsOther (take n line) → IsSpelling spelled → IsClaim claim → IsVector line spelled claim
-joined line front back p q spelled claim n is_front is_back is_p is_q cut_front cut_back others spells claims =
-    let before : take n line ≡ spelled ++ codes " " = sym is_front ∙ cut_front ∙ ap (λ (t : List ℕ). spelled ++ t) is_p in
-    let behind : drop n line ≡ codes "= " ++ claim = sym is_back ∙ cut_back ∙ ap (λ (t : List ℕ). t ++ claim) is_q in
-    let whole : line ≡ (spelled ++ codes " ") ++ (codes "= " ++ claim) = sym (take-append-drop n line) ∙ ap (λ (t : List ℕ). t ++ drop n line) before ∙ ap (λ (t : List ℕ). (spelled ++ codes " ") ++ t) behind in
+pub joined : (line prefix back p q spelled claim : List ℕ) (n : ℕ) → prefix ≡ take n line → back ≡ drop n line → p ≡ codes " " → q ≡ codes "= " → prefix ≡ spelled ++ p → back ≡ q ++ claim → All IsOther (take n line) → IsSpelling spelled → IsClaim claim → IsVector line spelled claim
+joined line prefix back p q spelled claim n is_prefix is_back is_p is_q cut_prefix cut_back others spells claims =
+    let before : take n line ≡ spelled ++ codes " " = sym is_prefix ∙ cut_prefix ∙ ap (λ (t : List ℕ). spelled ++ t) is_p in
+    let after : drop n line ≡ codes "= " ++ claim = sym is_back ∙ cut_back ∙ ap (λ (t : List ℕ). t ++ claim) is_q in
+    let whole : line ≡ (spelled ++ codes " ") ++ (codes "= " ++ claim) = sym (take-append-drop n line) ∙ ap (λ (t : List ℕ). t ++ drop n line) before ∙ ap (λ (t : List ℕ). (spelled ++ codes " ") ++ t) after in
     record {
       cut = whole ∙ append_assoc spelled (codes " ") (codes "= " ++ claim) ∙ sym (append_assoc spelled (codes " = ") claim);
       first = all_before IsOther spelled (codes " ") (subst (All IsOther) before others);

@@ -121,11 +121,11 @@ failed text rest line after number tally (Trace at what) old new newer so first 
 )
 failed text rest line after number tally TooLong old new newer so first checks = checks
 failed text rest line after number tally Read old new newer so first checks = checks
-failed text rest line after number tally Write old new newer so first (meaning, part, means, says, (front, is_front, appended)) =
+failed text rest line after number tally Write old new newer so first (meaning, part, means, says, (prefix, is_prefix, appended)) =
     let more = push 0 so.done line meaning so.all part so.says means (subst (λ (n : ℕ). LineSays n meaning part) (omega (arith, so.count)) says) in (
       both so.all part,
       record { done = so.done ++ line ∷ []; later = lines after; cut = so.cut ∙ ap (λ (ls : List (List ℕ)). so.done ++ ls) first ∙ sym (append_assoc so.done (line ∷ []) (lines after)); says = more },
-      (so.all.text ++ front, (is_front.0, ap (λ (t : List ℕ). so.all.text ++ t) is_front.1 ∙ sym (append_assoc so.all.text front is_front.0)), Appends-trans old new newer so.all.text front so.appended appended),
+      (so.all.text ++ prefix, (is_prefix.0, ap (λ (t : List ℕ). so.all.text ++ t) is_prefix.1 ∙ sym (append_assoc so.all.text prefix is_prefix.0)), Appends-trans old new newer so.all.text prefix so.appended appended),
     )
 failed text rest line after number tally Memory old new newer so first kept =
     (so.all, leading text rest number tally old new so, appends_kept old new newer so.all.text so.appended kept)

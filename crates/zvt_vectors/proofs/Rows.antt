@@ -5,8 +5,8 @@ use Rattle.std.proofs.Math.Seq.{drop-append_seam, get_or-append_seam, take-appen
 use Rattle.std.specs.List.{All, list_all}
 use Rattle.std.specs.Prelude.{codes, not, ◌==◌, true}
 use Rattle.hex.specs.Hex.{decode_pairs}
-use Rattle.zvt_spelling.specs.declared.why.Why.TheVariants.{NotShortest, DoesNotFit, LengthForm, TooDeep, TagTooLong, UnknownField, NotDigit, LengthDigit}
-use Rattle.zvt_trace.specs.declared.fault.What.TheVariants.{Form}
+use Rattle.zvt_grammar.specs.declared.why.Why.TheVariants.{NotShortest, DoesNotFit, LengthForm, TooDeep, TagTooLong, UnknownField, NotDigit, LengthDigit}
+use Rattle.zvt_trace.specs.declared.fault.TraceLineError.TheVariants.{Form}
 use Rattle.zvt_vectors.specs.Vectors.{IsDigit, IsNumber, IsOther, IsReason, IsSpelling, IsVector, Means, vector}
 use Rattle.zvt_vectors.proofs.ClaimLemmas.{cut_at}
 
@@ -33,8 +33,8 @@ another_word (LengthDigit, is) = cc
 
 -- ---- bytes in hexadecimal
 
-pub a_space_behind : IsSpelling (codes "80 ") → ⊥
-a_space_behind is = is.ends refl
+pub a_space_after : IsSpelling (codes "80 ") → ⊥
+a_space_after is = is.ends refl
 
 pub a_space_before : IsSpelling (codes " 80") → ⊥
 a_space_before is = is.begins refl
@@ -61,13 +61,13 @@ whole = (
 )
 
 -- what stands before the first '=' is text that spells bytes and one space
-before : (front rest spelled claim : List ℕ) → All IsOther front → IsVector (front ++ 61 ∷ rest) spelled claim → front ≡ spelled ++ codes " "
-before front rest spelled claim none is =
-    let line : List ℕ = front ++ 61 ∷ rest in
-    let seam : take (length front) line ≡ front = take-append_seam front (61 ∷ rest) in
-    let few : length front ≤ length line = omega (arith, length-append front (61 ∷ rest)) in
-    let stop = λ (lt : length front < length line) (other : IsOther (slice_index line (length front))). other (get_or-append_seam front 61 rest 0) in
-    (cut_at line front (61 ∷ rest) spelled claim (length front) is (sym seam) (sym (drop-append_seam front (61 ∷ rest))) few (subst (All IsOther) (sym seam) none) stop).before
+before : (prefix rest spelled claim : List ℕ) → All IsOther prefix → IsVector (prefix ++ 61 ∷ rest) spelled claim → prefix ≡ spelled ++ codes " "
+before prefix rest spelled claim none is =
+    let line : List ℕ = prefix ++ 61 ∷ rest in
+    let seam : take (length prefix) line ≡ prefix = take-append_seam prefix (61 ∷ rest) in
+    let few : length prefix ≤ length line = omega (arith, length-append prefix (61 ∷ rest)) in
+    let stop = λ (lt : length prefix < length line) (other : IsOther (slice_index line (length prefix))). other (get_or-append_seam prefix 61 rest 0) in
+    (cut_at line prefix (61 ∷ rest) spelled claim (length prefix) is (sym seam) (sym (drop-append_seam prefix (61 ∷ rest))) few (subst (All IsOther) (sym seam) none) stop).before
 
 -- = more
 pub no_bytes : Means (codes "= more") (Err Form)

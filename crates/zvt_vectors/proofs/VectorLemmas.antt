@@ -6,7 +6,7 @@ use Rattle.std.specs.Fmt.{decimal}
 use Rattle.std.specs.Prelude.{codes}
 use Rattle.std.specs.Str.{bytes_eq}
 use Rattle.std.specs.Io.KnownBytes.{Appends}
-use Rattle.zvt_trace.specs.Written.{AppendsFront}
+use Rattle.zvt_trace.specs.Written.{AppendsPrefix}
 use Rattle.zvt_trace.specs.declared.fault.Tally.{Tally}
 use Rattle.zvt_trace.specs.declared.fault.TraceFault.TheVariants.{Write}
 use Rattle.zvt_vectors.specs.Checked.{ChecksVector, Part, got_text}
@@ -43,9 +43,9 @@ wrong number bytes claim answer text old new tally answers is said appended mess
     (got number answer, (answer, answers, inr (is, refl)), subst (Appends old new) said appended, record { messages = messages; bad = bad })
 
 pub unwritten : (number : ℕ) (bytes claim answer text : List ℕ) (old new : Option (List ℕ)) → AnswersAs bytes answer → claim ≢ answer → text ≡ got_text number answer
-    → AppendsFront old new text → ChecksVector number bytes claim old new (Err Write)
+    → AppendsPrefix old new text → ChecksVector number bytes claim old new (Err Write)
 unwritten number bytes claim answer text old new answers is said appended =
-    (got number answer, (answer, answers, inr (is, refl)), subst (AppendsFront old new) said appended)
+    (got number answer, (answer, answers, inr (is, refl)), subst (AppendsPrefix old new) said appended)
 
 -- the line of a vector that is wrong, as its parts are written
 abbrev line_of : (number : ℕ) → (answer : List ℕ) → List ℕ

@@ -3,12 +3,12 @@ use Rattle.std.specs.Prelude.{◌≡◌, ◌≢◌, ℕ, ◌+◌, ◌<◌, ◌�
 use Rattle.std.specs.Fmt.{decimal}
 use Rattle.std.specs.Io.KnownBytes.{Appends, Keeps}
 use Rattle.std.specs.Str.Lines.{lines}
-use Rattle.zvt_trace.specs.Written.{AppendsFront, limit}
+use Rattle.zvt_trace.specs.Written.{AppendsPrefix, limit}
 use Rattle.zvt_trace.specs.declared.fault.Tally.{Tally}
 use Rattle.zvt_trace.specs.declared.fault.TraceFault.{TraceFault}
 use Rattle.zvt_trace.specs.declared.fault.TraceFault.TheVariants.{Memory, Read, TooLong, Trace, Write}
-use Rattle.zvt_trace.specs.declared.fault.What.{What}
-use Rattle.zvt_vectors.specs.Vectors.{AnswersAs, Meaning, Means, remark, vector}
+use Rattle.zvt_trace.specs.declared.fault.TraceLineError.{TraceLineError}
+use Rattle.zvt_vectors.specs.Vectors.{AnswersAs, Meaning, Means, comment, vector}
 
 -- what lines come to: what is written of them, how many vectors they are, and how many of these are wrong
 pub record Part : Type 0 where
@@ -43,7 +43,7 @@ Judged number claim answer part =
 
 -- what the line of that number comes to
 abbrev pub LineSays : (number : ℕ) → Meaning → Part → Type 0
-LineSays number remark part = part ≡ nothing
+LineSays number comment part = part ≡ nothing
 LineSays number (vector bytes claim) part = (answer : List ℕ) × AnswersAs bytes answer × Judged number claim answer part
 
 -- what the first line comes to, and the others
@@ -69,7 +69,7 @@ pub record Leading (lines : List (List ℕ)) (all : Part) : Type 0 where
   pub says : LinesSay 0 done all
 
 -- one can't be read: what those before it come to
-pub record Broken (lines : List (List ℕ)) (number : ℕ) (what : What) (all : Part) : Type 0 where
+pub record Broken (lines : List (List ℕ)) (number : ℕ) (what : TraceLineError) (all : Part) : Type 0 where
   pub done : List (List ℕ)
   pub line : List ℕ
   pub later : List (List ℕ)
@@ -84,7 +84,7 @@ AnswersLines lines old new (Ok tally) = (all : Part) × LinesSay 0 lines all × 
 AnswersLines lines old new (Err (Trace number what)) = (all : Part) × Broken lines number what all × Appends old new all.text
 AnswersLines lines old new (Err TooLong) = ⊥
 AnswersLines lines old new (Err Read) = ⊥
-AnswersLines lines old new (Err Write) = (all : Part) × Leading lines all × AppendsFront old new all.text
+AnswersLines lines old new (Err Write) = (all : Part) × Leading lines all × AppendsPrefix old new all.text
 AnswersLines lines old new (Err Memory) = (all : Part) × Leading lines all × Appends old new all.text
 
 -- What `vectors` answers for a text of known bytes. Where memory is refused, what the lines before caused to be written is
@@ -105,7 +105,7 @@ ChecksLine number line old new (Err (Trace at what)) = (at ≡ number) × Means 
 ChecksLine number line old new (Err TooLong) = ⊥
 ChecksLine number line old new (Err Read) = ⊥
 ChecksLine number line old new (Err Write) =
-    (meaning : Meaning) × (part : Part) × Means line (Ok meaning) × LineSays number meaning part × AppendsFront old new part.text
+    (meaning : Meaning) × (part : Part) × Means line (Ok meaning) × LineSays number meaning part × AppendsPrefix old new part.text
 ChecksLine number line old new (Err Memory) = Keeps old new
 
 -- What checking a vector answers.
@@ -114,5 +114,5 @@ ChecksVector number bytes claim old new (Ok tally) = (part : Part) × LineSays n
 ChecksVector number bytes claim old new (Err (Trace at what)) = ⊥
 ChecksVector number bytes claim old new (Err TooLong) = ⊥
 ChecksVector number bytes claim old new (Err Read) = ⊥
-ChecksVector number bytes claim old new (Err Write) = (part : Part) × LineSays number (vector bytes claim) part × AppendsFront old new part.text
+ChecksVector number bytes claim old new (Err Write) = (part : Part) × LineSays number (vector bytes claim) part × AppendsPrefix old new part.text
 ChecksVector number bytes claim old new (Err Memory) = Keeps old new

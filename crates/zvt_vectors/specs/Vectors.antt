@@ -3,18 +3,18 @@ use Rattle.std.specs.Prelude.{◌≡◌, ◌≢◌, ℕ, ◌-◌, ◌<◌, ◌�
 use Rattle.std.specs.Fmt.{decimal}
 use Rattle.std.specs.List.{All}
 use Rattle.hex.specs.Hex.{decode_of}
-use Rattle.zvt_spelling.specs.Names.{why_name}
-use Rattle.zvt_spelling.specs.Reading.{shortest}
-use Rattle.zvt_spelling.specs.declared.why.Why.{Why}
-use Rattle.zvt_spelling.specs.declared.answer.Scan.{Scan}
-use Rattle.zvt_spelling.specs.declared.answer.Scan.TheVariants.{Whole, More, Refused}
+use Rattle.zvt_grammar.specs.Names.{why_name}
+use Rattle.zvt_grammar.specs.Reading.{shortest}
+use Rattle.zvt_grammar.specs.declared.why.Why.{Why}
+use Rattle.zvt_grammar.specs.declared.answer.Scan.{Scan}
+use Rattle.zvt_grammar.specs.declared.answer.Scan.TheVariants.{Whole, More, Refused}
 use Rattle.zvt_apdu.specs.Judging.{Answers}
 use Rattle.zvt_apdu.specs.Message.{Message}
 use Rattle.zvt_trace.specs.Meanings.{without_spaces}
-use Rattle.zvt_trace.specs.declared.fault.What.{What}
-use Rattle.zvt_trace.specs.declared.fault.What.TheVariants.{Form, Hex}
-use Rattle.zvt_vectors.specs.declared.line.Line.{Line}
-use Rattle.zvt_vectors.specs.declared.line.Line.TheVariants as code
+use Rattle.zvt_trace.specs.declared.fault.TraceLineError.{TraceLineError}
+use Rattle.zvt_trace.specs.declared.fault.TraceLineError.TheVariants.{Form, Hex}
+use Rattle.zvt_vectors.specs.declared.line.VectorLine.{VectorLine}
+use Rattle.zvt_vectors.specs.declared.line.VectorLine.TheVariants as code
 
 -- ---- what a reader answers, as text
 
@@ -73,24 +73,24 @@ pub record IsVector (line : List ℕ) (spelled claim : List ℕ) : Type 0 where
   pub claims : IsClaim claim
 
 pub data Meaning : Type 0 where
-  remark : Meaning
+  comment : Meaning
   vector : (bytes claim : List ℕ) → Meaning
 
 -- an empty line, or one that begins with '#'
-abbrev pub IsRemark : List ℕ → Type 0
-IsRemark [] = Unit {0}
-IsRemark (first ∷ rest) = first ≡ 35
+abbrev pub IsComment : List ℕ → Type 0
+IsComment [] = Unit {0}
+IsComment (first ∷ rest) = first ≡ 35
 
 -- what the line means, or what is wrong with it
-abbrev pub Means : List ℕ → Result Meaning What → Type 0
-Means line (Ok remark) = IsRemark line
+abbrev pub Means : List ℕ → Result Meaning TraceLineError → Type 0
+Means line (Ok comment) = IsComment line
 Means line (Ok (vector bytes claim)) =
-    (IsRemark line → ⊥) × (spelled : List ℕ) × IsVector line spelled claim × (decode_of (without_spaces spelled) ≡ Ok bytes)
-Means line (Err Form) = (IsRemark line → ⊥) × ((spelled claim : List ℕ) → IsVector line spelled claim → ⊥)
+    (IsComment line → ⊥) × (spelled : List ℕ) × IsVector line spelled claim × (decode_of (without_spaces spelled) ≡ Ok bytes)
+Means line (Err Form) = (IsComment line → ⊥) × ((spelled claim : List ℕ) → IsVector line spelled claim → ⊥)
 Means line (Err Hex) =
-    (IsRemark line → ⊥) × (spelled : List ℕ) × (claim : List ℕ) × IsVector line spelled claim × IsErr (decode_of (without_spaces spelled))
+    (IsComment line → ⊥) × (spelled : List ℕ) × (claim : List ℕ) × IsVector line spelled claim × IsErr (decode_of (without_spaces spelled))
 
 -- the meaning that a line of the code stands for
-abbrev pub meant_by : Line → Meaning
-meant_by code.Remark = remark
+abbrev pub meant_by : VectorLine → Meaning
+meant_by code.Comment = comment
 meant_by (code.Vector bytes claim) = vector bytes.items claim.now

@@ -6,7 +6,7 @@ ghost use Rattle.zvt_vectors.specs.Vectors.{AnswersAs};
 use std::alloc::{AllocError, Global};
 use std::fmt::Write;
 use zvt_apdu::scan;
-use zvt_spelling::Scan;
+use zvt_grammar::Scan;
 
 /// Writes behind the text what the reader of messages answers that is given these bytes.
 pub(crate) fn write_answer(alloc: Global, text: &mut String, bytes: &[u8]) -> Result<(), AllocError>

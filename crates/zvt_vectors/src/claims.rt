@@ -3,7 +3,7 @@ ghost use Rattle.std.specs.Prelude.{◌≡◌, ◌<◌, ◌≤◌, true, false, 
 ghost use Rattle.std.specs.List.{All};
 ghost use Rattle.zvt_vectors.specs.Vectors.{IsClaim, IsDigit, IsNumber, IsReason, IsRefusal};
 
-use zvt_spelling::Why;
+use zvt_grammar::Why;
 
 /// Every reason of a refusal.
 const REASONS: [Why; 8] = [

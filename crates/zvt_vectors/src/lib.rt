@@ -4,8 +4,8 @@
 #![tactic(auto)]
 
 mod answers;
-mod checking;
+mod check;
 mod claims;
 mod line;
 
-pub use checking::vectors;
+pub use check::vectors;

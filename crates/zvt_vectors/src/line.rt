@@ -3,19 +3,19 @@ ghost use Rattle.std.specs.Prelude.{◌≡◌, ◌<◌, ◌≤◌, ℕ, true, fa
 ghost use Rattle.std.specs.List.{All};
 ghost use Rattle.hex.specs.Hex.{decode_of};
 ghost use Rattle.zvt_trace.specs.Meanings.{without_spaces};
-ghost use Rattle.zvt_trace.specs.declared.fault.What.{What};
+ghost use Rattle.zvt_trace.specs.declared.fault.TraceLineError.{TraceLineError};
 ghost use Rattle.zvt_vectors.specs.Vectors.{IsOther, IsSpelling, IsVector, Means, meant_by, vector};
 
 use crate::claims::is_claim;
 use hex::FromHexError;
 use std::alloc::{AllocError, Global};
-use zvt_trace::What;
+use zvt_trace::TraceLineError;
 
 /// What a line means.
 #[derive(Drop)]
-pub(crate) enum Line<'a> {
+pub(crate) enum VectorLine<'a> {
     /// Nothing.
-    Remark,
+    Comment,
     /// A reader that is given these bytes is to answer that.
     Vector { bytes: Vec<u8>, claim: &'a [u8] },
 }
@@ -23,7 +23,7 @@ pub(crate) enum Line<'a> {
 /// Why a line has no meaning.
 #[derive(Clone, Copy, Debug, PartialEq, Eq)]
 pub(crate) enum BadLine {
-    Wrong(What),
+    Wrong(TraceLineError),
     Memory,
 }
 
@@ -38,15 +38,15 @@ impl From<AllocError> for BadLine {
 }
 
 /// Reads a line, which has lost its line feed.
-pub(crate) fn read_line<'a>(alloc: Global, line: &'a [u8]) -> Result<Line<'a>, BadLine>
+pub(crate) fn read_line<'a>(alloc: Global, line: &'a [u8]) -> Result<VectorLine<'a>, BadLine>
     ensures ok { IfOk result (λ read. Means line.now (Ok (meant_by read))) }
-    ensures wrong { (what : What) → result ≡ Err (BadLine.Wrong what) → Means line.now (Err what) }
+    ensures wrong { (what : TraceLineError) → result ≡ Err (BadLine.Wrong what) → Means line.now (Err what) }
 {
     match line {
-        [] | [b'#', ..] => Ok(Line::Remark),
+        [] | [b'#', ..] => Ok(VectorLine::Comment),
         _ => match cut(line) {
             Some((spelled, claim)) => read_vector(alloc, spelled, claim),
-            None => Err(BadLine::Wrong(What::Form)),
+            None => Err(BadLine::Wrong(TraceLineError::Form)),
         },
     }
 }
@@ -56,8 +56,8 @@ fn cut(line: &[u8]) -> Option<(&[u8], &[u8])>
     ensures some { IfSome result (λ parts. IsVector line.now parts.0.now parts.1.now) }
     ensures none { IsNone result → (spelled claim : List ℕ) → IsVector line.now spelled claim → ⊥ }
 {
-    let (front, rest) = line.split_at(count_before(line));
-    let spelled = front.strip_suffix(b" ".as_slice())?;
+    let (prefix, rest) = line.split_at(count_before(line));
+    let spelled = prefix.strip_suffix(b" ".as_slice())?;
     let claim = rest.strip_prefix(b"= ".as_slice())?;
     if is_spelling(spelled) && is_claim(claim) {
         Some((spelled, claim))
@@ -91,9 +91,13 @@ fn count_before(line: &[u8]) -> usize
 }
 
 /// The vector of these bytes in hexadecimal, with spaces.
-fn read_vector<'a>(alloc: Global, spelled: &[u8], claim: &'a [u8]) -> Result<Line<'a>, BadLine>
+fn read_vector<'a>(
+    alloc: Global,
+    spelled: &[u8],
+    claim: &'a [u8],
+) -> Result<VectorLine<'a>, BadLine>
     ensures ok { IfOk result (λ read. (bytes : List ℕ) × (decode_of (without_spaces spelled.now) ≡ Ok bytes) × (meant_by read ≡ vector bytes claim.now)) }
-    ensures wrong { (what : What) → result ≡ Err (BadLine.Wrong what) → (what ≡ What.Hex) × IsErr (decode_of (without_spaces spelled.now)) }
+    ensures wrong { (what : TraceLineError) → result ≡ Err (BadLine.Wrong what) → (what ≡ TraceLineError.Hex) × IsErr (decode_of (without_spaces spelled.now)) }
 {
     let digits: Vec<u8> = spelled
         .iter()
@@ -101,8 +105,8 @@ fn read_vector<'a>(alloc: Global, spelled: &[u8], claim: &'a [u8]) -> Result<Lin
         .filter(|character| *character != b' ')
         .collect(alloc)?;
     match hex::decode(alloc, digits) {
-        Ok(bytes) => Ok(Line::Vector { bytes, claim }),
+        Ok(bytes) => Ok(VectorLine::Vector { bytes, claim }),
         Err(FromHexError::OutOfMemory) => Err(BadLine::Memory),
-        Err(_) => Err(BadLine::Wrong(What::Hex)),
+        Err(_) => Err(BadLine::Wrong(TraceLineError::Hex)),
     }
 }

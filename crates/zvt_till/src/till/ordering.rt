@@ -1,11 +1,11 @@
 //! Which orders a till takes.
 ghost use Rattle.std.specs.Prelude.{◌≡◌, ◌≤◌, length, IfOk, IfErr, OnOk, OnErr, slice_get};
 
-use super::{MOST_ROWS, Till};
+use super::{MAX_BOOK_ENTRIES, Till};
 use crate::orders::{Order, OrderRefusal, Outgoing};
 use crate::statuses::{Running, Statuses};
 use std::alloc::AllocError;
-use zvt_apdu::Brief;
+use zvt_apdu::TillMessage;
 
 impl Till {
     ghost use Rattle.zvt_till.specs.Refusals.{cancel_refusal, room_refusal, row_refusal, line_refusal, refusal};
@@ -27,7 +27,7 @@ impl Till {
     fn room_refusal(&self) -> Option<OrderRefusal>
         ensures { result ≡ room_refusal (facts_of self.now.state) }
     {
-        if self.book.len() < MOST_ROWS && self.unclear.len() < MOST_ROWS {
+        if self.book.len() < MAX_BOOK_ENTRIES && self.unclear.len() < MAX_BOOK_ENTRIES {
             None
         } else {
             Some(OrderRefusal::BookFull)
@@ -77,29 +77,29 @@ impl Till {
         if let Some(why) = self.line_refusal(order) {
             return Err(why);
         }
-        let brief = match order {
-            Order::Register => Brief::Register {
+        let till_message = match order {
+            Order::Register => TillMessage::Register {
                 password: self.password,
                 config: self.config,
                 currency: self.currency,
             },
             Order::Pay(amount) => match self.room_refusal() {
                 Some(why) => return Err(why),
-                None => Brief::Pay(*amount, self.currency),
+                None => TillMessage::Pay(*amount, self.currency),
             },
             Order::Reverse(entry) => match self.receipt_at(*entry) {
                 Err(why) => return Err(why),
-                Ok(receipt) => Brief::Reverse {
+                Ok(receipt) => TillMessage::Reverse {
                     password: self.password,
                     receipt,
                 },
             },
-            Order::CloseDay => Brief::CloseDay {
+            Order::CloseDay => TillMessage::CloseDay {
                 password: self.password,
             },
-            Order::Cancel => Brief::AbortOrder,
+            Order::Cancel => TillMessage::AbortOrder,
         };
-        Ok(Outgoing { brief })
+        Ok(Outgoing { till_message })
     }
 
     /// The order runs.

@@ -3,7 +3,7 @@ ghost use Rattle.std.specs.Prelude.{◌≡◌, length, IfOk, IfErr, OnOk};
 ghost use Rattle.zvt_till.specs.UsedTraces.{AreTracesOf};
 ghost use Rattle.zvt_till.specs.Restoring.{OnceBelow};
 
-use super::{MOST_ROWS, Till};
+use super::{MAX_BOOK_ENTRIES, Till};
 use crate::entries::Entry;
 use crate::happenings::Happening;
 use crate::outcomes::{Cause, Outcome};
@@ -14,7 +14,7 @@ use zvt_bcd::Amount;
 /// Why no till has rows.
 #[derive(Clone, Copy, Debug, PartialEq, Eq)]
 pub enum RestoreError {
-    /// There are more than `MOST_ROWS` of a kind, or a trace number stands twice in the book.
+    /// There are more than `MAX_BOOK_ENTRIES` of a kind, or a trace number stands twice in the book.
     Impossible,
     /// Memory was refused.
     Memory,
@@ -27,7 +27,7 @@ fn traces_of(alloc: Global, book: &[Entry]) -> Result<UsedTraces, RestoreError>
     ensures err { IfErr result (λ why. why ≡ RestoreError.Impossible → OnceBelow (length book.now) book.now → ⊥) }
 {
     let mut used = UsedTraces::new(alloc);
-    if used.make_room().is_err() {
+    if used.reserve_for().is_err() {
         return Err(RestoreError::Memory);
     }
     'rows: for entry in book {
@@ -56,7 +56,7 @@ impl Till {
         ensures stands { OnOk result (CanStand book.items unclear.items) }
         ensures err { IfErr result (λ why. IsUnrestored why book.items unclear.items) }
     {
-        if MOST_ROWS < book.len() || MOST_ROWS < unclear.len() {
+        if MAX_BOOK_ENTRIES < book.len() || MAX_BOOK_ENTRIES < unclear.len() {
             return Err(RestoreError::Impossible);
         }
         match traces_of(alloc, book.as_slice()) {

@@ -1,7 +1,7 @@
 //! The room that a till has for the payments to come.
 ghost use Rattle.std.specs.Prelude.{◌≡◌, ◌<◌, ◌≤◌, OnOk, OnErr};
 
-use super::{MOST_ROWS, Till};
+use super::{MAX_BOOK_ENTRIES, Till};
 use std::alloc::AllocError;
 
 impl Till {
@@ -12,7 +12,7 @@ impl Till {
     {
         let booked = self.book.capacity() - self.book.len();
         let unclear = self.unclear.capacity() - self.unclear.len();
-        if self.used.has_room() {
+        if self.used.has_capacity() {
             booked.min(unclear)
         } else {
             0
@@ -22,7 +22,7 @@ impl Till {
     /// Sees to it that so many payments can be taken and written down without more memory: `spare` is at least so many
     /// then. Where memory is refused it is less, though it may have risen; nothing else changes.
     pub fn reserve(&mut self, pays: usize) -> Result<(), AllocError>
-        requires { pays ≤ MOST_ROWS }
+        requires { pays ≤ MAX_BOOK_ENTRIES }
         ensures room { OnOk result (pays ≤ self.new.spare) }
         ensures wanted { OnErr result (self.new.spare < pays) }
         ensures kept { self.old.spare ≤ self.new.spare }
@@ -31,7 +31,7 @@ impl Till {
         if pays <= self.spare() {
             return Ok(());
         }
-        self.used.make_room()?;
+        self.used.reserve_for()?;
         self.book.reserve(pays)?;
         self.unclear.reserve(pays)?;
         Ok(())

@@ -1,5 +1,5 @@
 use Rattle.std.proofs.Common.{subst}
-use Rattle.zvt_spelling.specs.Reading.{shortest}
+use Rattle.zvt_grammar.specs.Reading.{shortest}
 use Rattle.zvt_apdu.specs.Judging.{Answers}
 use Rattle.zvt_apdu.proofs.ViewLemmas.{spelled_bytes}
 use Rattle.till_tests.proofs.hearing.heard_in.Goals as goal

@@ -1,5 +1,5 @@
 use Rattle.std.proofs.Common.{arith, sym, subst, ◌≤◌, true, false}
-use Rattle.zvt_tlv.specs.Lengths.{reading_of}
+use Rattle.zvt_grammar.specs.Lengths.{reading_of}
 use Rattle.zvt_apdu.specs.Judging.{Layout, head_size}
 use Rattle.zvt_apdu.proofs.Opened.{head_short}
 use Rattle.zvt_apdu.proofs.OpeningMoves as moves

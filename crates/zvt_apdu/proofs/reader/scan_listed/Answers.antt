@@ -1,6 +1,6 @@
 use Rattle.std.proofs.Common.{arith}
 use Rattle.std.proofs.lemmas.List.{take_rest}
-use Rattle.zvt_tlv.specs.Lengths.{reading_of}
+use Rattle.zvt_grammar.specs.Lengths.{reading_of}
 use Rattle.zvt_apdu.specs.Judging.{head_size}
 use Rattle.zvt_apdu.proofs.DataMoves as moves
 use Rattle.zvt_apdu.proofs.ListedMoves as listed

@@ -1,6 +1,6 @@
 use Rattle.std.proofs.Common.{◌≤◌, sym, subst, arith}
 use Rattle.std.proofs.lemmas.List.{take_rest}
-use Rattle.zvt_tlv.specs.Lengths.{reading_of}
+use Rattle.zvt_grammar.specs.Lengths.{reading_of}
 use Rattle.zvt_apdu.specs.Judging.{Layout, head_size}
 use Rattle.zvt_apdu.proofs.Opened.{head_short}
 use Rattle.zvt_apdu.proofs.DataMoves as moves

@@ -1,5 +1,5 @@
 use Rattle.std.proofs.Common.{sym, subst}
-use Rattle.zvt_spelling.specs.Reading.{shortest}
+use Rattle.zvt_grammar.specs.Reading.{shortest}
 use Rattle.zvt_apdu.specs.declared.messages.Message as declared
 use Rattle.zvt_apdu.specs.Grammar.{Data}
 use Rattle.zvt_apdu.specs.Messages.{message_of}
@@ -18,15 +18,15 @@ returns-in-EndOfDay c =
 
 pub returns-in-Intermediate : goal.returns-in-Intermediate
 returns-in-Intermediate c =
-    sizes.byte_data c.args.message.now c.in-Intermediate.status c.behind_byte.result c.deref-in-Intermediate.result.now c.in-Intermediate.payload.items c.deref-in-Intermediate.ensures.value (λ b p. subst (λ (m : declared.Message). Data shortest (message_of m) b) (sym c.in-Intermediate.is) p)
-    c.behind_byte.ensures.value c.behind_byte.ensures.bytes
+    sizes.byte_data c.args.message.now c.in-Intermediate.status c.after_byte.result c.deref-in-Intermediate.result.now c.in-Intermediate.payload.items c.deref-in-Intermediate.ensures.value (λ b p. subst (λ (m : declared.Message). Data shortest (message_of m) b) (sym c.in-Intermediate.is) p)
+    c.after_byte.ensures.value c.after_byte.ensures.bytes
 
 pub returns-in-PrintLine : goal.returns-in-PrintLine
 returns-in-PrintLine c =
-    sizes.byte_data c.args.message.now c.in-PrintLine.attribute c.behind_byte-in-PrintLine.result c.deref-in-PrintLine.result.now c.in-PrintLine.text.items c.deref-in-PrintLine.ensures.value (λ b p. subst (λ (m : declared.Message). Data shortest (message_of m) b) (sym c.in-PrintLine.is) p)
-    c.behind_byte-in-PrintLine.ensures.value c.behind_byte-in-PrintLine.ensures.bytes
+    sizes.byte_data c.args.message.now c.in-PrintLine.attribute c.after_byte-in-PrintLine.result c.deref-in-PrintLine.result.now c.in-PrintLine.text.items c.deref-in-PrintLine.ensures.value (λ b p. subst (λ (m : declared.Message). Data shortest (message_of m) b) (sym c.in-PrintLine.is) p)
+    c.after_byte-in-PrintLine.ensures.value c.after_byte-in-PrintLine.ensures.bytes
 
 pub returns-in-Abort : goal.returns-in-Abort
 returns-in-Abort c =
-    sizes.byte_data c.args.message.now c.in-Abort.code c.behind_byte-in-Abort.result c.deref-in-Abort.result.now c.in-Abort.payload.items c.deref-in-Abort.ensures.value (λ b p. subst (λ (m : declared.Message). Data shortest (message_of m) b) (sym c.in-Abort.is) p)
-    c.behind_byte-in-Abort.ensures.value c.behind_byte-in-Abort.ensures.bytes
+    sizes.byte_data c.args.message.now c.in-Abort.code c.after_byte-in-Abort.result c.deref-in-Abort.result.now c.in-Abort.payload.items c.deref-in-Abort.ensures.value (λ b p. subst (λ (m : declared.Message). Data shortest (message_of m) b) (sym c.in-Abort.is) p)
+    c.after_byte-in-Abort.ensures.value c.after_byte-in-Abort.ensures.bytes

@@ -13,5 +13,5 @@ returns-in-None c =
 pub returns-in-Some : goal.returns-in-Some
 returns-in-Some c =
     subst (λ (r : Option Rest). HasData (registration c.args.password.now c.args.config (rest_of r)) (((c.password_size-first.result + 1) + 2) + c.fields_size.result)) (sym c.in-Some.is)
-    (sizes.registered_behind c.args.password.now c.currency_digits.result c.args.config c.in-Some.rest.currency c.password_size-first.result 2 c.fields_size.result c.in-Some.rest.fields c.password_size-first.ensures.value c.password_size-first.ensures.three c.password_size-first.ensures.bytes (omega (arith, c.ranges.config))
+    (sizes.registered_after c.args.password.now c.currency_digits.result c.args.config c.in-Some.rest.currency c.password_size-first.result 2 c.fields_size.result c.in-Some.rest.fields c.password_size-first.ensures.value c.password_size-first.ensures.three c.password_size-first.ensures.bytes (omega (arith, c.ranges.config))
     c.currency_digits.ensures.two c.currency_digits.ensures.digits c.currency_digits.ensures.number refl c.fields_size.ensures)

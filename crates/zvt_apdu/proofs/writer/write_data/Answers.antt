@@ -1,5 +1,5 @@
 use Rattle.std.proofs.Common.{length, subst}
-use Rattle.zvt_spelling.specs.Reading.{shortest}
+use Rattle.zvt_grammar.specs.Reading.{shortest}
 use Rattle.zvt_apdu.specs.declared.messages.Message as declared
 use Rattle.zvt_apdu.specs.Grammar.{Data}
 use Rattle.zvt_apdu.specs.Messages.{message_of}

@@ -1,7 +1,7 @@
 use Rattle.std.proofs.Common.{ℕ, subst, ◌∙◌, ap}
-use Rattle.zvt_spelling.specs.Reading.{shortest}
-use Rattle.zvt_spelling.specs.declared.answer.Scan.{Scan}
-use Rattle.zvt_spelling.specs.declared.answer.Scan.TheVariants.{Whole, More, Refused}
+use Rattle.zvt_grammar.specs.Reading.{shortest}
+use Rattle.zvt_grammar.specs.declared.answer.Scan.{Scan}
+use Rattle.zvt_grammar.specs.declared.answer.Scan.TheVariants.{Whole, More, Refused}
 use Rattle.zvt_apdu.specs.Message.{Message}
 use Rattle.zvt_apdu.specs.Judging as apdu
 use Rattle.zvt_c.specs.Answers.{scanned, refused_memory}

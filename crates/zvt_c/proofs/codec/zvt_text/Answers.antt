@@ -1,14 +1,14 @@
 use Rattle.std.proofs.Common.{◌≡◌, ℕ, cond, nat_eq, refl, subst, ap, sym, length, ◌∙◌}
-use Rattle.zvt_spelling.specs.Reading.{shortest}
-use Rattle.zvt_spelling.specs.declared.answer.Scan.{Scan}
-use Rattle.zvt_spelling.specs.declared.answer.Scan.TheVariants.{More, Refused}
+use Rattle.zvt_grammar.specs.Reading.{shortest}
+use Rattle.zvt_grammar.specs.declared.answer.Scan.{Scan}
+use Rattle.zvt_grammar.specs.declared.answer.Scan.TheVariants.{More, Refused}
 use Rattle.zvt_apdu.specs.Message.{Message}
 use Rattle.zvt_apdu.specs.Judging as apdu
 use Rattle.zvt_apdu.proofs.ViewLemmas.{spelled_bytes, message_loosened}
 use Rattle.zvt_c.specs.declared.answer.ZvtAnswer.{ZvtAnswer}
 use Rattle.zvt_c.specs.Answers.{scanned}
 use Rattle.zvt_c.specs.Texts.{told, untold, Writes}
-use Rattle.zvt_text.specs.Said.{said}
+use Rattle.zvt_text.specs.MessageTexts.{said}
 use Rattle.zvt_c.proofs.codec.zvt_text.Goals as goal
 
 one_none : ◌≡◌ {A = ℕ} 1 0 → ⊥

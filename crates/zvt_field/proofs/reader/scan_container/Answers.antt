@@ -1,8 +1,8 @@
 use Rattle.std.proofs.Common.{subst, sym, ap, ◌∙◌, ◌+◌}
 use Rattle.std.proofs.lemmas.Result.{MatchResult-from_err}
-use Rattle.zvt_tlv.specs.Lengths.{reading_of}
+use Rattle.zvt_grammar.specs.Lengths.{reading_of}
 use Rattle.zvt_field.proofs.Memory.{objects_take}
-use Rattle.zvt_spelling.specs.declared.answer.Scan.TheVariants.{Whole}
+use Rattle.zvt_grammar.specs.declared.answer.Scan.TheVariants.{Whole}
 use Rattle.zvt_field.specs.Grammar.{Field}
 use Rattle.zvt_field.specs.Answers.{AnswersOne}
 use Rattle.zvt_field.proofs.ContainerMoves.{one_whole, one_more, one_refused, found_spelling}

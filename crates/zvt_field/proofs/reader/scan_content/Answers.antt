@@ -1,6 +1,6 @@
 use Rattle.std.proofs.Common.{ℕ, List, get_or, arith, subst, sym, ap, ◌∙◌}
 use Rattle.std.proofs.lemmas.Result.{MatchResult-from_err}
-use Rattle.zvt_tlv.specs.Lengths.{reading_of}
+use Rattle.zvt_grammar.specs.Lengths.{reading_of}
 use Rattle.zvt_field.proofs.Memory.{found_takes}
 use Rattle.zvt_field.specs.Grammar.{Field, plain}
 use Rattle.zvt_field.specs.Answers.{FieldFound}

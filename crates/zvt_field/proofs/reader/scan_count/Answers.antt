@@ -1,5 +1,5 @@
 use Rattle.std.proofs.Common.{◌≡◌, ◌+◌, arith, subst}
-use Rattle.zvt_tlv.specs.Lengths.{reading_of}
+use Rattle.zvt_grammar.specs.Lengths.{reading_of}
 use Rattle.zvt_field.proofs.CountMoves.{CountTo, count_within, count_more, count_refused, count_next, count_done}
 use Rattle.zvt_field.proofs.reader.scan_count.Goals as goal
 

@@ -1,4 +1,4 @@
-use Rattle.zvt_tlv.specs.Lengths.{reading_of}
+use Rattle.zvt_grammar.specs.Lengths.{reading_of}
 use Rattle.zvt_field.proofs.CountMoves.{CountTo}
 use Rattle.zvt_field.proofs.reader.scan_count.Given as goal
 

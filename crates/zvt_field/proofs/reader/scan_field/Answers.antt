@@ -1,5 +1,5 @@
 use Rattle.std.proofs.Common.{arith, refl}
-use Rattle.zvt_tlv.specs.Lengths.{reading_of}
+use Rattle.zvt_grammar.specs.Lengths.{reading_of}
 use Rattle.zvt_field.specs.declared.shapes.Shape.TheVariants.{Fixed, Digits, Ll, Lll}
 use Rattle.zvt_field.proofs.NameMoves.{starts, none_yet, name_refused, in_name, in_head, in_container}
 use Rattle.zvt_field.proofs.reader.scan_field.Goals as goal

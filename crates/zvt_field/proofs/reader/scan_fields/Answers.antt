@@ -1,7 +1,7 @@
 use Rattle.std.proofs.Common.{subst, sym}
 use Rattle.std.proofs.lemmas.Result.{MatchResult-from_err}
-use Rattle.zvt_tlv.specs.Lengths.{reading_of}
-use Rattle.zvt_tlv.specs.declared.lengths.Lengths.{Lengths}
+use Rattle.zvt_grammar.specs.Lengths.{reading_of}
+use Rattle.zvt_grammar.specs.declared.lengths.Lengths.{Lengths}
 use Rattle.zvt_field.specs.Bodies.{HaveSpelling}
 use Rattle.zvt_field.proofs.ListMoves.{ReadTo, next_field, next_more, next_refused, have_size, have_spelling}
 use Rattle.zvt_field.proofs.Memory.{next_takes, pushed_takes}

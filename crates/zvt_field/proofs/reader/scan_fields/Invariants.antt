@@ -1,5 +1,5 @@
 use Rattle.std.proofs.Common.{◌-◌}
-use Rattle.zvt_tlv.specs.Lengths.{reading_of}
+use Rattle.zvt_grammar.specs.Lengths.{reading_of}
 use Rattle.zvt_field.proofs.ListMoves.{ReadTo}
 use Rattle.zvt_field.proofs.reader.scan_fields.Given as goal
 

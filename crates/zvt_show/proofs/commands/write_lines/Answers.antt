@@ -10,7 +10,7 @@ returns-in_err-flush-clause-writes g c =
     let p = err_from_is_err_and c.from_residual.result c.from_residual.ensures.1 in
     rw (p.1, p.2, c.in_err-flush.ensures.fault)
     (not_written _ (λ s. page s.0.style (g.W.Sink.written s.1) s.0.block (g.W.Sink.failures s.1)) c.args.style (lines c.args.trace.now) c.walk_by-answer.result (c.new-pages.result, c.args.writer.now) (c.walk_by-answer.new.listener, c.walk_by-answer.new.device) _
-    c.new-pages.ensures.style c.new-pages.ensures.empty c.walk_by-answer.ensures c.in_err-flush.ensures.front)
+    c.new-pages.ensures.style c.new-pages.ensures.empty c.walk_by-answer.ensures c.in_err-flush.ensures.prefix)
 
 pub returns-in_err-flush-clause-write : goal.returns-in_err-flush-clause-write
 returns-in_err-flush-clause-write g c = λ is.

@@ -1,5 +1,5 @@
 use Rattle.std.proofs.lemmas.Result.{err_from_is_err_and}
-use Rattle.zvt_tlv.specs.Lengths.{reading_of}
+use Rattle.zvt_grammar.specs.Lengths.{reading_of}
 use Rattle.zvt_show.proofs.PageLemmas.{read_failed}
 use Rattle.zvt_show.proofs.commands.write_trace.Goals as goal
 

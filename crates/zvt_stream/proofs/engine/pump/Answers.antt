@@ -1,5 +1,5 @@
 use Rattle.std.proofs.Common.{false, sym, ◌∙◌}
-use Rattle.zvt_stream.proofs.Going.{pumped_starts}
+use Rattle.zvt_stream.proofs.LineRunLemmas.{pumped_starts}
 use Rattle.zvt_stream.proofs.TurnLemmas.{reached_at_once}
 use Rattle.zvt_stream.proofs.engine.pump.Goals as goal
 

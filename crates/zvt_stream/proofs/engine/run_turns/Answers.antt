@@ -1,9 +1,9 @@
 use Rattle.std.proofs.Common.{◌≡◌, ◌+◌, true, false, ◌||◌, refl, ◌∙◌, arith}
 use Rattle.std.proofs.lemmas.Result.{err_from_is_err_and}
-use Rattle.zvt_stream.specs.Course.{reached}
+use Rattle.zvt_stream.specs.LineRun.{reached}
 use Rattle.zvt_stream.specs.Turns.{line_state, line_ends}
 use Rattle.zvt_stream.proofs.TurnLemmas.{waited_more, falters, said}
-use Rattle.zvt_stream.proofs.Going.{pumped_starts, pumped_more, broken_more}
+use Rattle.zvt_stream.proofs.LineRunLemmas.{pumped_starts, pumped_more, broken_more}
 use Rattle.zvt_stream.proofs.engine.run_turns.Goals as goal
 
 pub turns-init : goal.turns-init

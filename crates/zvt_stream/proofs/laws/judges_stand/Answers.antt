@@ -1,4 +1,4 @@
-use Rattle.zvt_stream.proofs.Stood.{stood}
+use Rattle.zvt_stream.proofs.DecoderStateLemmas.{stood}
 use Rattle.zvt_stream.proofs.laws.judges_stand.Goals as goal
 
 pub returns : goal.returns

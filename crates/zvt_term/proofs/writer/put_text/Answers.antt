@@ -1,5 +1,5 @@
 use Rattle.std.proofs.Common.{◌≡◌, ℕ, ◌+◌, ◌≤◌, ◌∷◌, ◌++◌, length, arith, refl, length-append, subst}
-use Rattle.zvt_spelling.specs.Reading.{AreBytes}
+use Rattle.zvt_grammar.specs.Reading.{AreBytes}
 use Rattle.zvt_tlv.proofs.Alive.{bytes_joined}
 use Rattle.zvt_tlv.proofs.Writing.{PutAll, puts_after}
 use Rattle.zvt_apdu.proofs.DataMoves.{are_bytes}
@@ -16,5 +16,5 @@ returns-clause-written c =
     let are : AreBytes (words ++ more) =
     bytes_joined words more (are_bytes words (λ i. omega (arith, c.type_inv.words i))) (are_bytes more (λ i. omega (arith, c.type_inv.more i))) in
     put_spelled _ 0x06 0xD1 (0 ∷ (words ++ more)) _ _ _ refl few (text_data (words ++ more) are)
-    (subst (λ (n : ℕ). PutAll (0x06 ∷ 0xD1 ∷ n ∷ 0 ∷ (words ++ more)) c.put_behind-at.result c.put_bytes.result c.args.out.now c.put_behind-at.new.out c.put_bytes.new.out) same
-    (puts_after (0x06 ∷ 0xD1 ∷ size ∷ 0 ∷ words) more c.args.out.now c.put_behind-at.new.out c.put_bytes.new.out c.put_behind-at.result c.put_bytes.result c.put_behind-at.ensures.written c.put_bytes.ensures))
+    (subst (λ (n : ℕ). PutAll (0x06 ∷ 0xD1 ∷ n ∷ 0 ∷ (words ++ more)) c.put_after-at.result c.put_bytes.result c.args.out.now c.put_after-at.new.out c.put_bytes.new.out) same
+    (puts_after (0x06 ∷ 0xD1 ∷ size ∷ 0 ∷ words) more c.args.out.now c.put_after-at.new.out c.put_bytes.new.out c.put_after-at.result c.put_bytes.result c.put_after-at.ensures.written c.put_bytes.ensures))

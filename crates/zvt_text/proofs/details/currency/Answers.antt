@@ -1,5 +1,5 @@
 use Rattle.std.proofs.Common.{codes}
-use Rattle.zvt_text.specs.Said.{four_digits}
+use Rattle.zvt_text.specs.MessageTexts.{four_digits}
 use Rattle.zvt_text.proofs.RoomLemmas.{puts_more}
 use Rattle.zvt_text.proofs.details.currency.Goals as goal
 

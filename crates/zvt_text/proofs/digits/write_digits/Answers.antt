@@ -6,7 +6,7 @@ use Rattle.zvt_text.proofs.digits.write_digits.Goals as goal
 
 pub bytes-preserved : goal.bytes-preserved
 bytes-preserved c =
-    encode_step upper_digits c.args.bytes.now c.bytes.room c.bytes.at _ _ (omega arith) (omega arith) (high_digit _ _ c.digits.ensures) (low_digit _ _ c.digits.ensures) c.bytes.invariant
+    encode_step upper_digits c.args.bytes.now c.bytes.buffer c.bytes.at _ _ (omega arith) (omega arith) (high_digit _ _ c.digits.ensures) (low_digit _ _ c.digits.ensures) c.bytes.invariant
 
 pub returns : goal.returns
 returns c = encode_done upper_digits _ _ c.bytes.at (omega arith) (omega arith) c.bytes.invariant

@@ -4,6 +4,6 @@ use Rattle.zvt_text.proofs.lines.field_lines.Given as goal
 
 abbrev pub invariant-loop-field : goal.invariant-loop-field
 invariant-loop-field l = record {
-  inside : l.end ≤ length l.room;
-  written : take l.end l.room ++ field_lines l.field-iterator ≡ take l.at l.initial.room ++ field_lines l.initial.field-iterator;
+  inside : l.end ≤ length l.buffer;
+  written : take l.end l.buffer ++ field_lines l.field-iterator ≡ take l.at l.initial.buffer ++ field_lines l.initial.field-iterator;
 }

@@ -1,4 +1,4 @@
-use Rattle.zvt_till.proofs.Carrying.{faults_are_logged}
+use Rattle.zvt_till.proofs.TillHistoryLemmas.{faults_are_logged}
 use Rattle.zvt_till.proofs.laws.faults_are_logged.Goals as goal
 
 pub returns : goal.returns

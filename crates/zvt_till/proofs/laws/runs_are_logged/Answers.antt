@@ -1,4 +1,4 @@
-use Rattle.zvt_till.proofs.Carrying.{runs_are_logged}
+use Rattle.zvt_till.proofs.TillHistoryLemmas.{runs_are_logged}
 use Rattle.zvt_till.proofs.laws.runs_are_logged.Goals as goal
 
 pub returns : goal.returns

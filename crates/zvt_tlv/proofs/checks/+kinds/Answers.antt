@@ -1,5 +1,5 @@
 use Rattle.std.proofs.Common.{subst}
-use Rattle.zvt_spelling.specs.Reading.{AreBytes}
+use Rattle.zvt_grammar.specs.Reading.{AreBytes}
 use Rattle.zvt_tlv.proofs.CheckLemmas.{parts_prim}
 use Rattle.zvt_tlv.proofs.checks.+kinds.Goals as goal
 

@@ -1,5 +1,5 @@
 use Rattle.std.proofs.Common.{arith, ap, ◌∙◌, ◌+◌}
-use Rattle.zvt_tlv.specs.Lengths.{reading_of}
+use Rattle.zvt_grammar.specs.Lengths.{reading_of}
 use Rattle.zvt_tlv.specs.Judging.{byte, content}
 use Rattle.zvt_tlv.specs.Answers.{role_of_length, after_length_byte}
 use Rattle.zvt_tlv.proofs.Reading.{head_room, head_more, head_passed, head_failed, tag_room, opener_found}

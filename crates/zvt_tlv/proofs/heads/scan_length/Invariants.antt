@@ -1,4 +1,4 @@
-use Rattle.zvt_tlv.specs.Lengths.{reading_of}
+use Rattle.zvt_grammar.specs.Lengths.{reading_of}
 use Rattle.zvt_tlv.specs.Answers.{role_of_length}
 use Rattle.zvt_tlv.proofs.Reading.{InHead}
 use Rattle.zvt_tlv.proofs.heads.scan_length.Given as goal

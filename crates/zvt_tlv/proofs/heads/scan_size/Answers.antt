@@ -1,5 +1,5 @@
 use Rattle.std.proofs.Common.{arith, ap, ◌∙◌, ◌+◌, true, refl}
-use Rattle.zvt_tlv.specs.Lengths.{reading_of}
+use Rattle.zvt_grammar.specs.Lengths.{reading_of}
 use Rattle.zvt_tlv.specs.Judging.{byte, content}
 use Rattle.zvt_tlv.specs.Answers.{role_of_length, after_length_byte}
 use Rattle.zvt_tlv.proofs.SizedReading.{length_room, length_failed, length_passed, length_more, length_found}

@@ -1,5 +1,5 @@
 use Rattle.std.proofs.Common.{true}
-use Rattle.zvt_tlv.specs.Lengths.{reading_of}
+use Rattle.zvt_grammar.specs.Lengths.{reading_of}
 use Rattle.zvt_tlv.specs.Answers.{role_of_length}
 use Rattle.zvt_tlv.proofs.SizedReading.{InLength}
 use Rattle.zvt_tlv.proofs.heads.scan_size.Given as goal

@@ -1,5 +1,5 @@
 use Rattle.std.proofs.Common.{arith, ap, ◌∙◌}
-use Rattle.zvt_tlv.specs.Lengths.{reading_of}
+use Rattle.zvt_grammar.specs.Lengths.{reading_of}
 use Rattle.zvt_tlv.specs.Answers.{role_of_tag, after_tag_byte}
 use Rattle.zvt_tlv.specs.Judging.{byte, first_length}
 use Rattle.zvt_tlv.proofs.Reading.{head_start, head_room, head_more, head_passed, head_failed}

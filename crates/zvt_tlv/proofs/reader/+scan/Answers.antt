@@ -1,7 +1,7 @@
 use Rattle.std.proofs.Common.{arith, ◌<◌}
 use Rattle.std.proofs.lemmas.Result.{MatchResult-from_err}
 use Rattle.zvt_tlv.proofs.Memory.{inside_takes, bytes_take, next_takes, pushed_takes}
-use Rattle.zvt_tlv.specs.Lengths.{reading_of}
+use Rattle.zvt_grammar.specs.Lengths.{reading_of}
 use Rattle.zvt_tlv.proofs.Moves.{inside_requires, inside_whole, inside_more, inside_refused, bytes_whole, bytes_more, next_object, next_more, next_refused}
 use Rattle.zvt_tlv.proofs.reader.+scan.Goals as goal
 

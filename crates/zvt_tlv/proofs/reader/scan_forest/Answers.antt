@@ -1,4 +1,4 @@
-use Rattle.zvt_tlv.specs.Lengths.{reading_of}
+use Rattle.zvt_grammar.specs.Lengths.{reading_of}
 use Rattle.zvt_tlv.proofs.Moves.{have_spelling}
 use Rattle.zvt_tlv.proofs.reader.scan_forest.Goals as goal
 

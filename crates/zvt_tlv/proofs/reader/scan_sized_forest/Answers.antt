@@ -1,6 +1,6 @@
 use Rattle.std.proofs.Common.{◌+◌, arith, subst, sym}
 use Rattle.std.proofs.lemmas.Result.{MatchResult-from_err}
-use Rattle.zvt_tlv.specs.Lengths.{reading_of}
+use Rattle.zvt_grammar.specs.Lengths.{reading_of}
 use Rattle.zvt_tlv.proofs.Memory.{sized_takes}
 use Rattle.zvt_tlv.specs.Grammar.{Objects}
 use Rattle.zvt_tlv.specs.Sized.{AnswersSized, SizedFound}

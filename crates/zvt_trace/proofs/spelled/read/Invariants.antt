@@ -1,11 +1,11 @@
 use Rattle.std.proofs.Common.{◌≡◌, ◌≢◌, ◌≤◌, ◌+◌, ◌*◌, length, take, slice_index}
 use Rattle.zvt_trace.specs.Meanings.{without_spaces}
-use Rattle.zvt_trace.specs.Spelled.{behind_bytes, spells}
+use Rattle.zvt_trace.specs.Spelled.{after_bytes, spells}
 use Rattle.zvt_trace.proofs.spelled.read.Given as goal
 
 abbrev pub invariant-pairs : goal.invariant-pairs
 invariant-pairs l = record {
-  so_far : behind_bytes (take l.count l.room) (spells (without_spaces l.rest)) ≡ spells (without_spaces l.text);
+  so_far : after_bytes (take l.count l.room) (spells (without_spaces l.rest)) ≡ spells (without_spaces l.text);
   none : slice_index l.rest 0 ≢ 32;
   within : l.count ≤ length l.room;
   size : length l.room ≡ length l.initial.room;

@@ -2,8 +2,8 @@ use Rattle.std.proofs.Common.{ℕ, List, ◌++◌, ◌∙◌, ap, append_assoc, 
 use Rattle.std.specs.Fmt.{decimal}
 use Rattle.std.specs.Prelude.{codes}
 use Rattle.std.specs.String.{string_bytes}
-use Rattle.zvt_spelling.specs.Names.{why_name}
-use Rattle.zvt_spelling.specs.declared.answer.Scan.TheVariants.{Refused}
+use Rattle.zvt_grammar.specs.Names.{why_name}
+use Rattle.zvt_grammar.specs.declared.answer.Scan.TheVariants.{Refused}
 use Rattle.zvt_vectors.specs.Vectors.{answer_text}
 use Rattle.zvt_vectors.proofs.VectorLemmas.{on_ok}
 use Rattle.zvt_vectors.proofs.answers.write_answer.Goals as goal

@@ -1,7 +1,7 @@
 use Rattle.std.proofs.Common.{◌≡◌, rules, tests}
 use Rattle.std.proofs.lemmas.Iterator.{cases_from_any, YieldsList-from_slice}
-use Rattle.zvt_spelling.specs.Names.{why_name}
-use Rattle.zvt_spelling.specs.declared.why.Why.{Why}
+use Rattle.zvt_grammar.specs.Names.{why_name}
+use Rattle.zvt_grammar.specs.declared.why.Why.{Why}
 use Rattle.zvt_vectors.specs.declared.claims.TheConstants.{REASONS}
 use Rattle.zvt_vectors.proofs.ClaimLemmas.{none_named, some_named}
 use Rattle.zvt_vectors.proofs.claims.is_reason.Goals as goal

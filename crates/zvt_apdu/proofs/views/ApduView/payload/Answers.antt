@@ -1,5 +1,5 @@
 use Rattle.std.proofs.Common.{arith}
-use Rattle.zvt_apdu.proofs.PartLemmas.{head_stands, payload_follows, payload_shown, payload_behind}
+use Rattle.zvt_apdu.proofs.PartLemmas.{head_stands, payload_follows, payload_shown, payload_after}
 use Rattle.zvt_apdu.proofs.views.ApduView.payload.Goals as goal
 
 pub slice_bounds-result-count : goal.slice_bounds-result-count
@@ -13,4 +13,4 @@ pub returns-in-Ack : goal.returns-in-Ack
 returns-in-Ack c = payload_shown c.kind.result c.args.self.now c.data.result.now c.data.ensures c.kind.ensures c.in-Ack.is
 
 pub returns-in-Intermediate : goal.returns-in-Intermediate
-returns-in-Intermediate c = payload_behind c.kind.result c.args.self.now c.data-in-Intermediate.result.now c.data-in-Intermediate.ensures c.kind.ensures c.in-Intermediate.is
+returns-in-Intermediate c = payload_after c.kind.result c.args.self.now c.data-in-Intermediate.result.now c.data-in-Intermediate.ensures c.kind.ensures c.in-Intermediate.is

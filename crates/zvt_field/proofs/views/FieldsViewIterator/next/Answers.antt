@@ -1,6 +1,6 @@
 use Rattle.std.proofs.Common.{List, length, arith, ap, sym, ◌∙◌, subst}
 use Rattle.std.proofs.Math.Logic.{∥∥₁_map}
-use Rattle.zvt_spelling.specs.Reading.{padded}
+use Rattle.zvt_grammar.specs.Reading.{padded}
 use Rattle.zvt_tlv.proofs.ViewLemmas.{nothing, something}
 use Rattle.zvt_field.specs.Grammar.{Field, FieldList}
 use Rattle.zvt_field.proofs.ViewLemmas.{none_left, content_first, others, head_of, others_spelled, head_held, first_shown}

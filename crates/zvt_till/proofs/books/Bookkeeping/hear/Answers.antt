@@ -1,6 +1,6 @@
 use Rattle.std.proofs.Common.{sym, ◌∙◌}
 use Rattle.zvt_apdu.specs.declared.kinds.Kind.TheVariants as kind
-use Rattle.zvt_till.proofs.Noted.{heard-by-kind, heard-passing, heard-positive, heard-rest, passing-kinds}
+use Rattle.zvt_till.proofs.HeardLemmas.{heard-by-kind, heard-passing, heard-positive, heard-rest, passing-kinds}
 use Rattle.zvt_till.proofs.books.Bookkeeping.hear.Goals.{in-Some, in_default-running}
 use Rattle.zvt_till.proofs.books.Bookkeeping.hear.Goals as goal
 

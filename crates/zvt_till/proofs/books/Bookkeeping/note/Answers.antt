@@ -1,7 +1,7 @@
 use Rattle.std.proofs.Common.{refl, ap, ◌∙◌}
 use Rattle.zvt_till.specs.Judging.{paying}
 use Rattle.zvt_till.specs.Outcomes.{note}
-use Rattle.zvt_till.proofs.Noted.{heard-more, heard-rest, or-false}
+use Rattle.zvt_till.proofs.HeardLemmas.{heard-more, heard-rest, or-false}
 use Rattle.zvt_till.proofs.books.Bookkeeping.note.Goals.{in-Some, in_default}
 use Rattle.zvt_till.proofs.books.Bookkeeping.note.Goals as goal
 

@@ -5,7 +5,7 @@ use Rattle.zvt_till.specs.declared.entries.Entry.{Entry}
 use Rattle.zvt_till.specs.Outcomes.{trace_used}
 use Rattle.zvt_till.specs.Restoring.{OnceBelow}
 use Rattle.zvt_till.specs.View.{TillValue}
-use Rattle.zvt_till.proofs.Once.{once-pushed}
+use Rattle.zvt_till.proofs.DistinctLemmas.{once-pushed}
 use Rattle.zvt_till.proofs.till.Till.end_payment.Goals as goal
 
 pub invariant_of-self : goal.invariant_of-self

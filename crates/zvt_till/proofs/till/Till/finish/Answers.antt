@@ -2,8 +2,8 @@ use Rattle.std.proofs.Common.{◌≡◌, ◌<◌, rules, arith, sym, ap, ◌∙�
 use Rattle.std.proofs.lemmas.Grind.{common_steps}
 use Rattle.zvt_till.specs.Books.{Booked}
 use Rattle.zvt_till.proofs.UsedTraces.{used-changed, read_is}
-use Rattle.zvt_till.proofs.Once.{once-changed}
-use Rattle.zvt_till.proofs.Kept.{same-row}
+use Rattle.zvt_till.proofs.DistinctLemmas.{once-changed}
+use Rattle.zvt_till.proofs.BookStepLemmas.{same-row}
 use Rattle.zvt_till.proofs.till.Till.finish.Goals as goal
 
 pub invariant_of-self-in-Reverse : goal.invariant_of-self-in-Reverse

@@ -1,7 +1,7 @@
 use Rattle.std.proofs.Common.{subst}
 use Rattle.zvt_till.specs.UsedTraces.{AreTracesOf}
 use Rattle.zvt_till.specs.View.{TillValue}
-use Rattle.zvt_till.proofs.Once.{outcome-new}
+use Rattle.zvt_till.proofs.DistinctLemmas.{outcome-new}
 use Rattle.zvt_till.proofs.till.Till.meet.Goals as goal
 
 pub finish-requires-clause-books : goal.finish-requires-clause-books

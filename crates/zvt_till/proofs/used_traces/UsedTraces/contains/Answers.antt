@@ -1,5 +1,5 @@
 use Rattle.std.proofs.Common.{arith, get_or, ap, ◌∙◌, ◌/◌}
-use Rattle.zvt_till.proofs.UsedTraces.{has-bit, has-behind}
+use Rattle.zvt_till.proofs.UsedTraces.{has-bit, has-after}
 use Rattle.zvt_till.proofs.used_traces.UsedTraces.contains.Goals as goal
 
 pub returns-in-Some : goal.returns-in-Some
@@ -10,4 +10,4 @@ returns-in-Some c =
 pub returns-in-None : goal.returns-in-None
 returns-in-None c =
     let word = c.in-None.ensures.lookup.4 (omega arith) 0 ∙ ap (λ words. get_or words (c.get-number.result / 64) 0) (c.deref.ensures.value ∙ c.self.view_is) in
-    has-behind c.args.self.now c.args.trace c.get-number.result c.get-number.ensures.value word
+    has-after c.args.self.now c.args.trace c.get-number.result c.get-number.ensures.value word

@@ -1,6 +1,6 @@
 use Rattle.std.proofs.Common.{◌<◌, length, sym, ◌∙◌, subst}
 use Rattle.std.proofs.Math.Logic.{∥∥₁_map}
-use Rattle.zvt_spelling.specs.Reading.{padded}
+use Rattle.zvt_grammar.specs.Reading.{padded}
 use Rattle.zvt_tlv.specs.Grammar.{Objects, Spells}
 use Rattle.zvt_tlv.proofs.ViewLemmas.{nothing, something, none_left, object_first, rest_of, inner_of, rest_spelled, inner_spelled, first_shown, fewer}
 use Rattle.zvt_tlv.proofs.views.ForestViewIterator.next.Goals as goal

@@ -1,0 +1,134 @@
+//! What a run tells of reversals that are unclear, and devices that take no text.
+use std::alloc::Global;
+use std::io::{self, Read, Write};
+use std::test::Fail;
+use zvt_io::Counted;
+use zvt_session::{EndFault, Endpoint, Ends, TillSettings, plan, run_loop, run_till_end};
+use zvt_stream::{LineFault, Stream};
+
+/// A writer that takes nothing.
+#[derive(Drop)]
+pub(crate) struct Full;
+
+impl Write for Full {
+    fn write(&mut self, _bytes: &[u8]) -> io::Result<usize> {
+        Ok(0)
+    }
+
+    fn flush(&mut self) -> io::Result<()> {
+        Ok(())
+    }
+}
+
+#[test]
+fn a_text_that_cannot_be_written(rt: HostRuntime) -> Result<(), Fail> {
+    let mut writer = Counted::new(Full);
+    let mut report = Counted::new(Vec::new(rt.alloc()));
+    let words = ["close"];
+    let ended = run_loop(&rt, rt.alloc(), &words, None, &mut writer, &mut report);
+    assert!(rt; matches!(ended, Err(EndFault::Write)));
+    Ok(())
+}
+
+/// A reader that brings one chunk with each read.
+#[derive(Drop)]
+struct Chunks<'a> {
+    chunks: &'a [&'a [u8]],
+    next: usize,
+}
+
+impl Read for Chunks<'_> {
+    fn read(&mut self, buffer: &mut [u8]) -> io::Result<usize> {
+        let Some(chunk) = self.chunks.get(self.next) else {
+            return Ok(0);
+        };
+        self.next += 1;
+        let mut bytes = *chunk;
+        bytes.read(buffer)
+    }
+}
+
+/// The terminal takes an order up.
+const TAKEN_UP: [u8; 3] = [0x80, 0x00, 0x00];
+
+/// It takes a registration up, and completes it.
+const REGISTERED: [u8; 6] = [0x80, 0x00, 0x00, 0x06, 0x0F, 0x00];
+
+/// It takes a payment of 12.34 up, approves it under trace number 17, and completes it.
+const PAID: [u8; 25] = [
+    0x80, 0x00, 0x00, 0x04, 0x0F, 0x10, 0x27, 0x00, 0x04, 0x00, 0x00, 0x00, 0x00, 0x12, 0x34, 0x0B,
+    0x00, 0x00, 0x17, 0x87, 0x00, 0x05, 0x06, 0x0F, 0x00,
+];
+
+/// It takes an order up, and aborts it: nothing was taken back.
+const ABORTED: [u8; 7] = [0x80, 0x00, 0x00, 0x06, 0x1E, 0x01, 0x6C];
+
+/// The steps of these tests.
+const STEPS: [&str; 3] = ["register", "pay:1234", "reverse:1"];
+
+/// How a till ends that registers, pays and reverses, where these bytes come for the reversal, and what it writes. It
+/// tells this device.
+fn reverses<E: Write>(
+    alloc: Global,
+    coming: &[u8],
+    report: &mut Counted<E>,
+) -> Result<(Result<(), EndFault>, Vec<u8>), EndFault> {
+    let plan = plan(alloc, Ends::Till, &STEPS)?;
+    let chunks = [REGISTERED.as_slice(), PAID.as_slice(), coming];
+    let mut line = Endpoint {
+        reader: Counted::new(Chunks {
+            chunks: &chunks,
+            next: 0,
+        }),
+        writer: Counted::new(Vec::new(alloc)),
+        stream: Stream::new(alloc),
+    };
+    let mut writer = Counted::new(Vec::new(alloc));
+    let usual = TillSettings::usual();
+    let ended = run_till_end(
+        alloc,
+        &mut line,
+        &usual,
+        plan.as_slice(),
+        &mut writer,
+        report,
+    );
+    Ok((ended, writer.inner))
+}
+
+const WRITTEN: &str = r#"register -> registered
+pay:1234 -> paid trace 000017 receipt 0005
+reverse:1 -> unclear Line
+total 1234
+"#;
+
+const REPORTED: &str =
+    "zvt: reverse:1 is unclear (Line): the terminal took the payment back or not: look it up there before you give the money back\n";
+
+#[test]
+fn a_reversal_whose_line_breaks_is_reported(rt: HostRuntime) -> Result<(), Fail> {
+    let mut report = Counted::new(Vec::new(rt.alloc()));
+    let (ended, written) = reverses(rt.alloc(), &TAKEN_UP, &mut report)?;
+    assert!(rt; matches!(ended, Err(EndFault::Line(LineFault::Ended { have: 0 }))));
+    assert_eq!(rt; written.as_slice(), WRITTEN.as_bytes());
+    assert_eq!(rt; report.inner.as_slice(), REPORTED.as_bytes());
+    Ok(())
+}
+
+#[test]
+fn a_device_that_takes_no_text_changes_nothing_else(rt: HostRuntime) -> Result<(), Fail> {
+    let mut report = Counted::new(Full);
+    let (ended, written) = reverses(rt.alloc(), &TAKEN_UP, &mut report)?;
+    assert!(rt; matches!(ended, Err(EndFault::Line(LineFault::Ended { have: 0 }))));
+    assert_eq!(rt; written.as_slice(), WRITTEN.as_bytes());
+    Ok(())
+}
+
+#[test]
+fn a_reversal_with_an_end_is_not_reported(rt: HostRuntime) -> Result<(), Fail> {
+    let mut report = Counted::new(Vec::new(rt.alloc()));
+    let (ended, _) = reverses(rt.alloc(), &ABORTED, &mut report)?;
+    ended?;
+    assert!(rt; report.inner.is_empty());
+    Ok(())
+}

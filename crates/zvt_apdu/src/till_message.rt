@@ -1,0 +1,163 @@
+//! The messages that a till sends, without memory of their own.
+
+ghost use Rattle.std.specs.Prelude.{◌≡◌, ◌+◌, ◌++◌, [], ◌∷◌, ◌<◌, ◌≤◌, length, IfOk};
+ghost use Rattle.zvt_grammar.specs.Reading.{AreBytes};
+ghost use Rattle.zvt_tlv.specs.Sizes.{Puts};
+ghost use Rattle.zvt_bcd.specs.Digits.{AreDigits, number_of};
+ghost use Rattle.zvt_apdu.specs.TillMessages.{message_of_till_message, PutsMessage};
+
+use crate::apdu::Apdu;
+use crate::reader::scan;
+use crate::writer::{bytes_size, currency_digits, password_size, put_after, put_bytes};
+use std::alloc::{AllocError, Global};
+use std::fmt;
+use zvt_bcd::{Amount, Currency, put};
+use zvt_grammar::Scan;
+
+/// The size of a buffer that each brief fits in.
+pub const MAX_TILL_MESSAGE_LEN: usize = 32;
+
+/// A message that a till sends, by the few values that it is made of. Its control bytes are given in hexadecimal.
+#[derive(Clone, Copy, PartialEq, Eq)]
+pub enum TillMessage {
+    /// 80 00: the terminal's message was taken.
+    Ack,
+    /// 84 and the code: it was refused.
+    Nack(u8),
+    /// 06 00: the till registers, and names its currency.
+    Register {
+        password: [u8; 3],
+        config: u8,
+        currency: Currency,
+    },
+    /// 06 01: a payment of this amount (BMP 04) in this currency (BMP 49).
+    Pay(Amount, Currency),
+    /// 06 30: the payment with this receipt number (BMP 87) is taken back.
+    Reverse {
+        password: [u8; 3],
+        receipt: [u8; 2],
+    },
+    /// 06 50: the day is closed.
+    CloseDay {
+        password: [u8; 3],
+    },
+    /// 06 B0: the running order is given up.
+    AbortOrder,
+}
+
+/// Writes the name of its kind alone, since some hold a password.
+impl fmt::Debug for TillMessage {
+    ghost use Rattle.std.specs.Prelude.{Some};
+    ghost use Rattle.zvt_apdu.specs.TillMessages.{till_message_name};
+
+    ghost debug_output = { λ till_message. Some (till_message_name till_message) };
+
+    fn fmt<W: fmt::Write>(&self, f: &mut fmt::Formatter<W>) -> fmt::Result {
+        f.write_str(match self {
+            TillMessage::Ack => "Ack",
+            TillMessage::Nack(_) => "Nack",
+            TillMessage::Register { .. } => "Register",
+            TillMessage::Pay(..) => "Pay",
+            TillMessage::Reverse { .. } => "Reverse",
+            TillMessage::CloseDay { .. } => "CloseDay",
+            TillMessage::AbortOrder => "AbortOrder",
+        })
+    }
+}
+
+/// An amount's six bytes of digits.
+fn amount_digits(amount: Amount) -> [u8; 6]
+    ensures six { length result ≡ 6 }
+    ensures digits { AreDigits result }
+    ensures number { number_of result ≡ amount }
+{
+    let mut digits = [0; 6];
+    put(amount.get(), &mut digits);
+    digits
+}
+
+/// Puts a message without data at the front, and says its size.
+fn put_bare(high: u8, low: u8, out: &mut [u8; MAX_TILL_MESSAGE_LEN]) -> usize
+    ensures written { Puts (high ∷ low ∷ 0 ∷ []) out.old out.new result }
+    ensures fits { result ≤ 32 }
+    ensures byte { low < 256 }
+{
+    put_bytes(&[high, low, 0], out)
+}
+
+/// Puts a message 06 at the front whose data is a password and what stands behind it, and says its size.
+fn put_with_password(
+    low: u8,
+    password: [u8; 3],
+    more: &[u8],
+    out: &mut [u8; MAX_TILL_MESSAGE_LEN],
+) -> usize
+    requires { length more.now ≤ 3 }
+    ensures written { Puts (0x06 ∷ low ∷ (3 + length more.now) ∷ (password ++ more.now)) out.old out.new result }
+    ensures fits { result ≤ 32 }
+    ensures three { length password ≡ 3 }
+    ensures bytes { AreBytes password }
+    ensures more_bytes { AreBytes more.now }
+{
+    let size = password_size(&password) + bytes_size(more);
+    let [first, second, third] = password;
+    put_after(&[0x06, low, size as u8, first, second, third], more, out)
+}
+
+/// Puts a payment at the front, and says its size.
+fn put_payment(amount: Amount, currency: Currency, out: &mut [u8]) -> usize
+    requires { 13 ≤ length out.old }
+    ensures written { PutsMessage (message_of_till_message (TillMessage.Pay amount currency)) out.old out.new result }
+    ensures fits { result ≤ 32 }
+{
+    let at = put_after(&[0x06, 0x01, 0x0A, 0x04], &amount_digits(amount), out);
+    at + put_after(&[0x49], &currency_digits(currency), &mut out[at..])
+}
+
+/// Puts a reversal at the front, and says its size.
+fn put_reversal(password: [u8; 3], receipt: &[u8; 2], out: &mut [u8; MAX_TILL_MESSAGE_LEN]) -> usize
+    ensures written { PutsMessage (message_of_till_message (TillMessage.Reverse password receipt.now)) out.old out.new result }
+    ensures fits { result ≤ 32 }
+{
+    let [high, low] = *receipt;
+    put_with_password(0x30, password, &[0x87, high, low], out)
+}
+
+/// Writes the message's spelling at the front of the buffer, and says its size. It always fits, and what stands behind
+/// it stays.
+pub fn put_till_message(
+    till_message: &TillMessage,
+    buffer: &mut [u8; MAX_TILL_MESSAGE_LEN],
+) -> usize
+    ensures written { PutsMessage (message_of_till_message till_message.now) buffer.old buffer.new result }
+    ensures fits { result ≤ 32 }
+{
+    match *till_message {
+        TillMessage::Ack => put_bare(0x80, 0x00, buffer),
+        TillMessage::Nack(code) => put_bare(0x84, code, buffer),
+        TillMessage::Register {
+            password,
+            config,
+            currency,
+        } => {
+            let [high, low] = currency_digits(currency);
+            put_with_password(0x00, password, &[config, high, low], buffer)
+        }
+        TillMessage::Pay(amount, currency) => put_payment(amount, currency, buffer),
+        TillMessage::Reverse { password, receipt } => put_reversal(password, &receipt, buffer),
+        TillMessage::CloseDay { password } => put_with_password(0x50, password, &[], buffer),
+        TillMessage::AbortOrder => put_bare(0x06, 0xB0, buffer),
+    }
+}
+
+/// The message that the brief stands for.
+pub fn till_message_apdu(alloc: Global, till_message: &TillMessage) -> Result<Apdu, AllocError>
+    ensures { IfOk result (λ apdu. apdu ≡ message_of_till_message till_message.now) }
+{
+    let mut buffer = [0; MAX_TILL_MESSAGE_LEN];
+    let size = put_till_message(till_message, &mut buffer);
+    let Scan::Whole((apdu, _)) = scan(alloc, &buffer[..size])? else {
+        unreachable!()
+    };
+    Ok(apdu)
+}

@@ -1,0 +1,245 @@
+//! What the terminal sends. The statuses are those of the other calls of a till.
+ghost use Rattle.std.specs.Prelude.{◌≡◌, ◌≤◌, ◌<◌, ◌+◌, ◌^◌, None, length, MatchBool, cond, nat_lt, []};
+ghost use Rattle.zvt_apdu.specs.Views.{text_in};
+ghost use Rattle.zvt_till.specs.Till.{step, outcome_at};
+ghost use Rattle.zvt_till.specs.Hearing.{heard_as};
+ghost use Rattle.zvt_c.specs.Feeding.{FeedsEnd, FeedsHandle, Prints, Sends, TellsMessage, replied, status_of_failure};
+ghost use Rattle.zvt_c.specs.FeedingAll.{FeedsAll, FeedsAllHandle, added, goes_on};
+ghost use Rattle.zvt_c.specs.Numbers.{nothing, outcome_of, silent};
+
+use crate::answer::reason_code;
+use crate::handle::ZvtTill;
+use crate::numbers::{ZvtStep, no_step, outcome_numbers};
+use crate::session::Session;
+use crate::till::{lacks_room, write_message};
+use std::alloc::Global;
+use zvt_apdu::ApduView;
+use zvt_stream::{FedView, FeedError};
+use zvt_till::heard::heard_view;
+use zvt_till::{Happening, Outcome, Till};
+
+/// Feeds bytes of the terminal, up to the end of one message. The caller feeds the rest of the piece again, as long as
+/// `message` is 1. What is to be sent is written to `out`, which is to have room for 32. The text of a print line is not
+/// handed out.
+#[unsafe(no_mangle)]
+pub extern "C" fn zvt_till_feed(
+    alloc: Global,
+    till: &mut ZvtTill,
+    piece: &[u8],
+    out: &mut [u8],
+    answer: &mut ZvtStep,
+) -> u32
+    ensures full { MatchBool (nat_lt (length out.old) 32) ((till.new.shell.held ≡ till.old.shell.held) × (out.new ≡ out.old) × (answer.new ≡ nothing) × (result ≡ 4))
+        (FeedsHandle till.old.shell.held piece.now till.new.shell.held out.old out.new answer.new result) }
+{
+    if lacks_room(out, answer) {
+        return 4;
+    }
+    let Some(mut end) = till.take(alloc) else {
+        return 6;
+    };
+    let status = feed(&mut end, piece, out, &mut [], answer);
+    *till = ZvtTill::of(end);
+    status
+}
+
+/// Feeds bytes of the terminal message by message: up to their end, to a print line, or to where `out` has room for
+/// fewer than 32 more. The answers stand in `out` one behind another, and are all to be sent, whatever the status is. The
+/// text of the print line is written to `line` where it fits. The caller feeds what was not taken again.
+#[unsafe(no_mangle)]
+pub extern "C" fn zvt_till_feed_all(
+    alloc: Global,
+    till: &mut ZvtTill,
+    piece: &[u8],
+    out: &mut [u8],
+    line: &mut [u8],
+    answer: &mut ZvtStep,
+) -> u32
+    ensures { MatchBool (nat_lt (length out.old) 32) ((till.new.shell.held ≡ till.old.shell.held) × (out.new ≡ out.old) × (line.new ≡ line.old) × (answer.new ≡ nothing) × (result ≡ 4))
+        (FeedsAllHandle till.old.shell.held piece.now till.new.shell.held out.old out.new line.old line.new answer.new result) }
+{
+    if lacks_room(out, answer) {
+        return 4;
+    }
+    let Some(mut end) = till.take(alloc) else {
+        return 6;
+    };
+    let status = feed_all(&mut end, piece, out, line, answer);
+    *till = ZvtTill::of(end);
+    status
+}
+
+/// Feeds one message after another.
+fn feed_all(
+    end: &mut Session,
+    piece: &[u8],
+    out: &mut [u8],
+    line: &mut [u8],
+    answer: &mut ZvtStep,
+) -> u32
+    ensures { FeedsAll end.old piece.now end.new out.old out.new line.old line.new answer.new result }
+{
+    *answer = no_step();
+    'messages: while goes_on(piece.len(), out.len(), answer) {
+        let mut one = no_step();
+        let status = feed(
+            end,
+            &piece[answer.taken..],
+            &mut out[answer.send..],
+            line,
+            &mut one,
+        );
+        add(answer, &one);
+        if status != 0 {
+            return status;
+        }
+    }
+    0
+}
+
+/// Whether another message is to be heard: bytes are left, room for its answer, and no print line waits.
+fn goes_on(piece: usize, room: usize, answer: &ZvtStep) -> bool
+    requires { answer.now.send ≤ room }
+    ensures { result ≡ goes_on piece room answer.now }
+{
+    answer.taken < piece && 32 <= room - answer.send && answer.printed == 0
+}
+
+/// Adds what one message came to.
+fn add(answer: &mut ZvtStep, one: &ZvtStep)
+    requires taken { answer.old.taken + one.now.taken < 2 ^ 64 }
+    requires send { answer.old.send + one.now.send < 2 ^ 64 }
+    ensures { answer.new ≡ added answer.old one.now }
+{
+    *answer = ZvtStep {
+        taken: answer.taken + one.taken,
+        send: answer.send + one.send,
+        place: one.place,
+        line: one.line,
+        reason: one.reason,
+        message: if one.message == 0 { answer.message } else { 1 },
+        printed: one.printed,
+        outcome: if answer.outcome.kind == 0 {
+            one.outcome
+        } else {
+            answer.outcome
+        },
+    };
+}
+
+/// Lets the till hear a message, and writes what it answers. It says how much was written, and how the running order
+/// ended, if it did.
+fn hear(till: &mut Till, apdu: &ApduView<'_>, out: &mut [u8]) -> (usize, Option<Outcome>)
+    requires { 32 ≤ length out.old }
+    ensures state { till.new.state ≡ step till.old.state (Happening.Heard (heard_as apdu.now)) }
+    ensures sent { Sends (replied till.old.state apdu.now) out.old out.new result.0 }
+    ensures room { result.0 ≤ length out.old }
+    ensures outcome { result.1 ≡ cond till.old.state.line_up (outcome_at till.old.state (Happening.Heard (heard_as apdu.now))) None }
+{
+    let reply = till.hear(heard_view(apdu));
+    let size = match &reply.send {
+        Some(outgoing) => write_message(outgoing, out),
+        None => 0,
+    };
+    (size, reply.outcome)
+}
+
+/// Writes the text of a print line where it fits. It says the text's size, and 1 where the message is one.
+fn put_line(apdu: &ApduView<'_>, line: &mut [u8]) -> (usize, u32)
+    ensures { Prints (text_in apdu.now) line.old line.new result.0 result.1 }
+{
+    let Some(text) = apdu.text() else {
+        return (0, 0);
+    };
+    let size = text.len();
+    if size <= line.len() {
+        line[..size].copy_from_slice(text);
+    }
+    (size, 1)
+}
+
+/// Lets the till hear a message that ends behind so many bytes of the piece, and tells all of it.
+fn tell(
+    till: &mut Till,
+    apdu: &ApduView<'_>,
+    taken: usize,
+    out: &mut [u8],
+    line: &mut [u8],
+) -> ZvtStep
+    requires { 32 ≤ length out.old }
+    ensures told { TellsMessage apdu.now taken till.old.state till.new.state out.old out.new line.old line.new result }
+    ensures room { result.send ≤ length out.old }
+{
+    let (send, outcome) = hear(till, apdu, out);
+    let (size, printed) = put_line(apdu, line);
+    ZvtStep {
+        taken,
+        send,
+        place: 0,
+        line: size,
+        reason: 0,
+        message: 1,
+        printed,
+        outcome: outcome_numbers(outcome),
+    }
+}
+
+/// Nothing to send.
+fn silent(taken: usize, place: usize, reason: u32, outcome: Option<Outcome>) -> ZvtStep
+    ensures { result ≡ silent taken place reason (outcome_of outcome) }
+{
+    ZvtStep {
+        taken,
+        place,
+        reason,
+        outcome: outcome_numbers(outcome),
+        ..no_step()
+    }
+}
+
+/// Feeds up to the end of one message.
+fn feed(
+    end: &mut Session,
+    piece: &[u8],
+    out: &mut [u8],
+    line: &mut [u8],
+    answer: &mut ZvtStep,
+) -> u32
+    requires { 32 ≤ length out.old }
+    ensures fed { FeedsEnd end.old piece.now end.new out.old out.new line.old line.new answer.new result }
+    ensures taken { answer.new.taken ≤ length piece.now }
+    ensures room { answer.new.send ≤ length out.old }
+    ensures goes { result ≡ 0 → 0 < length piece.now → 0 < answer.new.taken }
+{
+    match end.stream.feed_view(piece) {
+        Ok(FedView::Message { taken }) => {
+            let Some(apdu) = end.stream.lent() else {
+                unreachable!()
+            };
+            *answer = tell(&mut end.till, &apdu, taken, out, line);
+            0
+        }
+        Ok(FedView::More) => {
+            *answer = silent(piece.len(), 0, 0, None);
+            0
+        }
+        Ok(FedView::Refused { place, why }) => {
+            *answer = silent(0, place, reason_code(why), end.till.malformed());
+            2
+        }
+        Err(why) => {
+            *answer = no_step();
+            failed(why)
+        }
+    }
+}
+
+/// The status of a feed that failed.
+fn failed(why: FeedError) -> u32
+    ensures { result ≡ status_of_failure why }
+{
+    match why {
+        FeedError::Stopped => 7,
+        FeedError::Memory => 3,
+    }
+}

@@ -1,0 +1,94 @@
+-- Readings that say no choice.
+use Rattle.std.proofs.Common.{◌≡◌, ◌≢◌, ◌∙◌, ap, sym, arith, codes, List, ℕ, Some, None, slice_index}
+use Rattle.clap.specs.Walk.{Row, Text, first_of}
+use Rattle.zvt_cli.specs.Chosen.{GivesNumber, HasNoChoice, IsCommandOf, IsNumberOf}
+use Rattle.zvt_cli.specs.declared.choice.Choice.{Choice}
+use Rattle.zvt_cli.specs.declared.choice.Choice.TheVariants.{Audit, Join, Loop, Normalise, Receipts, Show, Terminal, Till, Vectors}
+
+-- texts that differ in a letter
+other_first : (name text : Text) → (slice_index name 0 ≢ slice_index text 0) → (name ≢ text)
+other_first name text differ e = differ (ap (λ (t : Text). slice_index t 0) e)
+
+other_second : (name text : Text) → (slice_index name 1 ≢ slice_index text 1) → (name ≢ text)
+other_second name text differ e = differ (ap (λ (t : Text). slice_index t 1) e)
+
+till_has : (rows : List Row) (choice : Choice) → IsCommandOf (codes "till") rows choice
+    → ((port : ℕ) → GivesNumber (codes "port") rows 65535 port → ⊥) → ⊥
+till_has rows (Show file loose) said lacks = other_first (codes "till") (codes "show") (λ e. omega (arith, e)) said.0
+till_has rows (Join file) said lacks = other_first (codes "till") (codes "join") (λ e. omega (arith, e)) said.0
+till_has rows (Normalise file) said lacks = other_first (codes "till") (codes "normalise") (λ e. omega (arith, e)) said.0
+till_has rows (Audit file loose) said lacks = other_first (codes "till") (codes "audit") (λ e. omega (arith, e)) said.0
+till_has rows (Receipts file loose) said lacks = other_first (codes "till") (codes "receipts") (λ e. omega (arith, e)) said.0
+till_has rows (Vectors file) said lacks = other_first (codes "till") (codes "vectors") (λ e. omega (arith, e)) said.0
+till_has rows (Loop trace steps) said lacks = other_first (codes "till") (codes "loop") (λ e. omega (arith, e)) said.0
+till_has rows (Till port host password config currency trace loose steps) said lacks = lacks port said.1
+till_has rows (Terminal port host tid connections decline trace loose) said lacks = other_second (codes "till") (codes "terminal") (λ e. omega (arith, e)) said.0
+
+till_has_host : (rows : List Row) (choice : Choice) → IsCommandOf (codes "till") rows choice → first_of (codes "host") rows ≢ None
+till_has_host rows (Show file loose) said lacks = other_first (codes "till") (codes "show") (λ e. omega (arith, e)) said.0
+till_has_host rows (Join file) said lacks = other_first (codes "till") (codes "join") (λ e. omega (arith, e)) said.0
+till_has_host rows (Normalise file) said lacks = other_first (codes "till") (codes "normalise") (λ e. omega (arith, e)) said.0
+till_has_host rows (Audit file loose) said lacks = other_first (codes "till") (codes "audit") (λ e. omega (arith, e)) said.0
+till_has_host rows (Receipts file loose) said lacks = other_first (codes "till") (codes "receipts") (λ e. omega (arith, e)) said.0
+till_has_host rows (Vectors file) said lacks = other_first (codes "till") (codes "vectors") (λ e. omega (arith, e)) said.0
+till_has_host rows (Loop trace steps) said lacks = other_first (codes "till") (codes "loop") (λ e. omega (arith, e)) said.0
+till_has_host rows (Till port host password config currency trace loose steps) said lacks = let bad : Some host.now ≡ None = sym said.2 ∙ lacks in cc
+till_has_host rows (Terminal port host tid connections decline trace loose) said lacks = other_second (codes "till") (codes "terminal") (λ e. omega (arith, e)) said.0
+
+terminal_has_host : (rows : List Row) (choice : Choice) → IsCommandOf (codes "terminal") rows choice → first_of (codes "host") rows ≢ None
+terminal_has_host rows (Show file loose) said lacks = other_first (codes "terminal") (codes "show") (λ e. omega (arith, e)) said.0
+terminal_has_host rows (Join file) said lacks = other_first (codes "terminal") (codes "join") (λ e. omega (arith, e)) said.0
+terminal_has_host rows (Normalise file) said lacks = other_first (codes "terminal") (codes "normalise") (λ e. omega (arith, e)) said.0
+terminal_has_host rows (Audit file loose) said lacks = other_first (codes "terminal") (codes "audit") (λ e. omega (arith, e)) said.0
+terminal_has_host rows (Receipts file loose) said lacks = other_first (codes "terminal") (codes "receipts") (λ e. omega (arith, e)) said.0
+terminal_has_host rows (Vectors file) said lacks = other_first (codes "terminal") (codes "vectors") (λ e. omega (arith, e)) said.0
+terminal_has_host rows (Loop trace steps) said lacks = other_first (codes "terminal") (codes "loop") (λ e. omega (arith, e)) said.0
+terminal_has_host rows (Till port host password config currency trace loose steps) said lacks = other_second (codes "terminal") (codes "till") (λ e. omega (arith, e)) said.0
+terminal_has_host rows (Terminal port host tid connections decline trace loose) said lacks = let bad : Some host.now ≡ None = sym said.2 ∙ lacks in cc
+
+terminal_has : (rows : List Row) (choice : Choice) → IsCommandOf (codes "terminal") rows choice
+    → ((port tid connections : ℕ) → GivesNumber (codes "port") rows 65535 port → GivesNumber (codes "tid") rows 99999999 tid → GivesNumber (codes "connections") rows 65535 connections → ⊥) → ⊥
+terminal_has rows (Show file loose) said lacks = other_first (codes "terminal") (codes "show") (λ e. omega (arith, e)) said.0
+terminal_has rows (Join file) said lacks = other_first (codes "terminal") (codes "join") (λ e. omega (arith, e)) said.0
+terminal_has rows (Normalise file) said lacks = other_first (codes "terminal") (codes "normalise") (λ e. omega (arith, e)) said.0
+terminal_has rows (Audit file loose) said lacks = other_first (codes "terminal") (codes "audit") (λ e. omega (arith, e)) said.0
+terminal_has rows (Receipts file loose) said lacks = other_first (codes "terminal") (codes "receipts") (λ e. omega (arith, e)) said.0
+terminal_has rows (Vectors file) said lacks = other_first (codes "terminal") (codes "vectors") (λ e. omega (arith, e)) said.0
+terminal_has rows (Loop trace steps) said lacks = other_first (codes "terminal") (codes "loop") (λ e. omega (arith, e)) said.0
+terminal_has rows (Till port host password config currency trace loose steps) said lacks = other_second (codes "terminal") (codes "till") (λ e. omega (arith, e)) said.0
+terminal_has rows (Terminal port host tid connections decline trace loose) said lacks = lacks port tid connections said.1 said.3 said.4
+
+pub till_without_port : (rows : List Row) → IsNumberOf (codes "port") rows 65535 None → HasNoChoice (Some (codes "till", rows))
+till_without_port rows lacks = λ choice said. till_has rows choice said lacks
+
+pub till_without_host : (rows : List Row) → first_of (codes "host") rows ≡ None → HasNoChoice (Some (codes "till", rows))
+till_without_host rows lacks = λ choice said. till_has_host rows choice said lacks
+
+pub terminal_without_port : (rows : List Row) → IsNumberOf (codes "port") rows 65535 None → HasNoChoice (Some (codes "terminal", rows))
+terminal_without_port rows lacks = λ choice said. terminal_has rows choice said (λ port tid connections a b d. lacks port a)
+
+pub terminal_without_host : (rows : List Row) → first_of (codes "host") rows ≡ None → HasNoChoice (Some (codes "terminal", rows))
+terminal_without_host rows lacks = λ choice said. terminal_has_host rows choice said lacks
+
+pub terminal_without_tid : (rows : List Row) → IsNumberOf (codes "tid") rows 99999999 None → HasNoChoice (Some (codes "terminal", rows))
+terminal_without_tid rows lacks = λ choice said. terminal_has rows choice said (λ port tid connections a b d. lacks tid b)
+
+pub terminal_without_connections : (rows : List Row) → IsNumberOf (codes "connections") rows 65535 None → HasNoChoice (Some (codes "terminal", rows))
+terminal_without_connections rows lacks = λ choice said. terminal_has rows choice said (λ port tid connections a b d. lacks connections d)
+
+-- the name is none of a command
+pub no_command : (name : Text) (rows : List Row) → (name ≢ codes "show") → (name ≢ codes "join") → (name ≢ codes "normalise") → (name ≢ codes "audit")
+    → (name ≢ codes "receipts") → (name ≢ codes "vectors") → (name ≢ codes "loop") → (name ≢ codes "till") → (name ≢ codes "terminal")
+    → HasNoChoice (Some (name, rows))
+no_command name rows show join normalise audit receipts vectors loop till terminal = no
+  where
+    no : HasNoChoice (Some (name, rows))
+    no (Show file loose) said = show said.0
+    no (Join file) said = join said.0
+    no (Normalise file) said = normalise said.0
+    no (Audit file loose) said = audit said.0
+    no (Receipts file loose) said = receipts said.0
+    no (Vectors file) said = vectors said.0
+    no (Loop trace steps) said = loop said.0
+    no (Till port host password config currency trace loose steps) said = till said.0
+    no (Terminal port host tid connections decline trace loose) said = terminal said.0

@@ -1,0 +1,12 @@
+use Rattle.std.proofs.lemmas.Result.{IfOk-weaker}
+use Rattle.zvt_cli.specs.Commands.{loop_app, terminal_app, till_app, trace_app, with_command}
+use Rattle.zvt_cli.proofs.Commands.{added}
+use Rattle.zvt_cli.proofs.command.zvt.Goals as goal
+
+pub returns : goal.returns
+returns c =
+    let looping = added c.looping.result c.in_ok-looping.looping c.in_ok-trace_commands.field-0 trace_app loop_app c.in_ok-trace_commands.ensures c.looping.ensures.app c.in_ok-looping.ensures in
+    let paying = added c.till.result c.in_ok-paying.paying c.in_ok-looping.looping (with_command trace_app loop_app) till_app looping c.till.ensures.app c.in_ok-paying.ensures in
+    IfOk-weaker c.with-3.result _ _
+    (λ r is. added c.terminal.result r c.in_ok-paying.paying (with_command (with_command trace_app loop_app) till_app) terminal_app paying c.terminal.ensures.app is)
+    c.with-3.ensures

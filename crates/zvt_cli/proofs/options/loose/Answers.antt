@@ -1,0 +1,15 @@
+use Rattle.std.proofs.Common.{codes}
+use Rattle.std.specs.Prelude.{Some}
+use Rattle.clap.specs.Simple.{new_rule}
+use Rattle.clap.specs.declared.builder.action.ArgAction.TheVariants.{SetTrue}
+use Rattle.zvt_cli.proofs.Settings.{acts, helps, is_long}
+use Rattle.zvt_cli.proofs.options.loose.Goals as goal
+
+pub returns : goal.returns
+returns c =
+    let plain = new_rule (codes "loose") in
+    let named = record plain { long = Some (codes "loose") } in
+    let long = is_long c.new.result c.long.result _ plain c.long.ensures (c.new.ensures.rule, c.new.ensures.optional.1) in
+    let acting = acts c.long.result c.action.result SetTrue named c.action.ensures long in
+    let said = helps c.action.result c.help.result c.args.text (record named { action = Some SetTrue }) c.help.ensures acting in
+    record { rule = said.0; local = said.1 }

@@ -1,0 +1,102 @@
+-- What the words of a command line choose.
+use Rattle.std.specs.Prelude.{◌≡◌, ◌≢◌, ◌≤◌, ◌⊎◌, ⊤, ℕ, Bool, false, true, List, [], Option, Some, None, codes, map, option_map, unwrap_or}
+use Rattle.std.specs.Borrow.{Bor}
+use Rattle.std.specs.Str.Parse.{IsNumeral, digits_value, without_leading_plus}
+use Rattle.clap.specs.Words.{IsAmong, Kinds, Row, Text, all_of, fault_of, first_of, kind_of, one_of, subcommand_of}
+use Rattle.clap.specs.declared.error.Error.{Error}
+use Rattle.clap.specs.declared.error.kind.ErrorKind.TheVariants.{MissingRequiredArgument, OutOfMemory}
+use Rattle.zvt_cli.specs.Commands.{zvt_app}
+use Rattle.zvt_cli.specs.declared.choice.Choice.{Choice}
+use Rattle.zvt_cli.specs.declared.choice.Choice.TheVariants.{Audit, Join, Loop, Normalise, Receipts, Show, Terminal, Till, Vectors}
+use Rattle.zvt_cli.specs.declared.choice.ChoiceFault.{ChoiceFault}
+use Rattle.zvt_cli.specs.declared.choice.ChoiceFault.TheVariants.{Memory, Words}
+
+-- the command of clap's reading of the words, with what was given to it
+unfoldable pub reading_of_words : List Text → Option (Text × List Row)
+reading_of_words words = subcommand_of zvt_app words
+
+-- what clap finds wrong with the words first, or what they ask of it in place of a command
+unfoldable pub faults_of_words : List Text → Kinds
+faults_of_words words = fault_of zvt_app words
+
+-- the option's text writes this number
+abbrev pub GivesNumber : Text → List Row → ℕ → ℕ → Type 0
+GivesNumber id rows most n = (text : Text) × (one_of id rows ≡ Some text)
+    × IsNumeral 10 (without_leading_plus text)
+    × (digits_value 10 (without_leading_plus text) ≡ n) × (n ≤ most)
+
+-- the option's number of at most this size, or that it has none
+abbrev pub IsNumberOf : Text → List Row → ℕ → Option ℕ → Type 0
+IsNumberOf id rows most (Some n) = GivesNumber id rows most n
+IsNumberOf id rows most None = (n : ℕ) → GivesNumber id rows most n → ⊥
+
+-- the words of the steps
+abbrev pub steps_of : List Row → List Text
+steps_of rows = unwrap_or (all_of (codes "step") rows) []
+
+-- the option's text, or that it has none
+abbrev pub IsTextOf : Text → List Row → Option (Bor Text) → Type 0
+IsTextOf id rows text = first_of id rows ≡ option_map (λ text. text.now) text
+
+-- the flag is set, or it is not
+abbrev pub IsFlagOf : Text → List Row → Bool → Type 0
+IsFlagOf id rows flag =
+    (one_of id rows ≡ None → flag ≡ false) × (one_of id rows ≡ Some (codes "true") → flag ≡ true) × (one_of id rows ≡ Some (codes "false") → flag ≡ false)
+
+-- the command of this name, given these, is the choice
+abbrev pub IsCommandOf : Text → List Row → Choice → Type 0
+IsCommandOf name rows (Show file loose) = (name ≡ codes "show") × IsTextOf (codes "file") rows file × IsFlagOf (codes "loose") rows loose
+IsCommandOf name rows (Join file) = (name ≡ codes "join") × IsTextOf (codes "file") rows file
+IsCommandOf name rows (Normalise file) = (name ≡ codes "normalise") × IsTextOf (codes "file") rows file
+IsCommandOf name rows (Audit file loose) = (name ≡ codes "audit") × IsTextOf (codes "file") rows file × IsFlagOf (codes "loose") rows loose
+IsCommandOf name rows (Receipts file loose) = (name ≡ codes "receipts") × IsTextOf (codes "file") rows file × IsFlagOf (codes "loose") rows loose
+IsCommandOf name rows (Vectors file) = (name ≡ codes "vectors") × IsTextOf (codes "file") rows file
+IsCommandOf name rows (Loop trace steps) =
+    (name ≡ codes "loop") × IsTextOf (codes "trace") rows trace
+    × (map (λ step. step.now) steps.items ≡ steps_of rows)
+IsCommandOf name rows (Till port host password config currency trace loose steps) =
+    (name ≡ codes "till") × GivesNumber (codes "port") rows 65535 port
+    × (first_of (codes "host") rows ≡ Some host.now)
+    × IsTextOf (codes "password") rows password
+    × IsTextOf (codes "config") rows config
+    × IsTextOf (codes "currency") rows currency
+    × IsTextOf (codes "trace") rows trace
+    × IsFlagOf (codes "loose") rows loose
+    × (map (λ step. step.now) steps.items ≡ steps_of rows)
+IsCommandOf name rows (Terminal port host tid connections decline trace loose) =
+    (name ≡ codes "terminal") × GivesNumber (codes "port") rows 65535 port
+    × (first_of (codes "host") rows ≡ Some host.now)
+    × GivesNumber (codes "tid") rows 99999999 tid
+    × GivesNumber (codes "connections") rows 65535 connections
+    × IsTextOf (codes "decline") rows decline
+    × IsTextOf (codes "trace") rows trace
+    × IsFlagOf (codes "loose") rows loose
+
+-- no command is `show`
+abbrev pub IsChoiceOf : Option (Text × List Row) → Choice → Type 0
+IsChoiceOf None choice = IsCommandOf (codes "show") [] choice
+IsChoiceOf (Some given) choice = IsCommandOf given.0 given.1 choice
+
+-- no choice is what the reading says
+abbrev pub HasNoChoice : Option (Text × List Row) → Type 0
+HasNoChoice reading = (choice : Choice) → IsChoiceOf reading choice → ⊥
+
+-- what the reading says, or that it says none
+abbrev pub MayBeChoiceOf : Option (Text × List Row) → Option Choice → Type 0
+MayBeChoiceOf reading (Some choice) = IsChoiceOf reading choice
+MayBeChoiceOf reading None = HasNoChoice reading
+
+-- an error of clap, where want of memory has a fault of its own
+abbrev pub IsTakenAs : Error → ChoiceFault → Type 0
+IsTakenAs error Memory = kind_of error ≡ OutOfMemory
+IsTakenAs error (Words given) = (given ≡ error) × (kind_of error ≢ OutOfMemory)
+
+-- the error's kind is what clap finds, or an option is missing of a reading that says no choice
+abbrev pub IsFaultOf : List Text → ChoiceFault → Type 0
+IsFaultOf words Memory = ⊤
+IsFaultOf words (Words error) = IsAmong (kind_of error) (faults_of_words words)
+    ⊎ ((kind_of error ≡ MissingRequiredArgument) × HasNoChoice (reading_of_words words))
+
+abbrev pub IsMissing : ChoiceFault → Type 0
+IsMissing Memory = ⊤
+IsMissing (Words error) = kind_of error ≡ MissingRequiredArgument

@@ -1,0 +1,153 @@
+//! The program's commands.
+ghost use Rattle.std.specs.Prelude.{◌≡◌, IfOk, IsOkAnd, false};
+ghost use Rattle.clap.specs.Words.{App, Rule, app_of, new_app, rule_of, with_rule};
+ghost use Rattle.clap.specs.declared.builder.command.Command.TheViews.{out-Command as fields_of};
+ghost use Rattle.zvt_cli.specs.Commands.{IsLocalAppOf, loop_app, loose_trace_app, on_trace_app, program_app, terminal_app, till_app, trace_app, with_command, zvt_app};
+
+use crate::{help, options};
+use clap::{Arg, Command};
+use std::alloc::{AllocError, Global};
+
+const VERSION: &str = "0.2.0";
+
+/// The program's command line.
+pub fn zvt<'a>(alloc: Global) -> Result<Command<'a>, AllocError>
+    ensures { IfOk result (λ r. app_of r ≡ zvt_app) }
+{
+    let looping = with(trace_commands(alloc)?, looping(alloc))?;
+    let paying = with(looping, till(alloc))?;
+    with(paying, terminal(alloc))
+}
+
+/// The program with the commands that read a trace, or vectors.
+fn trace_commands<'a>(alloc: Global) -> Result<Command<'a>, AllocError>
+    ensures { IfOk result (λ r. app_of r ≡ trace_app) }
+{
+    let show = loose_on_trace(alloc, "show", help::SHOW, help::SHOW_EXAMPLE);
+    let showing = with(program(alloc), show)?;
+    let join = on_trace(alloc, "join", help::JOIN, help::JOIN_EXAMPLE);
+    let joining = with(showing, join)?;
+    let normalise = on_trace(alloc, "normalise", help::NORMALISE, help::NORMALISE_EXAMPLE);
+    let normalising = with(joining, normalise)?;
+    let audit = loose_on_trace(alloc, "audit", help::AUDIT, help::AUDIT_EXAMPLE);
+    let auditing = with(normalising, audit)?;
+    let receipts = loose_on_trace(alloc, "receipts", help::RECEIPTS, help::RECEIPTS_EXAMPLE);
+    let printing = with(auditing, receipts)?;
+    let vectors = on_trace(alloc, "vectors", help::VECTORS, help::VECTORS_EXAMPLE);
+    with(printing, vectors)
+}
+
+/// A command that reads a trace, with the texts before and after its usage.
+fn on_trace<'a>(
+    alloc: Global,
+    name: &'a str,
+    about: &'a str,
+    more: &'a str,
+) -> Result<Command<'a>, AllocError>
+    ensures app { IfOk result (λ r. app_of r ≡ on_trace_app name.entry.now) }
+    ensures local { IfOk result (λ r. (fields_of r).has_globals ≡ false) }
+{
+    let named = Ok(plain(alloc, name, about, more));
+    and(named, options::file(alloc))
+}
+
+/// A command that reads a trace with padded lengths too, where it is asked to.
+fn loose_on_trace<'a>(
+    alloc: Global,
+    name: &'a str,
+    about: &'a str,
+    more: &'a str,
+) -> Result<Command<'a>, AllocError>
+    ensures app { IfOk result (λ r. app_of r ≡ loose_trace_app name.entry.now) }
+    ensures local { IfOk result (λ r. (fields_of r).has_globals ≡ false) }
+{
+    let named = Ok(plain(alloc, name, about, more));
+    let read = and(named, options::file(alloc));
+    and(read, options::loose(alloc, help::LOOSE))
+}
+
+/// The program without a command.
+fn program<'a>(alloc: Global) -> Command<'a>
+    ensures { app_of result ≡ program_app }
+{
+    plain(alloc, "zvt", help::PROGRAM, help::MORE)
+        .version(VERSION)
+        .subcommand_value_name(help::NAMES)
+}
+
+/// The program with one more command, if that is there.
+fn with<'a>(
+    program: Command<'a>,
+    command: Result<Command<'a>, AllocError>,
+) -> Result<Command<'a>, AllocError>
+    requires { IfOk command (λ command. (fields_of command).has_globals ≡ false) }
+    ensures { IfOk result (λ r. IsOkAnd command.entry (λ command. app_of r ≡ with_command (app_of program.entry) (app_of command))) }
+{
+    program.subcommand(command?)
+}
+
+/// A command without options, with the texts before and after its usage.
+fn plain<'a>(alloc: Global, name: &'a str, about: &'a str, more: &'a str) -> Command<'a>
+    ensures app { app_of result ≡ new_app name.entry.now }
+    ensures local { (fields_of result).has_globals ≡ false }
+{
+    Command::new(alloc, name).about(about).after_help(more)
+}
+
+/// The command with one more option, if the command is there.
+fn and<'a>(
+    command: Result<Command<'a>, AllocError>,
+    option: Arg<'a>,
+) -> Result<Command<'a>, AllocError>
+    requires { option.global ≡ false }
+    ensures { (app : App) (rule : Rule) → rule_of option.entry ≡ rule → IfOk command.entry (IsLocalAppOf app) → IfOk result (IsLocalAppOf (with_rule app rule)) }
+{
+    command?.arg(option)
+}
+
+fn looping<'a>(alloc: Global) -> Result<Command<'a>, AllocError>
+    ensures app { IfOk result (λ r. app_of r ≡ loop_app) }
+    ensures local { IfOk result (λ r. (fields_of r).has_globals ≡ false) }
+{
+    let named = Ok(plain(alloc, "loop", help::LOOP, help::LOOP_EXAMPLE));
+    let traced = and(named, options::text(alloc, "trace", "FILE", help::TRACE));
+    and(traced, options::step(alloc, help::LOOP_STEP))
+}
+
+fn till<'a>(alloc: Global) -> Result<Command<'a>, AllocError>
+    ensures app { IfOk result (λ r. app_of r ≡ till_app) }
+    ensures local { IfOk result (λ r. (fields_of r).has_globals ≡ false) }
+{
+    let named = Ok(plain(alloc, "till", help::TILL, help::TILL_EXAMPLE));
+    let at_port = and(named, options::port(alloc, help::TILL_PORT));
+    let at_host = and(at_port, options::host(alloc, help::TILL_HOST));
+    let known = and(
+        at_host,
+        options::text(alloc, "password", "NNNNNN", help::PASSWORD),
+    );
+    let configured = and(known, options::text(alloc, "config", "XX", help::CONFIG));
+    let paying = and(
+        configured,
+        options::text(alloc, "currency", "NNNN", help::CURRENCY),
+    );
+    let traced = and(paying, options::text(alloc, "trace", "FILE", help::TRACE));
+    let reading = and(traced, options::loose(alloc, help::TILL_LOOSE));
+    and(reading, options::step(alloc, help::TILL_STEP))
+}
+
+fn terminal<'a>(alloc: Global) -> Result<Command<'a>, AllocError>
+    ensures app { IfOk result (λ r. app_of r ≡ terminal_app) }
+    ensures local { IfOk result (λ r. (fields_of r).has_globals ≡ false) }
+{
+    let named = Ok(plain(alloc, "terminal", help::TERMINAL, help::TERMINAL_EXAMPLE));
+    let at_port = and(named, options::port(alloc, help::TERMINAL_PORT));
+    let at_host = and(at_port, options::host(alloc, help::TERMINAL_HOST));
+    let numbered = and(at_host, options::tid(alloc));
+    let counted = and(numbered, options::connections(alloc));
+    let decided = and(
+        counted,
+        options::text(alloc, "decline", "XX", help::DECLINE),
+    );
+    let traced = and(decided, options::text(alloc, "trace", "FILE", help::TRACE));
+    and(traced, options::loose(alloc, help::TERMINAL_LOOSE))
+}

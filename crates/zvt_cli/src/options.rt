@@ -1,0 +1,93 @@
+//! The options and steps of the commands.
+ghost use Rattle.std.specs.Prelude.{◌≡◌, false};
+ghost use Rattle.clap.specs.Words.{rule_of};
+ghost use Rattle.zvt_cli.specs.Commands.{connections_rule, file_rule, host_rule, loose_rule, option_rule, port_rule, step_rule, tid_rule};
+
+use crate::help;
+use clap::{Arg, ArgAction, value_parser};
+use std::alloc::Global;
+
+pub fn step<'a>(alloc: Global, text: &'a str) -> Arg<'a>
+    ensures rule { rule_of result ≡ step_rule }
+    ensures local { result.global ≡ false }
+{
+    Arg::new(alloc, "step")
+        .action(ArgAction::Append)
+        .value_name("STEP")
+        .help(text)
+}
+
+pub fn file<'a>(alloc: Global) -> Arg<'a>
+    ensures rule { rule_of result ≡ file_rule }
+    ensures local { result.global ≡ false }
+{
+    Arg::new(alloc, "file").value_name("FILE").help(help::FILE)
+}
+
+pub fn port<'a>(alloc: Global, text: &'a str) -> Arg<'a>
+    ensures rule { rule_of result ≡ port_rule }
+    ensures local { result.global ≡ false }
+{
+    Arg::new(alloc, "port")
+        .long("port")
+        .value_parser(value_parser!(u16))
+        .required(true)
+        .value_name("PORT")
+        .help(text)
+}
+
+pub fn host<'a>(alloc: Global, text: &'a str) -> Arg<'a>
+    ensures rule { rule_of result ≡ host_rule }
+    ensures local { result.global ≡ false }
+{
+    Arg::new(alloc, "host")
+        .long("host")
+        .default_value("127.0.0.1")
+        .value_name("HOST")
+        .help(text)
+}
+
+pub fn tid<'a>(alloc: Global) -> Arg<'a>
+    ensures rule { rule_of result ≡ tid_rule }
+    ensures local { result.global ≡ false }
+{
+    Arg::new(alloc, "tid")
+        .long("tid")
+        .value_parser(value_parser!(u32).range(0..=99_999_999))
+        .default_value("12345678")
+        .value_name("TID")
+        .help(help::TID)
+}
+
+pub fn connections<'a>(alloc: Global) -> Arg<'a>
+    ensures rule { rule_of result ≡ connections_rule }
+    ensures local { result.global ≡ false }
+{
+    Arg::new(alloc, "connections")
+        .long("connections")
+        .value_parser(value_parser!(u16))
+        .default_value("1")
+        .value_name("N")
+        .help(help::CONNECTIONS)
+}
+
+pub fn loose<'a>(alloc: Global, text: &'a str) -> Arg<'a>
+    ensures rule { rule_of result ≡ loose_rule }
+    ensures local { result.global ≡ false }
+{
+    Arg::new(alloc, "loose")
+        .long("loose")
+        .action(ArgAction::SetTrue)
+        .help(text)
+}
+
+/// An option that has one value of this name, and no default.
+pub fn text<'a>(alloc: Global, name: &'a str, value: &'a str, text: &'a str) -> Arg<'a>
+    ensures rule { rule_of result ≡ option_rule name.entry.now }
+    ensures local { result.global ≡ false }
+{
+    Arg::new(alloc, name)
+        .long(name)
+        .value_name(value)
+        .help(text)
+}

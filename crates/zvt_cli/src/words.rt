@@ -1,0 +1,191 @@
+//! The words of a command line, as a choice.
+ghost use Rattle.std.specs.Prelude.{◌≡◌, codes, IfErr, IfOk, map, option_map, unwrap_or, Some, []};
+ghost use Rattle.clap.specs.Words.{all_of, first_of, found_of, kind_of, rows_of, subcommand_rows_of};
+ghost use Rattle.zvt_cli.specs.Chosen.{HasNoChoice, IsChoiceOf, IsFaultOf, IsFlagOf, IsMissing, IsNumberOf, IsTakenAs, MayBeChoiceOf, faults_of_words, reading_of_words};
+
+use crate::choice::{Choice, ChoiceFault};
+use crate::command;
+use clap::error::ErrorKind;
+use clap::{ArgMatches, Error};
+use std::alloc::{AllocError, Global};
+
+const LARGEST_TID: u32 = 99_999_999;
+
+/// What the words say, of which the first is the program's name.
+///
+/// `Words` comes for a wrong word, and for help and the version.
+pub fn choice<'a>(alloc: Global, words: &'a [&'a str]) -> Result<Choice<'a>, ChoiceFault>
+    ensures chosen { IfOk result (IsChoiceOf (reading_of_words (map (λ word. word.now) words.entry.now))) }
+    ensures faultless { IfOk result (λ _. faults_of_words (map (λ word. word.now) words.entry.now) ≡ []) }
+    ensures refused { IfErr result (IsFaultOf (map (λ word. word.now) words.entry.now)) }
+{
+    let matches = matches(alloc, words)?;
+    match matches.subcommand() {
+        None => Ok(Choice::Show {
+            file: None,
+            loose: false,
+        }),
+        Some((name, inner)) => match chosen(alloc, name, inner)? {
+            Some(choice) => Ok(choice),
+            None => Err(incomplete(alloc)),
+        },
+    }
+}
+
+/// The reading of the words by `clap`.
+fn matches<'a>(alloc: Global, words: &'a [&'a str]) -> Result<ArgMatches<'a>, ChoiceFault>
+    ensures read { IfOk result (λ matches. subcommand_rows_of matches ≡ reading_of_words (map (λ word. word.now) words.entry.now)) }
+    ensures faultless { IfOk result (λ _. faults_of_words (map (λ word. word.now) words.entry.now) ≡ []) }
+    ensures refused { IfErr result (IsFaultOf (map (λ word. word.now) words.entry.now)) }
+{
+    let command = command::zvt(alloc)?;
+    match command.try_get_matches_from(words) {
+        Ok(matches) => Ok(matches),
+        Err(error) => Err(refused(error)),
+    }
+}
+
+/// The fault of an error of `clap`.
+fn refused(error: Error) -> ChoiceFault
+    ensures { IsTakenAs error result }
+{
+    if error.kind() == ErrorKind::OutOfMemory {
+        ChoiceFault::Memory
+    } else {
+        ChoiceFault::Words(error)
+    }
+}
+
+/// The fault of a reading that says no choice. No words are known that lead here: `clap` wants a
+/// port, has a default for the host and the other numbers, and checks each number.
+fn incomplete(alloc: Global) -> ChoiceFault
+    ensures { IsMissing result }
+{
+    match missing(alloc) {
+        Ok(error) => ChoiceFault::Words(error),
+        Err(_) => ChoiceFault::Memory,
+    }
+}
+
+fn missing(alloc: Global) -> Result<Error, AllocError>
+    ensures { IfOk result (λ error. kind_of error ≡ ErrorKind.MissingRequiredArgument) }
+{
+    command::zvt(alloc)?.error(ErrorKind::MissingRequiredArgument, "an option is missing")
+}
+
+/// The choice of a command's name and what was given to it.
+fn chosen<'a>(
+    alloc: Global,
+    name: &str,
+    inner: &ArgMatches<'a>,
+) -> Result<Option<Choice<'a>>, AllocError>
+    ensures { IfOk result (MayBeChoiceOf (Some (name.now, rows_of (found_of inner.now)))) }
+{
+    Ok(match name {
+        "show" => Some(Choice::Show {
+            file: text(inner, "file"),
+            loose: flag(inner, "loose"),
+        }),
+        "join" => Some(Choice::Join {
+            file: text(inner, "file"),
+        }),
+        "normalise" => Some(Choice::Normalise {
+            file: text(inner, "file"),
+        }),
+        "audit" => Some(Choice::Audit {
+            file: text(inner, "file"),
+            loose: flag(inner, "loose"),
+        }),
+        "receipts" => Some(Choice::Receipts {
+            file: text(inner, "file"),
+            loose: flag(inner, "loose"),
+        }),
+        "vectors" => Some(Choice::Vectors {
+            file: text(inner, "file"),
+        }),
+        "loop" => Some(Choice::Loop {
+            trace: text(inner, "trace"),
+            steps: steps(alloc, inner)?,
+        }),
+        "till" => till(alloc, inner)?,
+        "terminal" => terminal(inner),
+        _ => None,
+    })
+}
+
+fn till<'a>(alloc: Global, inner: &ArgMatches<'a>) -> Result<Option<Choice<'a>>, AllocError>
+    ensures { IfOk result (MayBeChoiceOf (Some (codes "till", rows_of (found_of inner.now)))) }
+{
+    let Some(port) = number(inner, "port") else {
+        return Ok(None);
+    };
+    let Some(host) = text(inner, "host") else {
+        return Ok(None);
+    };
+    let steps = steps(alloc, inner)?;
+    Ok(Some(Choice::Till {
+        port,
+        host,
+        password: text(inner, "password"),
+        config: text(inner, "config"),
+        currency: text(inner, "currency"),
+        trace: text(inner, "trace"),
+        loose: flag(inner, "loose"),
+        steps,
+    }))
+}
+
+fn terminal<'a>(inner: &ArgMatches<'a>) -> Option<Choice<'a>>
+    ensures { MayBeChoiceOf (Some (codes "terminal", rows_of (found_of inner.now))) result }
+{
+    let port = number(inner, "port")?;
+    let host = text(inner, "host")?;
+    let tid = tid(inner)?;
+    let connections = number(inner, "connections")?;
+    Some(Choice::Terminal {
+        port,
+        host,
+        tid,
+        connections,
+        decline: text(inner, "decline"),
+        trace: text(inner, "trace"),
+        loose: flag(inner, "loose"),
+    })
+}
+
+/// The number of the option of this name.
+fn number(inner: &ArgMatches<'_>, id: &str) -> Option<u16>
+    ensures { IsNumberOf id.now (rows_of (found_of inner.now)) 65535 result }
+{
+    inner.get_one::<u16>(id)
+}
+
+fn tid(inner: &ArgMatches<'_>) -> Option<u32>
+    ensures { IsNumberOf (codes "tid") (rows_of (found_of inner.now)) 99999999 result }
+{
+    let tid = inner.get_one::<u32>("tid")?;
+    // `clap` has checked this already; the contract rests on the test here.
+    if tid <= LARGEST_TID { Some(tid) } else { None }
+}
+
+fn text<'a>(inner: &ArgMatches<'a>, id: &str) -> Option<&'a str>
+    ensures { option_map (λ text. text.now) result ≡ first_of id.now (rows_of (found_of inner.now)) }
+{
+    inner.get_str(id)
+}
+
+/// Whether the flag of this name is set.
+fn flag(inner: &ArgMatches<'_>, id: &str) -> bool
+    ensures { IsFlagOf id.now (rows_of (found_of inner.now)) result }
+{
+    inner.get_flag(id)
+}
+
+fn steps<'a>(alloc: Global, inner: &ArgMatches<'a>) -> Result<Vec<&'a str>, AllocError>
+    ensures { IfOk result (λ steps. map (λ step. step.now) steps.items ≡ unwrap_or (all_of (codes "step") (rows_of (found_of inner.now))) []) }
+{
+    match inner.get_strs("step") {
+        Some(steps) => Vec::from_slice(alloc, steps),
+        None => Ok(Vec::new(alloc)),
+    }
+}

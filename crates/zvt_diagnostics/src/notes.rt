@@ -1,0 +1,75 @@
+//! Notes of what is bad in a trace.
+ghost use Rattle.std.specs.Prelude.{◌≡◌, [], ◌++◌, List, OnOk};
+ghost use Rattle.zvt_trace.specs.TraceEvent.{At};
+ghost use Rattle.zvt_diagnostics.specs.Notes.{summary_text, unread_of};
+ghost use Rattle.zvt_diagnostics.specs.Noting.{CountsAfter};
+
+use crate::counts::Counts;
+use crate::note;
+use crate::skipped_lines::SkippedLines;
+use std::alloc::{AllocError, Global};
+use zvt_text::Text;
+use zvt_trace::{Listener, ListenerError, Scope, TraceEvent};
+
+/// The notes of what was told, and what they have counted. It writes to no device.
+#[derive(Drop)]
+pub(crate) struct Notes {
+    scope: Scope,
+    pub(crate) text: Text,
+    trailing: SkippedLines,
+    counts: Counts,
+}
+
+impl Notes {
+    /// Nothing was told.
+    pub(crate) fn new(alloc: Global, scope: Scope) -> Notes
+        ensures scope { result.scope ≡ scope }
+        ensures text { result.text ≡ [] }
+        ensures trailing { CountsAfter scope result.trailing [] }
+        ensures counts { (result.counts.messages ≡ 0) × (result.counts.refused ≡ 0) × (result.counts.cut_off ≡ 0) }
+    {
+        Notes {
+            scope,
+            text: Text::new(alloc),
+            trailing: SkippedLines::nothing(),
+            counts: Counts::none(),
+        }
+    }
+
+    /// Says what was not read up to the end of the trace, and how much there was.
+    pub(crate) fn close(&mut self) -> Result<(), AllocError>
+        ensures { (events : List At) → CountsAfter self.old.scope self.old.trailing events → OnOk result (self.new.text ≡ self.old.text ++ unread_of self.old.scope events ++ summary_text self.old.counts.messages self.old.counts.refused self.old.counts.cut_off) }
+    {
+        self.trailing.put(&mut self.text, self.scope)?;
+        self.counts.put(&mut self.text)
+    }
+}
+
+impl Listener<()> for Notes {
+    ghost use Rattle.zvt_diagnostics.specs.Noting.{Noted};
+    ghost use Rattle.zvt_trace.specs.declared.listener.ListenerError.TheVariants.{Memory};
+
+    ghost hears = { λ old event new. Noted old.0 new.0 event };
+
+    ghost fails = { λ _ _ failure _. failure ≡ Memory };
+
+    fn hear(
+        &mut self,
+        _device: &mut (),
+        line: u64,
+        trace_event: &TraceEvent<'_>,
+    ) -> Result<(), ListenerError> {
+        note::put(&mut self.text, line, trace_event)?;
+        self.counts.add(trace_event);
+        match trace_event {
+            TraceEvent::Unread { from } => self.trailing.add(self.scope, line, *from),
+            TraceEvent::Lost => {
+                self.trailing.put(&mut self.text, self.scope)?;
+                self.trailing = SkippedLines::nothing();
+            }
+            TraceEvent::Message { .. } | TraceEvent::Refused { .. } | TraceEvent::CutOff { .. } =>
+                {}
+        }
+        Ok(())
+    }
+}

@@ -1,4 +1,0 @@
-pub mod Loading
-pub mod Reading
-pub mod Saved
-pub mod Sums

@@ -1,0 +1,10 @@
+use Rattle.std.proofs.Common.{◌≡◌, take}
+use Rattle.zvt_session.specs.Runs.{standing}
+use Rattle.zvt_session.proofs.Runs.{SoFar}
+use Rattle.zvt_session.proofs.steps.run_steps.Given as goal
+
+abbrev pub invariant-steps : goal.invariant-steps
+invariant-steps g l = record {
+  so_far : SoFar g.L.StepLine.makes (take l.planned-index l.plan) (standing l.initial.line l.initial.till) (standing l.line l.till) (g.W.Sink.written l.initial.writer) (g.W.Sink.written l.writer);
+  failures : g.W.Sink.failures l.writer ≡ g.W.Sink.failures l.initial.writer;
+}

@@ -1,0 +1,15 @@
+pub mod Words
+pub mod Steps
+pub mod Outcomes
+pub mod Plans
+pub mod Runs
+pub mod LineEnd
+pub mod TillEnd
+pub mod BothEnds
+pub mod Service
+pub mod Settings
+pub mod OverTcp
+pub mod Recorder
+pub mod Traced
+pub mod Reporting
+pub mod Connecting

@@ -1,0 +1,36 @@
+-- What a device that is recorded writes to its trace.
+use Rattle.std.specs.Prelude.{◌≡◌, ◌⊎◌, ◌+◌, ℕ, Bool, true, false, List, ◌∷◌, ◌++◌, [], codes, take, Option, Result, Ok, Err}
+use Rattle.std.specs.Io.KnownBytes.{Appends}
+use Rattle.hex.specs.Hex.{encode_upper}
+use Rattle.zvt_io.specs.Devices.{IsPrefix}
+use Rattle.zvt_session.specs.declared.recorder.Way.{Way}
+use Rattle.zvt_session.specs.declared.recorder.Way.TheVariants.{FromTerminal, FromTill}
+
+abbrev pub sign_of : Way → List ℕ
+sign_of FromTill = codes ">"
+sign_of FromTerminal = codes "<"
+
+-- the line of a piece
+abbrev pub piece_text : Way → List ℕ → List ℕ
+piece_text way bytes = sign_of way ++ codes " " ++ encode_upper bytes ++ 10 ∷ []
+
+-- the trace has the line besides; or it is broken, and has a front of it besides
+abbrev pub Recorded : Way → List ℕ → (broken : Bool) → (old new : Option (List ℕ)) → Type 0
+Recorded way bytes false old new = Appends old new (piece_text way bytes)
+Recorded way bytes true old new = (part : List ℕ) × IsPrefix part (piece_text way bytes) × Appends old new part
+
+-- A read that gave some bytes is recorded, and no other.
+abbrev pub RecordsRead : {E : Type 0} → Way → (was is : Bool) → (old new : Option (List ℕ)) → Result ℕ E → List ℕ → Type 0
+RecordsRead way was is old new (Ok count) buffer =
+    (was ≡ false) × (((count ≡ 0) × (is ≡ false) × (new ≡ old)) ⊎ Recorded way (take count buffer) is old new)
+RecordsRead way was is old new (Err failed) buffer = (is ≡ was) × (new ≡ old)
+
+-- A write is recorded before it is made. It is not made where its trace is broken.
+abbrev pub RecordsWrite : {E : Type 0} → Way → (is : Bool) → (old new : Option (List ℕ)) → Result Unit E → List ℕ → Type 0
+RecordsWrite way is old new (Ok done) bytes = (is ≡ false) × Recorded way bytes is old new
+RecordsWrite way is old new (Err failed) bytes = Recorded way bytes is old new
+
+-- A trace was ended. It lacks something where it lacked a piece before or its end could not be written, and else has its end.
+abbrev pub EndsTrace : (lacked : Bool) → (old new : Option (List ℕ)) → (failures_before failures_after : ℕ) → (lacks : Bool) → Type 0
+EndsTrace lacked old new before after true = (lacked ≡ true) ⊎ (after ≡ before + 1)
+EndsTrace lacked old new before after false = (lacked ≡ false) × (after ≡ before) × Appends old new (codes "!" ++ 10 ∷ [])

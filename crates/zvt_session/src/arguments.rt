@@ -1,0 +1,215 @@
+//! Steps of a run, and the words that name them.
+ghost use Rattle.std.specs.Prelude.{◌≡◌, ◌≤◌, true, option_map, if◌then◌else◌, IfSome};
+ghost use Rattle.std.specs.Char.{digit_value, is_ascii_digit, is_ascii_hexdigit};
+ghost use Rattle.std.specs.List.{list_all};
+ghost use Rattle.std.specs.Str.Parse.{digits_value};
+ghost use Rattle.zvt_session.specs.Words.{trailing, code_in, code_of, declined, declining, is_number, number_of, amount_of, entry_of, numbered, step_of};
+
+use zvt_bcd::Amount;
+use zvt_term::Verdict;
+use zvt_till::Order;
+
+/// Which ends of a line a run works.
+#[derive(Clone, Copy, Debug, PartialEq, Eq)]
+pub enum Ends {
+    /// The till's and the terminal's.
+    Both,
+    /// The till's alone.
+    Till,
+}
+
+/// One step of a run.
+#[derive(Clone, Copy, Debug, PartialEq, Eq)]
+pub enum Step {
+    /// The till registers on its line.
+    Register,
+    /// A payment.
+    Pay(Amount),
+    /// The payment at this place of the till's book, counted from 0, is taken back.
+    Reverse(usize),
+    /// The end of the day.
+    CloseDay,
+    /// A payment that the terminal declines with this code.
+    Decline { amount: Amount, code: u8 },
+}
+
+impl Step {
+    ghost use Rattle.zvt_session.specs.Steps.{order_of, verdict_of};
+
+    /// What the till is asked.
+    pub fn order(&self) -> Order
+        ensures { result ≡ order_of self.now }
+    {
+        match self {
+            Step::Register => Order::Register,
+            Step::Pay(amount) => Order::Pay(*amount),
+            Step::Reverse(entry) => Order::Reverse(*entry),
+            Step::CloseDay => Order::CloseDay,
+            Step::Decline { amount, .. } => Order::Pay(*amount),
+        }
+    }
+
+    /// What the terminal decides of it.
+    pub fn verdict(&self) -> Verdict
+        ensures { result ≡ verdict_of self.now }
+    {
+        match self {
+            Step::Decline { code, .. } => Verdict::Decline(*code),
+            _ => Verdict::Approve,
+        }
+    }
+}
+
+/// The most digits of a number in a word.
+const MOST_DIGITS: usize = 12;
+
+/// What stands behind these first bytes.
+fn trailing<'a>(prefix: &[u8], word: &'a [u8]) -> Option<&'a [u8]>
+    ensures { option_map (λ rest. rest.now) result ≡ trailing prefix.now word.now }
+{
+    word.strip_prefix(prefix)
+}
+
+/// Whether each of these is a decimal digit.
+fn all_digits(bytes: &[u8]) -> bool
+    ensures { result ≡ list_all is_ascii_digit bytes.now }
+{
+    bytes.iter().all(|byte| byte.is_ascii_digit())
+}
+
+/// Whether these are one to twelve decimal digits.
+fn is_number(digits: &[u8]) -> bool
+    ensures { result ≡ is_number digits.now }
+{
+    let count = digits.len();
+    if count == 0 || count > MOST_DIGITS {
+        return false;
+    }
+    all_digits(digits)
+}
+
+/// The number of one to twelve decimal digits.
+fn number(digits: &[u8]) -> Option<u64>
+    ensures number { result ≡ number_of digits.now }
+    ensures small { IfSome result (λ number. number ≤ 999999999999) }
+{
+    if is_number(digits) {
+        Some(value(digits))
+    } else {
+        None
+    }
+}
+
+/// The value of one to twelve decimal digits.
+fn value(digits: &[u8]) -> u64
+    requires { is_number digits.now ≡ true }
+    ensures value { result ≡ digits_value 10 digits.now }
+    ensures small { result ≤ 999999999999 }
+{
+    let mut value = 0;
+    for byte in digits {
+        value = value * 10 + u64::from(*byte - b'0');
+    }
+    value
+}
+
+/// The amount of so many digits.
+fn amount(digits: &[u8]) -> Option<Amount>
+    ensures { result ≡ amount_of digits.now }
+{
+    let units = number(digits)?;
+    Amount::new(units)
+}
+
+/// The place of an entry that is counted from 1.
+fn entry(digits: &[u8]) -> Option<usize>
+    ensures { result ≡ entry_of digits.now }
+{
+    let number = number(digits)?;
+    if number == 0 {
+        None
+    } else {
+        Some(number as usize - 1)
+    }
+}
+
+/// The value of a hexadecimal digit, in capital or in small letters.
+pub(crate) fn digit(byte: u8) -> Option<u8>
+    ensures { result ≡ (if is_ascii_hexdigit byte then Some (digit_value byte) else None) }
+{
+    match byte {
+        b'0'..=b'9' => Some(byte - b'0'),
+        b'A'..=b'F' => Some(byte - b'A' + 10),
+        b'a'..=b'f' => Some(byte - b'a' + 10),
+        _ => None,
+    }
+}
+
+/// The code of two hexadecimal digits, which is not 00.
+fn code(high: u8, low: u8) -> Option<u8>
+    ensures { result ≡ code_of high low }
+{
+    let code = digit(high)? * 16 + digit(low)?;
+    if code == 0 { None } else { Some(code) }
+}
+
+/// A payment to be declined, where its amount and its code are right.
+fn declining(amount: Option<Amount>, code: Option<u8>) -> Option<Step>
+    ensures { result ≡ declining amount code }
+{
+    let amount = amount?;
+    let code = code?;
+    Some(Step::Decline { amount, code })
+}
+
+/// A payment to be declined: its amount, a colon and the code.
+fn declined(words: &[u8]) -> Option<Step>
+    ensures { result ≡ declined words.now }
+{
+    let prefix = words.len().checked_sub(3)?;
+    let (digits, code_after) = words.split_at(prefix);
+    match code_after {
+        [b':', high, low] => declining(amount(digits), code(*high, *low)),
+        _ => None,
+    }
+}
+
+/// A step that has a number.
+fn numbered(ends: Ends, word: &[u8]) -> Option<Step>
+    ensures { result ≡ numbered ends word.now }
+{
+    if let Some(digits) = trailing(b"pay:", word) {
+        return Some(Step::Pay(amount(digits)?));
+    }
+    if let Some(digits) = trailing(b"reverse:", word) {
+        return Some(Step::Reverse(entry(digits)?));
+    }
+    match ends {
+        Ends::Both => declined(trailing(b"decline:", word)?),
+        Ends::Till => None,
+    }
+}
+
+/// The step that a word names: `register`, `pay:N`, `reverse:N` (the entries of the book are counted from 1), `close` and,
+/// where both ends run, `decline:N:XX`. N is one to twelve decimal digits that are not all 0, and XX two hexadecimal
+/// digits, in capital or small letters, that are not 00.
+pub fn step_of(ends: Ends, word: &str) -> Option<Step>
+    ensures { result ≡ step_of ends word.now }
+{
+    match word {
+        "register" => Some(Step::Register),
+        "close" => Some(Step::CloseDay),
+        _ => numbered(ends, word.as_bytes()),
+    }
+}
+
+/// The result code that two hexadecimal digits name, in capital or small letters: each but 00, with which nothing is
+/// declined.
+pub fn result_code(word: &str) -> Option<u8>
+    ensures { result ≡ code_in word.now }
+{
+    match word.as_bytes() {
+        [high, low] => code(*high, *low),
+        _ => None,
+    }
+}

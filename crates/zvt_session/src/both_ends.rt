@@ -1,0 +1,97 @@
+//! Both ends of a line, which take turns.
+ghost use Rattle.std.specs.Prelude.{◌≡◌, ◌<◌, Err, MatchResult};
+ghost use Rattle.zvt_till.specs.Line.{till_loses};
+ghost use Rattle.zvt_session.specs.BothEnds.{Alternates, BeginsHere, BreaksOff, MakesHereBy, here, line_of};
+ghost use Rattle.zvt_session.specs.OverTcp.{RunsPlan};
+ghost use Rattle.zvt_session.specs.Settings.{settings_of};
+ghost use Rattle.zvt_session.specs.Reporting.{ReportsReversals};
+
+use crate::arguments::Step;
+use crate::fault::EndFault;
+use crate::line_end::LineEnd;
+use crate::plans::Planned;
+use crate::reversals::report_reversals;
+use crate::settings::TillSettings;
+use crate::steps::{StepLine, connected_till, run_steps};
+use std::alloc::Global;
+use zvt_io::Sink;
+use zvt_stream::LineFault;
+use zvt_term::Served;
+use zvt_till::{Outcome, RunFault, Till};
+
+/// The turns of each end after which an order is given up.
+const ALTERNATIONS: u64 = 1_000;
+
+/// Both ends of a line. They take turns, the terminal first.
+#[derive(Drop)]
+pub struct BothEnds<A, B> {
+    pub till: A,
+    pub terminal: B,
+    pub served: Served,
+}
+
+impl<A: LineEnd, B: LineEnd> BothEnds<A, B> {
+    /// A turn of the terminal, and one of the till. The till was told of a fault of either.
+    fn alternate(&mut self, alloc: Global, till: &mut Till) -> Result<(), LineFault>
+        ensures { MatchResult result
+            (λ _. Alternates (here A.state B.state self.old till.old) (here A.state B.state self.new till.new))
+            (λ fault. BreaksOff fault (here A.state B.state self.old till.old) (here A.state B.state self.new till.new)) }
+    {
+        if let Err(fault) = self.terminal.turn(alloc, &mut self.served) {
+            return Err(lose(till, fault));
+        }
+        self.till.turn(alloc, till)
+    }
+}
+
+impl<A: LineEnd, B: LineEnd> StepLine for BothEnds<A, B> {
+    ghost use Rattle.zvt_session.specs.BothEnds.{MakesHere, here};
+
+    ghost makes = { λ old till step result new left. MakesHere step result (here A.state B.state old till) (here A.state B.state new left) };
+
+    fn make(&mut self, alloc: Global, till: &mut Till, step: &Step) -> Result<Outcome, RunFault> {
+        self.served.decide(step.verdict());
+        self.till.order(till, step.order())?;
+        'alternations: for made in 0..ALTERNATIONS {
+            if let Err(fault) = self.alternate(alloc, till) {
+                return Err(RunFault::Line(fault));
+            }
+            if till.running().is_none() {
+                let Some(outcome) = till.last_outcome() else {
+                    unreachable!()
+                };
+                return Ok(outcome);
+            }
+        }
+        Err(RunFault::Line(lose(till, LineFault::Turns)))
+    }
+}
+
+/// Makes the steps one after another, with a new till of these settings on this line, which is at its start. Else see
+/// [`run_till_end`](crate::run_till_end).
+pub fn run_both_ends<A: LineEnd, B: LineEnd, T: Sink, E: Sink>(
+    alloc: Global,
+    line: &mut BothEnds<A, B>,
+    settings: &TillSettings,
+    plan: &[Planned],
+    writer: &mut T,
+    report: &mut E,
+) -> Result<(), EndFault>
+    requires { BeginsHere (line_of A.state B.state line.old) }
+    ensures run { RunsPlan MakesHereBy BeginsHere (settings_of settings.now) plan.now (T.written writer.old) (T.written writer.new) (ReportsReversals (E.written report.old) (E.written report.new) (E.failures report.old) (E.failures report.new)) result }
+    ensures write { result ≡ Err EndFault.Write → T.failures writer.old < T.failures writer.new }
+{
+    let mut till = connected_till(alloc, settings);
+    let answer = run_steps(alloc, line, &mut till, plan, writer);
+    report_reversals(till.book(), report);
+    answer
+}
+
+/// Tells the till that its line is lost, by this fault.
+fn lose(till: &mut Till, fault: LineFault) -> LineFault
+    ensures reported { till_loses till.old till.new }
+    ensures fault { result ≡ fault }
+{
+    let _ = Till::lost(till);
+    fault
+}

@@ -1,0 +1,34 @@
+//! Runs of a till, of a simulated terminal, and of both ends of a line, over TCP.
+//!
+//! A run makes steps one after another, each named by a word ([`step_of`]), and writes what becomes of each:
+//! [`run_till_end`] at a till's end of a line, [`run_both_ends`] at both. [`serve`] is a terminal's end. [`run_loop`],
+//! [`run_till`] and [`run_terminal`] open sockets for them.
+#![tactic(auto)]
+
+mod arguments;
+mod both_ends;
+mod connection;
+mod fault;
+mod line_end;
+mod outcomes;
+mod plans;
+mod recorder;
+mod reports;
+mod reversals;
+mod service;
+mod settings;
+mod steps;
+mod tcp;
+mod till_end;
+
+pub use arguments::{Ends, Step, result_code, step_of};
+pub use both_ends::{BothEnds, run_both_ends};
+pub use connection::NetFault;
+pub use fault::EndFault;
+pub use line_end::{Endpoint, LineEnd};
+pub use plans::{Planned, plan};
+pub use recorder::{Recorded, Way, end_trace};
+pub use service::serve;
+pub use settings::{TillSettings, config_of, currency_of, password_of};
+pub use tcp::{run_loop, run_terminal, run_till};
+pub use till_end::run_till_end;

@@ -1,0 +1,64 @@
+//! The steps of a run, as its words name them.
+ghost use Rattle.std.specs.Prelude.{◌≡◌, ◌++◌, ◌∷◌, [], OnOk, map};
+ghost use Rattle.std.specs.String.{string_bytes};
+ghost use Rattle.zvt_session.specs.Plans.{AddsStep, PlansOrStops, words_of};
+
+use crate::arguments::{Ends, Step, step_of};
+use crate::fault::EndFault;
+use std::alloc::{AllocError, Global};
+
+/// A step, and the word that names it.
+#[derive(Debug, Drop, PartialEq, Eq)]
+pub struct Planned {
+    pub word: String,
+    pub step: Step,
+}
+
+/// What a run of both ends makes where no words are given.
+const BOTH_ENDS: [&str; 5] = [
+    "register",
+    "pay:1000",
+    "decline:500:6C",
+    "reverse:1",
+    "close",
+];
+
+/// What a run of a till makes where no words are given.
+const TILL_ALONE: [&str; 2] = ["register", "close"];
+
+/// The steps that the words name; where there are no words, the usual ones of these ends. The first word that names no
+/// step is `BadStep`; the other fault is `Memory`.
+pub fn plan(alloc: Global, ends: Ends, words: &[&str]) -> Result<Vec<Planned>, EndFault>
+    ensures { PlansOrStops ends (words_of ends (map (λ word. word.now) words.now)) result }
+{
+    if !words.is_empty() {
+        return plan_words(alloc, ends, words);
+    }
+    match ends {
+        Ends::Both => plan_words(alloc, ends, BOTH_ENDS.as_slice()),
+        Ends::Till => plan_words(alloc, ends, TILL_ALONE.as_slice()),
+    }
+}
+
+/// The steps that these words name.
+fn plan_words(alloc: Global, ends: Ends, words: &[&str]) -> Result<Vec<Planned>, EndFault>
+    ensures { PlansOrStops ends (map (λ word. word.now) words.now) result }
+{
+    let mut plan = Vec::new(alloc);
+    'words: for (at, word) in words.iter().enumerate() {
+        let Some(step) = step_of(ends, word) else {
+            return Err(EndFault::BadStep { at });
+        };
+        add(alloc, &mut plan, word, step)?;
+    }
+    Ok(plan)
+}
+
+/// Adds the step that a word names.
+fn add(alloc: Global, plan: &mut Vec<Planned>, word: &str, step: Step) -> Result<(), AllocError>
+    ensures { OnOk result (AddsStep word.now step plan.old.items plan.new.items) }
+{
+    let word = String::from_str(alloc, word)?;
+    plan.push(Planned { word, step })?;
+    Ok(())
+}

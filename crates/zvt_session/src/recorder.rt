@@ -1,0 +1,166 @@
+//! Devices that write what goes through them to a trace.
+ghost use Rattle.std.specs.Prelude.{◌≡◌, ◌++◌, ◌∷◌, [], codes, IfOk, OnOk, false, true};
+ghost use Rattle.zvt_io.specs.Devices.{CountsFailure, Reads, Writes};
+ghost use Rattle.zvt_session.specs.Recorder.{EndsTrace, RecordsRead, RecordsWrite, piece_text, sign_of};
+
+use std::alloc::{AllocError, Global};
+use zvt_io::{Failed, GhostCount, Sink, Source};
+use zvt_text::{Text, hexadecimal};
+
+/// The way that bytes go, as a trace marks it.
+#[derive(Clone, Copy, Debug, PartialEq, Eq)]
+pub enum Way {
+    /// `>`
+    FromTill,
+    /// `<`
+    FromTerminal,
+}
+
+impl Way {
+    /// What a line of the trace begins with.
+    fn sign(self) -> &'static str
+        ensures { result.now ≡ sign_of self }
+    {
+        match self {
+            Way::FromTill => ">",
+            Way::FromTerminal => "<",
+        }
+    }
+}
+
+/// The size of the line of a piece of 1,024 bytes: a line's devices read and write no more at once.
+const LINE: usize = 2 + 2 * 1024 + 1;
+
+/// A device, and the trace of what goes through it: each read that brings bytes, and each write, is a line of its own.
+/// What the device tells of its bytes is what it told without a trace. Once the trace can't be written, for want of
+/// memory too, it is broken, and each call fails: a write before it is made, a read from the next one on. Memory is
+/// asked for at once: only a piece of more than 1,024 bytes can want it.
+#[derive(Drop)]
+pub struct Recorded<D, T> {
+    pub device: D,
+    pub trace: T,
+    pub way: Way,
+    pub broken: bool,
+    /// Room for the line of a piece.
+    text: Text,
+    refused: GhostCount,
+}
+
+impl<D: Drop, T: Drop> Recorded<D, T> {
+    /// This device, whose bytes go this way, with its trace.
+    pub fn new(alloc: Global, way: Way, device: D, trace: T) -> Result<Recorded<D, T>, AllocError>
+        ensures device { IfOk result (λ recorded. recorded.device ≡ device) }
+        ensures trace { IfOk result (λ recorded. recorded.trace ≡ trace) }
+        ensures way { IfOk result (λ recorded. recorded.way ≡ way) }
+        ensures whole { IfOk result (λ recorded. recorded.broken ≡ false) }
+    {
+        let text = Text::with_room(alloc, LINE)?;
+        Ok(Recorded {
+            device,
+            trace,
+            way,
+            broken: false,
+            text,
+            refused: GhostCount::zero(),
+        })
+    }
+}
+
+impl<R: Source, T: Sink> Source for Recorded<R, T> {
+    ghost use Rattle.std.specs.Prelude.{◌+◌};
+
+    ghost remaining = { λ recorded. R.remaining recorded.device };
+
+    ghost failures = { λ recorded. R.failures recorded.device + recorded.refused.count };
+
+    ghost reads = { λ recorded. R.reads recorded.device + recorded.refused.count };
+
+    fn read(&mut self, buffer: &mut [u8]) -> Result<usize, Failed>
+        ensures bytes { Reads (R.remaining self.old.device) (R.remaining self.new.device) result buffer.new }
+        ensures failures { CountsFailure (R.failures self.old.device + self.old.refused.count) (R.failures self.new.device + self.new.refused.count) result }
+        ensures counted { R.reads self.new.device + self.new.refused.count ≡ R.reads self.old.device + self.old.refused.count + 1 }
+        ensures recorded { RecordsRead self.old.way self.old.broken self.new.broken (T.written self.old.trace) (T.written self.new.trace) result buffer.new }
+        ensures unmade { self.old.broken ≡ true → self.new.device ≡ self.old.device }
+        ensures way { self.new.way ≡ self.old.way }
+    {
+        if self.broken {
+            self.refused = self.refused.next();
+            return Err(Failed);
+        }
+        let count = self.device.read(buffer)?;
+        if count > 0 {
+            let written = write_piece(&mut self.text, self.way, &buffer[..count], &mut self.trace);
+            self.broken = written.is_err();
+        }
+        Ok(count)
+    }
+}
+
+impl<W: Sink, T: Sink> Sink for Recorded<W, T> {
+    ghost use Rattle.std.specs.Prelude.{◌+◌};
+
+    ghost written = { λ recorded. W.written recorded.device };
+
+    ghost failures = { λ recorded. W.failures recorded.device + recorded.refused.count };
+
+    fn write_all(&mut self, bytes: &[u8]) -> Result<(), Failed>
+        ensures bytes { Writes (W.written self.old.device) (W.written self.new.device) result bytes.now }
+        ensures failures { CountsFailure (W.failures self.old.device + self.old.refused.count) (W.failures self.new.device + self.new.refused.count) result }
+        ensures recorded { RecordsWrite self.old.way self.new.broken (T.written self.old.trace) (T.written self.new.trace) result bytes.now }
+        ensures unmade { self.new.broken ≡ true → self.new.device ≡ self.old.device }
+        ensures way { self.new.way ≡ self.old.way }
+    {
+        if self.broken {
+            self.refused = self.refused.next();
+            return Err(Failed);
+        }
+        if write_piece(&mut self.text, self.way, bytes, &mut self.trace).is_err() {
+            self.broken = true;
+            self.refused = self.refused.next();
+            return Err(Failed);
+        }
+        self.device.write_all(bytes)
+    }
+}
+
+/// Writes the line of a piece to the trace, made in this room. Where it fails, some front of the line was written.
+fn write_piece<T: Sink>(
+    text: &mut Text,
+    way: Way,
+    bytes: &[u8],
+    trace: &mut T,
+) -> Result<(), Failed>
+    ensures { Writes (T.written trace.old) (T.written trace.new) result (piece_text way bytes.now) }
+{
+    match spell_piece(text, way, bytes) {
+        Ok(()) => trace.write_all(text.bytes()),
+        Err(AllocError) => Err(Failed),
+    }
+}
+
+/// Makes the line of a piece in this room.
+fn spell_piece(text: &mut Text, way: Way, bytes: &[u8]) -> Result<(), AllocError>
+    ensures { OnOk result (text.new ≡ piece_text way bytes.now) }
+{
+    text.clear();
+    text.word(way.sign().as_bytes())?;
+    text.push(b' ')?;
+    hexadecimal(text, bytes)?;
+    text.push(b'\n')
+}
+
+/// Writes to the trace that the connection has ended.
+pub fn end_trace<T: Sink>(trace: &mut T) -> Result<(), Failed>
+    ensures bytes { Writes (T.written trace.old) (T.written trace.new) result (codes "!" ++ 10 ∷ []) }
+    ensures failures { CountsFailure (T.failures trace.old) (T.failures trace.new) result }
+{
+    trace.write_all(b"!\n")
+}
+
+/// Ends a trace, which lacks a piece already or does not, and answers whether it lacks something: a piece, or its end.
+pub(crate) fn ends_lacking<T: Sink>(lacks: bool, trace: &mut T) -> bool
+    ensures { EndsTrace lacks (T.written trace.old) (T.written trace.new) (T.failures trace.old) (T.failures trace.new) result }
+{
+    let ended = end_trace(trace);
+    lacks || ended.is_err()
+}

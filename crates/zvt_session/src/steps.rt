@@ -1,0 +1,156 @@
+//! Steps made one after another on a line, and what is written of them.
+ghost use Rattle.std.specs.Prelude.{◌≡◌, ◌<◌, ◌++◌, Err, IfErr, IfOk, OnOk, Result};
+ghost use Rattle.zvt_io.specs.Devices.{Writes};
+ghost use Rattle.zvt_till.specs.Line.{IsOver};
+ghost use Rattle.zvt_till.specs.Marks.{total};
+ghost use Rattle.zvt_till.specs.Till.{new_till, step};
+ghost use Rattle.zvt_till.specs.View.{TillValue};
+ghost use Rattle.zvt_till.specs.declared.happenings.Happening.TheVariants.{Connected};
+ghost use Rattle.zvt_till.specs.declared.line.RunFault.{RunFault};
+ghost use Rattle.zvt_till.specs.declared.outcomes.Outcome.{Outcome};
+ghost use Rattle.zvt_session.specs.declared.arguments.Step.{Step};
+ghost use Rattle.zvt_session.specs.Outcomes.{ending_text, total_text};
+ghost use Rattle.zvt_session.specs.Settings.{settings_of};
+ghost use Rattle.zvt_session.specs.Runs.{Answers, AnswersStep, AnswersText, fault_of, standing, wants_memory};
+
+use crate::arguments::Step;
+use crate::fault::EndFault;
+use crate::outcomes::outcome_text;
+use crate::plans::Planned;
+use crate::settings::TillSettings;
+use std::alloc::{AllocError, Global};
+use zvt_io::Sink;
+use zvt_stream::LineFault;
+use zvt_text::Text;
+use zvt_till::{OrderRefusal, Outcome, RunFault, Till};
+
+/// A line on which each step of a till is made from end to end.
+pub(crate) trait StepLine {
+    /// The step, made on the line by the till, came to this, and leads to this line and this till.
+    ghost makes: { Self → TillValue → Step → Result Outcome RunFault → Self → TillValue → Type 0 };
+
+    /// Gives the till the order of the step, and goes on with the line until no order runs. It answers what became of the
+    /// order. After `RunFault::Line` the till was told of it, its last outcome is what became of the order, and the line
+    /// is given up.
+    fn make(&mut self, alloc: Global, till: &mut Till, step: &Step) -> Result<Outcome, RunFault>
+        ensures made { makes self.old till.old step.now result self.new till.new }
+        ensures over { IfErr result (λ fault. IsOver fault till.new.state) };
+}
+
+/// Makes the steps one after another, and writes a line for each when it ends: its word and what became of it. The last
+/// line is the till's total. After a broken line no further step is made, and the fault is `Line`; an order that is not
+/// sent is no fault, but where that was for want of memory. The other faults are `Write` and `Memory`: no step is made
+/// again, nor one behind that whose line is missing. The lines of all steps before it were written, after `Write` a part
+/// of its own perhaps.
+pub(crate) fn run_steps<L: StepLine, W: Sink>(
+    alloc: Global,
+    line: &mut L,
+    till: &mut Till,
+    plan: &[Planned],
+    writer: &mut W,
+) -> Result<(), EndFault>
+    ensures run { Answers L.makes plan.now (standing line.old till.old) (standing line.new till.new) (W.written writer.old) (W.written writer.new) result }
+    ensures write { result ≡ Err EndFault.Write → W.failures writer.old < W.failures writer.new }
+{
+    'steps: for planned in plan {
+        if let Some(fault) = make_step(alloc, line, till, planned, writer)? {
+            write_total(alloc, till, writer)?;
+            return Err(EndFault::Line(fault));
+        }
+    }
+    write_total(alloc, till, writer)
+}
+
+/// A new till of these settings, whose line is up.
+pub(crate) fn connected_till(alloc: Global, settings: &TillSettings) -> Till
+    ensures { result.state ≡ step (new_till (settings_of settings.now)) Connected }
+{
+    let mut till = Till::new(alloc, settings.password, settings.config, settings.currency);
+    till.connected();
+    till
+}
+
+/// Makes a step and writes its line. Answers how the line broke, if it did.
+fn make_step<L: StepLine, W: Sink>(
+    alloc: Global,
+    line: &mut L,
+    till: &mut Till,
+    planned: &Planned,
+    writer: &mut W,
+) -> Result<Option<LineFault>, EndFault>
+    ensures step { AnswersStep L.makes planned.now (standing line.old till.old) (standing line.new till.new) (W.written writer.old) (W.written writer.new) result }
+    ensures write { result ≡ Err EndFault.Write → W.failures writer.old < W.failures writer.new }
+    ensures count { IfOk result (λ _. W.failures writer.new ≡ W.failures writer.old) }
+{
+    let made = line.make(alloc, till, &planned.step);
+    if wants_memory(&made) {
+        return Err(EndFault::Memory);
+    }
+    let mut text = Text::new(alloc);
+    text.word(planned.word.as_bytes())?;
+    text.word(b" -> ")?;
+    say_ending(&mut text, &made, till.last_outcome())?;
+    text.push(b'\n')?;
+    writer.write_all(text.bytes())?;
+    Ok(fault_of(&made))
+}
+
+/// Writes what became of a step, where the till says this of the order that ended last.
+fn say_ending(
+    text: &mut Text,
+    made: &Result<Outcome, RunFault>,
+    last: Option<Outcome>,
+) -> Result<(), AllocError>
+    ensures { OnOk result (text.new ≡ text.old ++ ending_text made.now last) }
+{
+    match made {
+        Ok(outcome) => outcome_text(text, outcome),
+        Err(RunFault::Order(why)) => {
+            text.word(b"not sent: ")?;
+            text.word(why.name().as_bytes())
+        }
+        Err(RunFault::Line(_)) => match &last {
+            Some(outcome) => outcome_text(text, outcome),
+            None => Ok(()),
+        },
+    }
+}
+
+/// How the line broke, if it did.
+fn fault_of(made: &Result<Outcome, RunFault>) -> Option<LineFault>
+    ensures { result ≡ fault_of made.now }
+{
+    match made {
+        Ok(_) => None,
+        Err(RunFault::Order(_)) => None,
+        Err(RunFault::Line(fault)) => Some(*fault),
+    }
+}
+
+/// Whether the order was not sent for want of memory.
+fn wants_memory(made: &Result<Outcome, RunFault>) -> bool
+    ensures { result ≡ wants_memory made.now }
+{
+    matches!(made, Err(RunFault::Order(OrderRefusal::Memory)))
+}
+
+/// Writes the till's total.
+fn write_total<W: Sink>(alloc: Global, till: &Till, writer: &mut W) -> Result<(), EndFault>
+    ensures text { AnswersText (total_text (total till.now.state.book)) (W.written writer.old) (W.written writer.new) result }
+    ensures write { result ≡ Err EndFault.Write → W.failures writer.old < W.failures writer.new }
+{
+    let total = till.total();
+    let mut text = Text::new(alloc);
+    say_total(&mut text, total)?;
+    writer.write_all(text.bytes())?;
+    Ok(())
+}
+
+/// The line of a total.
+fn say_total(text: &mut Text, total: u64) -> Result<(), AllocError>
+    ensures { OnOk result (text.new ≡ text.old ++ total_text total) }
+{
+    text.word(b"total ")?;
+    text.number(total)?;
+    text.push(b'\n')
+}

@@ -1,0 +1,322 @@
+//! Runs over TCP.
+ghost use Rattle.std.specs.Prelude.{◌≡◌, ◌<◌, ◌≤◌, ◌||◌, true, false, Err, IfOk, map};
+ghost use Rattle.zvt_session.specs.BothEnds.{BeginsHere, MakesHereBy};
+ghost use Rattle.zvt_stream.specs.StreamState.{at_start, start_in};
+ghost use Rattle.zvt_grammar.specs.Lengths.{reading_of};
+ghost use Rattle.zvt_till.specs.Events.{run_settings};
+ghost use Rattle.zvt_session.specs.OverTcp.{AnswersRun};
+ghost use Rattle.zvt_session.specs.Settings.{settings_of};
+ghost use Rattle.zvt_session.specs.Connecting.{given_by};
+ghost use Rattle.zvt_session.specs.Reporting.{ReportsNothing, ReportsReversals};
+ghost use Rattle.zvt_session.specs.Service.{AnswersService, AnswersTill, AnswersTills, IsOffline, TakesTills};
+ghost use Rattle.zvt_session.specs.TillEnd.{BeginsThere, MakesThere};
+ghost use Rattle.zvt_term.specs.Terminal.{new_terminal};
+
+use crate::arguments::Ends;
+use crate::both_ends::{BothEnds, run_both_ends};
+use crate::connection::{Door, both_ends, connect, listen};
+use crate::fault::{EndFault, by_trace};
+use crate::line_end::Endpoint;
+use crate::plans::{Planned, plan};
+use crate::recorder::{Recorded, Way, ends_lacking};
+use crate::reports::{report_address, report_ledger};
+use crate::service::serve;
+use crate::settings::TillSettings;
+use crate::till_end::run_till_end;
+use std::alloc::{AllocError, Global};
+use std::fs::File;
+use std::net::{Net, TcpListener, TcpStream};
+use zvt_grammar::Lengths;
+use zvt_io::{Counted, Sink, Source};
+use zvt_stream::{LineFault, Stream};
+use zvt_term::{DEFAULT_TID, Served, Terminal, Verdict};
+
+/// Runs both ends of a line in this process: it listens at a free port of 127.0.0.1, connects to itself, and till and
+/// terminal take turns. The words name the steps, and no words the usual ones: `register pay:1000 decline:500:6C
+/// reverse:1 close`. The trace has what the till heard and sent.
+///
+/// `BadStep` comes before anything is opened, and `Net` before anything is written or told. Else see
+/// [`run_both_ends`].
+pub fn run_loop<R, W, E>(
+    rt: &R,
+    alloc: Global,
+    steps: &[&str],
+    trace: Option<&File>,
+    writer: &mut W,
+    report: &mut E,
+) -> Result<(), EndFault>
+where
+    R: Net<Listener = TcpListener, Stream = TcpStream>,
+    W: Sink,
+    E: Sink,
+    ensures run { AnswersRun MakesHereBy BeginsHere run_settings Ends.Both (map (λ step. step.now) steps.now) (W.written writer.old) (W.written writer.new) (ReportsReversals (E.written report.old) (E.written report.new) (E.failures report.old) (E.failures report.new)) (ReportsNothing (E.written report.old) (E.written report.new) (E.failures report.old) (E.failures report.new)) result }
+    ensures write { result ≡ Err EndFault.Write → W.failures writer.old < W.failures writer.new }
+{
+    let plan = plan(alloc, Ends::Both, steps)?;
+    let plan = plan.as_slice();
+    let usual = TillSettings::usual();
+    let (till_end, terminal_end) = both_ends(rt).map_err(EndFault::Net)?;
+    match trace {
+        None => {
+            let till = plain_end(alloc, &till_end, Lengths::Shortest);
+            let mut line = both_ends_of(alloc, till, &terminal_end);
+            run_both_ends(alloc, &mut line, &usual, plan, writer, report)
+        }
+        Some(file) => {
+            let till = recorded_till_end(alloc, &till_end, Lengths::Shortest, file)?;
+            let mut line = both_ends_of(alloc, till, &terminal_end);
+            let answer = run_both_ends(alloc, &mut line, &usual, plan, writer, report);
+            by_trace(is_broken(&line.till, file), answer)
+        }
+    }
+}
+
+/// Both ends of this connection at their start, of which the till's is given, with a new terminal.
+fn both_ends_of<'a, R: Source, W: Sink>(
+    alloc: Global,
+    till: Endpoint<R, W>,
+    terminal_end: &'a TcpStream,
+) -> BothEnds<Endpoint<R, W>, PlainEnd<'a>>
+    requires { till.stream ≡ at_start }
+    ensures till { result.till ≡ till }
+    ensures terminal { result.terminal.stream ≡ at_start }
+    ensures served { result.served.terminal ≡ new_terminal 12345678 }
+{
+    BothEnds {
+        till,
+        terminal: plain_end(alloc, terminal_end, Lengths::Shortest),
+        served: Served {
+            terminal: Terminal::new(alloc, DEFAULT_TID),
+            verdict: Verdict::Approve,
+        },
+    }
+}
+
+/// Connects a till to a terminal at this host and port, and runs the steps that the words name, by no words `register
+/// close`. It reads such lengths. Each order has 100,000 reads. The trace has what the till heard and sent: each read and
+/// each write a line, and `!` at the end. One that can't be written ends the run with `Trace`.
+///
+/// `BadStep` comes before anything is opened, and `Net` before anything is written or told. Else see [`run_till_end`].
+pub fn run_till<R, W, E>(
+    rt: &R,
+    alloc: Global,
+    host: &str,
+    port: u16,
+    settings: &TillSettings,
+    lengths: Lengths,
+    steps: &[&str],
+    trace: Option<&File>,
+    writer: &mut W,
+    report: &mut E,
+) -> Result<(), EndFault>
+where
+    R: Net<Listener = TcpListener, Stream = TcpStream>,
+    W: Sink,
+    E: Sink,
+    ensures run { AnswersRun MakesThere (BeginsThere (reading_of lengths)) (settings_of settings.now) Ends.Till (map (λ step. step.now) steps.now) (W.written writer.old) (W.written writer.new) (ReportsReversals (E.written report.old) (E.written report.new) (E.failures report.old) (E.failures report.new)) (ReportsNothing (E.written report.old) (E.written report.new) (E.failures report.old) (E.failures report.new)) result }
+    ensures write { result ≡ Err EndFault.Write → W.failures writer.old < W.failures writer.new }
+{
+    let plan = plan(alloc, Ends::Till, steps)?;
+    let end = connect(rt, host, port).map_err(EndFault::Net)?;
+    match trace {
+        None => {
+            let mut line = plain_end(alloc, &end, lengths);
+            run_till_end(alloc, &mut line, settings, plan.as_slice(), writer, report)
+        }
+        Some(file) => {
+            let mut line = recorded_till_end(alloc, &end, lengths, file)?;
+            let answer = run_till_end(alloc, &mut line, settings, plan.as_slice(), writer, report);
+            by_trace(is_broken(&line, file), answer)
+        }
+    }
+}
+
+/// Listens at this port of this address, and serves so many tills one after another, each to the end of its connection,
+/// with one terminal of this number and this verdict on each payment, which reads such lengths. It waits for each till
+/// as long as it takes. The terminal's ledger goes on from till to till, and each begins unregistered.
+///
+/// The end of a connection between two messages is no fault. One that breaks otherwise ends that till's service alone:
+/// the first such fault is answered, as `Line`, once all tills were served. `Net` ends the service where the port can't be
+/// had or no connection can be taken, `Trace` where the trace can't be written, and `Memory` where there is too little to
+/// begin with a till or to tell of it. The trace has what the terminal heard and answered, seen from the till. Where it
+/// listens, and how many approvals the ledger has when a till has gone, is told by `report`.
+pub fn run_terminal<R, W>(
+    rt: &R,
+    alloc: Global,
+    host: &str,
+    port: u16,
+    tid: u32,
+    verdict: Verdict,
+    lengths: Lengths,
+    connections: u16,
+    trace: Option<&File>,
+    report: &mut W,
+) -> Result<(), EndFault>
+where
+    R: Net<Listener = TcpListener, Stream = TcpStream>,
+    W: Sink,
+    requires { tid ≤ 99999999 }
+    ensures { AnswersService (reading_of lengths) connections tid verdict result }
+{
+    let mut door = match listen(rt, host, port) {
+        Ok(door) => door,
+        Err(why) => return Err(EndFault::Net(why)),
+    };
+    report_address(alloc, &door.listener, report)?;
+    let mut served = Served {
+        terminal: Terminal::new(alloc, tid),
+        verdict,
+    };
+    serve_tills(
+        alloc,
+        &mut door,
+        lengths,
+        connections,
+        &mut served,
+        trace,
+        report,
+    )
+}
+
+/// Serves so many tills one after another, each on a connection of its own.
+fn serve_tills<W: Sink>(
+    alloc: Global,
+    door: &mut Door,
+    lengths: Lengths,
+    connections: u16,
+    served: &mut Served,
+    trace: Option<&File>,
+    report: &mut W,
+) -> Result<(), EndFault>
+    requires { IsOffline served.old.terminal }
+    ensures served { AnswersTills (reading_of lengths) connections served.old served.new result }
+    ensures taken { TakesTills connections (given_by door.old) (given_by door.new) result }
+{
+    let mut first = None;
+    'tills: for gone in 0..connections {
+        let connection = door.next().map_err(EndFault::Net)?;
+        let broke = serve_till(alloc, &connection, lengths, served, trace)?;
+        report_ledger(alloc, gone + 1, broke, &served.terminal, report)?;
+        if first.is_none() {
+            first = broke;
+        }
+    }
+    match first {
+        None => Ok(()),
+        Some(fault) => Err(EndFault::Line(fault)),
+    }
+}
+
+/// Serves the till at the other end of this connection, and answers how the line broke, if it did. The faults are
+/// `Trace`, and `Memory` where there was none to begin with.
+fn serve_till(
+    alloc: Global,
+    connection: &TcpStream,
+    lengths: Lengths,
+    served: &mut Served,
+    trace: Option<&File>,
+) -> Result<Option<LineFault>, EndFault>
+    requires { IsOffline served.old.terminal }
+    ensures { AnswersTill (reading_of lengths) served.old served.new result }
+{
+    let Some(file) = trace else {
+        return Ok(serve(alloc, &mut plain_end(alloc, connection, lengths), served).err());
+    };
+    let mut end = recorded_terminal_end(alloc, connection, lengths, file)?;
+    let broke = serve(alloc, &mut end, served).err();
+    if is_broken(&end, file) {
+        return Err(EndFault::Trace);
+    }
+    Ok(broke)
+}
+
+/// An end over a connection.
+type PlainEnd<'a> = Endpoint<Counted<&'a TcpStream>, Counted<&'a TcpStream>>;
+
+/// An end over a connection, whose reads and writes go to a trace.
+type RecordedEnd<'a> = Endpoint<
+    Recorded<Counted<&'a TcpStream>, Counted<&'a File>>,
+    Recorded<Counted<&'a TcpStream>, Counted<&'a File>>,
+>;
+
+/// An end of a line at its start, whose stream takes such lengths.
+fn plain_end<'a>(alloc: Global, connection: &'a TcpStream, lengths: Lengths) -> PlainEnd<'a>
+    ensures { result.stream ≡ start_in (reading_of lengths) }
+{
+    Endpoint {
+        reader: Counted::new(connection),
+        writer: Counted::new(connection),
+        stream: Stream::of(alloc, lengths),
+    }
+}
+
+/// The till's end at its start, with its trace: what is read comes from the terminal, and what is written from the till.
+fn recorded_till_end<'a>(
+    alloc: Global,
+    connection: &'a TcpStream,
+    lengths: Lengths,
+    trace: &'a File,
+) -> Result<RecordedEnd<'a>, AllocError>
+    ensures start { IfOk result (λ end. end.stream ≡ start_in (reading_of lengths)) }
+    ensures ways { IfOk result (λ end. (end.reader.way ≡ Way.FromTerminal) × (end.writer.way ≡ Way.FromTill)) }
+{
+    recorded_end(
+        alloc,
+        connection,
+        lengths,
+        Way::FromTerminal,
+        Way::FromTill,
+        trace,
+    )
+}
+
+/// The terminal's end at its start, with its trace: what is read comes from the till, and what is written from the terminal.
+fn recorded_terminal_end<'a>(
+    alloc: Global,
+    connection: &'a TcpStream,
+    lengths: Lengths,
+    trace: &'a File,
+) -> Result<RecordedEnd<'a>, AllocError>
+    ensures start { IfOk result (λ end. end.stream ≡ start_in (reading_of lengths)) }
+    ensures ways { IfOk result (λ end. (end.reader.way ≡ Way.FromTill) × (end.writer.way ≡ Way.FromTerminal)) }
+{
+    recorded_end(
+        alloc,
+        connection,
+        lengths,
+        Way::FromTill,
+        Way::FromTerminal,
+        trace,
+    )
+}
+
+/// An end of a line at its start, whose reads and writes go these ways in its trace, which lacks nothing yet.
+fn recorded_end<'a>(
+    alloc: Global,
+    connection: &'a TcpStream,
+    lengths: Lengths,
+    read: Way,
+    written: Way,
+    trace: &'a File,
+) -> Result<RecordedEnd<'a>, AllocError>
+    ensures start { IfOk result (λ end. end.stream ≡ start_in (reading_of lengths)) }
+    ensures ways { IfOk result (λ end. (end.reader.way ≡ read) × (end.writer.way ≡ written)) }
+    ensures whole { IfOk result (λ end. (end.reader.broken ≡ false) × (end.writer.broken ≡ false)) }
+{
+    let trace_of_reads = Counted::new(trace);
+    let trace_of_writes = Counted::new(trace);
+    Ok(Endpoint {
+        reader: Recorded::new(alloc, read, Counted::new(connection), trace_of_reads)?,
+        writer: Recorded::new(alloc, written, Counted::new(connection), trace_of_writes)?,
+        stream: Stream::of(alloc, lengths),
+    })
+}
+
+/// Ends the trace of the line, and answers whether it lacks something: a piece that was read, one that was to be written,
+/// or its end.
+fn is_broken(end: &RecordedEnd<'_>, trace: &File) -> bool
+    ensures { (end.now.reader.broken || end.now.writer.broken) ≡ true → result ≡ true }
+{
+    let lacks = end.reader.broken || end.writer.broken;
+    ends_lacking(lacks, &mut Counted::new(trace))
+}

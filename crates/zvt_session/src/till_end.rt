@@ -1,0 +1,65 @@
+//! The till's end of a line to a terminal elsewhere.
+ghost use Rattle.std.specs.Prelude.{◌≡◌, ◌<◌, Err};
+ghost use Rattle.zvt_stream.specs.StreamState.{start_in};
+ghost use Rattle.zvt_session.specs.OverTcp.{RunsPlan};
+ghost use Rattle.zvt_session.specs.Settings.{settings_of};
+ghost use Rattle.zvt_session.specs.Reporting.{ReportsReversals};
+ghost use Rattle.zvt_session.specs.TillEnd.{BeginsThere, MakesThere};
+
+use crate::arguments::Step;
+use crate::fault::EndFault;
+use crate::line_end::Endpoint;
+use crate::plans::Planned;
+use crate::reversals::report_reversals;
+use crate::settings::TillSettings;
+use crate::steps::{StepLine, connected_till, run_steps};
+use std::alloc::Global;
+use zvt_io::{Sink, Source};
+use zvt_till::{Outcome, RunFault, Till, run_order};
+
+/// The turns of one read each after which an order is given up.
+const READS_OF_AN_ORDER: u64 = 100_000;
+
+/// What the terminal elsewhere decides of a step is its own.
+impl<R: Source, W: Sink> StepLine for Endpoint<R, W> {
+    ghost use Rattle.zvt_session.specs.LineEnd.{end_state};
+    ghost use Rattle.zvt_session.specs.TillEnd.{MakesThere};
+
+    ghost makes = { λ old till step result new left. MakesThere (end_state old.stream (R.remaining old.reader) (W.written old.writer) (R.reads old.reader) (R.failures old.reader) (W.failures old.writer)) till step result (end_state new.stream (R.remaining new.reader) (W.written new.writer) (R.reads new.reader) (R.failures new.reader) (W.failures new.writer)) left };
+
+    fn make(&mut self, alloc: Global, till: &mut Till, step: &Step) -> Result<Outcome, RunFault> {
+        run_order(
+            alloc,
+            &mut self.reader,
+            &mut self.writer,
+            &mut self.stream,
+            till,
+            step.order(),
+            READS_OF_AN_ORDER,
+        )
+    }
+}
+
+/// Makes the steps one after another, with a new till of these settings at this end of a line, which is at its start.
+///
+/// A line is written for each step when it ends: its word and what became of it. The last line is the till's total.
+/// After a broken line no further step is made, and the fault is `Line`; an order that is not sent is no fault, but for
+/// want of memory. The other faults are `Write` and `Memory`: no step is made again, and none behind the one whose line
+/// is missing. However it ends, `report` is told of each entry of the book whose last reversal is unclear, a line each.
+pub fn run_till_end<R: Source, W: Sink, T: Sink, E: Sink>(
+    alloc: Global,
+    end: &mut Endpoint<R, W>,
+    settings: &TillSettings,
+    plan: &[Planned],
+    writer: &mut T,
+    report: &mut E,
+) -> Result<(), EndFault>
+    requires { end.old.stream ≡ start_in end.old.stream.reading }
+    ensures run { RunsPlan MakesThere (BeginsThere end.old.stream.reading) (settings_of settings.now) plan.now (T.written writer.old) (T.written writer.new) (ReportsReversals (E.written report.old) (E.written report.new) (E.failures report.old) (E.failures report.new)) result }
+    ensures write { result ≡ Err EndFault.Write → T.failures writer.old < T.failures writer.new }
+{
+    let mut till = connected_till(alloc, settings);
+    let answer = run_steps(alloc, end, &mut till, plan, writer);
+    report_reversals(till.book(), report);
+    answer
+}

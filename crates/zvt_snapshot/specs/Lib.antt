@@ -1,0 +1,4 @@
+pub mod Decoding
+pub mod Reading
+pub mod Encoded
+pub mod Sums

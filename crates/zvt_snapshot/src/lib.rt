@@ -1,0 +1,11 @@
+//! A till that outlives its process: its bytes, and the till that they are of.
+#![tactic(auto)]
+
+mod decoder;
+mod encoder;
+mod input;
+mod layouts;
+mod sums;
+
+pub use decoder::{LoadError, load, reloaded};
+pub use encoder::{cause_code, save};

@@ -1,5 +1,0 @@
-use Rattle.zvt_stream.proofs.LentLemmas.{some_spelled}
-use Rattle.zvt_stream.proofs.feeding.Stream.lent_bytes.Goals as goal
-
-pub returns-then-self-clause-some : goal.returns-then-self-clause-some
-returns-then-self-clause-some c = rw (← c.self.view_is, c.spelled.ensures) (some_spelled c.self.inside.judge.reading c.self.inside.lends c.self.inside.held.bytes c.self.inside.spelled c.self.invariant.2)

@@ -1,0 +1,155 @@
+//! The bytes of an unfinished message.
+
+ghost use Rattle.std.specs.Prelude.{◌≡◌, ◌+◌, ◌<◌, ◌≤◌, [], ◌∷◌, ◌++◌, length, min, take, IfOk, IsOk, OnErr, OnOk};
+ghost use Rattle.zvt_apdu.specs.Views.{MessageBytes};
+
+use std::alloc::{AllocError, Global};
+use std::marker::Model;
+
+/// How many bytes the longest message has.
+pub const MAX_APDU_LEN: usize = 65_540;
+
+/// The room of the first bytes.
+const FIRST_CAPACITY: usize = 64;
+
+/// The bytes of an unfinished message. They are lent only where they have become a whole one.
+#[derive(Drop)]
+pub struct Held {
+    /// The bytes, and room behind them.
+    room: Vec<u8>,
+    size: usize,
+}
+
+impl Model for Held {
+    ghost use Rattle.std.specs.Prelude.{◌≤◌, length, take};
+    ghost use Rattle.zvt_stream.specs.Lending.{HeldState};
+
+    ghost Value = { HeldState };
+
+    ghost view = { λ h. record { bytes = take h.size h.room.items; room = length h.room.items } };
+
+    ghost invariant = { λ h. h.size ≤ length h.room.items };
+}
+
+impl Held {
+    /// No bytes, and room for none.
+    pub fn new(alloc: Global) -> Held
+        ensures { result ≡ record { bytes = []; room = 0 } }
+    {
+        Held {
+            room: Vec::new(alloc),
+            size: 0,
+        }
+    }
+
+    /// No bytes, and room for those of the longest message: adding them never asks for memory.
+    pub fn reserved(alloc: Global) -> Result<Held, AllocError>
+        ensures { IfOk result (λ held. held ≡ record { bytes = []; room = 65540 }) }
+    {
+        let mut room = Vec::new(alloc);
+        room.resize(MAX_APDU_LEN, 0)?;
+        Ok(Held { room, size: 0 })
+    }
+
+    /// Sees to it that there is room for so many bytes more, or for the rest of the longest message. Where memory is
+    /// refused nothing changes.
+    #[inline(always)]
+    pub fn reserve_for(&mut self, more: usize) -> Result<(), AllocError>
+        requires { length self.old.bytes ≤ 65540 }
+        ensures bytes { self.new.bytes ≡ self.old.bytes }
+        ensures room { self.old.room ≤ self.new.room }
+        ensures ok { OnOk result (min (length self.old.bytes + more) 65540 ≤ self.new.room) }
+        ensures err { OnErr result (self.new ≡ self.old) }
+        ensures full { OnErr result (self.old.room < min (length self.old.bytes + more) 65540) }
+    {
+        let least = self.size + more.min(MAX_APDU_LEN - self.size);
+        if least <= self.room.len() {
+            return Ok(());
+        }
+        grow(&mut self.room, least)
+    }
+
+    /// Appends a byte. Where memory is refused nothing changes.
+    pub fn add(&mut self, byte: u8) -> Result<(), AllocError>
+        ensures ok { OnOk result (self.new.bytes ≡ self.old.bytes ++ byte ∷ []) }
+        ensures err { OnErr result (self.new.bytes ≡ self.old.bytes) }
+        ensures room { self.old.room ≤ self.new.room }
+        ensures frugal { length self.old.bytes < self.old.room → IsOk result }
+    {
+        self.add_all(&[byte])
+    }
+
+    /// Appends bytes. Where memory is refused nothing changes.
+    pub fn add_all(&mut self, bytes: &[u8]) -> Result<(), AllocError>
+        ensures ok { OnOk result (self.new.bytes ≡ self.old.bytes ++ bytes.now) }
+        ensures err { OnErr result (self.new.bytes ≡ self.old.bytes) }
+        ensures room { self.old.room ≤ self.new.room }
+        ensures frugal { length self.old.bytes + length bytes.now ≤ self.old.room → IsOk result }
+    {
+        let Some(least) = self.size.checked_add(bytes.len()) else {
+            return Err(AllocError);
+        };
+        if least > self.room.len() {
+            grow(&mut self.room, least)?;
+        }
+        self.put(bytes);
+        Ok(())
+    }
+
+    /// Appends bytes for which there is room.
+    #[inline(always)]
+    pub fn put(&mut self, bytes: &[u8])
+        requires { length self.old.bytes + length bytes.now ≤ self.old.room }
+        ensures { self.new ≡ record { bytes = self.old.bytes ++ bytes.now; room = self.old.room } }
+    {
+        let at = self.size;
+        // A peer that sends byte by byte costs no call for each.
+        if let [byte] = bytes {
+            self.room[at] = *byte;
+            self.size = at + 1;
+            return;
+        }
+        let end = at + bytes.len();
+        self.room[at..end].copy_from_slice(bytes);
+        self.size = end;
+    }
+
+    /// Keeps the first `count` bytes, and the room.
+    #[inline(always)]
+    pub fn cut(&mut self, count: usize)
+        requires { count ≤ length self.old.bytes }
+        ensures { self.new ≡ record { bytes = take count self.old.bytes; room = self.old.room } }
+    {
+        self.size = count;
+    }
+
+    /// How many bytes there are.
+    #[inline(always)]
+    pub fn len(&self) -> usize
+        ensures { result ≡ length self.now.bytes }
+    {
+        self.size
+    }
+
+    /// The bytes of a whole message.
+    #[inline(always)]
+    pub fn spelled(&self) -> &[u8]
+        requires { MessageBytes self.now.bytes }
+        ensures { result.now ≡ self.now.bytes }
+    {
+        &self.room[..self.size]
+    }
+}
+
+/// Makes so much room at least, and twice as much as there was.
+#[cold]
+fn grow(room: &mut Vec<u8>, least: usize) -> Result<(), AllocError>
+    requires { length room.old.items < least }
+    ensures ok { OnOk result ((least ≤ length room.new.items) × (take (length room.old.items) room.new.items ≡ room.old.items)) }
+    ensures err { OnErr result (room.new.items ≡ room.old.items) }
+{
+    room.resize(
+        least.max(FIRST_CAPACITY).max(room.len().saturating_mul(2)),
+        0,
+    )
+}

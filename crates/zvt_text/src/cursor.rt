@@ -1,0 +1,91 @@
+//! Text in a room of fixed size: each writes behind a place in it, and answers where the text ends then.
+ghost use Rattle.std.specs.Prelude.{◌∷◌, ◌≤◌, [], length, replicate};
+ghost use Rattle.hex.specs.Hex.{encode_upper};
+ghost use Rattle.zvt_text.specs.Writing.{Puts};
+
+use crate::digits::write_digits;
+use itoa::{Buffer, Integer};
+
+/// The room is full.
+#[derive(Drop)]
+pub(crate) struct Full;
+
+/// Writes one character, an ASCII one.
+#[inline(always)]
+pub(crate) fn push(buffer: &mut [u8], at: usize, character: u8) -> Result<usize, Full>
+    requires { at ≤ length buffer.old }
+    ensures { Puts result at buffer.old buffer.new (character ∷ []) }
+{
+    if at == buffer.len() {
+        return Err(Full);
+    }
+    buffer[at] = character;
+    Ok(at + 1)
+}
+
+/// Writes a word.
+#[inline(always)]
+pub(crate) fn word(buffer: &mut [u8], at: usize, word: &[u8]) -> Result<usize, Full>
+    requires { at ≤ length buffer.old }
+    ensures { Puts result at buffer.old buffer.new word.now }
+{
+    if buffer.len() - at < word.len() {
+        return Err(Full);
+    }
+    let end = at + word.len();
+    buffer[at..end].copy_from_slice(word);
+    Ok(end)
+}
+
+/// Writes a word that the code names. It is passed by value, since then it is stored at once: of a slice the compiler
+/// does not know that it lies outside of the room.
+#[inline(always)]
+pub(crate) fn fixed<const N: usize>(
+    buffer: &mut [u8],
+    at: usize,
+    letters: [u8; N],
+) -> Result<usize, Full>
+    requires { at ≤ length buffer.old }
+    ensures { Puts result at buffer.old buffer.new letters.entry }
+{
+    word(buffer, at, letters.as_slice())
+}
+
+/// Writes two digits for each byte.
+#[inline(always)]
+pub(crate) fn hexadecimal(buffer: &mut [u8], at: usize, bytes: &[u8]) -> Result<usize, Full>
+    requires { at ≤ length buffer.old }
+    ensures { Puts result at buffer.old buffer.new (encode_upper bytes.now) }
+{
+    if (buffer.len() - at) / 2 < bytes.len() {
+        return Err(Full);
+    }
+    let end = at + 2 * bytes.len();
+    write_digits(bytes, &mut buffer[at..end]);
+    Ok(end)
+}
+
+/// Writes a number in decimal digits.
+pub(crate) fn decimal<I: Integer>(buffer: &mut [u8], at: usize, number: I) -> Result<usize, Full>
+    requires { at ≤ length buffer.old }
+    ensures { Puts result at buffer.old buffer.new (I.text number) }
+{
+    word(buffer, at, Buffer::new().format(number).as_bytes())
+}
+
+/// Writes a character so many times.
+pub(crate) fn repeat(
+    buffer: &mut [u8],
+    at: usize,
+    character: u8,
+    count: usize,
+) -> Result<usize, Full>
+    requires { at ≤ length buffer.old }
+    ensures { Puts result at buffer.old buffer.new (replicate count character) }
+{
+    let mut end = at;
+    for _ in 0..count {
+        end = push(buffer, end, character)?;
+    }
+    Ok(end)
+}

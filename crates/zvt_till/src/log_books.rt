@@ -1,0 +1,185 @@
+//! A log's payments, judged one after another.
+ghost use Rattle.std.specs.Prelude.{◌≡◌, ◌++◌, ◌∷◌, [], ◌||◌, List, OnOk};
+ghost use Rattle.zvt_till.specs.Segments.{begun, in_force, is_positive, status_of};
+ghost use Rattle.zvt_till.specs.Books.{books};
+ghost use Rattle.zvt_till.specs.Outcomes.{note, note_if};
+ghost use Rattle.zvt_till.specs.Judging.{books_value, written, paying, opened, IsJudged, KnowsTraces};
+
+use crate::happenings::{Happening, Sent, ends};
+use crate::messages::{Heard, StatusFacts};
+use crate::orders::Order;
+use crate::outcomes::{Cause, Outcome, outcome_by};
+use crate::statuses::{Charge, Demand, Statuses, note};
+use crate::used_traces::UsedTraces;
+use std::alloc::{AllocError, Global};
+use zvt_bcd::{Amount, Currency, Trace};
+
+/// A payment that was completed, as a log has it.
+#[derive(Clone, Copy, Debug, PartialEq, Eq)]
+pub struct Booked {
+    pub amount: Amount,
+    /// The number under which the terminal keeps it, which no other row has.
+    pub trace: Trace,
+    /// The receipt number that the first status named.
+    pub receipt: Option<[u8; 2]>,
+}
+
+/// What a log says of its payments. Those that are known not to have happened are in neither list.
+#[derive(Drop)]
+pub struct Books {
+    /// The payments that were completed, in the order in which they were sent.
+    pub booked: Vec<Booked>,
+    /// The payments of which it is not known whether they happened, in the order in which they were sent.
+    pub unclear: Vec<(Amount, Cause)>,
+    /// The trace numbers of the payments that were completed.
+    pub(crate) used: UsedTraces,
+}
+
+/// A payment without an end so far: whether a positive answer came, and what its statuses say.
+#[derive(Clone, Copy, Debug, PartialEq, Eq)]
+pub struct OpenPayment {
+    pub amount: Amount,
+    /// The currency in force as it was sent, if one was.
+    pub currency: Option<Currency>,
+    pub positive: bool,
+    pub statuses: Statuses,
+}
+
+/// The order that this begins, if it does: any but Cancel.
+#[inline(always)]
+fn begun(happening: &Happening) -> Option<Sent>
+    ensures { result ≡ begun happening.now }
+{
+    match happening {
+        Happening::Sent(Sent::Cancel) => None,
+        Happening::Sent(order) => Some(*order),
+        _ => None,
+    }
+}
+
+/// The payment that the order begins under this currency, if it is one.
+#[inline(always)]
+fn opened(currency: Option<Currency>, order: &Sent) -> Option<OpenPayment>
+    ensures { result ≡ opened currency order.now }
+{
+    match order {
+        Sent::Pay(amount) => Some(OpenPayment {
+            amount: *amount,
+            currency,
+            positive: false,
+            statuses: Statuses::Nothing,
+        }),
+        _ => None,
+    }
+}
+
+impl OpenPayment {
+    /// Notes what one more status says.
+    #[inline(always)]
+    pub(crate) fn note(&mut self, status: &StatusFacts)
+        ensures amount { self.new.amount ≡ self.old.amount }
+        ensures currency { self.new.currency ≡ self.old.currency }
+        ensures positive { self.new.positive ≡ self.old.positive }
+        ensures statuses { self.new.statuses ≡ note (paying self.old.currency self.old.amount) self.old.statuses status.now }
+    {
+        let charge = Charge {
+            amount: self.amount,
+            currency: self.currency,
+        };
+        self.statuses = note(&Some(Demand::Payment(charge)), self.statuses, status);
+    }
+
+    /// Listens to something that does not end it.
+    #[inline(always)]
+    fn listen(&mut self, happening: &Happening)
+        ensures amount { self.new.amount ≡ self.old.amount }
+        ensures currency { self.new.currency ≡ self.old.currency }
+        ensures positive { self.new.positive ≡ (self.old.positive || is_positive happening.now) }
+        ensures statuses { self.new.statuses ≡ note_if (paying self.old.currency self.old.amount) self.old.statuses (status_of happening.now) }
+    {
+        match happening {
+            Happening::Heard(Heard::Positive) => self.positive = true,
+            Happening::Heard(Heard::Status(status)) => self.note(status),
+            _ => {}
+        }
+    }
+}
+
+impl Books {
+    /// No rows.
+    pub(crate) fn new(alloc: Global) -> Books
+        ensures none { books_value result ≡ books [] }
+        ensures traces { KnowsTraces result }
+    {
+        Books {
+            booked: Vec::new(alloc),
+            unclear: Vec::new(alloc),
+            used: UsedTraces::new(alloc),
+        }
+    }
+
+    /// Writes down what a payment of this amount came to.
+    fn write(&mut self, amount: Amount, outcome: &Outcome) -> Result<(), AllocError>
+        requires { KnowsTraces self.old }
+        ensures written { OnOk result (books_value self.new ≡ written (books_value self.old) amount outcome.now) }
+        ensures traces { KnowsTraces self.new }
+    {
+        match outcome {
+            Outcome::Paid { trace, receipt } => {
+                self.used.reserve_for()?;
+                self.booked.push(Booked {
+                    amount,
+                    trace: *trace,
+                    receipt: *receipt,
+                })?;
+                self.used.insert(*trace);
+            }
+            Outcome::Unclear(cause) => self.unclear.push((amount, *cause))?,
+            _ => {}
+        }
+        Ok(())
+    }
+
+    /// Nothing more comes to the payment that runs: without an end it is unfinished.
+    pub(crate) fn close(&mut self, running: &Option<OpenPayment>) -> Result<(), AllocError>
+        requires { KnowsTraces self.old }
+        ensures closed { OnOk result ((log : List Happening) → IsJudged log (books_value self.old) running.now → books_value self.new ≡ books log) }
+        ensures traces { KnowsTraces self.new }
+    {
+        if let Some(payment) = running {
+            self.write(payment.amount, &Outcome::Unclear(Cause::Unfinished))?;
+        }
+        Ok(())
+    }
+
+    /// Takes what happened next, under the currency in force before it.
+    #[inline(always)]
+    pub(crate) fn take(
+        &mut self,
+        running: &mut Option<OpenPayment>,
+        currency: Option<Currency>,
+        happening: &Happening,
+    ) -> Result<(), AllocError>
+        requires { KnowsTraces self.old }
+        ensures traces { KnowsTraces self.new }
+        ensures judged { OnOk result ((log : List Happening) → currency ≡ in_force log → IsJudged log (books_value self.old) running.old → IsJudged (log ++ happening.now ∷ []) (books_value self.new) running.new) }
+    {
+        if let Some(order) = begun(happening) {
+            self.close(running)?;
+            *running = opened(currency, &order);
+            return Ok(());
+        }
+        let Some(payment) = running else {
+            return Ok(());
+        };
+        if ends(payment.positive, happening) {
+            let order = Order::Pay(payment.amount);
+            let outcome = outcome_by(&self.used, &order, &payment.statuses, happening);
+            self.write(payment.amount, &outcome)?;
+            *running = None;
+            return Ok(());
+        }
+        payment.listen(happening);
+        Ok(())
+    }
+}

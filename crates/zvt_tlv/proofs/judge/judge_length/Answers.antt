@@ -1,0 +1,4 @@
+use Rattle.zvt_tlv.proofs.judge.judge_length.Goals as goal
+
+pub returns-in-First : goal.returns-in-First
+returns-in-First c depth = rw c.in-First.is (c.judge_first_length_byte.ensures depth)

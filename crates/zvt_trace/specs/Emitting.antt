@@ -1,0 +1,178 @@
+-- What a piece, a line and a whole trace tell.
+use Rattle.std.specs.Prelude.{◌≡◌, ◌⊎◌, ℕ, ◌+◌, List, [], ◌∷◌, ◌++◌, length, map, slice_index, Ok, Err}
+use Rattle.zvt_grammar.specs.Cuts.{Cut}
+use Rattle.zvt_grammar.specs.Reading.{Reading}
+use Rattle.zvt_apdu.specs.Grammar.{Spells}
+use Rattle.zvt_apdu.specs.Message.{Message}
+use Rattle.zvt_trace.specs.Meanings.{Meaning, lost, meaning_of, piece, comment}
+use Rattle.zvt_stream.specs.Head.{head_of}
+use Rattle.zvt_trace.specs.TraceEvent.{At, on}
+use Rattle.zvt_trace.specs.TraceEvent as trace_event
+use Rattle.zvt_trace.specs.Trace.{Arrives, Ending, Side, Sides, begun, new_line, refused, running, side_after, side_of, stopped}
+use Rattle.zvt_trace.specs.declared.direction.Direction.{Direction}
+use Rattle.zvt_trace.specs.declared.direction.Direction.TheVariants.{FromTill, FromTerminal}
+use Rattle.zvt_trace.specs.declared.fault.TraceLineError.{TraceLineError}
+use Rattle.zvt_trace.specs.declared.listener.Scope.{Scope}
+use Rattle.zvt_trace.specs.declared.listener.Scope.TheVariants.{OneSide, WholeLine}
+
+-- ---- one side of the line
+
+abbrev pub messages_emitted : ℕ → Direction → List Message → List At
+messages_emitted line from messages = map (λ (message : Message). on line (trace_event.message from message)) messages
+
+abbrev pub ending_events : ℕ → Direction → List ℕ → Ending → List At
+ending_events line from rest begun = []
+ending_events line from rest (refused place why) = on line (trace_event.refused from (head_of rest) (slice_index rest place) place why) ∷ []
+
+-- A piece tells the messages that arrive with it, and what is refused behind them.
+pub record Emits (r : Reading) (line : ℕ) (from : Direction) (before bytes : List ℕ) (events : List At) (after : Side) : Type 0 where
+  pub messages : List Message
+  pub rest : List ℕ
+  pub ending : Ending
+  pub arrives : Arrives r before bytes messages rest ending
+  pub is_all : events ≡ messages_emitted line from messages ++ ending_events line from rest ending
+  pub is_after : after ≡ side_after (before ++ bytes) ending
+
+abbrev pub PieceEmits : Reading → ℕ → Direction → Side → List ℕ → List At → Side → Type 0
+PieceEmits r line from (running before) bytes events after = Emits r line from before bytes events after
+PieceEmits r line from stopped bytes events after = (events ≡ on line (trace_event.unread from) ∷ []) × (after ≡ stopped)
+
+abbrev pub cut_off_event : ℕ → Direction → List ℕ → List At
+cut_off_event line from [] = []
+cut_off_event line from (byte ∷ bytes) = on line (trace_event.cut_off from (head_of (byte ∷ bytes)) (length (byte ∷ bytes))) ∷ []
+
+-- where the line ends, the message that a side has begun is cut off
+abbrev pub SideEnds : Reading → ℕ → Direction → Side → List At → Type 0
+SideEnds r line from (running bytes) events = (messages : List Message) × (rest : List ℕ) × Cut (Spells r) bytes messages rest × (events ≡ cut_off_event line from rest)
+SideEnds r line from stopped events = events ≡ []
+
+-- ---- both sides
+
+abbrev pub other : Direction → Direction
+other FromTill = FromTerminal
+other FromTerminal = FromTill
+
+-- this side and the other one
+abbrev pub both_sides : Direction → Side → Side → Sides
+both_sides FromTill side beside = record { till = side; terminal = beside }
+both_sides FromTerminal side beside = record { till = beside; terminal = side }
+
+-- What a refusal leaves of the other side: all, or nothing; then what it has begun is cut off.
+abbrev pub Leaves : Reading → Scope → ℕ → Direction → (side beside : Side) → List At → Side → Type 0
+Leaves r OneSide line from side beside events after = (events ≡ []) × (after ≡ beside)
+Leaves r WholeLine line from (running bytes) beside events after = (events ≡ []) × (after ≡ beside)
+Leaves r WholeLine line from stopped beside events after = SideEnds r line (other from) beside events × (after ≡ stopped)
+
+-- a piece of this side, and what it leaves of the other
+pub record EmitsBeside (r : Reading) (scope : Scope) (line : ℕ) (from : Direction) (side beside : Side) (bytes : List ℕ) (events : List At) (after beside_after : Side) : Type 0 where
+  pub own : List At
+  pub others : List At
+  pub emits : PieceEmits r line from side bytes own after
+  pub leaves : Leaves r scope line from after beside others beside_after
+  pub is_all : events ≡ own ++ others
+
+-- the line ends: the till's side is told before the terminal's
+pub record LineEnds (r : Reading) (line : ℕ) (sides : Sides) (events : List At) : Type 0 where
+  pub till : List At
+  pub terminal : List At
+  pub till_ends : SideEnds r line FromTill sides.till till
+  pub terminal_ends : SideEnds r line FromTerminal sides.terminal terminal
+  pub is_all : events ≡ till ++ terminal
+
+-- ---- one line of the trace
+
+abbrev pub LineEmits : Reading → Scope → ℕ → Meaning → Sides → List At → Sides → Type 0
+LineEmits r scope line comment sides events after = (events ≡ []) × (after ≡ sides)
+LineEmits r scope line (piece from bytes) sides events after =
+    (side : Side) × (beside : Side) × EmitsBeside r scope line from (side_of from sides) (side_of (other from) sides) bytes events side beside × (after ≡ both_sides from side beside)
+LineEmits r scope line lost sides events after =
+    (ended : List At) × LineEnds r line sides ended × (events ≡ ended ++ on line trace_event.lost ∷ []) × (after ≡ new_line)
+
+-- ---- lines, behind so many others
+
+pub record OneMore (r : Reading) (scope : Scope) (count : ℕ) (sides : Sides) (line : List ℕ) (Others : Sides → List At → Type 0) (events : List At) : Type 0 where
+  pub meaning : Meaning
+  pub own : List At
+  pub rest : List At
+  pub middle : Sides
+  pub means : meaning_of line ≡ Ok meaning
+  pub emits : LineEmits r scope (count + 1) meaning sides own middle
+  pub others : Others middle rest
+  pub is_all : events ≡ own ++ rest
+
+-- lines that can be read, from both sides as they were to both as they are then
+abbrev pub LinesEmit : Reading → Scope → ℕ → Sides → List (List ℕ) → List At → Sides → Type 0
+LinesEmit r scope count sides [] events after = (events ≡ []) × (after ≡ sides)
+LinesEmit r scope count sides (line ∷ lines) events after = OneMore r scope count sides line (λ middle rest. LinesEmit r scope (count + 1) middle lines rest after) events
+
+-- ---- the trace
+
+-- a trace of which all lines can be read: what they tell, and what is cut off at its end
+pub record WholeTrace (r : Reading) (scope : Scope) (lines : List (List ℕ)) (events : List At) : Type 0 where
+  pub body : List At
+  pub after : Sides
+  pub last : List At
+  pub emit : LinesEmit r scope 0 new_line lines body after
+  pub ends : LineEnds r (length lines) after last
+  pub is_all : events ≡ body ++ last
+
+-- lines of which one can't be read, counted from 1: what those before it tell
+pub record BrokenTrace (r : Reading) (scope : Scope) (lines : List (List ℕ)) (number : ℕ) (what : TraceLineError) (events : List At) : Type 0 where
+  pub done : List (List ℕ)
+  pub line : List ℕ
+  pub later : List (List ℕ)
+  pub after : Sides
+  pub cut : lines ≡ done ++ line ∷ later
+  pub emit : LinesEmit r scope 0 new_line done events after
+  pub wrong : meaning_of line ≡ Err what
+  pub is_number : number ≡ length done + 1
+
+-- ---- a front of what a trace tells
+
+pub record PrefixOf (Emit : List At → Type 0) (events : List At) : Type 0 where
+  pub all : List At
+  pub later : List At
+  pub emit : Emit all
+  pub is_prefix : all ≡ events ++ later
+
+-- so many bytes of a piece, or a line of another kind
+abbrev pub Begins : Meaning → Meaning → Type 0
+Begins prefix comment = prefix ≡ comment
+Begins prefix (piece from bytes) = (first : List ℕ) × (more : List ℕ) × (prefix ≡ piece from first) × (bytes ≡ first ++ more)
+Begins prefix lost = prefix ≡ lost
+
+-- a front of what a front of a line with this meaning tells
+pub record MeaningBegins (r : Reading) (scope : Scope) (number : ℕ) (meaning : Meaning) (sides : Sides) (events : List At) : Type 0 where
+  pub prefix : Meaning
+  pub after : Sides
+  pub begins : Begins prefix meaning
+  pub emits : PrefixOf (λ all. LineEmits r scope number prefix sides all after) events
+
+abbrev pub LineBegins : Reading → Scope → ℕ → List ℕ → Sides → List At → Type 0
+LineBegins r scope number line sides events = (meaning : Meaning) × (meaning_of line ≡ Ok meaning) × MeaningBegins r scope number meaning sides events
+
+-- nothing, or so much of what the line tells
+abbrev pub LineSoFar : Reading → Scope → ℕ → List ℕ → Sides → List At → Type 0
+LineSoFar r scope number line sides events = (events ≡ []) ⊎ LineBegins r scope number line sides events
+
+-- behind so many lines, what so much of the next line tells, or the end of the trace
+abbrev pub NextEmits : Reading → Scope → ℕ → List (List ℕ) → Sides → List At → Type 0
+NextEmits r scope count [] sides events = LineEnds r count sides events
+NextEmits r scope count (line ∷ later) sides events =
+    (events ≡ []) ⊎ ((meaning : Meaning) × (prefix : Meaning) × (after : Sides) × (meaning_of line ≡ Ok meaning) × Begins prefix meaning × LineEmits r scope (count + 1) prefix sides events after)
+
+-- what so many lines tell, and then what comes next
+pub record Reaches (r : Reading) (scope : Scope) (lines : List (List ℕ)) (events : List At) : Type 0 where
+  pub done : List (List ℕ)
+  pub later : List (List ℕ)
+  pub before : List At
+  pub next : List At
+  pub after : Sides
+  pub cut : lines ≡ done ++ later
+  pub emit : LinesEmit r scope 0 new_line done before after
+  pub emits : NextEmits r scope (length done) later after next
+  pub is_all : events ≡ before ++ next
+
+-- a front of that
+abbrev pub EventsSoFar : Reading → Scope → List (List ℕ) → List At → Type 0
+EventsSoFar r scope lines events = PrefixOf (Reaches r scope lines) events
