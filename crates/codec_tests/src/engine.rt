@@ -14,7 +14,7 @@ const ACK: [u8; 3] = [0x80, 0x00, 0x00];
 
 const TWO_ACKS: [u8; 6] = [0x80, 0x00, 0x00, 0x80, 0x00, 0x00];
 
-/// A machine that answers each message by 80 00 00, and rests once it heard so many.
+/// A machine that answers each message by 80 00 00, and rests once it heard that many.
 #[derive(Drop)]
 struct Parrot {
     left: u8,

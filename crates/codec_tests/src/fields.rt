@@ -14,7 +14,7 @@ use zvt_field::{
 use zvt_grammar::Scan;
 use zvt_tlv::{Body, Forest, Tag, Tlv};
 
-/// The fields of a payment's status, as a terminal sends them, and three bytes behind them.
+/// The fields of a payment's status, as a terminal sends them, and three bytes after them.
 const STATUS: [u8; 30] = [
     0x27, 0x00, 0x04, 0x00, 0x00, 0x00, 0x00, 0x10, 0x00, 0x0B, 0x00, 0x00, 0x02, 0x49, 0x09, 0x78,
     0x37, 0x00, 0x00, 0x01, 0x87, 0x00, 0x02, 0x3C, 0xF0, 0xF0, 0xF0, 0xEE, 0xEE, 0xEE,
@@ -159,7 +159,7 @@ fn bytes_that_are_no_number(rt: HostRuntime) {
     assert_eq!(rt; receipt(&fields), Some([0xFF, 0xFF]));
 }
 
-/// The fields that fill a room are written at the front of a buffer as they were read.
+/// The fields that fill a room are written at the start of a buffer as they were read.
 fn is_written(rt: &impl Abort, alloc: Global, bytes: &[u8], room: usize) -> Result<(), Fail>
     requires small { room < 2 ^ 16 }
     requires filled { room ≢ 1 }
@@ -182,7 +182,7 @@ fn written(rt: HostRuntime) -> Result<(), Fail> {
     is_written(&rt, rt.alloc(), &container, 11)
 }
 
-/// One object with so many bytes of content.
+/// One object with that many bytes of content.
 fn forest(alloc: Global, count: usize) -> Result<Forest, Fail> {
     let Some(tag) = Tag::checked(&[0x07]) else {
         return Err(Fail::new("no tag"));
@@ -198,7 +198,7 @@ fn forest(alloc: Global, count: usize) -> Result<Forest, Fail> {
     }
 }
 
-/// A container of one object with so many bytes of content.
+/// A container of one object with that many bytes of content.
 fn container(rt: &impl Abort, alloc: Global, count: usize) -> Result<Field, Fail> {
     let Ok(container) = Field::checked(0x06, FieldBody::Tree(forest(alloc, count)?)) else {
         panic!(rt; "a container");
@@ -239,7 +239,7 @@ fn a_list_of_many(rt: HostRuntime) -> Result<(), Fail> {
     Ok(())
 }
 
-/// Why the container of one object with so many bytes of content has no spelling.
+/// Why the container of one object with that many bytes of content has no spelling.
 fn fault(alloc: Global, count: usize) -> Result<Option<BadField>, Fail> {
     match Field::checked(0x06, FieldBody::Tree(forest(alloc, count)?)) {
         Ok(_) => Ok(None),

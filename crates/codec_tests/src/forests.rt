@@ -11,7 +11,7 @@ fn tag(rt: &impl Abort, bytes: &[u8]) -> Tag {
     Tag::checked(bytes).expect(rt, "a tag")
 }
 
-/// A primitive object of so many bytes of content.
+/// A primitive object of that many bytes of content.
 fn primitive(rt: &impl Abort, alloc: Global, count: usize) -> Result<Tlv, AllocError> {
     Ok(Tlv {
         tag: tag(rt, &[0x07]),
@@ -26,7 +26,7 @@ fn constructed(rt: &impl Abort, alloc: Global, inner: Tlv) -> Result<Tlv, AllocE
     })
 }
 
-/// One object of so many bytes in so many others.
+/// One object of that many bytes in that many others.
 fn deep(rt: &impl Abort, alloc: Global, count: usize, levels: usize) -> Result<Tlv, AllocError> {
     let mut object = primitive(rt, alloc, count)?;
     for _ in 0..levels {
@@ -58,14 +58,14 @@ fn written_sized(rt: &impl Abort, alloc: Global, forest: &Forest) -> Result<Vec<
     Ok(out)
 }
 
-/// One object of so many bytes in five others.
+/// One object of that many bytes in five others.
 fn nested(rt: &impl Abort, alloc: Global, count: usize) -> Result<Forest, AllocError> {
     let object = deep(rt, alloc, count, 5)?;
     let objects = vec![in alloc; object]?;
     Ok(forest(rt, objects))
 }
 
-/// The objects behind the length that stands first, and the size of both.
+/// The objects after the length that comes first, and the size of both.
 fn read_back(rt: &impl Abort, alloc: Global, bytes: &[u8]) -> Result<(Forest, usize), AllocError> {
     let Scan::Whole(found) = reader::scan_sized(alloc, bytes, 40_000)? else {
         panic!(rt; "a length and its objects stand first");
@@ -73,7 +73,7 @@ fn read_back(rt: &impl Abort, alloc: Global, bytes: &[u8]) -> Result<(Forest, us
     Ok(found)
 }
 
-/// Writes one object of so many bytes in five others, and reads it back.
+/// Writes one object of that many bytes in five others, and reads it back.
 fn comes_back(rt: &impl Abort, alloc: Global, count: usize, wanted: usize) -> Result<(), Fail> {
     let forest = nested(rt, alloc, count)?;
     assert_eq!(rt; size(&forest), wanted);
@@ -119,7 +119,7 @@ fn the_largest_forest_is_read_and_written(rt: HostRuntime) -> Result<(), Fail> {
     Ok(())
 }
 
-/// An object of one byte in another, and an empty one behind it.
+/// An object of one byte in another, and an empty one after it.
 fn pair(rt: &impl Abort, alloc: Global) -> Result<Forest, AllocError> {
     let first = constructed(rt, alloc, primitive(rt, alloc, 1)?)?;
     Ok(forest(rt, vec![in alloc; first, primitive(rt, alloc, 0)?]?))

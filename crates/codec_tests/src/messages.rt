@@ -16,7 +16,7 @@ fn put(apdu: &Apdu, out: &mut [u8]) -> Result<usize, NoRoom> {
     encode_into(apdu, out)
 }
 
-/// The message's spelling is these bytes, also at the front of a buffer.
+/// The message's spelling is these bytes, also at the start of a buffer.
 fn is_written(rt: &impl Abort, alloc: Global, apdu: &Apdu, bytes: &[u8]) -> Result<(), Fail> {
     assert_eq!(rt; spelling(alloc, apdu)?.as_slice(), bytes);
     let mut out = vec![in alloc; 0x55; bytes.len() + 1]?;
@@ -26,7 +26,7 @@ fn is_written(rt: &impl Abort, alloc: Global, apdu: &Apdu, bytes: &[u8]) -> Resu
     Ok(())
 }
 
-/// A message of so many bytes stands first, as which it is written again.
+/// A message of that many bytes comes first, as which it is written again.
 pub fn is_read(rt: &impl Abort, alloc: Global, bytes: &[u8], wanted: usize) -> Result<(), Fail> {
     let Scan::Whole((apdu, taken)) = scan(alloc, bytes)? else {
         panic!(rt; "a message stands first: {bytes:?}");
@@ -66,7 +66,7 @@ fn long_lengths(rt: HostRuntime) -> Result<(), Fail> {
     Ok(())
 }
 
-/// The message is written to the buffer so, and then this stands there.
+/// The message is written to the buffer so, and then this is there.
 fn puts(
     rt: &impl Abort,
     apdu: &Apdu,

@@ -6,7 +6,7 @@ use std::test::Fail;
 use zvt_apdu::{normalise, scan_loose};
 use zvt_grammar::{Scan, Why};
 
-/// The message of so many bytes that stands first has that strict spelling.
+/// The message of that many bytes that comes first has that strict spelling.
 fn is_normal(
     rt: &impl Abort,
     alloc: Global,

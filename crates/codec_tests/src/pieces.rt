@@ -19,7 +19,7 @@ pub type Answer = Result<FedView, FeedError>;
 
 pub const MORE: Answer = Ok(FedView::More);
 
-/// A message ended after so many bytes of the piece.
+/// A message ended after that many bytes of the piece.
 pub fn ended(taken: usize) -> Answer {
     Ok(FedView::Message { taken })
 }
@@ -39,7 +39,7 @@ pub fn viewed(stream: &mut Stream, piece: &[u8]) -> Answer {
     stream.feed_view(piece)
 }
 
-/// The kind and the bytes of the message that is lent.
+/// The kind and the bytes of the message that is borrowed.
 fn lent(stream: &Stream) -> Option<(Kind, &[u8])> {
     match stream.lent() {
         Some(apdu) => Some((apdu.kind(), apdu.bytes())),
@@ -114,7 +114,7 @@ fn a_message_is_lent_at_any_cut(rt: HostRuntime) {
     }
 }
 
-/// The size of the message at the front of the bytes, where one is all there.
+/// The size of the message at the start of the bytes, where one is all there.
 fn sized(alloc: Global, lengths: Lengths, bytes: &[u8]) -> Option<usize> {
     match viewed(&mut Stream::of(alloc, lengths), bytes) {
         Ok(FedView::Message { taken }) => Some(taken),
@@ -142,7 +142,7 @@ fn the_first_message_of_bytes_has_a_size(rt: HostRuntime) -> Result<(), Fail> {
     Ok(())
 }
 
-/// The control bytes of what is begun behind the piece.
+/// The control bytes of what is begun after the piece.
 fn head_after(stream: &mut Stream, piece: &[u8]) -> Head {
     let _ = viewed(stream, piece);
     stream.head()
@@ -165,7 +165,7 @@ fn the_control_bytes_of_an_unfinished_message(rt: HostRuntime) {
     }
 }
 
-/// The longest line to print, and 1,460 bytes behind it.
+/// The longest line to print, and 1,460 bytes after it.
 fn longest(alloc: Global) -> Result<Vec<u8>, AllocError> {
     let mut line = Vec::new(alloc);
     line.extend_from_slice(&[0x06, 0xD1, 0xFF, 0xFF, 0xFF])?;

@@ -11,7 +11,7 @@ use zvt_apdu::scan;
 use zvt_grammar::Scan;
 use zvt_stream::{FedView, FeedError, Stream, Truncated};
 
-/// The bytes of a line that are unfinished, or nothing behind a refusal.
+/// The bytes of a line that are unfinished, or nothing after a refusal.
 #[derive(Drop)]
 struct Rescan {
     held: Vec<u8>,
@@ -188,7 +188,7 @@ fn each_container_and_object_opens_a_level(rt: HostRuntime) {
     }
 }
 
-/// What a stream answers to the front of a line, and what it holds then.
+/// What a stream answers to the start of a line, and what it holds then.
 fn cut_off(alloc: Global, prefix: &[u8]) -> (Answer, (usize, Result<(), Truncated>)) {
     let mut stream = Stream::new(alloc);
     let answer = viewed(&mut stream, prefix);
@@ -228,7 +228,7 @@ const TOO_DEEP: &[u8] = &[
     0x00,
 ];
 
-/// A message and nothing behind it.
+/// A message and nothing after it.
 const MESSAGES: [&[u8]; 13] = [
     STATUS,
     PAYMENT,
@@ -245,7 +245,7 @@ const MESSAGES: [&[u8]; 13] = [
     &[0x04, 0xFF, 0x02, 0x0A, 0x01],
 ];
 
-/// Several messages, and lines that are refused: what is wrong stands at the end of each, or an acknowledgement behind it.
+/// Several messages, and lines that are refused: what is wrong is at the end of each, or an acknowledgement after it.
 const LINES: [&[u8]; 19] = [
     &[0x80, 0x00, 0x00, 0x80],
     &[0x80, 0x00, 0x00, 0x06, 0x0F, 0x00, 0x80, 0x00, 0x00],

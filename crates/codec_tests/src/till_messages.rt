@@ -6,7 +6,7 @@ use std::test::Fail;
 use zvt_apdu::{Apdu, TillMessage, encode, put_till_message, till_message_apdu};
 use zvt_bcd::{Amount, Currency};
 
-/// The brief is written as these bytes at the front of a buffer.
+/// The till message is written as these bytes at the start of a buffer.
 fn is_put_as(rt: &impl Abort, till_message: &TillMessage, bytes: &[u8]) {
     assert!(rt; bytes.len() <= 32);
     let mut wanted = [0x55; 32];
@@ -20,7 +20,7 @@ fn spelling(alloc: Global, apdu: &Apdu) -> Result<Vec<u8>, AllocError> {
     encode(alloc, apdu)
 }
 
-/// The message that the brief stands for is written as these bytes.
+/// The message that the till message represents is written as these bytes.
 fn is_encoded_as(
     rt: &impl Abort,
     alloc: Global,

@@ -15,7 +15,7 @@ pub const APPROVED: [u8; 25] = [
     0x00, 0x00, 0x17, 0x87, 0x00, 0x05, 0x06, 0x0F, 0x00,
 ];
 
-/// So many cents.
+/// That many cents.
 pub fn price(cents: u64) -> Amount
     requires some { 1 ≤ cents }
     requires few { cents ≤ 10000 }
@@ -26,7 +26,7 @@ pub fn price(cents: u64) -> Amount
     price
 }
 
-/// Whether just this payment stands in the book, and none is unclear.
+/// Whether just this payment is in the book, and none is unclear.
 pub fn has_booked(till: &Till, cents: u64, number: u32) -> bool {
     match till.book() {
         [entry] => {

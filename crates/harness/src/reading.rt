@@ -125,7 +125,7 @@ fn goes_on(fed: &Option<Fed>) -> bool {
     matches!(fed, Some(Fed::More))
 }
 
-/// Whether so many bytes of the piece end a message that is spelled so.
+/// Whether that many bytes of the piece end a message that is spelled so.
 fn ends(fed: &Option<Fed>, bytes: &[u8], wanted: usize) -> bool {
     match fed {
         Some(Fed::Message { apdu, taken }) => *taken == wanted && spells(apdu, bytes),

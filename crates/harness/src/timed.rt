@@ -39,7 +39,7 @@ pub enum Work {
     Scan,
 }
 
-/// Does the work so many times, 10,000 at most, and prints what came of it.
+/// Does the work that many times, 10,000 at most, and prints what came of it.
 pub fn run(rt: &HostRuntime, work: Work, times: u32) -> io::Result<()> {
     let times = times.min(MOST);
     match work {
@@ -62,7 +62,7 @@ pub fn run(rt: &HostRuntime, work: Work, times: u32) -> io::Result<()> {
     }
 }
 
-/// How many of so many readings of a short message find it whole.
+/// How many of that many readings of a short message find it whole.
 fn scanned(alloc: Global, times: u32) -> Result<u64, AllocError> {
     let mut whole = 0u64;
     for _ in 0..times {
@@ -97,7 +97,7 @@ fn piece(alloc: Global, bytes: &[u8]) -> Result<Event, AllocError> {
     Ok(Event::Piece(piece))
 }
 
-/// The entries of the book after a replay of so many payments, and their sum.
+/// The entries of the book after a replay of that many payments, and their sum.
 fn replayed(alloc: Global, payments: u32) -> Result<(usize, u64), AllocError>
     requires { payments ≤ 10000 }
 {
@@ -114,7 +114,7 @@ fn replayed(alloc: Global, payments: u32) -> Result<(usize, u64), AllocError>
     Ok((run.till.book().len(), run.till.total()))
 }
 
-/// The entries of the book after so many orders to pay, each run to its end over memory, and their sum.
+/// The entries of the book after that many orders to pay, each run to its end over memory, and their sum.
 fn ordered(alloc: Global, payments: u32) -> Result<(usize, u64), RunFault>
     requires { payments ≤ 10000 }
 {

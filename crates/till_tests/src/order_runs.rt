@@ -19,7 +19,7 @@ fn connected_till(rt: &impl Abort, alloc: Global) -> Till {
     till
 }
 
-/// What comes of registering where these bytes come over a stream and so many turns are made, after which this ended last:
+/// What comes of registering where these bytes come over a stream and that many turns are made, after which this ended last:
 /// what was written.
 fn registers(
     rt: &impl Abort,

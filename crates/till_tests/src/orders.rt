@@ -25,7 +25,7 @@ fn euro(rt: &impl Abort) -> Currency {
     Currency::new(978).expect(rt, "a currency")
 }
 
-/// What a till is told, and what it makes of it.
+/// What a till hears, and what it makes of it.
 #[derive(Clone, Copy)]
 enum Told {
     /// An order that is sent.
@@ -45,7 +45,7 @@ fn hear(till: &mut Till, heard: Heard) -> Reply {
     till.hear(heard)
 }
 
-/// The till is told this, one after another.
+/// The till hears this, one thing after another.
 fn goes(rt: &impl Abort, till: &mut Till, course: &[Told]) {
     for told in course {
         match *told {
@@ -268,7 +268,7 @@ fn doubting_till(rt: &impl Abort, alloc: Global) -> Till {
     till
 }
 
-/// The till's only payment was not taken back, and has this doubt. So many reversals are unclear.
+/// The till's only payment was not taken back, and has this doubt. That many reversals are unclear.
 fn doubts(rt: &impl Abort, till: &Till, doubt: Doubt, unclear: usize) {
     let row = Entry {
         doubt,

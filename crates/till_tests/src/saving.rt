@@ -93,7 +93,7 @@ fn rests(rt: &impl Abort, till: &Till, book: &[Entry], unclear: &[(Amount, Cause
     assert_eq!(rt; (till.running(), till.registered()), (None, false));
 }
 
-/// The till is saved in these bytes, and none is loaded of their front.
+/// The till is saved in these bytes, and none is loaded of their prefix.
 fn saves(rt: &impl Abort, alloc: Global, till: &Till, bytes: &[u8]) -> Result<(), Fail> {
     assert_eq!(rt; save(alloc, till)?.as_slice(), bytes);
     for cut in 0..bytes.len() {

@@ -38,7 +38,7 @@ drop_bytes k s h = (bytes_apart (take k s) (drop k s) (subst AreBytes (sym (take
 abbrev pub from : ℕ → List ℕ → List ℕ
 from k bytes = take (length bytes - k) (drop k bytes)
 
--- what stands behind the length
+-- what comes after the length
 pub inside_is : (r : Reading) (bytes : List ℕ) (o : Opening) (p : Opens r bytes o) → drop o.start bytes ≡ p.inside
 inside_is r bytes o p =
     let head = o.high ∷ o.low ∷ p.size in
@@ -64,7 +64,7 @@ pub none_whole : (r : Reading) (bytes : List ℕ) (o : Opening) (p : Opens r byt
 none_whole r bytes o p few m b rest e q =
     let g = goes_with r bytes o p m b rest e q in omega (arith, ap length g.inside_is, length-append g.content rest, g.sized)
 
--- the digits, in front of what follows
+-- the digits, before what follows
 last_digits : (a : List ℕ) (x : ℕ) → AreDigits (a ++ x ∷ []) → IsDigitPair x
 last_digits [] x p = All-head IsDigitPair x [] p
 last_digits (y ∷ a) x p = last_digits a x (All-tail IsDigitPair y (a ++ x ∷ []) p)
@@ -232,7 +232,7 @@ bytes_more r bytes inside o l h f e few are =
       none_whole = none_whole r bytes o p short;
     }
 
--- what stands first, and the bytes behind it
+-- what comes first, and the bytes after it
 pub bytes_parts : (r : Reading) (bytes inside payload : List ℕ) (o : Opening) (l : Layout) → (h : Headed r bytes o l) → l.fields ≡ false → inside ≡ drop o.start bytes → o.size ≤ length inside → payload ≡ take (o.size - l.free) (drop l.free inside) →
     (take l.free inside ++ payload ≡ take o.size h.opens.inside) × (length (take l.free inside) ≡ l.free) × (length (take l.free inside) + length payload ≡ o.size)
 bytes_parts r bytes inside payload o l h f e enough is =

@@ -1,4 +1,4 @@
--- What is alive and holds no message stands at a position.
+-- What is alive and holds no message is at a position.
 use Rattle.std.proofs.Common.{◌≡◌, ℕ, ◌+◌, ◌<◌, ◌≤◌, Bool, true, false, List, [], ◌∷◌, ◌++◌, length, refl, sym, ◌∙◌, ap, subst, append_assoc, arith, length-append, ◌⊎◌, inl, inr}
 use Rattle.std.proofs.lemmas.List.{append-nil}
 use Rattle.std.proofs.lemmas.Bool.{cases_lt, cases_Bool, false≢true}
@@ -68,7 +68,7 @@ each_stands fields r b u = by_bytes b refl (frame_of r u.alive.value (b ++ u.ali
     rest : List ℕ
     rest = u.alive.rest
 
-    -- behind a length
+    -- after a length
     trailing : (h l : ℕ) (size inside : List ℕ) (f : Frame r (b ++ rest)) → b ≡ begun h l size inside → h ≡ f.high → l ≡ f.low → size ≡ f.size → f.content ≡ inside ++ rest → 0 < length rest → Stands r b
     trailing h l size inside f whole hs ls ss content some =
         let n = length (inside ++ rest) in

@@ -46,7 +46,7 @@ listed_room r bytes o l h f =
     size_small r n (a ∷ x ∷ y ∷ []) h = omega (arith, h.2, h.3, h.4)
     size_small r n (a ∷ b ∷ c ∷ d ∷ s) h = absurd h
 
--- what the reader of fields says of the bytes behind the head
+-- what the reader of fields says of the bytes after the head
 at : (r : Reading) (bytes inside part : List ℕ) (o : Opening) (l : Layout) (p : Opens r bytes o) (q q' : Scan (List Field)) → inside ≡ drop o.start bytes → part ≡ drop (head_size l) inside → q ≡ q' → field_answers.Answers r (o.size - head_size l) part q → field_answers.Answers r (o.size - head_size l) (trailing l p.inside) q'
 at r bytes inside part o l p q q' e f is h =
     subst (λ (s : List ℕ). field_answers.Answers r (o.size - head_size l) s q') (f ∙ ap (drop (head_size l)) (e ∙ inside_is r bytes o p)) (subst (field_answers.Answers r (o.size - head_size l) part) is h)
@@ -95,17 +95,17 @@ listed_parts r high low n room size inside prefix rest head l g is f sized fille
     listed_tail true s e t = t
     listed_tail false s e t = absurd (false≢true e)
 
--- a front is a front of what stands first
+-- a prefix is a prefix of what comes first
 cut_prefix : (k : ℕ) (s t rest : List ℕ) → t ++ rest ≡ s → k ≤ length t → take k s ≡ take k t
 cut_prefix k s t rest e le = ap (take k) (sym e) ∙ take-append-le k t rest le
 
--- fields by a front and what is left
+-- fields by a prefix and what is left
 parted : (r : Reading) (fs : List Field) (room k : ℕ) (s u : List ℕ) → u ≡ take k s → FieldList r fs s → length s ≡ room →
     FieldList r fs (u ++ drop k s) × (length (u ++ drop k s) ≡ room)
 parted r fs room k s u e f l =
     subst (λ (v : List ℕ). FieldList r fs v × (length v ≡ room)) (sym (take-append-drop k s) ∙ ap (λ (v : List ℕ). v ++ drop k s) (sym e)) (f, l)
 
--- fields with nothing behind them
+-- fields with nothing after them
 ended : (r : Reading) (fs : List Field) (room : ℕ) (s u : List ℕ) → s ++ [] ≡ u → FieldList r fs s → length s ≡ room → FieldList r fs u × (length u ≡ room)
 ended r fs room s u e f l = subst (λ (v : List ℕ). FieldList r fs v × (length v ≡ room)) (sym (append-nil s) ∙ e) (f, l)
 

@@ -9,7 +9,7 @@ use Rattle.zvt_apdu.specs.Grammar.{Form, BytesFrom, FieldsFrom, Registration, ta
 use Rattle.zvt_apdu.specs.Judging.{Layout, bytes_after, fields_after, layout}
 use Rattle.zvt_apdu.proofs.Frames.{Parts, Frame, long_registration}
 
--- the control bytes stand in a row
+-- the control bytes are in a row
 abbrev pub InTable : (high low : ℕ) → Form → List (ℕ × ℕ × Form) → Type 0
 InTable high low form [] = ⊥
 InTable high low form (row ∷ rows) = ((high ≡ row.0) × (low ≡ row.1) × (form ≡ row.2)) ⊎ InTable high low form rows

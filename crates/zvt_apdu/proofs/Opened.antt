@@ -18,7 +18,7 @@ use Rattle.zvt_apdu.proofs.Frames.{Tail, Parts, frame_of}
 use Rattle.zvt_apdu.proofs.Named.{Message', message_of}
 use Rattle.zvt_apdu.proofs.Within.{frame_length_prefix}
 
--- control bytes, a length and what stands behind it
+-- control bytes, a length and what comes after it
 abbrev pub begun : (high low : ℕ) (size c : List ℕ) → List ℕ
 begun high low size c = high ∷ low ∷ (size ++ c)
 
@@ -83,7 +83,7 @@ parts_size r l b p = omega (arith, ap length p.whole, length-append p.free (p.di
 pub parts_fill : (r : Reading) (l : Layout) (b : List ℕ) → Parts r l b → can_fill l (length b) ≡ true
 parts_fill r l b p = fills_in l (length b) (omega (arith, parts_size r l b p)) (λ f one. tail_apart r l.fields p.tail p.tailed f (omega (arith, parts_size r l b p, one)))
 
--- what stands before fields or free bytes is short
+-- what comes before fields or free bytes is short
 abbrev IsShort : Option Form → Type 0
 IsShort None = Unit {0}
 IsShort (Some (BytesFrom count)) = count ≤ 4
@@ -191,7 +191,7 @@ module _ (r : Reading) (high low n : ℕ) (size : List ℕ) (small : (high < 256
           (record { value = filler room; rest = filling room; spelled = (filled r room, filling_size room (λ one. o.1 f (omega (arith, one)))) })
       by_fields (inr f) = alive_bytes free digits [] fs fb ds dd f (omega (arith, (fills_out l n fills).0)) tt
 
-  -- a front of it
+  -- a prefix of it
   prefix : (c rest : List ℕ) → Alive (Spells r) (begun high low size (c ++ rest)) → Alive (Spells r) (begun high low size c)
   prefix c rest a = prefixes_alive (Spells r) (begun high low size c) rest (subst (Alive (Spells r)) (ap (λ (s : List ℕ). high ∷ low ∷ s) (sym (append_assoc size c rest))) a)
 

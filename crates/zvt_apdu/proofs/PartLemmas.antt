@@ -32,7 +32,7 @@ data_shown m b d p x =
     let e : d ≡ p.content = x c.0 c.1 p.size p.content (p.whole ∙ ap (λ (s : List ℕ). s ++ (p.size ++ p.content)) c.2) p.is_size in
     subst (Data padded m) (sym e) p.is_content)
 
--- how many bytes stand first in the data
+-- how many bytes come first in the data
 abbrev pub head_of : Kind → ℕ
 head_of kind.Registration = 4
 head_of kind.Reversal = 3
@@ -58,7 +58,7 @@ headed m d p = omega arith
 pub head_stands : (k : Kind) (m : Message) (d : List ℕ) → ∥ Data padded m d ∥₁ → k ≡ kind_of m → head_of k ≤ length d
 head_stands k m d p e = ∥∥₁_elim p le_prop (λ p. subst (λ (k : Kind). head_of k ≤ length d) (sym e) (headed m d p))
 
--- the first byte, and what is behind it
+-- the first byte, and what is after it
 one : (x : ℕ) (rest d : List ℕ) → d ≡ (x ∷ []) ++ rest → Some (slice_index_or d 0 0) ≡ Some x
 one x rest d e = ap (λ (l : List ℕ). Some (slice_index_or l 0 0)) e
 
@@ -84,7 +84,7 @@ pub text_shown : (m : Message) (d : List ℕ) → ∥ Data padded m d ∥₁ →
 text_shown (print_line a x) d p e = ∥∥₁_elim p (Coded-set (coded_option (coded_list coded_ℕ)) _ _) (λ p. trailing a x d p.0)
 text_shown m d p e = absurd (cc (e))
 
--- a password and the byte behind it
+-- a password and the byte after it
 abbrev three : List ℕ → List ℕ
 three d = slice_index_or d 0 0 ∷ slice_index_or d 1 0 ∷ slice_index_or d 2 0 ∷ []
 
@@ -124,7 +124,7 @@ config_shown (registration w g None) d p e = ∥∥₁_elim p (Coded-set (coded_
 config_shown (registration w g (Some s)) d p e = ∥∥₁_elim p (Coded-set (coded_option coded_ℕ) _ _) (λ p. fourth w g (p.digits ++ p.listed) d p.whole p.count)
 config_shown m d p e = absurd (cc (e))
 
--- the currency behind them
+-- the currency after them
 abbrev pub two : List ℕ → List ℕ
 two d = slice_index_or d 4 0 ∷ slice_index_or d 5 0 ∷ []
 
@@ -157,7 +157,7 @@ no_currency (registration w g (Some s)) d p e n =
     absurd (omega (arith, n, ap length p.whole, length-append (w ++ g ∷ []) (p.digits ++ p.listed), length-append p.digits p.listed, p.count, p.two)))
 no_currency m d p e n = absurd (cc (e))
 
--- the payload is all of the data, or what is behind its first byte
+-- the payload is all of the data, or what is after its first byte
 abbrev pub IsPayload : Kind → Type 0
 IsPayload k = (k ≡ kind.Ack) ⊎ ((k ≡ kind.Nack) ⊎ (k ≡ kind.Other))
 

@@ -31,7 +31,7 @@ module _ {V : Type 0} (spells : V → List ℕ → Type 0) where
       by_order (inr ge) (inl lt) = absurd (place_before k j bytes q p lt)
       by_order (inr ge) (inr le) = omega arith
 
--- the part of a frame that a byte stands in, by the bytes before it and by its role
+-- the part of a frame that a byte is in, by the bytes before it and by its role
 abbrev stage_at : List ℕ → ℕ
 stage_at [] = 0
 stage_at (h ∷ []) = 1

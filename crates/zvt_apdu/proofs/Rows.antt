@@ -72,7 +72,7 @@ unknown = record {
   fails = refl;
 }
 
--- of control bytes alone nothing is kept
+-- of control bytes alone nothing is stored
 nothing_kept : TakesMemory shortest (0x06 ∷ 0x0F ∷ []) → ⊥
 nothing_kept t = no_size t.headed.opens.size t.headed.opens.inside t.opening.size t.opening.high t.opening.low t.headed.opens.is_size t.headed.opens.whole
   where

@@ -18,7 +18,7 @@ use Rattle.zvt_apdu.proofs.Frames.{short_registration, long_registration}
 pub same_message : (m : Message) (b : List ℕ) → ∥ Spells padded m b ∥₁ → (v : MessageBytes b) → v.0 ≡ m
 same_message m b p v = ap (λ (u : MessageBytes b). u.0) (message_once b v (m, p))
 
--- what stands behind the bytes before the fields
+-- what comes after the bytes before the fields
 abbrev pub InTail : Bool → List ℕ → Option (List Field) → Type 0
 InTail true tail (Some fields) = FieldList padded fields tail
 InTail true tail None = ⊥
@@ -124,7 +124,7 @@ data_after_short b high low (x ∷ y ∷ []) content e s ne = absurd s
 data_after_short b high low (x ∷ y ∷ z ∷ []) content e s ne = absurd (ne (ap (λ (l : List ℕ). slice_index_or l 2 0) e ∙ s.0))
 data_after_short b high low (x ∷ y ∷ z ∷ w ∷ size) content e s ne = absurd s
 
--- the control bytes stand first
+-- the control bytes come first
 named : (m : Message) (c : List ℕ) → IsControl m c → c ≡ control_of m
 named (ack p) c h = h
 named (nack k p) c h = h.0

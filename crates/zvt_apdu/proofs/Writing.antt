@@ -16,7 +16,7 @@ use Rattle.zvt_apdu.specs.Grammar.{IsControl, Listed, Registered, Data, IsFrameL
 use Rattle.zvt_apdu.specs.Messages.{rest_of, Fitting, HasData, HasSpelling, length_bytes, TakesControl}
 use Rattle.zvt_apdu.proofs.OneSpelling.{two_digits, one_data, one_control, length_spelled}
 
--- the fields fit behind what stands first
+-- the fields fit after what comes first
 pub listed_fits : (k n : ℕ) (first : List ℕ) (fs : List Field) (b listed : List ℕ) → Listed shortest k first fs b → length b ≤ n → FieldList shortest fs listed → length first + length listed ≤ n
 listed_fits k n first fs b listed p le q =
     omega (arith, ap length p.1, length-append first p.0, ap length (one_list_spelling fs listed p.0 q p.4), le)
@@ -133,7 +133,7 @@ data_small n m size same h s = (is_written n m size s.bytes same h s.spelled).sm
 pub size_is : (n m : Message) (head size : ℕ) (bytes : List ℕ) → n ≡ m → HasData n size → head ≡ 2 + length (length_bytes size) → Spells shortest m bytes → head + size ≡ length bytes
 size_is n m head size bytes same h e p = omega (arith, (is_written n m size bytes same h p).sized, e)
 
--- what stands behind the head has room
+-- what comes after the head has room
 pub data_fits : (n : Message) (size head at high low : ℕ) (old mid : List ℕ) → (h : HasData n size) → (head ≡ 2 + length (length_bytes size)) → head + size ≤ length old → Puts (high ∷ low ∷ length_bytes size) old mid at → Fitting n (length (from at mid))
 data_fits n size head at high low old mid h e enough p =
     let first = high ∷ low ∷ length_bytes size in

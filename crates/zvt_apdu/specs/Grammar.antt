@@ -1,4 +1,4 @@
--- The spelling of messages: two control bytes, the length of the data, the data.
+-- The spelling of messages: two control bytes, the length of the data, the data (PA00P015, general command structure).
 use Rattle.std.specs.Prelude.{◌≡◌, ℕ, ◌+◌, ◌*◌, ◌<◌, ◌≤◌, ◌==◌, ◌&&◌, cond, Option, Some, None, List, [], ◌∷◌, ◌++◌, length}
 use Rattle.zvt_bcd.specs.Digits.{AreDigits, number_of}
 use Rattle.zvt_grammar.specs.Reading.{Reading, AreBytes, least}
@@ -28,7 +28,7 @@ abbrev pub look_up : (high low : ℕ) → List (ℕ × ℕ × Form) → Option F
 look_up high low [] = None
 look_up high low (row ∷ rows) = cond ((high == row.0) && (low == row.1)) (Some row.2) (look_up high low rows)
 
--- The form of the data behind these control bytes, if they have a name of their own.
+-- The form of the data after these control bytes, if they have a name of their own.
 unfoldable pub form_of : (high low : ℕ) → Option Form
 form_of high low = cond (high == 0x84) (Some (BytesFrom 0)) (look_up high low table)
 
@@ -49,16 +49,16 @@ IsControl (completion fields) c = c ≡ 0x06 ∷ 0x0F ∷ []
 IsControl (abort code payload) c = c ≡ 0x06 ∷ 0x1E ∷ []
 IsControl (other high low payload) c = (c ≡ high ∷ low ∷ []) × (high < 256) × (low < 256) × (form_of high low ≡ None)
 
--- So many bytes, then bytes of any number.
+-- That many bytes, then bytes of any number.
 abbrev pub Free : (count : ℕ) → (first payload bytes : List ℕ) → Type 0
 Free count first payload bytes = (bytes ≡ first ++ payload) × (length first ≡ count) × AreBytes first × AreBytes payload
 
--- So many bytes, then fields.
+-- That many bytes, then fields.
 abbrev pub Listed : Reading → (count : ℕ) → (first : List ℕ) → List Field → (bytes : List ℕ) → Type 0
 Listed r count first fields bytes =
     (listed : List ℕ) × (bytes ≡ first ++ listed) × (length first ≡ count) × AreBytes first × FieldList r fields listed
 
--- So many bytes, then a currency's two bytes of digits, then fields.
+-- That many bytes, then a currency's two bytes of digits, then fields.
 pub record Registered (r : Reading) (first : List ℕ) (currency : ℕ) (fields : List Field) (bytes : List ℕ) : Type 0 where
   pub digits : List ℕ
   pub listed : List ℕ

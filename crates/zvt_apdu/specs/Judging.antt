@@ -17,14 +17,14 @@ pub use Rattle.zvt_apdu.specs.declared.frame.Opening.{Opening}
 use Rattle.zvt_apdu.specs.Message.{Message}
 use Rattle.zvt_apdu.specs.Grammar.{Form, BytesFrom, FieldsFrom, Registration, form_of, IsFrameLength, Spells}
 
--- What stands in the data of so many bytes: bytes of any value, then digits, then fields or bytes of any value.
+-- What is in the data of that many bytes: bytes of any value, then digits, then fields or bytes of any value.
 abbrev pub bytes_after : ℕ → Layout
 bytes_after count = record { free = count; digits = 0; fields = false }
 
 abbrev pub fields_after : ℕ → Layout
 fields_after count = record { free = count; digits = 0; fields = true }
 
--- The layout of data of that form and of n bytes. A registration has nothing behind its first four bytes, or a currency and fields.
+-- The layout of data of that form and of n bytes. A registration has nothing after its first four bytes, or a currency and fields.
 abbrev pub layout : Option Form → (n : ℕ) → Layout
 layout None n = bytes_after 0
 layout (Some (BytesFrom count)) n = bytes_after count
@@ -34,7 +34,7 @@ layout (Some Registration) n = cond (nat_le n 4) (bytes_after 4) (record { free 
 abbrev pub layout_of : (high low n : ℕ) → Layout
 layout_of high low n = layout (form_of high low) n
 
--- How many bytes stand before the fields or the free bytes.
+-- How many bytes come before the fields or the free bytes.
 abbrev pub head_size : Layout → ℕ
 head_size l = l.free + l.digits
 
@@ -58,7 +58,7 @@ pub data Role : Type 0 where
   digit : Role
   in_fields : (role : field.Role) → (left : ℕ) → Role
 
--- The bytes begin a message whose length stands: so many of its data's bytes are there.
+-- The bytes begin a message whose length stands: that many of its data's bytes are there.
 pub record InData (r : Reading) (bytes : List ℕ) : Type 0 where
   pub high : ℕ
   pub low : ℕ
@@ -123,7 +123,7 @@ pub record WhyOf (r : Reading) (bytes : List ℕ) (place : ℕ) (why : Why) : Ty
   pub is_byte : slice_get bytes place ≡ Some byte
   pub fails : fault r role byte ≡ Some why
 
--- A message stands first.
+-- A message comes first.
 pub record Found (r : Reading) (bytes : List ℕ) (message : Message) (size : ℕ) : Type 0 where
   pub present : size ≤ length bytes
   pub spelled : Spells r message (take size bytes)
@@ -134,7 +134,7 @@ Answers r bytes (Whole found) = Found r bytes found.0 found.1
 Answers r bytes More = Unfinished (Spells r) bytes
 Answers r bytes (Refused place why) = NoneWhole (Spells r) bytes × Place (Spells r) bytes place × WhyOf r bytes place why
 
--- Control bytes and a length stand first, and data of that length can follow.
+-- Control bytes and a length come first, and data of that length can follow.
 pub record Opens (r : Reading) (bytes : List ℕ) (opening : Opening) : Type 0 where
   pub size : List ℕ
   pub inside : List ℕ
@@ -149,26 +149,26 @@ AnswersOpening r bytes (Whole opening) = Opens r bytes opening
 AnswersOpening r bytes More = Unfinished (Spells r) bytes
 AnswersOpening r bytes (Refused place why) = NoneWhole (Spells r) bytes × Place (Spells r) bytes place × WhyOf r bytes place why
 
--- All of the data that stands before its fields or its free bytes is there.
+-- All of the data that comes before its fields or its free bytes is there.
 pub record Headed (r : Reading) (bytes : List ℕ) (opening : Opening) (head : Layout) : Type 0 where
   pub opens : Opens r bytes opening
   pub is_layout : head ≡ layout_of opening.high opening.low opening.size
   pub there : head_size head ≤ length (drop opening.start bytes)
   pub are_digits : AreDigits (take head.digits (drop head.free (drop opening.start bytes)))
 
--- What is kept behind the head: all of the free bytes, or fields of which some take memory.
+-- What is stored after the head: all of the free bytes, or fields of which some take memory.
 abbrev pub Keeps : Bool → Reading → (size : ℕ) → (head : Layout) → (content : List ℕ) → Type 0
 Keeps false r size head content = size ≤ length content
 Keeps true r size head content = fields.TakesMemory r (size - head_size head) (drop (head_size head) content)
 
--- The head of a message stands first, and what is kept behind it takes memory.
+-- The head of a message comes first, and what is stored after it takes memory.
 pub record TakesMemory (r : Reading) (bytes : List ℕ) : Type 0 where
   pub opening : Opening
   pub head : Layout
   pub headed : Headed r bytes opening head
   pub kept : Keeps head.fields r opening.size head (drop opening.start bytes)
 
--- The first byte that is no pair of digits, of so many that stand behind others.
+-- The first byte that is no pair of digits, of that many that come after others.
 pub record WrongDigit (before digits : ℕ) (bytes : List ℕ) (place : ℕ) : Type 0 where
   pub trailing : before ≤ place
   pub within : place < before + digits

@@ -1,4 +1,4 @@
--- Which of the messages one is, and the control bytes that say so.
+-- Which of the messages one is, and the control bytes that say so (PA00P015, the chapter of each command).
 use Rattle.std.specs.Prelude.{ℕ, ◌==◌, ◌&&◌, cond, List, [], ◌∷◌}
 pub use Rattle.zvt_apdu.specs.declared.kinds.Kind.{Kind}
 use Rattle.zvt_apdu.specs.declared.kinds.Kind.TheVariants as kind

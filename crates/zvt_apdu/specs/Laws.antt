@@ -18,11 +18,11 @@ use Rattle.zvt_apdu.specs.Normal.{IsNormal}
 abbrev pub MessagesEndThemselves : Type 0
 MessagesEndThemselves = (r : Reading) (m n : Message) (a b x y : List ℕ) → Spells r m a → Spells r n b → a ++ x ≡ b ++ y → (m ≡ n) × (a ≡ b)
 
--- Of a spelling with anything behind it, the answer is its message and its size.
+-- Of a spelling with anything after it, the answer is its message and its size.
 abbrev pub SpellingsAreRead : Type 0
 SpellingsAreRead = (r : Reading) (m : Message) (b rest : List ℕ) (answer : Scan (Message × ℕ)) → Spells r m b → Answers r (b ++ rest) answer → answer ≡ Whole (m, length b)
 
--- Bytes that are alive and hold no message stand at a position.
+-- Bytes that are alive and hold no message are at a position.
 abbrev pub EachBeginningStands : Type 0
 EachBeginningStands = (r : Reading) (b : List ℕ) → Unfinished (Spells r) b → (os : List Opener) × (role : Role) × Position r os b role
 
@@ -44,7 +44,7 @@ RefusalsAreOne = (r : Reading) (j k : ℕ) (b : List ℕ) (v w : Why) → Place 
 abbrev pub AnswersAreOne : Type 0
 AnswersAreOne = (r : Reading) (b : List ℕ) (p q : Scan (Message × ℕ)) → Answers r b p → Answers r b q → p ≡ q
 
--- More bytes leave each answer but More as it is: nothing behind a whole, or behind the place of a refusal, counts.
+-- More bytes leave each answer but More as it is: nothing after a whole, or after the place of a refusal, counts.
 abbrev pub AnswersStay : Type 0
 AnswersStay = (r : Reading) (bytes more : List ℕ) (q : Scan (Message × ℕ)) → q ≢ More → Answers r bytes q → Answers r (bytes ++ more) q
 
@@ -64,7 +64,7 @@ NeverNotShortest = (bytes : List ℕ) (place : ℕ) → WhyOf padded bytes place
 abbrev pub NormalsAreOne : Type 0
 NormalsAreOne = (bytes s t : List ℕ) (n k : ℕ) → IsNormal bytes s n → IsNormal bytes t k → (s ≡ t) × (n ≡ k)
 
--- A normal spelling is its own, whatever stands behind it.
+-- A normal spelling is its own, whatever comes after it.
 abbrev pub NormalsStay : Type 0
 NormalsStay = (bytes rest s : List ℕ) (n : ℕ) → IsNormal bytes s n → IsNormal (s ++ rest) s (length s)
 

@@ -1,4 +1,4 @@
--- The message that a value of the code stands for, and what it needs to have a spelling.
+-- The message that a value of the code represents, and what it needs to have a spelling.
 use Rattle.std.specs.Prelude.{◌≡◌, ◌≢◌, ℕ, ◌<◌, ◌≤◌, ◌^◌, ◌/◌, ◌%◌, cond, nat_lt, Option, Some, None, Result, Ok, Err, List, [], ◌∷◌, ◌++◌, length, drop, slice_index_or}
 use Rattle.zvt_grammar.specs.Reading.{Reading, shortest}
 use Rattle.zvt_field.specs.Grammar.{Field, FieldList}
@@ -66,19 +66,19 @@ abbrev pub FreeControl : (high low : ℕ) → Option (List ℕ) → Type 0
 FreeControl high low None = form_of high low ≢ None
 FreeControl high low (Some bytes) = (bytes ≡ high ∷ low ∷ []) × (high < 256) × (low < 256) × (form_of high low ≡ None)
 
--- The data of the message has so many bytes.
+-- The data of the message has that many bytes.
 pub record HasData (message : Message) (n : ℕ) : Type 0 where
   pub bytes : List ℕ
   pub is_data : Data shortest message bytes
   pub sized : length bytes ≡ n
 
--- The data of the message has at most so many bytes.
+-- The data of the message has at most that many bytes.
 pub record Fitting (message : Message) (room : ℕ) : Type 0 where
   pub bytes : List ℕ
   pub is_data : Data shortest message bytes
   pub fits : length bytes ≤ room
 
--- The fields have a spelling of so many bytes.
+-- The fields have a spelling of that many bytes.
 pub record ListedIn (fields : List Field) (n : ℕ) : Type 0 where
   pub bytes : List ℕ
   pub listed : FieldList shortest fields bytes
@@ -90,7 +90,7 @@ abbrev pub HasFault : Message → BadValue → Type 0
 HasFault message TooLarge = (n : ℕ) × HasData message n × (2 ^ 16 ≤ n)
 HasFault message NamedControl = TakesControl message × ((n : ℕ) × HasData message n × (n < 2 ^ 16))
 
--- The spelling stands at the front and what was behind it stays; where the slice is too short, nothing changes and its size is answered.
+-- The spelling is at the start and what was after it stays; where the slice is too short, nothing changes and its size is answered.
 abbrev pub Encodes : Message → (old new : List ℕ) → Result ℕ NoRoom → Type 0
 Encodes message old new (Ok count) = (bytes : List ℕ) → Spells shortest message bytes → (new ≡ bytes ++ drop count old) × (count ≡ length bytes) × (count ≤ length old)
 Encodes message old new (Err fault) = (bytes : List ℕ) → Spells shortest message bytes → (new ≡ old) × (fault.need ≡ length bytes) × (length old < fault.need)

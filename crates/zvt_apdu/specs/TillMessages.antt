@@ -8,7 +8,7 @@ use Rattle.zvt_apdu.specs.declared.till_message.TillMessage.TheVariants.{Ack, Na
 use Rattle.zvt_apdu.specs.Message.{Message, ack, nack, registration, authorisation, reversal, end_of_day, abort_order}
 use Rattle.zvt_apdu.specs.Grammar.{Spells}
 
--- a number in so many bytes of two digits each, the highest first
+-- a number in that many bytes of two digits each, the highest first
 abbrev pub digits : (count number : ℕ) → List ℕ
 digits zero number = []
 digits (suc count) number = (number / 100 ^ count / 10 * 16 + number / 100 ^ count % 10) ∷ digits count (number % 100 ^ count)
@@ -23,7 +23,7 @@ message_of_till_message (Reverse password receipt) = reversal password (plain 0x
 message_of_till_message (CloseDay password) = end_of_day password []
 message_of_till_message AbortOrder = abort_order []
 
--- A spelling of the message stands at the front, and what was behind it stays; the count is its size.
+-- A spelling of the message is at the start, and what was after it stays; the count is its size.
 pub record PutsMessage (message : Message) (old new : List ℕ) (count : ℕ) : Type 0 where
   pub bytes : List ℕ
   pub spelled : Spells shortest message bytes

@@ -100,7 +100,7 @@ same_listed r k f g fs gs a b e x y =
     let s = same_prefix f g x.0 y.0 (x.2 ∙ sym y.2) (sym x.1 ∙ e ∙ y.1) in
     (s.0, one_list r fs gs x.0 y.0 s.1 x.4 y.4)
 
--- a password and the byte behind it
+-- a password and the byte after it
 last_byte : (w v : List ℕ) (c d : ℕ) → w ++ c ∷ [] ≡ v ++ d ∷ [] → (w ≡ v) × (c ≡ d)
 last_byte w v c d e =
     let long : length w ≡ length v = omega (arith, ap length e, length-append w (c ∷ []), length-append v (d ∷ [])) in

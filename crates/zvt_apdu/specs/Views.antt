@@ -93,7 +93,7 @@ abbrev pub text_in : Message → Option (List ℕ)
 text_in (print_line attribute text) = Some text
 text_in _ = None
 
--- The bytes of any value behind the others.
+-- The bytes of any value after the others.
 abbrev pub payload_in : Message → Option (List ℕ)
 payload_in (ack payload) = Some payload
 payload_in (nack code payload) = Some payload

@@ -1,4 +1,4 @@
-//! The frame of a message: control bytes, a length, and what stands behind them.
+//! The frame of a message: control bytes, a length, and what comes after them.
 
 ghost use Rattle.std.specs.Prelude.{◌≡◌, ◌≤◌, length, slice_index_or};
 ghost use Rattle.zvt_grammar.specs.Lengths.{reading_of};
@@ -8,7 +8,7 @@ ghost use Rattle.zvt_apdu.specs.Judging.{AnswersOpening, JudgesSize, bytes_after
 use crate::kinds::{Kind, kind_at};
 use zvt_grammar::{Lengths, Scan, Why};
 
-/// What the data of a message is: so many bytes and then bytes of any number, so many bytes and fields, or a registration's.
+/// What the data of a message is: that many bytes and then bytes of any number, that many bytes and fields, or a registration's.
 #[derive(Clone, Copy)]
 pub(crate) enum Form {
     BytesFrom(usize),
@@ -16,7 +16,7 @@ pub(crate) enum Form {
     Registration,
 }
 
-/// What stands in data: so many bytes, so many bytes of digits, then fields, or bytes.
+/// What is in data: that many bytes, that many bytes of digits, then fields, or bytes.
 #[derive(Clone, Copy)]
 pub struct Layout {
     pub free: usize,
@@ -33,7 +33,7 @@ pub(crate) struct Opening {
     pub(crate) size: usize,
 }
 
-/// The form of the data behind these control bytes, where the message has a name of its own.
+/// The form of the data after these control bytes, where the message has a name of its own.
 #[inline(always)]
 pub(crate) fn form_of(high: u8, low: u8) -> Option<Form>
     ensures { result ≡ form_of high low }
@@ -52,7 +52,7 @@ pub(crate) fn form_of(high: u8, low: u8) -> Option<Form>
     }
 }
 
-/// The layout of data of that size behind these control bytes.
+/// The layout of data of that size after these control bytes.
 #[inline(always)]
 pub(crate) fn layout_of(high: u8, low: u8, size: usize) -> Layout
     ensures { result ≡ layout_of high low size }
@@ -87,7 +87,7 @@ fn bytes_after(count: usize) -> Layout
     }
 }
 
-/// Whether data of so many bytes can have that layout.
+/// Whether data of that many bytes can have that layout.
 fn can_fill(layout: Layout, size: usize) -> bool
     requires { head_size layout ≤ 6 }
     ensures { result ≡ can_fill layout size }
@@ -96,7 +96,7 @@ fn can_fill(layout: Layout, size: usize) -> bool
     head <= size && !(layout.fields && size == head + 1)
 }
 
-/// Judges the length of the data behind these control bytes: what stands in data of that size.
+/// Judges the length of the data after these control bytes: what is in data of that size.
 #[inline(always)]
 pub fn judge_size(high: u8, low: u8, size: usize) -> Result<Layout, Why>
     ensures { JudgesSize high low size result }

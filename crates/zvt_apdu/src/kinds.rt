@@ -34,7 +34,7 @@ pub enum Kind {
     Other,
 }
 
-/// The kind of the message that has these control bytes. The commonest stand first.
+/// The kind of the message that has these control bytes. The commonest come first.
 #[tactic(auto, unfolding(crate::specs::Kinds::kind_at))]
 #[inline(always)]
 pub fn kind_at(high: u8, low: u8) -> Kind
@@ -79,6 +79,7 @@ pub(crate) fn bytes_message(high: u8, low: u8, first: &[u8], payload: Vec<u8>) -
     }
 }
 
+/// The message of these control bytes whose data are a byte of its own, if any, and bytes of any value.
 #[inline(always)]
 fn named_bytes(high: u8, low: u8, first: &[u8], payload: Vec<u8>) -> Message
     requires named { form_of high low ≡ Some (BytesFrom (length first.now)) }
@@ -130,6 +131,7 @@ pub(crate) fn fields_message(high: u8, low: u8, first: &[u8], fields: Fields) ->
     }
 }
 
+/// The message of these control bytes whose data are a password, if any, and fields.
 #[inline(always)]
 fn named_fields(high: u8, low: u8, first: &[u8], fields: Fields) -> Message
     requires named { form_of high low ≡ Some (FieldsFrom (length first.now)) }

@@ -16,7 +16,7 @@ pub fn spellings_are_one()
     ensures { SpellingsAreOne (Spells shortest) }
 {}
 
-/// A line has one cut into messages, what is spelled at its front is a front of the cut, and more bytes leave the
+/// A line has one cut into messages, what is spelled at its start is a prefix of the cut, and more bytes leave the
 /// messages that stand.
 pub fn cuts_are_one()
     ensures one { (r : Reading) → CutsAreOne (Spells r) }
@@ -24,22 +24,22 @@ pub fn cuts_are_one()
     ensures growth { (r : Reading) → Growth (Spells r) }
 {}
 
-/// Each front of what can be completed can be completed.
+/// Each prefix of what can be completed can be completed.
 pub fn prefixes_are_alive()
     ensures { (r : Reading) → PrefixesAlive (Spells r) }
 {}
 
-/// Of a spelling with anything behind it, the answer is its message and its size.
+/// Of a spelling with anything after it, the answer is its message and its size.
 pub fn spellings_are_read()
     ensures { SpellingsAreRead }
 {}
 
-/// Each beginning that can be completed, and holds no message, stands at a position.
+/// Each beginning that can be completed, and holds no message, is at a position.
 pub fn each_beginning_stands()
     ensures { EachBeginningStands }
 {}
 
-/// The same bytes stand at one position alone.
+/// Beginnings of a message are at one position alone.
 pub fn positions_are_one()
     ensures { PositionsAreOne }
 {}

@@ -3,7 +3,7 @@
 use zvt_bcd::Currency;
 use zvt_field::Fields;
 
-/// A registration's currency, and the fields behind it.
+/// A registration's currency, and the fields after it.
 #[derive(Drop)]
 pub struct Rest {
     pub currency: Currency,

@@ -11,9 +11,9 @@ use crate::writer::encode;
 use std::alloc::{AllocError, Global};
 use zvt_grammar::Scan;
 
-/// Of the message that stands first, each length in any form that holds it, the spelling whose lengths are the shortest,
+/// Of the message that comes first, each length in any form that holds it, the spelling whose lengths are the shortest,
 /// and how many bytes the message was read from: never fewer than the spelling has. Else it answers as `scan_loose`. The
-/// only error is want of memory, where `scan_loose` has it, and for the spelling of a message that was read.
+/// only error is that memory runs out, where `scan_loose` has it, and for the spelling of a message that was read.
 pub fn normalise(alloc: Global, bytes: &[u8]) -> Result<Scan<(Vec<u8>, usize)>, AllocError>
     ensures { MatchResult result (AnswersNormal bytes.now) (λ _. WantsMemory bytes.now) }
 {

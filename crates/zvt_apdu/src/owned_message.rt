@@ -11,7 +11,7 @@ use crate::views::ApduView;
 use std::alloc::{AllocError, Global};
 use zvt_field::Fields;
 
-/// The message that a view shows, in memory of its own. The only error is want of memory, and one whose list of fields is
+/// The message that a view shows, in memory of its own. The only error is that memory runs out, and one whose list of fields is
 /// empty wants none.
 pub fn owned(alloc: Global, apdu: &ApduView<'_>) -> Result<Apdu, AllocError>
     ensures { MatchResult result (λ made. made ≡ apdu.now) (λ _. fields_in apdu.now ≢ Some []) }

@@ -12,10 +12,10 @@ use std::alloc::{AllocError, Global};
 use zvt_field::scan_fields;
 use zvt_grammar::{Lengths, Scan, Why};
 
-/// Reads the message that stands first: the message and its size, each length in its shortest form. Bytes behind it are
+/// Reads the message that comes first: the message and its size, each length in its shortest form. Bytes after it are
 /// not looked at. It answers `More` where the bytes begin a message and hold none, as the empty slice does, and refuses
-/// with the first byte after which no message can follow. The only error is want of memory, and it comes only behind the
-/// message's head, where its free bytes are all there or some of its fields are kept (`TakesMemory`).
+/// with the first byte after which no message can follow. The only error is that memory runs out, and it comes only after the
+/// message's head, where its free bytes are all there or some of its fields are stored (`TakesMemory`).
 #[inline(always)]
 pub fn scan(alloc: Global, bytes: &[u8]) -> Result<Scan<(Apdu, usize)>, AllocError>
     ensures { MatchResult result (Answers shortest bytes.now) (λ _. TakesMemory shortest bytes.now) }
@@ -23,14 +23,14 @@ pub fn scan(alloc: Global, bytes: &[u8]) -> Result<Scan<(Apdu, usize)>, AllocErr
     scan_message(alloc, bytes, Lengths::Shortest)
 }
 
-/// Reads the message that stands first, where each length may stand in any form that holds it.
+/// Reads the message that comes first, where each length may be in any form that holds it.
 pub fn scan_loose(alloc: Global, bytes: &[u8]) -> Result<Scan<(Apdu, usize)>, AllocError>
     ensures { MatchResult result (Answers padded bytes.now) (λ _. TakesMemory padded bytes.now) }
 {
     scan_message(alloc, bytes, Lengths::Padded)
 }
 
-/// Reads the message that stands first, of the lengths that the caller asks for.
+/// Reads the message that comes first, of the lengths that the caller asks for.
 #[inline(always)]
 pub fn scan_message(
     alloc: Global,
@@ -62,7 +62,7 @@ pub fn scan_message(
     }
 }
 
-/// The place of the first byte that is no pair of digits, of so many that stand behind others.
+/// The place of the first byte that is no pair of digits, of that many that come after others.
 fn wrong_digit(bytes: &[u8], free: usize, digits: usize) -> Option<usize>
     requires { free + digits ≤ 6 }
     ensures { FindsDigit free digits bytes.now result }

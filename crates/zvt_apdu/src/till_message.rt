@@ -14,7 +14,7 @@ use std::fmt;
 use zvt_bcd::{Amount, Currency, put};
 use zvt_grammar::Scan;
 
-/// The size of a buffer that each brief fits in.
+/// The size of a buffer that each till message fits in.
 pub const MAX_TILL_MESSAGE_LEN: usize = 32;
 
 /// A message that a till sends, by the few values that it is made of. Its control bytes are given in hexadecimal.
@@ -76,7 +76,7 @@ fn amount_digits(amount: Amount) -> [u8; 6]
     digits
 }
 
-/// Puts a message without data at the front, and says its size.
+/// Puts a message without data at the start, and says its size.
 fn put_bare(high: u8, low: u8, out: &mut [u8; MAX_TILL_MESSAGE_LEN]) -> usize
     ensures written { Puts (high ∷ low ∷ 0 ∷ []) out.old out.new result }
     ensures fits { result ≤ 32 }
@@ -85,7 +85,7 @@ fn put_bare(high: u8, low: u8, out: &mut [u8; MAX_TILL_MESSAGE_LEN]) -> usize
     put_bytes(&[high, low, 0], out)
 }
 
-/// Puts a message 06 at the front whose data is a password and what stands behind it, and says its size.
+/// Puts a message 06 at the start whose data is a password and what comes after it, and says its size.
 fn put_with_password(
     low: u8,
     password: [u8; 3],
@@ -104,7 +104,7 @@ fn put_with_password(
     put_after(&[0x06, low, size as u8, first, second, third], more, out)
 }
 
-/// Puts a payment at the front, and says its size.
+/// Puts a payment at the start, and says its size.
 fn put_payment(amount: Amount, currency: Currency, out: &mut [u8]) -> usize
     requires { 13 ≤ length out.old }
     ensures written { PutsMessage (message_of_till_message (TillMessage.Pay amount currency)) out.old out.new result }
@@ -114,7 +114,7 @@ fn put_payment(amount: Amount, currency: Currency, out: &mut [u8]) -> usize
     at + put_after(&[0x49], &currency_digits(currency), &mut out[at..])
 }
 
-/// Puts a reversal at the front, and says its size.
+/// Puts a reversal at the start, and says its size.
 fn put_reversal(password: [u8; 3], receipt: &[u8; 2], out: &mut [u8; MAX_TILL_MESSAGE_LEN]) -> usize
     ensures written { PutsMessage (message_of_till_message (TillMessage.Reverse password receipt.now)) out.old out.new result }
     ensures fits { result ≤ 32 }
@@ -123,7 +123,7 @@ fn put_reversal(password: [u8; 3], receipt: &[u8; 2], out: &mut [u8; MAX_TILL_ME
     put_with_password(0x30, password, &[0x87, high, low], out)
 }
 
-/// Writes the message's spelling at the front of the buffer, and says its size. It always fits, and what stands behind
+/// Writes the message's spelling at the start of the buffer, and says its size. It always fits, and what comes after
 /// it stays.
 pub fn put_till_message(
     till_message: &TillMessage,
@@ -150,7 +150,7 @@ pub fn put_till_message(
     }
 }
 
-/// The message that the brief stands for.
+/// The message that the till message represents.
 pub fn till_message_apdu(alloc: Global, till_message: &TillMessage) -> Result<Apdu, AllocError>
     ensures { IfOk result (λ apdu. apdu ≡ message_of_till_message till_message.now) }
 {

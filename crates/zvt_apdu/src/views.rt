@@ -80,7 +80,7 @@ impl<'a> ApduView<'a> {
         kind_at(high, low)
     }
 
-    /// Its data, behind its control bytes and its length.
+    /// Its data, after its control bytes and its length.
     fn data(&self) -> &'a [u8]
         ensures { ∥ Data padded self.now result.now ∥₁ }
     {
@@ -154,7 +154,7 @@ impl<'a> ApduView<'a> {
         }
     }
 
-    /// The text of a line to print, behind its attribute.
+    /// The text of a line to print, after its attribute.
     pub fn text(&self) -> Option<&'a [u8]>
         ensures { option_copied result ≡ text_in self.now }
     {
@@ -177,7 +177,7 @@ impl<'a> ApduView<'a> {
     }
 }
 
-/// The data of a message, behind its control bytes and its length.
+/// The data of a message, after its control bytes and its length.
 fn data(bytes: &[u8]) -> &[u8]
     requires { ∥ FrameFirst bytes.now ∥₁ }
     ensures { (high low : ℕ) (size content : List ℕ) → bytes.now ≡ high ∷ low ∷ (size ++ content) → IsFrameLength padded (length content) size → result.now ≡ content }

@@ -64,7 +64,7 @@ pub(crate) fn bytes_size(bytes: &[u8]) -> usize
     bytes.len()
 }
 
-/// The size of a byte and of bytes behind it.
+/// The size of a byte and of bytes after it.
 fn after_byte(byte: u8, bytes: &[u8]) -> usize
     ensures value { result ≡ 1 + length bytes.now }
     ensures bytes { AreBytes (byte ∷ bytes.now) }
@@ -136,7 +136,7 @@ fn registration_size(password: &[u8; 3], config: u8, rest: &Option<Rest>) -> usi
     }
 }
 
-/// Puts bytes at the front, and says how many.
+/// Puts bytes at the start, and says how many.
 pub(crate) fn put_bytes(bytes: &[u8], out: &mut [u8]) -> usize
     requires { length bytes.now ≤ length out.old }
     ensures { Puts bytes.now out.old out.new result }
@@ -145,7 +145,7 @@ pub(crate) fn put_bytes(bytes: &[u8], out: &mut [u8]) -> usize
     bytes.len()
 }
 
-/// Puts bytes at the front, and others behind them, and says how many.
+/// Puts bytes at the start, and others after them, and says how many.
 pub(crate) fn put_after(first: &[u8], bytes: &[u8], out: &mut [u8]) -> usize
     requires { length first.now + length bytes.now ≤ length out.old }
     ensures { Puts (first.now ++ bytes.now) out.old out.new result }
@@ -154,7 +154,7 @@ pub(crate) fn put_after(first: &[u8], bytes: &[u8], out: &mut [u8]) -> usize
     at + put_bytes(bytes, &mut out[at..])
 }
 
-/// Puts bytes at the front, and fields behind them, and says how many.
+/// Puts bytes at the start, and fields after them, and says how many.
 /// That `list` is called shows that the fields have a spelling; it does nothing else.
 fn put_listed(first: &[u8], fields: &Fields, out: &mut [u8]) -> usize
     requires { (listed : List ℕ) → FieldList shortest fields.now listed → length first.now + length listed ≤ length out.old }
@@ -165,7 +165,7 @@ fn put_listed(first: &[u8], fields: &Fields, out: &mut [u8]) -> usize
     at + write_into(fields, &mut out[at..])
 }
 
-/// Writes the data of a message at the front, and says how many bytes.
+/// Writes the data of a message at the start, and says how many bytes.
 fn write_data(message: &Message, out: &mut [u8]) -> usize
     requires { Fitting (message_of message.now) (length out.old) }
     ensures { (bytes : List ℕ) → Data shortest (message_of message.now) bytes → Puts bytes out.old out.new result }
@@ -192,7 +192,7 @@ fn write_data(message: &Message, out: &mut [u8]) -> usize
     }
 }
 
-/// Writes the data of a registration at the front, and says how many bytes.
+/// Writes the data of a registration at the start, and says how many bytes.
 fn write_registration(password: &[u8; 3], config: u8, rest: &Option<Rest>, out: &mut [u8]) -> usize
     requires { Fitting (registration password.now config (rest_of rest.now)) (length out.old) }
     ensures { (bytes : List ℕ) → Data shortest (registration password.now config (rest_of rest.now)) bytes → Puts bytes out.old out.new result }
@@ -238,7 +238,7 @@ pub fn size(apdu: &Apdu) -> usize
     head_size(size) + size
 }
 
-/// Writes the message's spelling at the front of the slice, and says its size. What stands behind it stays.
+/// Writes the message's spelling at the start of the slice, and says its size. What comes after it stays.
 /// Where the slice is too short it is left as it was.
 pub fn encode_into(apdu: &Apdu, out: &mut [u8]) -> Result<usize, NoRoom>
     ensures { Encodes apdu.now out.old out.new result }

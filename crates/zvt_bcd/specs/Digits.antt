@@ -1,4 +1,4 @@
--- Binary coded decimals: two digits in each byte, the higher one in the upper half.
+-- Binary coded decimals: two digits in each byte, the higher one in the upper half (PA00P015, BCD packed).
 use Rattle.std.specs.Prelude.{ℕ, ◌+◌, ◌*◌, ◌/◌, ◌%◌, ◌^◌, ◌≤◌, ◌&&◌, nat_le, Bool, List, [], ◌∷◌, length}
 use Rattle.std.specs.List.{All}
 

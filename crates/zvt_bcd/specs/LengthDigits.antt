@@ -10,11 +10,11 @@ abbrev pub AreLengthDigits : List ℕ → Type 0
 AreLengthDigits [] = Unit {0}
 AreLengthDigits (x ∷ xs) = (0xF0 ≤ x) × (x ≤ 0xF9) × AreLengthDigits xs
 
--- the number that digits go on to spell, behind a number that stands
+-- the number that digits go on to spell, after a number that stands
 abbrev pub counted : ℕ → List ℕ → ℕ
 counted before [] = before
 counted before (x ∷ xs) = counted (10 * before + (x - 0xF0)) xs
 
--- a length of n in so many digits
+-- a length of n in that many digits
 abbrev pub IsCount : (digits n : ℕ) → List ℕ → Type 0
 IsCount digits n size = (length size ≡ digits) × AreLengthDigits size × (counted 0 size ≡ n)

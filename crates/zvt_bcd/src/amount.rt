@@ -20,7 +20,7 @@ impl Model for Amount {
 }
 
 impl Amount {
-    /// The amount of so many units, from 1 to 999,999,999,999.
+    /// The amount of that many units, from 1 to 999,999,999,999.
     pub fn new(units: u64) -> Option<Amount>
         ensures given { IsSome result ↔ ((1 ≤ units) × (units ≤ 999999999999)) }
         ensures value { IfSome result (λ amount. amount ≡ units) }

@@ -1,4 +1,4 @@
--- How what stands behind a handle is told apart.
+-- How what a handle owns is told apart.
 use Rattle.std.proofs.Common.{refl}
 use Rattle.std.specs.Coded.{Coded, code_by, coded×, codes}
 use Rattle.zvt_till.specs.View.{TillValue}

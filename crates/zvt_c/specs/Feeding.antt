@@ -20,7 +20,7 @@ use Rattle.zvt_c.specs.Answers.{code_of_why}
 use Rattle.zvt_c.specs.Numbers.{nothing, outcome_of, silent}
 use Rattle.zvt_c.specs.Saving.{Written}
 
--- What the till is to send: nothing, or the spelling of one message at the front of the room.
+-- What the till is to send: nothing, or the spelling of one message at the start of the room.
 abbrev pub Sends : Option Outgoing → (room_before room_after : List ℕ) → (send : ℕ) → Type 0
 Sends None before after send = (send ≡ 0) × (after ≡ before)
 Sends (Some outgoing) before after send = PutsMessage (message_of_till_message outgoing.till_message) before after send
@@ -29,12 +29,12 @@ Sends (Some outgoing) before after send = PutsMessage (message_of_till_message o
 abbrev pub replied : TillState → Message → Option Outgoing
 replied state message = cond state.line_up (reply_to (heard_as message)) None
 
--- The text of a print line stands at the front of its room where it fits, and its size is told.
+-- The text of a print line is at the start of its room where it fits, and its size is reported.
 abbrev pub Prints : Option (List ℕ) → (line_before line_after : List ℕ) → (size printed : ℕ) → Type 0
 Prints None before after size printed = (after ≡ before) × (size ≡ 0) × (printed ≡ 0)
 Prints (Some text) before after size printed = Written text size before after × (printed ≡ 1)
 
--- A message leads the till from one state to another, is answered so, and is told in these numbers.
+-- A message leads the till from one state to another, is answered so, and is reported in these numbers.
 pub record TellsMessage (apdu : Message) (taken : ℕ) (before after : TillState) (room_before room_after line_before line_after : List ℕ) (answer : ZvtStep) : Type 0 where
   pub state : after ≡ step before (Heard (heard_as apdu))
   pub sends : Sends (replied before apdu) room_before room_after answer.send
@@ -45,7 +45,7 @@ pub record TellsMessage (apdu : Message) (taken : ℕ) (before after : TillState
   pub place : answer.place ≡ 0
   pub reason : answer.reason ≡ 0
 
--- What was fed leads the till from one state to another, is answered so, and is told in these numbers.
+-- What was fed leads the till from one state to another, is answered so, and is reported in these numbers.
 abbrev pub Told : Fed → (piece : List ℕ) → (before after : TillState) → (room_before room_after line_before line_after : List ℕ) → ZvtStep → (status : ℕ) → Type 0
 Told (Whole apdu taken) piece before after room_before room_after line_before line_after answer status =
     TellsMessage apdu taken before after room_before room_after line_before line_after answer × (status ≡ 0)

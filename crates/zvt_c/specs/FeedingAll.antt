@@ -23,7 +23,7 @@ added so_far one =
 abbrev pub goes_on : (piece room : ℕ) → ZvtStep → Bool
 goes_on piece room so_far = nat_lt so_far.taken piece && (nat_le 32 (room - so_far.send) && (so_far.printed == 0))
 
--- Single feeds one behind another, each of what is left of the piece, into what is left of the room.
+-- Single feeds one after another, each of what is left of the piece, into what is left of the room.
 pub data FedSoFar (before : Session) (piece room line : List ℕ) : Session → List ℕ → List ℕ → ZvtStep → Type 0 where
   start : FedSoFar before piece room line before room line nothing
   further : {end after : Session} {room_so_far rest line_so_far line_after : List ℕ} {so_far one : ZvtStep}

@@ -1,4 +1,4 @@
--- The names of what numbers stand for: each table has the numbers and the names that stand elsewhere.
+-- The names of what numbers represent: each table has the numbers and the names that are elsewhere.
 use Rattle.std.specs.Prelude.{ℕ, ◌==◌, List, [], ◌∷◌, None, option_map, unwrap_or, find, codes}
 use Rattle.zvt_grammar.specs.Names.{why_name}
 use Rattle.zvt_grammar.specs.declared.why.Why.TheVariants.{NotShortest, DoesNotFit, LengthForm, TooDeep, TagTooLong, UnknownField, NotDigit, LengthDigit}
@@ -11,7 +11,7 @@ use Rattle.zvt_snapshot.specs.Encoded.{cause_code}
 use Rattle.zvt_c.specs.Numbers.{ended}
 use Rattle.zvt_c.specs.Ordering.{status_of}
 
--- The name behind a number, or nothing, where the table lacks it.
+-- The name after a number, or nothing, where the table lacks it.
 abbrev pub name_in : List (ℕ × List ℕ) → (number : ℕ) → List ℕ
 name_in rows number = unwrap_or (option_map (λ row. row.1) (find (λ row. row.0 == number) rows)) []
 

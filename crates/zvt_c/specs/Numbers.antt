@@ -52,7 +52,7 @@ silent taken place reason outcome =
 abbrev pub nothing : ZvtStep
 nothing = silent 0 0 0 (outcome_of None)
 
--- Nothing but so many bytes to send.
+-- Nothing but that many bytes to send.
 abbrev pub only_sends : ℕ → ZvtStep
 only_sends send = record { taken = 0; send = send; place = 0; line = 0; reason = 0; message = 0; printed = 0; outcome = outcome_of None }
 

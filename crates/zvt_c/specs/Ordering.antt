@@ -35,7 +35,7 @@ status_of AlreadyReversed = 16
 status_of NoReceipt = 17
 status_of Memory = 3
 
--- An order is sent: its message stands at the front of the room, it runs, and the answer says the message's size alone. Or it is refused:
+-- An order is sent: its message is at the start of the room, it runs, and the answer says the message's size alone. Or it is refused:
 -- nothing changes, and the answer is nothing.
 pub data OrdersEnd (before : Session) (order : Order) (after : Session) (room_before room_after : List ℕ) (answer : ZvtStep) (status : ℕ) : Type 0 where
   sent : (message : Outgoing) → refusal (facts_of before.till.state) order ≡ None → message_of before.till.state.settings before.till.state.book order ≡ Some message

@@ -5,7 +5,7 @@ use denote.RawPtr.{Ptr}
 use Rattle.std.specs.Box.Ownership.{box_owns}
 use Rattle.libc.specs.Heap.{chunk}
 use Rattle.zvt_c.specs.declared.session.Session.{Session}
-use Rattle.zvt_c.specs.contracts.end.Session.{the_row}
+use Rattle.zvt_c.specs.contracts.session.Session.{the_row}
 
 abbrev pub owned : Ptr → Option Session → Fml
 owned at None = ftrue

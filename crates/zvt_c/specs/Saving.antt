@@ -1,4 +1,4 @@
--- What is saved of a handle, and what is loaded behind one.
+-- What is saved of a handle, and what is loaded of one.
 use Rattle.std.specs.Prelude.{◌≡◌, ◌⊎◌, ℕ, List, length, Option, Some, None, option_map}
 use Rattle.zvt_snapshot.specs.Encoded.{saved, saved_first, HasNoDoubts, IsKept, IsSavedAs}
 use Rattle.zvt_stream.specs.StreamState.{at_start}
@@ -8,7 +8,7 @@ use Rattle.zvt_c.specs.declared.answer.ZvtAnswer.{ZvtAnswer}
 use Rattle.zvt_c.specs.declared.session.Session.{Session}
 use Rattle.zvt_c.specs.Texts.{Writes}
 
--- The size of the bytes, which stand at the front of the room where they fit.
+-- The size of the bytes, which are at the start of the room where they fit.
 abbrev pub Written : (bytes : List ℕ) (size : ℕ) (room_before room_after : List ℕ) → Type 0
 Written bytes size before after = (size ≡ length bytes) × Writes bytes before after
 
@@ -19,7 +19,7 @@ bare status = record { size = 0; place = 0; reason = 0; status = status }
 abbrev pub sized : ℕ → ZvtAnswer
 sized size = record { size = size; place = 0; reason = 0; status = 0 }
 
--- The bytes of the till after its line was lost, which can be loaded; or nothing, where the handle is closed or memory was refused.
+-- The bytes of the till after its connection was lost, which can be loaded; or nothing, where the handle is closed or memory was refused.
 abbrev pub Saves : Option Session → (room_before room_after : List ℕ) → ZvtAnswer → Type 0
 Saves None before after answer = (after ≡ before) × (answer ≡ bare 6)
 Saves (Some end) before after answer =
@@ -30,7 +30,7 @@ abbrev pub Loads : List ℕ → Option Session → Type 0
 Loads bytes None = ⊥
 Loads bytes (Some end) = IsSavedAs bytes (step end.till.state Lost) × (end.stream ≡ at_start)
 
--- The till of this state stands behind the handle, or memory was refused.
+-- The till of this state is of the handle, or memory was refused.
 abbrev pub IsRestored : TillState → (after : Option Session) → (status : ℕ) → Type 0
 IsRestored state after status = ((status ≡ 0) × (option_map (λ end. end.till.state) after ≡ Some state)) ⊎ (status ≡ 3)
 

@@ -1,4 +1,4 @@
--- The till behind a handle.
+-- The till of a handle.
 use Rattle.std.specs.Prelude.{◌≡◌, ℕ, List, Option, Some, option_map}
 use Rattle.zvt_bcd.specs.Digits.{AreDigits, number_of}
 use Rattle.zvt_stream.specs.StreamState.{at_start}
@@ -8,7 +8,7 @@ use Rattle.zvt_c.specs.declared.handle.ZvtTill.{ZvtTill}
 
 -- What is known of the till of a handle; nothing, where the handle is closed.
 abbrev pub state_of : ZvtTill → Option TillState
-state_of handle = option_map (λ end. end.till.state) handle.shell.held
+state_of handle = option_map (λ end. end.till.state) handle.raw_handle.held
 
 -- A new till with the digits of the password, this configuration byte and currency, and a stream at the start of its line.
 abbrev pub IsNewTill : (password config currency : ℕ) → Option Session → Type 0

@@ -1,4 +1,4 @@
--- The text of the message that stands first.
+-- The text of the message that comes first.
 use Rattle.std.specs.Prelude.{◌≡◌, ℕ, List, ◌++◌, length, drop, nat_le, MatchBool}
 use Rattle.zvt_grammar.specs.Reading.{shortest}
 use Rattle.zvt_grammar.specs.declared.answer.Scan.TheVariants.{Whole}
@@ -8,7 +8,7 @@ use Rattle.zvt_text.specs.MessageTexts.{said}
 use Rattle.zvt_c.specs.declared.answer.ZvtAnswer.{ZvtAnswer}
 use Rattle.zvt_c.specs.Answers.{answer_of, Says}
 
--- The text stands at the front of the room, or nothing was written where it does not fit.
+-- The text is at the start of the room, or nothing was written where it does not fit.
 abbrev pub Writes : (text room_before room_after : List ℕ) → Type 0
 Writes text before after = MatchBool (nat_le (length text) (length before)) (after ≡ text ++ drop (length text) before) (after ≡ before)
 

@@ -5,7 +5,7 @@ ghost use Rattle.zvt_c.specs.Answers.{code_of_why, answer_of, out_of_memory};
 use zvt_apdu::Apdu;
 use zvt_grammar::{Scan, Why};
 
-/// What stands first in the bytes. `status` says which of the other numbers mean something; they are 0 else.
+/// What comes first in the bytes. `status` says which of the other numbers mean something; they are 0 else.
 #[repr(C)]
 #[derive(Clone, Copy, Drop)]
 pub struct ZvtAnswer {
@@ -35,7 +35,7 @@ pub fn reason_code(why: Why) -> u32
     }
 }
 
-/// That a whole message of that size stands first.
+/// That a whole message of that size comes first.
 pub fn found(size: usize) -> ZvtAnswer
     ensures { result ≡ record { size = size; place = 0; reason = 0; status = 0 } }
 {

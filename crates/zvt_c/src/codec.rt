@@ -10,8 +10,8 @@ use zvt_apdu::{ApduView, view};
 use zvt_grammar::Scan;
 use zvt_text::Text;
 
-/// Says what stands first in the bytes: a whole message and its size, the beginning of one, or bytes with which none
-/// begins. Bytes behind a whole message are not looked at.
+/// Says what comes first in the bytes: a whole message and its size, the beginning of one, or bytes with which none
+/// begins. Bytes after a whole message are not looked at.
 #[unsafe(no_mangle)]
 pub extern "C" fn zvt_scan(alloc: Global, bytes: &[u8], answer: &mut ZvtAnswer)
     ensures { Says bytes.now answer.new }
@@ -29,7 +29,7 @@ pub extern "C" fn zvt_scan(alloc: Global, bytes: &[u8], answer: &mut ZvtAnswer)
     };
 }
 
-/// Writes the text of the message that stands first, and answers its size: 0 where no whole message stands there, or
+/// Writes the text of the message that comes first, and answers its size: 0 where no whole message is there, or
 /// memory was refused. Where the room is less than the size nothing is written.
 #[unsafe(no_mangle)]
 pub extern "C" fn zvt_text(

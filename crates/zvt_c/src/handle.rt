@@ -10,40 +10,40 @@ use std::alloc::Global;
 #[repr(C)]
 #[derive(Drop)]
 pub struct ZvtTill {
-    pub shell: RawHandle,
+    pub raw_handle: RawHandle,
     full: bool,
-    ghost tied: { is_some shell.held ≡ full },
+    ghost tied: { is_some raw_handle.held ≡ full },
 }
 
 impl ZvtTill {
     /// A handle with no till.
     pub fn closed() -> ZvtTill
-        ensures { result.shell.held ≡ None }
+        ensures { result.raw_handle.held ≡ None }
     {
         ZvtTill {
-            shell: RawHandle::closed(),
+            raw_handle: RawHandle::closed(),
             full: false,
         }
     }
 
     /// A handle of this till.
     pub fn of(end: Box<Session>) -> ZvtTill
-        ensures { result.shell.held ≡ Some end.value }
+        ensures { result.raw_handle.held ≡ Some end.value }
     {
         ZvtTill {
-            shell: RawHandle::of(RawBox::of(end)),
+            raw_handle: RawHandle::of(RawBox::of(end)),
             full: true,
         }
     }
 
     /// Takes the till out.
     pub fn take(&mut self, alloc: Global) -> Option<Box<Session>>
-        ensures taken { option_map (λ end. end.value) result ≡ self.old.shell.held }
-        ensures closed { self.new.shell.held ≡ None }
+        ensures taken { option_map (λ end. end.value) result ≡ self.old.raw_handle.held }
+        ensures closed { self.new.raw_handle.held ≡ None }
     {
-        let ZvtTill { shell, full } = std::mem::replace(self, ZvtTill::closed());
+        let ZvtTill { raw_handle, full } = std::mem::replace(self, ZvtTill::closed());
         if full {
-            Some(shell.into_loose(alloc).into_box())
+            Some(raw_handle.into_raw_box(alloc).into_box())
         } else {
             None
         }

@@ -1,5 +1,5 @@
-//! The names of what numbers stand for, as the program writes them. Each call writes the name (ASCII, no final zero) at
-//! the front of the room where it fits, and answers its size: 0 where the number names nothing. Where the room is less
+//! The names of what numbers represent, as the program writes them. Each call writes the name (ASCII, no final zero) at
+//! the start of the room where it fits, and answers its size: 0 where the number names nothing. Where the room is less
 //! than the size nothing is written.
 ghost use Rattle.std.specs.Prelude.{◌≡◌};
 ghost use Rattle.zvt_c.specs.Names.{causes, name_in, outcomes, reasons, refusals};

@@ -28,11 +28,11 @@ pub struct ZvtOutcome {
 pub struct ZvtStep {
     /// How many bytes of the piece were taken.
     pub taken: usize,
-    /// How many bytes are to be sent: they stand at the front of `out`.
+    /// How many bytes are to be sent: they are at the start of `out`.
     pub send: usize,
     /// Where the terminal's bytes are no message, the first byte after which none can follow.
     pub place: usize,
-    /// The size of the text of the print line that was heard, which stands at the front of `line` where it fits.
+    /// The size of the text of the print line that was heard, which is at the start of `line` where it fits.
     pub line: usize,
     /// Why the terminal's bytes are no message.
     pub reason: u32,

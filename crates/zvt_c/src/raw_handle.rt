@@ -1,4 +1,4 @@
-// What a caller in C holds.
+//! The handle that a caller in C holds: one pointer.
 ghost use Rattle.std.specs.Prelude.{◌≡◌, Option, Some, None, is_some, true};
 ghost use Rattle.std.specs.Coded.{coded_option};
 ghost use Rattle.zvt_c.specs.Codes.{end_code};
@@ -9,6 +9,7 @@ use crate::session::Session;
 use std::alloc::Global;
 use std::marker::Model;
 
+/// A pointer to a session, or null where the handle is closed. The caller owns the session.
 #[repr(C)]
 #[derive(Drop)]
 pub struct RawHandle {
@@ -23,14 +24,16 @@ impl Model for RawHandle {
 }
 
 impl RawHandle {
-    pub(crate) fn of(loose: RawBox<Session, Global>) -> RawHandle
-        ensures { result.held ≡ Some loose.value }
+    /// The handle of a session.
+    pub(crate) fn of(boxed: RawBox<Session, Global>) -> RawHandle
+        ensures { result.held ≡ Some boxed.value }
     {
-        let RawBox { at, alloc } = loose;
+        let RawBox { at, alloc } = boxed;
         RawHandle { at: at as *mut u8 }
     }
 
-    pub(crate) fn into_loose(self, alloc: Global) -> RawBox<Session, Global>
+    /// The session of an open handle.
+    pub(crate) fn into_raw_box(self, alloc: Global) -> RawBox<Session, Global>
         requires { is_some self.held ≡ true }
         ensures { self.held ≡ Some result.value }
     {
@@ -41,6 +44,7 @@ impl RawHandle {
         }
     }
 
+    /// A closed handle: a null pointer.
     pub(crate) fn closed() -> RawHandle
         ensures { result.held ≡ None }
     {

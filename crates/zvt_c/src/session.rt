@@ -1,4 +1,4 @@
-//! What stands behind a handle.
+//! What a handle owns.
 
 use zvt_stream::Stream;
 use zvt_till::Till;

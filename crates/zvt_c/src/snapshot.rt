@@ -36,8 +36,8 @@ pub extern "C" fn zvt_till_save(
     room: &mut [u8],
     answer: &mut ZvtAnswer,
 )
-    ensures same { till.new.shell.held ≡ till.old.shell.held }
-    ensures said { Saves till.old.shell.held room.old room.new answer.new }
+    ensures same { till.new.raw_handle.held ≡ till.old.raw_handle.held }
+    ensures said { Saves till.old.raw_handle.held room.old room.new answer.new }
 {
     let Some(end) = till.take(alloc) else {
         *answer = bare(6);
@@ -55,15 +55,15 @@ pub extern "C" fn zvt_till_save(
     *till = ZvtTill::of(end);
 }
 
-/// Makes the till that the bytes were saved of behind the handle: its line is down, and no order runs. A till that was
-/// behind it is freed. The status is 0; 2 where the bytes are no till's, or 3 out of memory, and then nothing changes.
+/// Makes the till that the bytes were saved of after the handle: its line is down, and no order runs. A till that was
+/// before is freed. The status is 0; 2 where the bytes are no till's, or 3 out of memory, and then nothing changes.
 #[unsafe(no_mangle)]
 pub extern "C" fn zvt_till_load(alloc: Global, till: &mut ZvtTill, bytes: &[u8]) -> u32
-    ensures made { result ≡ 0 → Loads bytes.now till.new.shell.held }
-    ensures restores { Restores bytes.now till.new.shell.held result }
-    ensures first { RestoresFirst bytes.now till.new.shell.held result }
+    ensures made { result ≡ 0 → Loads bytes.now till.new.raw_handle.held }
+    ensures restores { Restores bytes.now till.new.raw_handle.held result }
+    ensures first { RestoresFirst bytes.now till.new.raw_handle.held result }
     ensures status { (result ≡ 0) ⊎ ((result ≡ 2) ⊎ (result ≡ 3)) }
-    ensures unchanged { (result ≡ 0 → ⊥) → till.new.shell.held ≡ till.old.shell.held }
+    ensures unchanged { (result ≡ 0 → ⊥) → till.new.raw_handle.held ≡ till.old.raw_handle.held }
 {
     let loaded = match load(alloc, bytes) {
         Ok(loaded) => loaded,

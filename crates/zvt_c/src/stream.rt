@@ -29,8 +29,8 @@ pub extern "C" fn zvt_till_feed(
     out: &mut [u8],
     answer: &mut ZvtStep,
 ) -> u32
-    ensures full { MatchBool (nat_lt (length out.old) 32) ((till.new.shell.held ≡ till.old.shell.held) × (out.new ≡ out.old) × (answer.new ≡ nothing) × (result ≡ 4))
-        (FeedsHandle till.old.shell.held piece.now till.new.shell.held out.old out.new answer.new result) }
+    ensures full { MatchBool (nat_lt (length out.old) 32) ((till.new.raw_handle.held ≡ till.old.raw_handle.held) × (out.new ≡ out.old) × (answer.new ≡ nothing) × (result ≡ 4))
+        (FeedsHandle till.old.raw_handle.held piece.now till.new.raw_handle.held out.old out.new answer.new result) }
 {
     if lacks_room(out, answer) {
         return 4;
@@ -44,7 +44,7 @@ pub extern "C" fn zvt_till_feed(
 }
 
 /// Feeds bytes of the terminal message by message: up to their end, to a print line, or to where `out` has room for
-/// fewer than 32 more. The answers stand in `out` one behind another, and are all to be sent, whatever the status is. The
+/// fewer than 32 more. The answers are in `out` one after another, and are all to be sent, whatever the status is. The
 /// text of the print line is written to `line` where it fits. The caller feeds what was not taken again.
 #[unsafe(no_mangle)]
 pub extern "C" fn zvt_till_feed_all(
@@ -55,8 +55,8 @@ pub extern "C" fn zvt_till_feed_all(
     line: &mut [u8],
     answer: &mut ZvtStep,
 ) -> u32
-    ensures { MatchBool (nat_lt (length out.old) 32) ((till.new.shell.held ≡ till.old.shell.held) × (out.new ≡ out.old) × (line.new ≡ line.old) × (answer.new ≡ nothing) × (result ≡ 4))
-        (FeedsAllHandle till.old.shell.held piece.now till.new.shell.held out.old out.new line.old line.new answer.new result) }
+    ensures { MatchBool (nat_lt (length out.old) 32) ((till.new.raw_handle.held ≡ till.old.raw_handle.held) × (out.new ≡ out.old) × (line.new ≡ line.old) × (answer.new ≡ nothing) × (result ≡ 4))
+        (FeedsAllHandle till.old.raw_handle.held piece.now till.new.raw_handle.held out.old out.new line.old line.new answer.new result) }
 {
     if lacks_room(out, answer) {
         return 4;
@@ -158,7 +158,7 @@ fn put_line(apdu: &ApduView<'_>, line: &mut [u8]) -> (usize, u32)
     (size, 1)
 }
 
-/// Lets the till hear a message that ends behind so many bytes of the piece, and tells all of it.
+/// Lets the till hear a message that ends after that many bytes of the piece, and tells all of it.
 fn tell(
     till: &mut Till,
     apdu: &ApduView<'_>,

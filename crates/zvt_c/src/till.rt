@@ -21,7 +21,7 @@ use zvt_bcd::{Amount, Currency};
 use zvt_stream::Stream;
 use zvt_till::{Cause, Happening, Order, Outgoing, Till};
 
-/// Makes a till, whose line is down, behind the handle. A till that was behind it is freed. The password and the
+/// Makes a till, whose line is down, for the handle. A till that it had after it is freed. The password and the
 /// configuration byte go into a registration as they are. Where the answer is not 0 nothing changes.
 #[unsafe(no_mangle)]
 pub extern "C" fn zvt_till_new(
@@ -31,9 +31,9 @@ pub extern "C" fn zvt_till_new(
     config: u8,
     currency: u16,
 ) -> u32
-    ensures made { result ≡ 0 → IsNewTill password config currency till.new.shell.held }
+    ensures made { result ≡ 0 → IsNewTill password config currency till.new.raw_handle.held }
     ensures argument { MatchBool (nat_le password 999999 && nat_le currency 9999) ((result ≡ 0) ⊎ (result ≡ 3)) (result ≡ 5) }
-    ensures unchanged { (result ≡ 0 → ⊥) → till.new.shell.held ≡ till.old.shell.held }
+    ensures unchanged { (result ≡ 0 → ⊥) → till.new.raw_handle.held ≡ till.old.raw_handle.held }
 {
     let Some(currency) = Currency::new(currency) else {
         return 5;
@@ -69,8 +69,8 @@ pub extern "C" fn zvt_till_free(alloc: Global, till: &mut ZvtTill)
 #[unsafe(no_mangle)]
 pub extern "C" fn zvt_till_connected(alloc: Global, till: &mut ZvtTill) -> u32
     ensures state { state_of till.new ≡ option_map (λ state. step state Happening.Connected) (state_of till.old) }
-    ensures stream { option_map (λ end. end.stream) till.new.shell.held ≡ option_map (λ _. at_start) till.old.shell.held }
-    ensures said { MatchOption till.old.shell.held (result ≡ 6) (λ _. result ≡ 0) }
+    ensures stream { option_map (λ end. end.stream) till.new.raw_handle.held ≡ option_map (λ _. at_start) till.old.raw_handle.held }
+    ensures said { MatchOption till.old.raw_handle.held (result ≡ 6) (λ _. result ≡ 0) }
 {
     let Some(mut end) = till.take(alloc) else {
         return 6;
@@ -81,11 +81,11 @@ pub extern "C" fn zvt_till_connected(alloc: Global, till: &mut ZvtTill) -> u32
     0
 }
 
-/// The line was lost, and with it a running order.
+/// The connection was lost, and with it a running order.
 #[unsafe(no_mangle)]
 pub extern "C" fn zvt_till_lost(alloc: Global, till: &mut ZvtTill, answer: &mut ZvtStep) -> u32
     ensures state { state_of till.new ≡ option_map (λ state. step state Happening.Lost) (state_of till.old) }
-    ensures said { MatchOption till.old.shell.held ((result ≡ 6) × (answer.new ≡ nothing)) (λ end. (result ≡ 0) × (answer.new ≡ silent 0 0 0 (outcome_of (outcome_at end.till.state Happening.Lost)))) }
+    ensures said { MatchOption till.old.raw_handle.held ((result ≡ 6) × (answer.new ≡ nothing)) (λ end. (result ≡ 0) × (answer.new ≡ silent 0 0 0 (outcome_of (outcome_at end.till.state Happening.Lost)))) }
 {
     *answer = no_step();
     let Some(mut end) = till.take(alloc) else {
@@ -96,7 +96,7 @@ pub extern "C" fn zvt_till_lost(alloc: Global, till: &mut ZvtTill, answer: &mut 
     0
 }
 
-/// Writes a message at the front of `out`, which has room for it, and says its size.
+/// Writes a message at the start of `out`, which has room for it, and says its size.
 pub(crate) fn write_message(outgoing: &Outgoing, out: &mut [u8]) -> usize
     requires { 32 ≤ length out.old }
     ensures written { PutsMessage (message_of_till_message outgoing.now.till_message) out.old out.new result }
@@ -128,8 +128,8 @@ pub extern "C" fn zvt_till_order(
     out: &mut [u8],
     answer: &mut ZvtStep,
 ) -> u32
-    ensures { MatchBool (nat_lt (length out.old) 32) ((till.new.shell.held ≡ till.old.shell.held) × (out.new ≡ out.old) × (answer.new ≡ nothing) × (result ≡ 4))
-        (OrdersHandle till.old.shell.held kind number till.new.shell.held out.old out.new answer.new result) }
+    ensures { MatchBool (nat_lt (length out.old) 32) ((till.new.raw_handle.held ≡ till.old.raw_handle.held) × (out.new ≡ out.old) × (answer.new ≡ nothing) × (result ≡ 4))
+        (OrdersHandle till.old.raw_handle.held kind number till.new.raw_handle.held out.old out.new answer.new result) }
 {
     if lacks_room(out, answer) {
         return 4;
@@ -145,7 +145,7 @@ pub extern "C" fn zvt_till_order(
     status
 }
 
-/// Gives the till behind a handle an order.
+/// Gives the till of a handle an order.
 fn give(end: &mut Session, order: Order, out: &mut [u8], answer: &mut ZvtStep) -> u32
     requires { 32 ≤ length out.old }
     ensures { OrdersEnd end.old order end.new out.old out.new answer.new result }
@@ -168,8 +168,8 @@ fn give(end: &mut Session, order: Order, out: &mut [u8], answer: &mut ZvtStep) -
 /// The state of the till.
 #[unsafe(no_mangle)]
 pub extern "C" fn zvt_till_state(alloc: Global, till: &mut ZvtTill, state: &mut ZvtState) -> u32
-    ensures same { till.new.shell.held ≡ till.old.shell.held }
-    ensures said { MatchOption till.old.shell.held (result ≡ 6) (λ end. (result ≡ 0) × IsStateOf end state.new) }
+    ensures same { till.new.raw_handle.held ≡ till.old.raw_handle.held }
+    ensures said { MatchOption till.old.raw_handle.held (result ≡ 6) (λ end. (result ≡ 0) × IsStateOf end state.new) }
 {
     let Some(end) = till.take(alloc) else {
         return 6;
@@ -196,8 +196,8 @@ pub extern "C" fn zvt_till_entry(
     place: usize,
     entry: &mut ZvtEntry,
 ) -> u32
-    ensures same { till.new.shell.held ≡ till.old.shell.held }
-    ensures row { MatchOption till.old.shell.held (result ≡ 6) (λ end. MatchOption (slice_get end.till.state.book place) (result ≡ 5) (λ row. (result ≡ 0) × (entry.new ≡ row_of row))) }
+    ensures same { till.new.raw_handle.held ≡ till.old.raw_handle.held }
+    ensures row { MatchOption till.old.raw_handle.held (result ≡ 6) (λ end. MatchOption (slice_get end.till.state.book place) (result ≡ 5) (λ row. (result ≡ 0) × (entry.new ≡ row_of row))) }
 {
     let Some(end) = till.take(alloc) else {
         return 6;
@@ -231,8 +231,8 @@ pub extern "C" fn zvt_till_unclear(
     place: usize,
     entry: &mut ZvtEntry,
 ) -> u32
-    ensures same { till.new.shell.held ≡ till.old.shell.held }
-    ensures row { MatchOption till.old.shell.held (result ≡ 6) (λ end. MatchOption (slice_get end.till.state.unclear place) (result ≡ 5) (λ row. (result ≡ 0) × (entry.new ≡ unclear_row_of row))) }
+    ensures same { till.new.raw_handle.held ≡ till.old.raw_handle.held }
+    ensures row { MatchOption till.old.raw_handle.held (result ≡ 6) (λ end. MatchOption (slice_get end.till.state.unclear place) (result ≡ 5) (λ row. (result ≡ 0) × (entry.new ≡ unclear_row_of row))) }
 {
     let Some(end) = till.take(alloc) else {
         return 6;

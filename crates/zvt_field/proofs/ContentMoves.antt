@@ -24,7 +24,7 @@ use Rattle.zvt_field.proofs.HeadMoves.{failed}
 abbrev pub is_bad : ℕ → Bool
 is_bad byte = not (is_digit_pair byte)
 
--- where the first one stands, and what stands before it
+-- where the first one stands, and what comes before it
 record FirstBad (content : List ℕ) (at : ℕ) : Type 0 where
   pub present : at < length content
   pub fails : is_digit_pair (get_or content at 0) ≡ false
@@ -97,11 +97,11 @@ start_size r room bytes head h = omega (arith, ap length h.whole, length-take-le
 pub content_small : (r : Reading) (room : ℕ) (bytes : List ℕ) (head : Head) → HeadFound r room bytes head → head.start + head.size ≤ room
 content_small r room bytes head h = omega (arith, (begun r room bytes head h).sized, start_size r room bytes head h)
 
--- the head and so many bytes
+-- the head and that many bytes
 taken : (r : Reading) (room k : ℕ) (bytes : List ℕ) (head : Head) (h : HeadFound r room bytes head) → take (head.start + k) bytes ≡ h.bmp ∷ (h.size ++ take k (drop head.start bytes))
 taken r room k bytes head h = take_from head.start k bytes ∙ ap (λ (s : List ℕ). s ++ take k (drop head.start bytes)) h.whole
 
--- alive with so many bytes of the content
+-- alive with that many bytes of the content
 alive_with : (r : Reading) (room k : ℕ) (bytes : List ℕ) (head : Head) (h : HeadFound r room bytes head) → k ≤ head.size → IsContent head.digits (take k (drop head.start bytes)) → AliveIn r room (take (head.start + k) bytes)
 alive_with r room k bytes head h le is =
     let c = begun r room bytes head h in

@@ -12,7 +12,7 @@ use Rattle.zvt_field.specs.Answers.{HeadFound}
 use Rattle.zvt_field.proofs.Counts.{alive_least, count_head, length_digit, digits_joined, counted_joined}
 use Rattle.zvt_field.proofs.HeadMoves.{failed, passed}
 
--- so many digits of a length are read, and spell that number
+-- that many digits of a length are read, and spell that number
 pub record CountTo (r : Reading) (room : ℕ) (bytes : List ℕ) (digits number k : ℕ) : Type 0 where
   pub bmp : ℕ
   pub size : List ℕ

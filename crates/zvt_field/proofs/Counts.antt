@@ -47,7 +47,7 @@ pub counted_joined : (v : ℕ) (a b : List ℕ) → counted v (a ++ b) ≡ count
 counted_joined v [] b = refl
 counted_joined v (x ∷ a) b = counted_joined (10 * v + (x - 0xF0)) a b
 
--- the least number that so many more digits spell
+-- the least number that that many more digits spell
 abbrev pub least_count : (more v : ℕ) → ℕ
 least_count zero v = v
 least_count (suc more) v = least_count more (10 * v)
@@ -288,7 +288,7 @@ fit_here r (in_content digits) b left x (bmp, size, part, n, e, head, short) lt 
     (fit_content r bmp n digits size part (length b + suc left) left x head short lt (subst (AliveIn r (length b + suc left)) e a))
 fit_here r (in_container at role) b left x h lt a = absurd h
 
--- behind complete fields
+-- after complete fields
 fit_after : (r : Reading) (room inner : ℕ) (fs : List Field) (done c b : List ℕ) (x : ℕ) (o : Option Why) → FieldList r fs done → b ≡ done ++ c → length done + inner ≡ room →
     Says o (AliveIn r inner (c ++ x ∷ [])) → Says o (AliveIn r room (b ++ x ∷ []))
 fit_after r room inner fs done c b x o p e total says =

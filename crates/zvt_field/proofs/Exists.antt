@@ -1,4 +1,4 @@
--- Each beginning that can be completed, and is not whole, stands at a position.
+-- Each beginning that can be completed, and is not whole, is at a position.
 use Rattle.std.proofs.Common.{◌≡◌, ℕ, ◌+◌, ◌-◌, ◌<◌, ◌≤◌, Bool, Option, Some, None, List, [], ◌∷◌, ◌++◌, length, refl, sym, ◌∙◌, ap, subst, arith, length-append, ◌⊎◌, suc, inl, inr}
 use Rattle.std.proofs.lemmas.List.{append-nil}
 use Rattle.zvt_bcd.specs.LengthDigits.{AreLengthDigits, counted}
@@ -32,7 +32,7 @@ counts_head (Some Ll) d n s b z m h e = (omega (arith, h.1.0, ap length e, lengt
 counts_head (Some Lll) d n s b z m h e = (omega (arith, h.1.0, ap length e, length-append b (z ∷ m)), digits_prefix b (z ∷ m) (subst AreLengthDigits e h.1.1))
 counts_head (Some Tree) d n s b z m h e = absurd h
 
--- a front of one field
+-- a prefix of one field
 field_stands : (r : Reading) (room : ℕ) (f : Field) (one b : List ℕ) (z : ℕ) (m : List ℕ) → FieldOf r f one → one ≡ b ++ z ∷ m → length one ≤ room → Stands r room b
 field_stands r room f one [] z m p e le = plainly r room [] name refl (omega (arith, le, ap length e))
 field_stands r room (plain bmp content) one (x ∷ b) z m p e le =
@@ -73,7 +73,7 @@ field_stands r room (tree bmp objects) one (x ∷ b) z m p e le =
       };
     }
 
--- a front of fields
+-- a prefix of fields
 list_stands : (r : Reading) (fs : List Field) (s b : List ℕ) (y : ℕ) (x : List ℕ) → FieldList r fs s → s ≡ b ++ y ∷ x → Stands r (length s) b
 list_stands r [] s b y x p e = absurd (omega (arith, ap length p, ap length e, length-append b (y ∷ x)))
 list_stands r (f ∷ fs) s b y x (one, after, whole, p, more) e = by_field (λ c h. list_stands r fs after c y x more h) (split one after b (y ∷ x) (sym whole ∙ e))
@@ -94,7 +94,7 @@ list_stands r (f ∷ fs) s b y x (one, after, whole, p, more) e = by_field (λ c
           position = subst (λ (n : ℕ). Position r n h.openers b h.role h.left) total (subst (λ (v : List ℕ). Position r (length one + length after) h.openers v h.role h.left) (sym q.1) position);
         }
 
--- what is alive and not whole stands at a position
+-- what is alive and not whole is at a position
 pub alive_stands : (r : Reading) (room : ℕ) (b : List ℕ) → AliveIn r room b → length b < room → Stands r room b
 alive_stands r room b a lt = more a.rest refl
   where

@@ -11,7 +11,7 @@ list_joined r [] gs a b p q = let e : b ≡ a ++ b = rw p refl in subst (FieldLi
 list_joined r (f ∷ fs) gs a b (one, after, whole, p, more) q =
     (one, after ++ b, ap (λ (s : List ℕ). s ++ b) whole ∙ append_assoc one after b, p, list_joined r fs gs after b more q)
 
--- what follows the fields that stand first is fields
+-- what follows the fields that come first is fields
 pub after_fields : (r : Reading) (fs gs : List Field) (a s : List ℕ) → FieldList r fs a → FieldList r gs (a ++ s) → (hs : List Field) × FieldList r hs s
 after_fields r [] gs a s p q = (gs, let e : a ++ s ≡ s = rw p refl in subst (FieldList r gs) e q)
 after_fields r (f ∷ fs) [] a s (one, after, whole, p, more) q =
@@ -57,7 +57,7 @@ filled r (suc (suc zero)) = (0x27 ∷ 0 ∷ [], [], refl, small_field r, refl)
 filled r (suc (suc (suc zero))) = (0x0E ∷ 0 ∷ 0 ∷ [], [], refl, other_field r, refl)
 filled r (suc (suc (suc (suc n)))) = (0x27 ∷ 0 ∷ [], filling (suc (suc n)), refl, small_field r, filled r (suc (suc n)))
 
--- behind complete fields
+-- after complete fields
 pub alive_joined : (r : Reading) (room : ℕ) (fs : List Field) (a b : List ℕ) → FieldList r fs a → AliveIn r room b → AliveIn r (length a + room) (a ++ b)
 alive_joined r room fs a b p h = record {
   value = fs ++ h.value;

@@ -59,7 +59,7 @@ list_parted r (f ∷ fs) gs s (one, after, whole, p, more) =
       others = k.others;
     }
 
--- fields that stand first have a spelling where all of them have one
+-- fields that come first have a spelling where all of them have one
 pub spelled_prefix : (fs gs : List Field) → HaveSpelling (fs ++ gs) → HaveSpelling fs
 spelled_prefix fs gs h =
     let k = list_parted shortest fs gs h.bytes h.spelled in

@@ -19,7 +19,7 @@ use Rattle.zvt_field.proofs.FieldLists.{head_prefix, after_fields, field_size}
 use Rattle.zvt_field.proofs.Counts.{head_count, no_tree, alive_prefix}
 use Rattle.zvt_field.proofs.Fit.{tree_head}
 
--- no complete field stands first
+-- no complete field comes first
 unfoldable pub Open : Reading → List ℕ → Type 0
 Open r c = (f : Field) (m x : List ℕ) → FieldOf r f m → c ≡ m ++ x → ⊥
 
@@ -129,7 +129,7 @@ not_tree (in_content digits) b bmp inside (bmp', size, part, n, w, head, short) 
     tree_head (shape_of bmp') digits n size head (ap shape_of names ∙ is)
 not_tree (in_container at role) b bmp inside p e is = p
 
--- two positions behind the same bytes are one
+-- two positions after the same bytes are one
 pub data Stands (r : Reading) (room : ℕ) (b : List ℕ) (role : Role) (left : ℕ) : Type 0 where
   plainly : Here r room b role left → Stands r room b role left
   inside : (os : List judging.Opener) (at : ℕ) (inner : judging.Role) → role ≡ in_container at inner → Within r room os b at inner left → Stands r room b role left

@@ -38,7 +38,7 @@ three_digits n (x ∷ y ∷ z ∷ []) (long, are, e) =
     (cc (high, middle, low), omega (arith, are.0, are.1, are.2.0, are.2.1, are.2.2.0, are.2.2.1, e))
 three_digits n (x ∷ y ∷ z ∷ w ∷ size) h = absurd (omega (arith, h.0))
 
--- what stands before a content is one list
+-- what comes before a content is one list
 pub head_spelled : (o : Option Shape) (digits : Bool) (n : ℕ) (size : List ℕ) → IsHead o digits n size → (size ≡ count_bytes o n) × (count_holds o n ≡ true)
 head_spelled None d n s h = absurd h
 head_spelled (Some (Fixed m)) d n s h = (h.2, refl)
@@ -137,7 +137,7 @@ has_spelling (tree bmp objects) s is size digits parts =
       small = omega (arith, field_sized (tree bmp objects), t.1);
     }
 
--- a size that is kept is that of each spelling
+-- a size that is stored is that of each spelling
 pub size_once : (fs gs : List Field) (size : ℕ) (bytes : List ℕ) → HaveSize fs size → fs ≡ gs → FieldList shortest gs bytes → size ≡ length bytes
 size_once fs gs size bytes h same p =
     omega (arith, h.sized, ap length (list_spelled fs h.bytes h.spelled), ap (λ (x : List Field). length (spelling_of_all x)) same, ap length (list_spelled gs bytes p))

@@ -1,4 +1,4 @@
--- Facts on views: the field that stands first in bytes that spell fields, and what is behind it.
+-- Facts on views: the field that comes first in bytes that spell fields, and what is after it.
 use Rattle.std.proofs.Common.{◌≡◌, ℕ, ◌+◌, ◌-◌, ◌<◌, ◌≤◌, true, false, Bool, Option, Some, None, List, [], ◌∷◌, ◌++◌, length, take, drop, slice_index_or, refl, sym, ◌∙◌, ap, subst, append_assoc, arith, length-append, suc, filter, is_some, cond, count_by, Bor}
 use Rattle.std.specs.Prelude.{IfSome, not, ◌==◌}
 use Rattle.std.proofs.lemmas.List.Elements.{filter_passes}
@@ -25,7 +25,7 @@ use Rattle.zvt_field.specs.Lent.{shown, all_shown}
 use Rattle.zvt_field.proofs.NamedLemmas.{sole_named, digits_of, fixed_of}
 use Rattle.zvt_field.specs.UniqueDecoding.{field_size}
 
--- what stands before a content
+-- what comes before a content
 pub lead_two : (o : Option Shape) (b : List ℕ) → o ≡ Some Ll → LeadFirst o b → 2 ≤ length b
 lead_two o b e (n, size, after, w, l) =
     let k = subst (λ (o : Option Shape). IsLead o n size) e l in omega (arith, k.1.0, ap length w, length-append size after)
@@ -45,7 +45,7 @@ lead_of (Some Ll) d n size p = (refl, p.1)
 lead_of (Some Lll) d n size p = (refl, p.1)
 lead_of (Some Tree) d n size p = absurd p
 
--- the parts of the field that stands first
+-- the parts of the field that comes first
 pub record First (f : Field) (fs : List Field) (b : List ℕ) : Type 0 where
   pub bmp : ℕ
   pub size : List ℕ
@@ -80,7 +80,7 @@ first_of (tree bmp o) fs b (one, after, whole, p, more) = record {
   others = more;
 }
 
--- the bytes behind the first
+-- the bytes after the first
 abbrev pub tail : List ℕ → List ℕ
 tail b = take (length b - 1) (drop 1 b)
 
@@ -101,7 +101,7 @@ content_first (f ∷ fs) b o p some e =
     let shapes : shape_of k.bmp ≡ o = ap shape_of (sym (first_is b k.bmp _ k.whole)) ∙ sym e in
     (k.size, k.content, k.after, tail_is b k.bmp _ k.whole, subst (λ (o : Option Shape). IsLead o (length k.content) k.size) shapes k.lead)
 
--- what a walk found is what stands first
+-- what a walk found is what comes first
 abbrev pub Exact : (o : Option Shape) → (b c a : List ℕ) → Type 0
 Exact o b c a = (size content after : List ℕ) → tail b ≡ size ++ (content ++ after) → IsLead o (length content) size → (c ≡ content) × (a ≡ after)
 
@@ -212,7 +212,7 @@ pub found_all : (bmp : ℕ) (fs left : List Field) (found : Option FieldView) �
 found_all bmp fs left None h e = ap sole (sym (h ∙ ap (filter (is_named bmp)) e))
 found_all bmp fs left (Some w) h e = ap sole (sym (h ∙ ap (λ (l : List Field). shown w ∷ filter (is_named bmp) l) e))
 
--- so many stand so far
+-- that many stand so far
 counted : (p : Field → Bool) (f : Field) (fs : List Field) → count_by p (f ∷ fs) ≡ cond (p f) 1 0 + count_by p fs
 counted p f fs = sum_by-cons (λ x. cond (p x) 1 0) f fs
 

@@ -1,4 +1,4 @@
--- The writer puts the spelling of each field behind those that stand.
+-- The writer puts the spelling of each field after those that stand.
 use Rattle.std.proofs.Common.{◌≡◌, ℕ, ◌+◌, ◌<◌, ◌≤◌, List, [], ◌∷◌, ◌++◌, length, take, drop, get_or, sym, ◌∙◌, ap, subst, arith, length-append, length-drop}
 use Rattle.std.proofs.lemmas.List.{append-nil, take_more, take_rest, take_all, take-append-drop}
 use Rattle.std.specs.declared.vec.Vec.{Vec}

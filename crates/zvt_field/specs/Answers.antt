@@ -19,7 +19,7 @@ Answers r room bytes (Whole fields) = (room ≤ length bytes) × FieldList r fie
 Answers r room bytes More = (length bytes < room) × AliveIn r room bytes
 Answers r room bytes (Refused place why) = PlaceIn r room bytes place × WhyIn r room bytes place why
 
--- A field stands first, and not a single byte is left over behind it.
+-- A field comes first, and not a single byte is left over after it.
 pub record FieldFound (r : Reading) (room : ℕ) (bytes : List ℕ) (field : Field) (size : ℕ) : Type 0 where
   pub present : size ≤ length bytes
   pub spelled : FieldOf r field (take size bytes)
@@ -32,7 +32,7 @@ AnswersOne r room bytes (Whole found) = FieldFound r room bytes found.0 found.1
 AnswersOne r room bytes More = (length bytes < room) × AliveIn r room bytes
 AnswersOne r room bytes (Refused place why) = PlaceIn r room bytes place × WhyIn r room bytes place why
 
--- What stands before a content stands first, and the bytes are alive behind it.
+-- What comes before a content comes first, and the bytes are alive after it.
 pub record HeadFound (r : Reading) (room : ℕ) (bytes : List ℕ) (head : Head) : Type 0 where
   pub bmp : ℕ
   pub size : List ℕ
@@ -46,14 +46,14 @@ AnswersHead r room bytes (Whole head) = HeadFound r room bytes head
 AnswersHead r room bytes More = (length bytes < room) × AliveIn r room bytes
 AnswersHead r room bytes (Refused place why) = PlaceIn r room bytes place × WhyIn r room bytes place why
 
--- A name whose length has so many digits stands first, and is alive.
+-- A name whose length has that many digits comes first, and is alive.
 pub record InName (r : Reading) (room : ℕ) (bytes : List ℕ) (digits : ℕ) : Type 0 where
   pub bmp : ℕ
   pub whole : take 1 bytes ≡ bmp ∷ []
   pub counts : count_digits (shape_of bmp) ≡ digits
   pub alive : AliveIn r room (bmp ∷ [])
 
--- A container's name stands first, and is alive.
+-- A container's name comes first, and is alive.
 pub record InContainer (r : Reading) (room : ℕ) (bytes : List ℕ) : Type 0 where
   pub bmp : ℕ
   pub inside : List ℕ
@@ -78,7 +78,7 @@ abbrev pub JudgesContent : (digits : Bool) → (byte : ℕ) → Result Unit Why 
 JudgesContent digits byte (Ok _) = (left : ℕ) → fault shortest (in_content digits) left byte ≡ None
 JudgesContent digits byte (Err why) = (left : ℕ) → fault shortest (in_content digits) left byte ≡ Some why
 
--- A whole field stands first; or a container's name does, and objects in it that take memory.
+-- A whole field comes first; or a container's name does, and objects in it that take memory.
 abbrev pub HoldsField : Reading → List ℕ → Type 0
 HoldsField r bytes = (field : Field) × (prefix : List ℕ) × (rest : List ℕ) × (bytes ≡ prefix ++ rest) × FieldOf r field prefix
 

@@ -1,4 +1,4 @@
--- The spelling of lists of fields: the name, a length where the content has one, the content.
+-- The spelling of lists of fields: the name, a length where the content has one, the content (PA00P015, list of bitmaps).
 use Rattle.std.specs.Prelude.{◌≡◌, ℕ, Bool, true, false, Option, Some, None, List, [], ◌∷◌, ◌++◌, length}
 use Rattle.std.specs.Coded.{Coded, code_by, coded×, coded⊎, coded_ℕ, coded_list}
 use Rattle.std.proofs.Common.{◌⊎◌, inl, inr, refl}
@@ -55,7 +55,7 @@ FieldList r [] bytes = bytes ≡ []
 FieldList r (field ∷ fields) bytes =
     (one : List ℕ) × (after : List ℕ) × (bytes ≡ one ++ after) × FieldOf r field one × FieldList r fields after
 
--- The same in exactly so many bytes.
+-- The same in exactly that many bytes.
 abbrev pub Filled : Reading → (room : ℕ) → List Field → List ℕ → Type 0
 Filled r room fields bytes = FieldList r fields bytes × (length bytes ≡ room)
 

@@ -23,7 +23,7 @@ AliveIn r room bytes = Alive (Filled r room) bytes
 abbrev pub PlaceIn : Reading → (room : ℕ) → List ℕ → ℕ → Type 0
 PlaceIn r room bytes place = Place (Filled r room) bytes place × (place < room)
 
--- What part a byte plays: a name; a digit of a length, with so many digits after it and that number before it;
+-- What part a byte plays: a name; a digit of a length, with that many digits after it and that number before it;
 -- a byte of a content of digits or of any bytes; a byte of a container, by the part that it plays there and its depth.
 pub data Role : Type 0 where
   name : Role
@@ -31,7 +31,7 @@ pub data Role : Type 0 where
   in_content : (digits : Bool) → Role
   in_container : (at : ℕ) → (role : tlv.Role) → Role
 
--- The number of digits of the length behind a name of that shape.
+-- The number of digits of the length after a name of that shape.
 abbrev pub count_digits : Option Shape → ℕ
 count_digits None = 0
 count_digits (Some (Fixed n)) = 0
@@ -50,7 +50,7 @@ Begins (in_content digits) b =
     (bmp : ℕ) × (size : List ℕ) × (part : List ℕ) × (n : ℕ) × (b ≡ bmp ∷ (size ++ part)) × IsHead (shape_of bmp) digits n size × (length part < n)
 Begins (in_container at role) b = ⊥
 
--- A field that begins there is behind complete fields.
+-- A field that begins there is after complete fields.
 pub record Here (r : Reading) (room : ℕ) (bytes : List ℕ) (role : Role) (left : ℕ) : Type 0 where
   pub fields : List Field
   pub done : List ℕ
@@ -60,7 +60,7 @@ pub record Here (r : Reading) (room : ℕ) (bytes : List ℕ) (role : Role) (lef
   pub begins : Begins role beginning
   pub filled : length bytes + suc left ≡ room
 
--- An open container behind complete fields.
+-- An open container after complete fields.
 pub record Within (r : Reading) (room : ℕ) (openers : List tlv.Opener) (bytes : List ℕ) (at : ℕ) (role : tlv.Role) (left : ℕ) : Type 0 where
   pub fields : List Field
   pub done : List ℕ
@@ -80,7 +80,7 @@ Position r room openers bytes (digit more before) left = (openers ≡ []) × Her
 Position r room openers bytes (in_content digits) left = (openers ≡ []) × Here r room bytes (in_content digits) left
 Position r room openers bytes (in_container at role) left = Within r room openers bytes at role left
 
--- Whether so many bytes can follow a name of that shape.
+-- Whether that many bytes can follow a name of that shape.
 abbrev pub shape_fits : Reading → Shape → (left : ℕ) → Bool
 shape_fits r (Fixed n) left = fits n left
 shape_fits r (Digits n) left = fits n left
@@ -92,7 +92,7 @@ abbrev pub name_fault : Reading → Option Shape → (left : ℕ) → Option Why
 name_fault r None left = Some UnknownField
 name_fault r (Some shape) left = check (shape_fits r shape left) DoesNotFit None
 
--- Whether a content can follow whose length begins with that number and has so many more digits.
+-- Whether a content can follow whose length begins with that number and has that many more digits.
 abbrev pub count_fits : (more number left : ℕ) → Bool
 count_fits more number left = cond (more == 0) (fits number left) (nat_le (more + 10 ^ more * number) left)
 

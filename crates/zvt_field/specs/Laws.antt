@@ -16,7 +16,7 @@ use Rattle.zvt_field.specs.Judging.{AliveIn, PlaceIn, WhyIn, Role, Position, fau
 abbrev pub EachSizeIsFilled : Type 0
 EachSizeIsFilled = (r : Reading) (size : ℕ) → size ≢ 1 → (fields : List Field) × (bytes : List ℕ) × FieldList r fields bytes × (length bytes ≡ size)
 
--- Bytes that are alive and don't fill the room stand at a position, and at one alone.
+-- Bytes that are alive and don't fill the room are at a position, and at one alone.
 abbrev pub EachBeginningStands : Type 0
 EachBeginningStands = (r : Reading) (room : ℕ) (b : List ℕ) → AliveIn r room b → length b < room →
     (os : List Opener) × (role : Role) × (left : ℕ) × Position r room os b role left
@@ -49,7 +49,7 @@ ListsHaveOne = SpellingsAreOne (FieldList shortest)
 abbrev pub AnswersAreOne : Type 0
 AnswersAreOne = (r : Reading) (room : ℕ) (b : List ℕ) (p q : Scan (List Field)) → Answers r room b p → Answers r room b q → p ≡ q
 
--- More bytes leave each answer but More as it is: nothing behind a whole, or behind the place of a refusal, counts.
+-- More bytes leave each answer but More as it is: nothing after a whole, or after the place of a refusal, counts.
 abbrev pub AnswersStay : Type 0
 AnswersStay = (r : Reading) (room : ℕ) (bytes more : List ℕ) (q : Scan (List Field)) → q ≢ More → Answers r room bytes q → Answers r room (bytes ++ more) q
 

@@ -1,4 +1,4 @@
--- What single fields say: each answers only where its BMP stands exactly once.
+-- What single fields say: each answers only where its BMP appears exactly once.
 use Rattle.std.specs.Prelude.{ℕ, ◌==◌, Bool, cond, Option, Some, None, List, [], ◌∷◌, filter, count_by, option_and_then}
 use Rattle.std.specs.Option.{option_map}
 use Rattle.zvt_bcd.specs.Digits.{number_of}

@@ -1,4 +1,4 @@
--- The names of the BMPs, as every output writes them.
+-- The names of the BMPs, as every output writes them (PA00P015, list of bitmaps).
 use Rattle.std.specs.Prelude.{ℕ, ◌==◌, List, [], ◌∷◌, Option, option_map, find, codes}
 
 abbrev pub names : List (ℕ × List ℕ)

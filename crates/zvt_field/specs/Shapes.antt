@@ -1,4 +1,4 @@
--- The table of the BMPs: what stands behind each (PA00P015, the list of bitmaps).
+-- The table of the BMPs: what comes after each (PA00P015, the list of bitmaps).
 use Rattle.std.specs.Prelude.{ℕ, ◌==◌, ◌||◌, Bool, false, cond, Option, Some, None, List, [], ◌∷◌}
 use Rattle.zvt_field.specs.declared.shapes.Shape.{Shape}
 use Rattle.zvt_field.specs.declared.shapes.Shape.TheVariants.{Fixed, Digits, Ll, Lll, Tree}

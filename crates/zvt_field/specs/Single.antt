@@ -19,7 +19,7 @@ Collected fields slots left =
     Saw 0x27 fields slots.result left × Saw 0x04 fields slots.amount left × Saw 0x0B fields slots.trace left
     × Saw 0x87 fields slots.receipt left × Saw 0x37 fields slots.original left × Saw 0x49 fields slots.currency left
 
--- What the fields say, each where its BMP stands exactly once, and of two whether they stand at all.
+-- What the fields say, each where its BMP appears exactly once, and of two whether they are at all.
 abbrev pub Says : List Field → Single → Type 0
 Says fields single =
     (single.result ≡ result_of fields) × (single.amount ≡ amount_of fields) × (single.trace ≡ trace_of fields) × (single.receipt ≡ receipt_of fields)

@@ -48,7 +48,7 @@ sane bmp =
       ),
     )
 
--- what stands before a content says how long it is, and of what kind
+-- what comes before a content says how long it is, and of what kind
 pub record SameHead (digits digits' : Bool) (n n' : ℕ) (size size' x y : List ℕ) : Type 0 where
   pub kinds : digits ≡ digits'
   pub numbers : n ≡ n'

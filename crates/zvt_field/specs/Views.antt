@@ -59,7 +59,7 @@ IsLead (Some Tree) n size = IsLength padded n size
 abbrev pub LeadFirst : Option Shape → List ℕ → Type 0
 LeadFirst shape bytes = (n : ℕ) × (size : List ℕ) × (after : List ℕ) × (bytes ≡ size ++ after) × IsLead shape n size
 
--- A content stands first behind a name of that shape.
+-- A content comes first after a name of that shape.
 abbrev pub ContentFirst : Option Shape → List ℕ → Type 0
 ContentFirst shape bytes =
     (size : List ℕ) × (content : List ℕ) × (after : List ℕ) × (bytes ≡ size ++ (content ++ after)) × IsLead shape (length content) size

@@ -43,7 +43,7 @@ pub fn judge_name(left: usize, byte: u8, lengths: Lengths) -> Result<Shape, Why>
     }
 }
 
-/// Judges a digit of a length, with so many digits after it and that number before it: the number with it.
+/// Judges a digit of a length, with that many digits after it and that number before it: the number with it.
 /// `left` counts the bytes of the fields after it.
 #[inline(always)]
 pub fn judge_digit(more: usize, before: usize, left: usize, byte: u8) -> Result<usize, Why>

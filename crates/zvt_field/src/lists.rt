@@ -1,4 +1,4 @@
-//! Fields that stand together, and what they need to have a spelling.
+//! Fields that are together, and what they need to have a spelling.
 
 ghost use Rattle.std.specs.Prelude.{◌≡◌, [], ◌∷◌, ◌++◌, OnOk, OnErr, IfErr};
 ghost use Rattle.zvt_field.specs.Bodies.{HaveSpelling};
@@ -32,7 +32,7 @@ impl Model for Fields {
     ghost invariant = { λ f. HaveSize f.list.items f.size };
 }
 
-/// Why a field can't stand behind others. The field is handed back.
+/// Why a field can't come after others. The field is handed back.
 #[derive(Drop)]
 pub enum PushRefusal {
     /// The fields would have more than 65,535 bytes with it.
@@ -60,7 +60,7 @@ impl Fields {
         Fields { list, size }
     }
 
-    /// Puts a field behind the others, where 65,535 bytes hold them all. Else nothing changes and the field
+    /// Puts a field after the others, where 65,535 bytes hold them all. Else nothing changes and the field
     /// comes back: its size is looked at before memory.
     pub fn push(&mut self, field: Field) -> Result<(), PushRefusal>
         ensures ok { OnOk result (self.new ≡ self.old ++ field ∷ []) }

@@ -9,7 +9,7 @@ ghost use Rattle.zvt_field.specs.Named.{count_of, only_of, content_of, amount_of
 use crate::{Field, FieldBody, Fields};
 use zvt_bcd::{Amount, Currency, Trace, number};
 
-/// The field of that BMP, where it stands exactly once.
+/// The field of that BMP, where it appears exactly once.
 pub fn only(fields: &Fields, bmp: u8) -> Option<&Field>
     ensures { option_copied result ≡ only_of bmp fields.now }
 {
@@ -36,7 +36,7 @@ pub fn count(fields: &Fields, bmp: u8) -> usize
         .count()
 }
 
-/// The bytes of the field of that BMP, where it stands exactly once.
+/// The bytes of the field of that BMP, where it appears exactly once.
 fn content(fields: &Fields, bmp: u8) -> Option<&[u8]>
     ensures content { option_copied result ≡ content_of bmp fields.now }
     ensures spelled { IfSome result (λ bytes. HasSpelling (plain bmp bytes.now)) }
@@ -47,28 +47,28 @@ fn content(fields: &Fields, bmp: u8) -> Option<&[u8]>
     }
 }
 
-/// The amount in BMP 04, where it stands exactly once and isn't zero.
+/// The amount in BMP 04, where it appears exactly once and isn't zero.
 pub fn amount(fields: &Fields) -> Option<Amount>
     ensures { result ≡ amount_of fields.now }
 {
     Amount::new(number(content(fields, 0x04)?))
 }
 
-/// The trace number in BMP 0B, where it stands exactly once.
+/// The trace number in BMP 0B, where it appears exactly once.
 pub fn trace(fields: &Fields) -> Option<Trace>
     ensures { result ≡ trace_of fields.now }
 {
     Trace::new(number(content(fields, 0x0B)?) as u32)
 }
 
-/// The result code in BMP 27, where it stands exactly once.
+/// The result code in BMP 27, where it appears exactly once.
 pub fn result(fields: &Fields) -> Option<u8>
     ensures { result ≡ result_of fields.now }
 {
     content(fields, 0x27)?.first().copied()
 }
 
-/// The receipt number in BMP 87, where it stands exactly once: two bytes as they were read, digits or not.
+/// The receipt number in BMP 87, where it appears exactly once: two bytes as they were read, digits or not.
 pub fn receipt(fields: &Fields) -> Option<[u8; 2]>
     ensures { result ≡ receipt_of fields.now }
 {
@@ -78,14 +78,14 @@ pub fn receipt(fields: &Fields) -> Option<[u8; 2]>
     }
 }
 
-/// The currency in BMP 49, where it stands exactly once.
+/// The currency in BMP 49, where it appears exactly once.
 pub fn currency(fields: &Fields) -> Option<Currency>
     ensures { result ≡ currency_of fields.now }
 {
     Currency::new(number(content(fields, 0x49)?) as u16)
 }
 
-/// The original trace number in BMP 37, where it stands exactly once: three bytes as they were read.
+/// The original trace number in BMP 37, where it appears exactly once: three bytes as they were read.
 pub fn original(fields: &Fields) -> Option<[u8; 3]>
     ensures { result ≡ original_of fields.now }
 {

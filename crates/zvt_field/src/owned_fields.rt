@@ -20,7 +20,7 @@ fn owned_body(alloc: Global, field: &FieldView<'_>) -> Result<FieldBody, AllocEr
     }
 }
 
-/// The field that a view shows, in memory of its own. The only error is want of memory. The shortest spelling of the
+/// The field that a view shows, in memory of its own. The only error is that memory runs out. The shortest spelling of the
 /// field has to fit 65,535 bytes; that of the view may be longer.
 pub fn owned_field(alloc: Global, field: &FieldView<'_>) -> Result<Field, AllocError>
     requires { ∥ HasSpelling (shown field.now) ∥₁ }
@@ -33,7 +33,7 @@ pub fn owned_field(alloc: Global, field: &FieldView<'_>) -> Result<Field, AllocE
     Ok(made)
 }
 
-/// The fields of a view, in memory of their own. The only error is want of memory, and no fields want none. The shortest
+/// The fields of a view, in memory of their own. The only error is that memory runs out, and no fields want none. The shortest
 /// spelling of the fields has to fit 65,535 bytes; that of the view may be longer.
 pub fn owned(alloc: Global, fields: FieldsView<'_>) -> Result<Fields, AllocError>
     requires { ∥ HaveSpelling fields ∥₁ }

@@ -13,7 +13,7 @@ use std::alloc::{AllocError, Global};
 use zvt_grammar::{Lengths, Scan, Why};
 use zvt_tlv::reader::scan_sized_forest;
 
-/// What stands before a content: how many bytes, how many follow, and whether these are digits.
+/// What comes before a content: how many bytes, how many follow, and whether these are digits.
 #[derive(Clone, Copy)]
 pub struct Head {
     pub start: usize,
@@ -22,7 +22,7 @@ pub struct Head {
 }
 
 impl Head {
-    /// A BMP alone, in front of so many bytes.
+    /// A BMP alone, before that many bytes.
     fn fixed(size: usize, digits: bool) -> Head
         ensures { result ≡ record { start = 1; size = size; digits = digits } }
     {
@@ -34,7 +34,7 @@ impl Head {
     }
 }
 
-/// Reads the digits of a length behind a BMP.
+/// Reads the digits of a length after a BMP.
 fn scan_count(bytes: &[u8], room: usize, digits: usize, lengths: Lengths) -> Scan<Head>
     requires digits { 1 ≤ digits }
     requires few { digits ≤ 3 }
@@ -102,7 +102,7 @@ fn scan_content(
     Ok(Scan::Whole((Field::of(bytes[0], FieldBody::Bytes(content)), end)))
 }
 
-/// Reads a length of so many digits, and a content that is bytes.
+/// Reads a length of that many digits, and a content that is bytes.
 #[inline(always)]
 fn scan_counted(
     alloc: Global,
@@ -150,7 +150,7 @@ fn scan_container(
     )
 }
 
-/// Reads one field, in a room of so many bytes: the field and its size.
+/// Reads one field, in a room of that many bytes: the field and its size.
 #[inline(always)]
 fn scan_field(
     alloc: Global,
@@ -181,9 +181,9 @@ fn scan_field(
 }
 
 /// Reads the fields whose bytes are exactly the first `room` bytes, each length of objects in its shortest form; bytes
-/// behind the room are not looked at. `More` where fewer are there and can be completed, `Refused` with the first byte
-/// after which no fields can fill the room, counted from 0. The only error is want of memory, and it comes only where a
-/// whole field stands first, or a container of which objects are kept (`TakesMemory`).
+/// after the room are not looked at. `More` where fewer are there and can be completed, `Refused` with the first byte
+/// after which no fields can fill the room, counted from 0. The only error is that memory runs out, and it comes only where a
+/// whole field comes first, or a container of which objects are stored (`TakesMemory`).
 #[inline(always)]
 pub fn scan(alloc: Global, bytes: &[u8], room: usize) -> Result<Scan<Fields>, AllocError>
     requires small { room < 2 ^ 16 }
@@ -193,7 +193,7 @@ pub fn scan(alloc: Global, bytes: &[u8], room: usize) -> Result<Scan<Fields>, Al
     scan_fields(alloc, bytes, room, Lengths::Shortest)
 }
 
-/// Reads the fields of a room, where each length of objects may stand in any form that holds it.
+/// Reads the fields of a room, where each length of objects may be in any form that holds it.
 pub fn scan_loose(alloc: Global, bytes: &[u8], room: usize) -> Result<Scan<Fields>, AllocError>
     requires small { room < 2 ^ 16 }
     requires filled { room ≢ 1 }

@@ -1,7 +1,7 @@
-//! What may stand behind a BMP.
+//! What may come after a BMP.
 
-/// What stands behind a BMP: so many bytes, so many bytes of digits, bytes behind a length of two or three
-/// digits, or objects behind their own length (PA00P015, the list of bitmaps).
+/// What comes after a BMP: that many bytes, that many bytes of digits, bytes after a length of two or three
+/// digits, or objects after their own length (PA00P015, the list of bitmaps).
 #[derive(Clone, Copy, Debug, PartialEq, Eq)]
 pub enum Shape {
     Fixed(usize),

@@ -1,4 +1,4 @@
-//! The fields that a status information counts, each where it stands exactly once, found in one walk.
+//! The fields that a status information counts, each where it appears exactly once, found in one walk.
 
 ghost use Rattle.std.specs.Prelude.{◌≡◌, List, [], ◌∷◌, IfSome, not, ◌==◌};
 ghost use Rattle.std.specs.Option.{option_copied};
@@ -12,7 +12,7 @@ use crate::contents;
 use crate::views::{FieldView, FieldsView};
 use zvt_bcd::{Amount, Currency, Trace};
 
-/// What fields say that count only where their BMP stands exactly once.
+/// What fields say that count only where their BMP appears exactly once.
 #[derive(Clone, Copy, Debug, PartialEq, Eq)]
 pub struct Single {
     /// BMP 27.
@@ -25,11 +25,11 @@ pub struct Single {
     pub receipt: Option<[u8; 2]>,
     /// BMP 37: three bytes as they were read.
     pub original: Option<[u8; 3]>,
-    /// Whether BMP 37 stands at all.
+    /// Whether BMP 37 appears at all.
     pub has_original: bool,
     /// BMP 49.
     pub currency: Option<Currency>,
-    /// Whether BMP 49 stands at all.
+    /// Whether BMP 49 appears at all.
     pub has_currency: bool,
 }
 
@@ -55,7 +55,7 @@ impl<'a> Slot<'a> {
         }
     }
 
-    /// The bytes of the field that stands once and is no container.
+    /// The bytes of the field that appears once and is no container.
     #[inline(always)]
     fn content(&self, bmp: u8) -> Option<&'a [u8]>
         requires { (fields : List Field) × Saw bmp fields self.now [] }
@@ -126,7 +126,7 @@ fn collect<'a>(fields: &FieldsView<'a>) -> Slots<'a>
     slots
 }
 
-/// What the fields say that count only where their BMP stands exactly once.
+/// What the fields say that count only where their BMP appears exactly once.
 pub fn read_single(fields: &FieldsView<'_>) -> Single
     ensures { Says fields.now result }
 {

@@ -38,7 +38,7 @@ pub(crate) fn field_size(field: &Field) -> usize
     }
 }
 
-/// The size of the spelling of fields that stand together.
+/// The size of the spelling of fields that are together.
 pub(crate) fn list_size(fields: &[Field]) -> usize
     requires { HaveSpelling fields.now }
     ensures { HaveSize fields.now result }

@@ -30,7 +30,7 @@ pub fn shape(bmp: u8) -> Option<Shape>
     })
 }
 
-/// How many digits the length behind a BMP of that shape has.
+/// How many digits the length after a BMP of that shape has.
 pub fn count_digits(shape: Option<Shape>) -> usize
     ensures { result ≡ count_digits shape }
 {

@@ -85,7 +85,7 @@ impl<'a> FieldsView<'a> {
         FieldsView { bytes: self.bytes }
     }
 
-    /// The field of that BMP, where it stands exactly once.
+    /// The field of that BMP, where it appears exactly once.
     pub fn only(&self, bmp: u8) -> Option<FieldView<'a>>
         ensures { all_shown result ≡ only_of bmp self.now }
     {
@@ -101,7 +101,7 @@ impl<'a> FieldsView<'a> {
         found
     }
 
-    /// The bytes of the field of that BMP, where it stands exactly once and is no container.
+    /// The bytes of the field of that BMP, where it appears exactly once and is no container.
     fn content(&self, bmp: u8) -> Option<&'a [u8]>
         ensures content { option_copied result ≡ content_of bmp self.now }
         ensures spelled { IfSome result (λ bytes. PlainBytes bmp bytes.now) }
@@ -109,42 +109,42 @@ impl<'a> FieldsView<'a> {
         self.only(bmp)?.plain()
     }
 
-    /// The amount in BMP 04, where it stands exactly once and isn't zero.
+    /// The amount in BMP 04, where it appears exactly once and isn't zero.
     pub fn amount(&self) -> Option<Amount>
         ensures { result ≡ amount_of self.now }
     {
         contents::amount(self.content(0x04))
     }
 
-    /// The trace number in BMP 0B, where it stands exactly once.
+    /// The trace number in BMP 0B, where it appears exactly once.
     pub fn trace(&self) -> Option<Trace>
         ensures { result ≡ trace_of self.now }
     {
         contents::trace(self.content(0x0B))
     }
 
-    /// The result code in BMP 27, where it stands exactly once.
+    /// The result code in BMP 27, where it appears exactly once.
     pub fn result(&self) -> Option<u8>
         ensures { result ≡ result_of self.now }
     {
         contents::result(self.content(0x27))
     }
 
-    /// The receipt number in BMP 87, where it stands exactly once: two bytes as they were read, digits or not.
+    /// The receipt number in BMP 87, where it appears exactly once: two bytes as they were read, digits or not.
     pub fn receipt(&self) -> Option<[u8; 2]>
         ensures { result ≡ receipt_of self.now }
     {
         contents::receipt(self.content(0x87))
     }
 
-    /// The currency in BMP 49, where it stands exactly once.
+    /// The currency in BMP 49, where it appears exactly once.
     pub fn currency(&self) -> Option<Currency>
         ensures { result ≡ currency_of self.now }
     {
         contents::currency(self.content(0x49))
     }
 
-    /// The original trace number in BMP 37, where it stands exactly once: three bytes as they were read.
+    /// The original trace number in BMP 37, where it appears exactly once: three bytes as they were read.
     pub fn original(&self) -> Option<[u8; 3]>
         ensures { result ≡ original_of self.now }
     {
@@ -195,7 +195,7 @@ fn note_size(bytes: &[u8])
     let _ = bytes.len();
 }
 
-/// The size of what stands before the content behind a BMP of that shape, and the size of the content.
+/// The size of what comes before the content after a BMP of that shape, and the size of the content.
 #[inline(always)]
 fn lead(shape: Option<Shape>, bytes: &[u8]) -> (usize, usize)
     requires { ∥ LeadFirst shape bytes.now ∥₁ }
@@ -220,7 +220,7 @@ fn digit(byte: u8) -> usize
     (byte % 16) as usize
 }
 
-/// The content that stands first behind a BMP of that shape, and what is behind it.
+/// The content that comes first after a BMP of that shape, and what is after it.
 #[inline(always)]
 fn first_content(shape: Option<Shape>, bytes: &[u8]) -> (&[u8], &[u8])
     requires { ∥ ContentFirst shape bytes.now ∥₁ }

@@ -12,7 +12,7 @@ use crate::{Field, FieldBody, Fields, Shape};
 use zvt_bcd::{ll_put, lll_put};
 use zvt_tlv::put_sized;
 
-/// Puts bytes at the front, and says how many.
+/// Puts bytes at the start, and says how many.
 fn put(out: &mut [u8], bytes: &[u8]) -> usize
     requires { length bytes.now ≤ length out.old }
     ensures { Puts bytes.now out.old out.new result }
@@ -59,7 +59,7 @@ fn write_field(out: &mut [u8], field: &Field) -> usize
     }
 }
 
-/// Writes the fields' spelling at the front, and says its size.
+/// Writes the fields' spelling at the start, and says its size.
 pub fn write_into(fields: &Fields, out: &mut [u8]) -> usize
     requires { (bytes : List ℕ) → FieldList shortest fields.now bytes → length bytes ≤ length out.old }
     ensures { (bytes : List ℕ) → FieldList shortest fields.now bytes → Puts bytes out.old out.new result }

@@ -5,7 +5,7 @@ use Rattle.zvt_grammar.specs.Beginnings.{NoneWhole}
 use Rattle.zvt_grammar.specs.Cuts.{Spelled}
 use Rattle.zvt_grammar.specs.Laws.{EndThemselves, CutsAreOne, PrefixesOfCut, PrefixesAlive, Growth}
 
--- what follows one front is one list
+-- what follows one prefix is one list
 same_rest : (a x y : List ℕ) → a ++ x ≡ a ++ y → x ≡ y
 same_rest a x y e = sym (drop-append_seam a x) ∙ ap (drop (length a)) e ∙ drop-append_seam a y
 
@@ -25,7 +25,7 @@ module _ {V : Type 0} (spells : V → List ℕ → Type 0) where
   pub spelled_push : (ms : List V) (m : V) (bytes prefix later rest : List ℕ) → Spelled spells bytes ms rest → rest ≡ prefix ++ later → spells m prefix → Spelled spells bytes (ms ++ m ∷ []) later
   spelled_push ms m bytes prefix later rest s e p = spelled_append ms (m ∷ []) bytes rest later s (prefix, later, e, p, refl)
 
-  -- what is spelled at the front goes on to the cut
+  -- what is spelled at the start goes on to the cut
   pub goes_on : EndThemselves spells → (ms ns : List V) (bytes r s : List ℕ) → Spelled spells bytes ms r → Spelled spells bytes ns s → NoneWhole spells s
       → (later : List V) × (ns ≡ ms ++ later) × Spelled spells r later s
   goes_on one [] ns bytes r s e t none = (ns, refl, let P : List ℕ → Type 0 = λ b. Spelled spells b ns s in subst P e t)

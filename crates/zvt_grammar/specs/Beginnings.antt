@@ -7,7 +7,7 @@ pub record Alive {V : Type 0} (spells : V → List ℕ → Type 0) (bytes : List
   pub rest : List ℕ
   pub spelled : spells value (bytes ++ rest)
 
--- No value's spelling is a front of the bytes.
+-- No value's spelling is a prefix of the bytes.
 abbrev pub NoneWhole : {V : Type 0} → (V → List ℕ → Type 0) → List ℕ → Type 0
 NoneWhole {V = V} spells bytes = (value : V) (prefix rest : List ℕ) → bytes ≡ prefix ++ rest → spells value prefix → ⊥
 

@@ -17,7 +17,7 @@ abbrev pub CutsAreOne : {V : Type 0} → (V → List ℕ → Type 0) → Type 0
 CutsAreOne {V = V} spells =
     (bytes : List ℕ) (ms ns : List V) (r s : List ℕ) → Cut spells bytes ms r → Cut spells bytes ns s → (ms ≡ ns) × (r ≡ s)
 
--- What is spelled at the front of a line is a front of its cut.
+-- What is spelled at the start of a line is a prefix of its cut.
 abbrev pub PrefixesOfCut : {V : Type 0} → (V → List ℕ → Type 0) → Type 0
 PrefixesOfCut {V = V} spells =
     (bytes : List ℕ) (ms ns : List V) (r s : List ℕ) → Spelled spells bytes ms r → Cut spells bytes ns s → (later : List V) × (ns ≡ ms ++ later)
@@ -27,6 +27,6 @@ abbrev pub Growth : {V : Type 0} → (V → List ℕ → Type 0) → Type 0
 Growth {V = V} spells =
     (bytes more : List ℕ) (ms ns : List V) (r s : List ℕ) → Cut spells bytes ms r → Cut spells (bytes ++ more) ns s → (later : List V) × (ns ≡ ms ++ later)
 
--- Each front of what is alive is alive.
+-- Each prefix of what is alive is alive.
 abbrev pub PrefixesAlive : {V : Type 0} → (V → List ℕ → Type 0) → Type 0
 PrefixesAlive spells = (prefix rest : List ℕ) → Alive spells (prefix ++ rest) → Alive spells prefix

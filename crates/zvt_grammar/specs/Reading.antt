@@ -1,7 +1,7 @@
 -- Bytes, and the two readings of lengths that every grammar has.
 use Rattle.std.specs.Prelude.{ℕ, ◌<◌, Bool, true, false, List, [], ◌∷◌}
 
--- Whether lengths stand in their shortest form alone, or in each form that holds them.
+-- Whether lengths are in their shortest form alone, or in each form that holds them.
 pub data Reading : Type 0 where
   shortest : Reading
   padded : Reading

@@ -3,7 +3,7 @@
 /// What the bytes so far are.
 #[derive(Drop)]
 pub enum Scan<V> {
-    /// A whole value stands first.
+    /// A whole value comes first.
     Whole(V),
     /// The bytes begin a value, and more are needed.
     More,

@@ -1,18 +1,18 @@
-//! Why a byte can't stand where it stands.
+//! Why a byte can't be where it stands.
 ghost use Rattle.std.specs.Prelude.{◌≡◌};
 
 use std::fmt;
 
-/// Why a byte can't stand where it stands.
+/// Why a byte can't be where it stands.
 #[derive(Clone, Copy, Debug, PartialEq, Eq)]
 pub enum Why {
-    /// A length stands in a longer form than it needs.
+    /// A length is in a longer form than it needs.
     NotShortest,
     /// What the byte begins or counts leaves too few bytes, or a single one, in what holds it.
     DoesNotFit,
     /// No form of length begins with this byte.
     LengthForm,
-    /// An object would stand deeper than 6.
+    /// An object would be deeper than 6.
     TooDeep,
     /// A tag would have more than three bytes.
     TagTooLong,

@@ -17,8 +17,8 @@ pub trait Source {
     /// How many reads were made, failed ones included.
     ghost reads: { Self → ℕ };
 
-    /// Reads into the front of the buffer, and answers how many bytes: 0 at the end, or where the
-    /// buffer is empty. A read that failed took no byte. What stands in the buffer behind the bytes
+    /// Reads into the start of the buffer, and answers how many bytes: 0 at the end, or where the
+    /// buffer is empty. A read that failed took no byte. What is in the buffer after the bytes
     /// that were read may be anything, and after a read that failed all of it.
     fn read(&mut self, buffer: &mut [u8]) -> Result<usize, Failed>
         ensures bytes { Reads (remaining self.old) (remaining self.new) result buffer.new }
@@ -34,7 +34,7 @@ pub trait Sink {
     /// How many writes have failed.
     ghost failures: { Self → ℕ };
 
-    /// Writes all the bytes. A write that failed has written some front of them.
+    /// Writes all the bytes. A write that failed has written a prefix of them.
     fn write_all(&mut self, bytes: &[u8]) -> Result<(), Failed>
         ensures bytes { Writes (written self.old) (written self.new) result bytes.now }
         ensures failures { CountsFailure (failures self.old) (failures self.new) result };

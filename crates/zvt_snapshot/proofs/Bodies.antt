@@ -1,4 +1,4 @@
--- The parts of a body, one behind another.
+-- The parts of a body, one after another.
 use Rattle.std.proofs.Common.{◌≡◌, ℕ, List, ◌++◌, length, Option, append_assoc, sym, ap, ◌∙◌, Result, Ok, Err}
 use Rattle.std.specs.Prelude.{flat_map, IfOk, OnOk}
 use Rattle.std.proofs.lemmas.Grind.{flat_map-append}

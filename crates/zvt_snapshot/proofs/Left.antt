@@ -1,4 +1,4 @@
--- The book that is left when the line is lost while an entry of it is taken back.
+-- The book that is left when the connection is lost while an entry of it is taken back.
 use Rattle.std.proofs.Common.{◌≡◌, ℕ, zero, suc, ◌+◌, ◌<◌, List, [], ◌∷◌, ◌++◌, add-one, append_assoc, length, take, drop, get_or, Option, Some, None, refl, sym, ap, subst, ◌∙◌, slice_get, slice_set, arith}
 use Rattle.std.specs.Prelude.{flat_map}
 use Rattle.std.specs.List.{All}
@@ -13,7 +13,7 @@ use Rattle.zvt_till.specs.Till.{entry_after}
 use Rattle.zvt_snapshot.specs.declared.layouts.Layout.{Layout}
 use Rattle.zvt_snapshot.specs.Encoded.{entry_bytes, left_book, IsEntry}
 
--- the book by what stands at the place
+-- the book by what is at the place
 abbrev left_at : List Entry → ℕ → Option Entry → List Entry
 left_at book place found = elim found as (λ x. List Entry) [ None ↦ book | Some row ↦ slice_set book place (entry_after row (Unclear Line)) ]
 

@@ -1,4 +1,4 @@
--- What a till is after its line was lost is a state that is kept.
+-- What a till is after its connection was lost is a state that is stored.
 use Rattle.std.proofs.Common.{◌≡◌, ℕ, ◌≤◌, ◌++◌, List, length, Option, Some, None, refl, sym, ap, subst, ◌∙◌}
 use Rattle.std.specs.List.{All}
 use Rattle.std.proofs.lemmas.List.Elements.{All-append}

@@ -23,11 +23,11 @@ settings_of made = record { password = made.password; config = made.config; curr
 abbrev pub IsMade : Option Made → Settings → Option Outcome → Type 0
 IsMade found settings last = found ≡ Some (made_of settings last)
 
--- a till of this state, or want of memory
+-- a till of this state, or out of memory
 abbrev pub LeadsTo : Result TillValue LoadError → TillState → Type 0
 LeadsTo result s = MatchResult result (λ till. till.state ≡ s) (λ why. why ≡ Memory)
 
--- the till at rest with these rows, or want of memory
+-- the till at rest with these rows, or out of memory
 abbrev pub IsLoaded : Result TillValue LoadError → Made → List Entry → List (ℕ × Cause) → Type 0
 IsLoaded result made book unclear = LeadsTo result (at_rest (settings_of made) book unclear made.last)
 

@@ -29,7 +29,7 @@ cause_code Malformed = 8
 cause_code Unfinished = 9
 cause_code WrongCurrency = 10
 
--- a receipt number behind a byte that says whether there is one
+-- a receipt number after a byte that says whether there is one
 abbrev pub receipt_bytes : Option (List ℕ) → List ℕ
 receipt_bytes None = 0 ∷ 0 ∷ 0 ∷ []
 receipt_bytes (Some receipt) = 1 ∷ receipt
@@ -64,12 +64,12 @@ entry_bytes layout entry =
 abbrev pub unclear_bytes : ℕ × Cause → List ℕ
 unclear_bytes row = digits 6 row.0 ++ (cause_code row.1 ∷ [])
 
--- the row of a payment that is open when the line is lost
+-- the row of a payment that is open when the connection is lost
 abbrev pub open_rows : Option ℕ → List (ℕ × Cause)
 open_rows None = []
 open_rows (Some amount) = (amount, Line) ∷ []
 
--- the book, where a reversal of this entry is open when the line is lost
+-- the book, where a reversal of this entry is open when the connection is lost
 abbrev pub left_book : List Entry → Option ℕ → List Entry
 left_book book None = book
 left_book book (Some place) = reversal_ended book place (Unclear Line)
@@ -106,7 +106,7 @@ body_bytes layout s =
     header_bytes layout s.settings (length s.book) (length s.unclear) s.last_outcome
     ++ (flat_map (entry_bytes layout) s.book ++ flat_map unclear_bytes s.unclear)
 
--- two sums of digits behind a body
+-- two sums of digits after a body
 abbrev pub summed : List ℕ → List ℕ
 summed body = body ++ (digits 4 (sums_of body).0 ++ digits 4 (sums_of body).1)
 

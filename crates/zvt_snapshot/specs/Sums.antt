@@ -1,4 +1,4 @@
--- The check sums behind what is saved.
+-- The check sums after what is saved.
 use Rattle.std.specs.Prelude.{ℕ, ◌+◌, ◌%◌, List, fold}
 
 -- the sum of the bytes, and the sum of the sums so far, as far as four bytes of digits hold them

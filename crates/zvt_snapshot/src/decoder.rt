@@ -201,7 +201,7 @@ pub fn load(alloc: Global, bytes: &[u8]) -> Result<Till, LoadError>
 }
 
 /// The till that comes of what this one is saved in, at any moment. Its contract is a law: what was saved of a till can be
-/// loaded, and is that till after its line was lost.
+/// loaded, and is that till after its connection was lost.
 pub fn reloaded(alloc: Global, till: &Till) -> Result<Till, LoadError>
     ensures { LeadsTo result (step till.now.state Happening.Lost) }
 {

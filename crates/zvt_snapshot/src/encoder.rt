@@ -11,10 +11,10 @@ use std::alloc::{AllocError, Global};
 use zvt_bcd::{Amount, Trace, put};
 use zvt_till::{Cause, Doubt, Entry, Happening, Order, Outcome, Till};
 
-/// What stands first: ZVT.
+/// What comes first: ZVT.
 const MARK: [u8; 3] = [0x5A, 0x56, 0x54];
 
-/// Writes a number in so many bytes of digits.
+/// Writes a number in that many bytes of digits.
 fn put_number(bytes: &mut Vec<u8>, count: usize, number: u64) -> Result<(), AllocError>
     requires short { count ≤ 9 }
     requires fits { number < 100 ^ count }
@@ -44,7 +44,7 @@ pub fn cause_code(cause: Cause) -> u8
     }
 }
 
-/// Writes a receipt number behind a byte that says whether there is one.
+/// Writes a receipt number after a byte that says whether there is one.
 fn put_receipt(bytes: &mut Vec<u8>, receipt: Option<[u8; 2]>) -> Result<(), AllocError>
     ensures bytes { OnOk result (bytes.new.items ≡ bytes.old.items ++ receipt_bytes receipt) }
     ensures fits { OnOk result (IsReceipt receipt) }
@@ -186,7 +186,7 @@ fn settle(till: &Till) -> Settled
     }
 }
 
-/// Writes what stands first, and how many rows follow.
+/// Writes what comes first, and how many rows follow.
 fn put_counts(
     bytes: &mut Vec<u8>,
     layout: Layout,
@@ -227,7 +227,7 @@ fn put_book(bytes: &mut Vec<u8>, layout: Layout, book: &[Entry]) -> Result<(), A
     Ok(())
 }
 
-/// Writes the rows of a book, where a reversal of this entry is open when the line is lost.
+/// Writes the rows of a book, where a reversal of this entry is open when the connection is lost.
 fn put_left_book(
     bytes: &mut Vec<u8>,
     layout: Layout,
@@ -260,7 +260,7 @@ fn put_rows(bytes: &mut Vec<u8>, rows: &[(Amount, Cause)]) -> Result<(), AllocEr
     Ok(())
 }
 
-/// Writes the row of a payment that is open when the line is lost.
+/// Writes the row of a payment that is open when the connection is lost.
 fn put_open(bytes: &mut Vec<u8>, left: Option<Amount>) -> Result<(), AllocError>
     ensures bytes { OnOk result (bytes.new.items ≡ bytes.old.items ++ flat_map unclear_bytes (open_rows left)) }
     ensures fit { OnOk result (All IsUnclear (open_rows left)) }
@@ -282,7 +282,7 @@ fn rows_left(left: Option<Amount>) -> usize
     }
 }
 
-/// Writes the header and the rows of the till after its line was lost.
+/// Writes the header and the rows of the till after its connection was lost.
 fn put_body(bytes: &mut Vec<u8>, layout: Layout, till: &Till) -> Result<(), AllocError>
     ensures bytes { OnOk result (bytes.new.items ≡ bytes.old.items ++ body_bytes layout (step till.now.state Happening.Lost)) }
     ensures kept { OnOk result (IsKept (step till.now.state Happening.Lost)) }
@@ -298,7 +298,7 @@ fn put_body(bytes: &mut Vec<u8>, layout: Layout, till: &Till) -> Result<(), Allo
     put_open(bytes, settled.left)
 }
 
-/// Writes the sums of all bytes behind them.
+/// Writes the sums of all bytes after them.
 fn put_sums(bytes: &mut Vec<u8>) -> Result<(), AllocError>
     ensures { OnOk result (bytes.new.items ≡ summed bytes.old.items) }
 {
@@ -307,7 +307,7 @@ fn put_sums(bytes: &mut Vec<u8>) -> Result<(), AllocError>
     put_number(bytes, 4, second)
 }
 
-/// The bytes of the till after its line was lost, in this layout. The first layout says nothing of what the reversals
+/// The bytes of the till after its connection was lost, in this layout. The first layout says nothing of what the reversals
 /// leave open.
 pub fn save_in(alloc: Global, layout: Layout, till: &Till) -> Result<Vec<u8>, AllocError>
     ensures bytes { IfOk result (λ bytes. bytes.items ≡ saved_in layout (step till.now.state Happening.Lost)) }
@@ -319,8 +319,8 @@ pub fn save_in(alloc: Global, layout: Layout, till: &Till) -> Result<Vec<u8>, Al
     Ok(bytes)
 }
 
-/// The bytes that the till is saved in, at any moment: those of the till after its line was lost. So a payment or a
-/// reversal that runs is unclear in them. That state is one that `load` takes. The only error is want of memory.
+/// The bytes that the till is saved in, at any moment: those of the till after its connection was lost. So a payment or a
+/// reversal that runs is unclear in them. That state is one that `load` takes. The only error is that memory runs out.
 pub fn save(alloc: Global, till: &Till) -> Result<Vec<u8>, AllocError>
     ensures bytes { IfOk result (λ bytes. bytes.items ≡ saved (step till.now.state Happening.Lost)) }
     ensures kept { OnOk result (IsKept (step till.now.state Happening.Lost)) }

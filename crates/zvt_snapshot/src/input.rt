@@ -1,4 +1,4 @@
-//! What saved bytes say. Each reader finds the value whose bytes stand there; what it makes of other bytes is not said,
+//! What saved bytes say. Each reader finds the value whose bytes are there; what it makes of other bytes is not said,
 //! since what was loaded is saved again and compared.
 ghost use Rattle.std.specs.Prelude.{◌≡◌, ℕ, ◌^◌, ◌<◌, ◌≤◌, List, Option, Some, IfSome, length};
 ghost use Rattle.zvt_apdu.specs.TillMessages.{digits};
@@ -66,7 +66,7 @@ fn read_cause(code: u8) -> Option<Cause>
     }
 }
 
-/// The receipt number behind its byte, if there is one.
+/// The receipt number after its byte, if there is one.
 fn read_receipt(bytes: &[u8]) -> Option<[u8; 2]>
     requires { length bytes.now ≡ 3 }
     ensures { (receipt : Option (List ℕ)) → IsReceipt receipt → bytes.now ≡ receipt_bytes receipt → result ≡ receipt }
@@ -92,7 +92,7 @@ fn doubt_of(code: u8) -> Option<Doubt>
     }
 }
 
-/// What the reversals of an entry leave open, behind its receipt number. The first layout says nothing of it.
+/// What the reversals of an entry leave open, after its receipt number. The first layout says nothing of it.
 fn read_doubt(layout: Layout, bytes: &[u8]) -> Option<Doubt>
     ensures value { (doubt : Doubt) → HasDoubtOf layout doubt → bytes.now ≡ doubt_bytes layout doubt → result ≡ Some doubt }
     ensures held { IfSome result (HasDoubtOf layout) }

@@ -1,4 +1,4 @@
-//! The check sums behind what is saved.
+//! The check sums after what is saved.
 ghost use Rattle.std.specs.Prelude.{◌≡◌, ◌<◌};
 ghost use Rattle.zvt_snapshot.specs.Sums.{sums_of};
 

@@ -3,7 +3,7 @@
 ghost use Rattle.std.specs.Prelude.{◌≡◌, ◌++◌, ◌∷◌, [], ℕ, List};
 ghost use Rattle.zvt_stream.specs.Head.{head_of};
 
-/// The control bytes at the front of a message, as far as they have come (PA00P015, chapter 2).
+/// The control bytes of a message, as far as they have come (PA00P015, general command structure).
 #[derive(Clone, Copy, Debug, PartialEq, Eq)]
 pub enum Head {
     Empty,

@@ -304,7 +304,7 @@ moves-keep P kept w l (x ∷ moves) f k e i =
     let later = are_orderly_from (ends_move w x) next moves in
     moves-keep P kept (ends_move w x) next moves f.1 (move-fit w x f.0 k) (and-right now later e) (means-keeps P kept w l x f.0 k (and-left now later e) i)
 
--- what holds of two new ends and is kept by each orderly move holds of each orderly world
+-- what holds of two new ends and is stored by each orderly move holds of each orderly world
 pub orderly-worlds : (P : Facts → Line → Type 0) → MovesKeep P → P (meaning new_ends) no_line → (moves : List Move) → FitMoves moves → IsTrue (are_orderly moves)
     → (end : Line) × P (meaning (world moves)) end
 orderly-worlds P kept first moves f e = moves-keep P kept new_ends no_line moves f new-fit e first

@@ -25,7 +25,7 @@ use Rattle.zvt_term.specs.declared.world.Move.{Move}
 use Rattle.zvt_term.specs.declared.world.Move.TheVariants.{Connect, Order as Ordered, ToTerminal, ToTill, TillLost, TerminalLost}
 use Rattle.zvt_term.specs.Terminal.{TerminalState, lost_terminal, state_after, reports_to}
 
--- the currency that the terminal kept, as it stands in a status
+-- the currency that the terminal kept, as it is in a status
 abbrev pub fact_of : Option ℕ → CurrencyFact
 fact_of None = NoCurrency
 fact_of (Some currency) = OneCurrency currency

@@ -97,7 +97,7 @@ turn-told s AbortOrder v h k = (tt, tt)
 turn-told s Answer v h k = goes_on-told s s.phase
 turn-told s Unknown v h k = (tt, tt)
 
--- registrations name the till's currency, and that is kept
+-- registrations name the till's currency, and that is stored
 
 abbrev pub IsNamed : Asked → Type 0
 IsNamed (Registration currency) = currency ≡ Some euro

@@ -39,7 +39,7 @@ pub record Listing (fields : List Field) (bytes : List ℕ) : Type 0 where
 pub nothing_listed : Listing [] []
 nothing_listed = record { listed = refl }
 
--- one field more in front
+-- one field more at the start
 one_more : (bmp : ℕ) (content rest : List ℕ) (fields : List Field) → FieldOf shortest (plain bmp content) (bmp ∷ content) → Listing fields rest → Listing (plain bmp content ∷ fields) (bmp ∷ (content ++ rest))
 one_more bmp content rest fields one more = record { listed = (bmp ∷ content, rest, refl, one, more.listed) }
 
@@ -128,7 +128,7 @@ approved_fields amount rest fields h more =
     result_fields 0 (0x04 ∷ (digits 6 amount ++ rest)) (plain 0x04 (digits 6 amount) ∷ fields) (omega arith)
     (one_more 0x04 (digits 6 amount) rest fields (digits_field 0x04 6 amount amount_shape h) more)
 
--- the bytes as they stand in the buffer, one by one
+-- the bytes as they are in the buffer, one by one
 abbrev pub six_more : List ℕ → List ℕ → List ℕ
 six_more s rest = get_or s 0 0 ∷ get_or s 1 0 ∷ get_or s 2 0 ∷ get_or s 3 0 ∷ get_or s 4 0 ∷ get_or s 5 0 ∷ rest
 

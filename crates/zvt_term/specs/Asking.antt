@@ -17,11 +17,11 @@ abbrev pub currency_named : Option (ℕ × List Field) → Option ℕ
 currency_named None = None
 currency_named (Some rest) = Some rest.0
 
--- of an authorisation the amount counts, where it stands exactly once, and the currency
+-- of an authorisation the amount counts, where it appears exactly once, and the currency
 abbrev pub authorised : List Field → Asked
 authorised fields = Authorisation (amount_of fields) (currency_fact fields)
 
--- of a reversal the receipt number counts, where it stands exactly once
+-- of a reversal the receipt number counts, where it appears exactly once
 abbrev pub asked_as : Message → Asked
 asked_as (ack payload) = Answer
 asked_as (nack code payload) = Answer

@@ -22,7 +22,7 @@ pub record Line : Type 0 where
 abbrev pub no_line : Line
 no_line = record { to_terminal = 0; to_till = 0; till_lost = true; terminal_lost = true }
 
--- of so many messages sent each way: a Connect needs both ends lost, and a delivery is of the first undelivered message to an end that has not lost the line
+-- of that many messages sent each way: a Connect needs both ends lost, and a delivery is of the first undelivered message to an end that has not lost the line
 abbrev pub is_orderly : (from_till from_terminal : ℕ) → Line → Move → Bool
 is_orderly m n l Connect = l.till_lost && l.terminal_lost
 is_orderly m n l (Ordered order) = true

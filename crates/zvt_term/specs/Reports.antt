@@ -19,7 +19,7 @@ abbrev pub currency_field : Option ℕ → List Field
 currency_field None = []
 currency_field (Some currency) = plain 0x49 (digits 2 currency) ∷ []
 
--- the numbers stand in digits, a row's number as trace number and as receipt number; the attribute of a line is 0
+-- the numbers are in digits, a row's number as trace number and as receipt number; the attribute of a line is 0
 abbrev pub message_of_report : Report → Message
 message_of_report Ack = ack []
 message_of_report (Nack code) = nack code []

@@ -76,7 +76,7 @@ decides s amount Approve =
     writes s (Printing (ApprovedLine amount)) (record { number = next_number s; amount = amount; currency = s.currency; reverses = None }) (Approved amount (next_number s) s.currency)
 decides s amount (Decline code) = runs s (Aborting code) (Result code)
 
--- a payment is taken only in the currency that is kept; where none is, nothing is asked of it
+-- a payment is taken only in the currency that is stored; where none is, nothing is asked of it
 abbrev pub takes_currency : Option ℕ → CurrencyFact → Bool
 takes_currency None named = true
 takes_currency (Some own) named = is_in_currency (Some own) named

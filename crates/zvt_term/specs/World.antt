@@ -112,7 +112,7 @@ abbrev pub AllMatch : ℕ → List Row → List Entry → Type 0
 AllMatch currency ledger [] = Unit {0}
 AllMatch currency ledger (entry ∷ book) = EntryMatches currency ledger entry × AllMatch currency ledger book
 
--- no trace number stands twice in the book, and each entry has its row, in the till's currency
+-- no trace number appears twice in the book, and each entry has its row, in the till's currency
 pub record Matches (till : TillState) (ledger : List Row) : Type 0 where
   pub distinct : IsDistinct nat_eq (map trace_of till.book)
   pub entries : AllMatch till.settings.currency ledger till.book

@@ -7,9 +7,9 @@ use zvt_till::CurrencyFact;
 pub enum Asked {
     /// 06 00, with the currency that it names, if it names one.
     Registration(Option<Currency>),
-    /// 06 01, with the amount (BMP 04), where that stands exactly once and is not zero, and the currency (BMP 49).
+    /// 06 01, with the amount (BMP 04), where that appears exactly once and is not zero, and the currency (BMP 49).
     Authorisation(Option<Amount>, CurrencyFact),
-    /// 06 30, with the receipt number (BMP 87) as it was read, where that stands exactly once.
+    /// 06 30, with the receipt number (BMP 87) as it was read, where that appears exactly once.
     Reversal(Option<[u8; 2]>),
     /// 06 50.
     EndOfDay,
@@ -54,7 +54,7 @@ pub enum Report {
     },
     /// 04 0F: what the result code (BMP 27) says.
     Result(u8),
-    /// 04 0F: the approval numbered `original` (BMP 37) was taken back, and that is kept under the number.
+    /// 04 0F: the approval numbered `original` (BMP 37) was taken back, and that is stored under the number.
     TakenBack {
         amount: Amount,
         number: u16,

@@ -39,7 +39,7 @@ pub enum Input<'a> {
     Message(&'a Apdu),
     /// A message of the till, by a view of its bytes.
     View(&'a ApduView<'a>),
-    /// The line was lost.
+    /// The connection was lost.
     Lost,
     /// What came on the line was no message, and the line is given up.
     Malformed,
@@ -194,7 +194,7 @@ impl Terminal {
         }
     }
 
-    /// Whether a payment that names its currency so is taken: only in the currency that is kept, where one is.
+    /// Whether a payment that names its currency so is taken: only in the currency that is stored, where one is.
     fn takes_currency(&self, named: CurrencyFact) -> bool
         ensures { result ≡ takes_currency self.now.currency named }
     {

@@ -11,7 +11,7 @@ pub enum Verdict {
     Decline(u8),
 }
 
-/// Where the terminal stands in an order. It goes on with each answer of the till.
+/// Where the terminal is in an order. It goes on with each answer of the till.
 #[derive(Clone, Copy, Debug, PartialEq, Eq)]
 pub enum Phase {
     /// No order runs.

@@ -57,7 +57,7 @@ fn tid_digits(tid: u32) -> [u8; 4]
     four
 }
 
-/// Puts bytes at the front, and says how many.
+/// Puts bytes at the start, and says how many.
 fn put_bytes(bytes: &[u8], out: &mut [u8]) -> usize
     requires { length bytes.now ≤ length out.old }
     ensures { Puts bytes.now out.old out.new result }
@@ -66,7 +66,7 @@ fn put_bytes(bytes: &[u8], out: &mut [u8]) -> usize
     bytes.len()
 }
 
-/// Puts bytes at the front, and others behind them, and says how many.
+/// Puts bytes at the start, and others after them, and says how many.
 fn put_after(first: &[u8], bytes: &[u8], out: &mut [u8]) -> usize
     requires { length first.now + length bytes.now ≤ length out.old }
     ensures written { Puts (first.now ++ bytes.now) out.old out.new result }
@@ -77,7 +77,7 @@ fn put_after(first: &[u8], bytes: &[u8], out: &mut [u8]) -> usize
     at + put_bytes(bytes, &mut out[at..])
 }
 
-/// Puts a message of these control bytes and data at the front, and says its size.
+/// Puts a message of these control bytes and data at the start, and says its size.
 fn put_data(high: u8, low: u8, bytes: &[u8], out: &mut [u8; MAX_REPORT_LEN]) -> usize
     requires { length bytes.now ≤ 29 }
     ensures written { Puts (high ∷ low ∷ length bytes.now ∷ bytes.now) out.old out.new result }
@@ -88,7 +88,7 @@ fn put_data(high: u8, low: u8, bytes: &[u8], out: &mut [u8; MAX_REPORT_LEN]) -> 
     put_after(&[high, low, bytes.len() as u8], bytes, out)
 }
 
-/// Puts a registration's completion at the front, and says its size.
+/// Puts a registration's completion at the start, and says its size.
 fn put_registration(tid: u32, currency: Option<Currency>, out: &mut [u8; MAX_REPORT_LEN]) -> usize
     requires { tid ≤ 99999999 }
     ensures written { PutsMessage (message_of_report (Report.Registered tid currency)) out.old out.new result }
@@ -104,7 +104,7 @@ fn put_registration(tid: u32, currency: Option<Currency>, out: &mut [u8; MAX_REP
     }
 }
 
-/// Puts the status of an approval at the front, and says its size.
+/// Puts the status of an approval at the start, and says its size.
 fn put_approval(
     amount: Amount,
     number: u16,
@@ -135,7 +135,7 @@ fn put_approval(
     }
 }
 
-/// Puts the status of a reversal at the front, and says its size.
+/// Puts the status of a reversal at the start, and says its size.
 fn put_reversal(
     amount: Amount,
     number: u16,
@@ -170,7 +170,7 @@ fn put_reversal(
     }
 }
 
-/// Puts a line to print at the front, and says its size.
+/// Puts a line to print at the start, and says its size.
 fn put_text(words: &[u8], more: &[u8], out: &mut [u8]) -> usize
     requires short { length words.now + length more.now ≤ 28 }
     requires room { 32 ≤ length out.old }
@@ -182,7 +182,7 @@ fn put_text(words: &[u8], more: &[u8], out: &mut [u8]) -> usize
     at + put_bytes(more, &mut out[at..])
 }
 
-/// Puts a line of words and an amount at the front, and says its size.
+/// Puts a line of words and an amount at the start, and says its size.
 fn put_amount(words: &[u8], amount: Amount, out: &mut [u8; MAX_REPORT_LEN]) -> usize
     requires { length words.now ≤ 16 }
     ensures written { PutsMessage (print_line 0 (words.now ++ decimal amount)) out.old out.new result }
@@ -192,7 +192,7 @@ fn put_amount(words: &[u8], amount: Amount, out: &mut [u8; MAX_REPORT_LEN]) -> u
     put_text(words, buffer.format(amount.get()).as_bytes(), out)
 }
 
-/// Puts the line at the front, and says its size.
+/// Puts the line at the start, and says its size.
 fn put_line(line: &Line, out: &mut [u8; MAX_REPORT_LEN]) -> usize
     ensures written { PutsMessage (message_of_report (Report.Line line.now)) out.old out.new result }
     ensures fits { result ≤ 32 }
@@ -204,7 +204,7 @@ fn put_line(line: &Line, out: &mut [u8; MAX_REPORT_LEN]) -> usize
     }
 }
 
-/// Writes the message's spelling at the front of the buffer, and says its size. It always fits, and what stands behind
+/// Writes the message's spelling at the start of the buffer, and says its size. It always fits, and what comes after
 /// it stays.
 pub fn put_report(report: &Report, buffer: &mut [u8; MAX_REPORT_LEN]) -> usize
     requires { IsWritable report.now }

@@ -1,4 +1,4 @@
--- The words of result codes.
+-- The words of result codes (PA00P015, list of error messages).
 use Rattle.std.specs.Prelude.{ℕ, ◌==◌, List, [], ◌∷◌, ◌++◌, codes, Option, Some, None, find, option_map}
 use Rattle.zvt_text.specs.Bytes.{hex_of}
 

@@ -57,12 +57,12 @@ pub record Following (r : Reading) (d : ℕ) (nx : Next) (t : ℕ) : Type 0 wher
   pub follows : Follows r d nx s
   pub size : length s ≡ t
 
--- what is left behind a content that fits can be filled
+-- what is left after a content that fits can be filled
 pub remainder : (t n : ℕ) → (t ≡ n) ⊎ (n + 2 ≤ t) → (m : ℕ) × (t ≡ n + m) × (m ≢ 1)
 remainder t n (inl e) = (0, omega arith, λ e. omega arith)
 remainder t n (inr h) = (t - n, omega arith, λ e. omega arith)
 
--- a content and filled objects behind it
+-- a content and filled objects after it
 pub closed : (r : Reading) (d : ℕ) (nests : Bool) (c : List ℕ) (t : ℕ) → Inside r d nests c → (t ≡ length c) ⊎ (length c + 2 ≤ t) →
     Following r d (content nests (length c)) t
 closed r d nests c t inside f =
@@ -124,14 +124,14 @@ fit_here r d room b role left x ne begins e lt a =
       λ w is p. s.1 w is (alive_fits r d room _ _ left on size p),
     )
 
--- fronts of what is alive
+-- prefixes of what is alive
 pub alive_prefix : (r : Reading) (d room : ℕ) (a b : List ℕ) → AliveIn r d room (a ++ b) → AliveIn r d room a
 alive_prefix r d room a b h = prefixes_alive (Filled r d room) a b h
 
 pub alive_size : (r : Reading) (d room : ℕ) (b : List ℕ) → AliveIn r d room b → length b ≤ room
 alive_size r d room b h = omega (arith, length-append b h.rest, h.spelled.1)
 
--- behind complete objects
+-- after complete objects
 pub alive_joined : (r : Reading) (d room : ℕ) (f : Objects) (a b : List ℕ) → Spells r d f a → AliveIn r d room b →
     AliveIn r d (length a + room) (a ++ b)
 alive_joined r d room f a b p h = record {
@@ -185,7 +185,7 @@ pub alive_within : (r : Reading) (d n left : ℕ) (tag size b : List ℕ) → Ta
 alive_within r d n left tag size b p l f h =
     alive_opened r d n left true tag size b h.rest p l f.0 h.spelled.1 (p.deep refl, record { objects = h.value; spelled = h.spelled.0 })
 
--- a front of a longer list's front
+-- a prefix of a longer list's prefix
 pub prefix_of : (a b c e : List ℕ) → a ++ b ≡ c ++ e → length a ≤ length c → (m : List ℕ) × (c ≡ a ++ m)
 prefix_of [] b c e q h = (c, refl)
 prefix_of (x ∷ a) b [] e q h = absurd (omega arith)
@@ -194,7 +194,7 @@ prefix_of (x ∷ a) b (y ∷ c) e q h =
     let more = prefix_of a b c e (cc) (omega arith) in
     (more.0, cc (heads, more.1))
 
--- what is alive behind an opener begins a content
+-- what is alive after an opener begins a content
 content_prefix : (r : Reading) (d n left : ℕ) (nests : Bool) (tag size b : List ℕ) → Tagged d nests tag → IsLength r n size → length b ≤ n →
     AliveIn r d (length tag + (length size + left)) (tag ++ (size ++ b)) → (m : List ℕ) × Inside r d nests (b ++ m) × (length (b ++ m) ≡ n)
 content_prefix r d n left nests tag size b p l short h =
@@ -232,7 +232,7 @@ pub bytes_alive : (r : Reading) (d n left : ℕ) (tag size b : List ℕ) → Tag
 bytes_alive r d n left tag size b p l short h =
     let c = content_prefix r d n left false tag size b p l short h in bytes_prefix b c.0 c.1
 
--- a fact that stands for another
+-- a fact that represents another
 pub says_of : (o : Option Why) (P Q : Type 0) → (P → Q) → (Q → P) → Says o P → Says o Q
 says_of o P Q to from h = (λ e. to (h.0 e), λ w e q. h.1 w e (from q))
 

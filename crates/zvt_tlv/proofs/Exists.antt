@@ -1,4 +1,4 @@
--- Each beginning that can be completed, and is not whole, stands at a position.
+-- Each beginning that can be completed, and is not whole, is at a position.
 use Rattle.std.proofs.Common.{◌≡◌, ℕ, ◌+◌, ◌-◌, ◌<◌, ◌≤◌, Bool, true, false, List, [], ◌∷◌, ◌++◌, length, refl, sym, ◌∙◌, ap, subst, append_assoc, arith, length-append, ◌⊎◌, suc, inl, inr}
 use Rattle.std.proofs.lemmas.List.{append-nil}
 use Rattle.zvt_grammar.specs.Reading.{Reading}
@@ -59,7 +59,7 @@ pub record Stands (r : Reading) (d room : ℕ) (b : List ℕ) : Type 0 where
 here : (r : Reading) (d room : ℕ) (b : List ℕ) → Part r d b → length b < room → Stands r d room b
 here r d room b p lt = record { openers = []; at = d; role = p.role; left = room - length b - 1; position = (none, [], b, refl, refl, p.begins, omega arith, refl) }
 
--- where the rest of a front begins
+-- where the rest of a prefix begins
 pub split : (a x b y : List ℕ) → a ++ x ≡ b ++ y → (((m : List ℕ) × (z : ℕ) × (a ≡ b ++ z ∷ m)) ⊎ ((m : List ℕ) × (b ≡ a ++ m) × (x ≡ m ++ y)))
 split [] x b y e = inr (b, refl, e)
 split (z ∷ a) x [] y e = inl (a, z, refl)
@@ -70,7 +70,7 @@ split (z ∷ a) x (w ∷ b) y e =
       | inr p ↦ inr (p.0, cc (heads, p.1), p.2)
     ]
 
--- the parts of an object, and a front of them
+-- the parts of an object, and a prefix of them
 position_in : (r : Reading) (d : ℕ) (nests : Bool) (one : Objects) (tag size content after s b : List ℕ) (y : ℕ) (x : List ℕ) → Tagged d nests tag → IsLength r (length content) size →
     s ≡ tag ++ (size ++ (content ++ after)) → s ≡ b ++ y ∷ x → Spells r d one (tag ++ (size ++ content)) →
     ((c : List ℕ) (z : ℕ) (m : List ℕ) → content ≡ c ++ z ∷ m → b ≡ tag ++ (size ++ c) → Stands r d (length s) b) →
@@ -106,7 +106,7 @@ position_in r d nests one tag size content after s b y x t l whole e spelled ins
     by_tag (inl p) = here r d (length s) b (tag_part r d nests tag b p.1 p.0 t p.2) short
     by_tag (inr p) = by_size p.0 p.1 (split size (content ++ after) p.0 (y ∷ x) p.2)
 
--- a front of a spelling stands at a position
+-- a prefix of a spelling is at a position
 pub position_exists : (r : Reading) (d : ℕ) (f : Objects) (s b : List ℕ) (y : ℕ) (x : List ℕ) → Spells r d f s → s ≡ b ++ y ∷ x → Stands r d (length s) b
 position_exists r d none s b y x p e = absurd (omega (arith, ap length p, ap length e, length-append b (y ∷ x)))
 position_exists r d (primitive tag c rest) s b y x p e =
@@ -130,7 +130,7 @@ position_exists r d (constructed tag inner rest) s b y x p e =
     })
     (λ c k. position_exists r d rest p.after c y x p.others k)
 
--- what is alive and not whole stands at a position
+-- what is alive and not whole is at a position
 pub alive_stands : (r : Reading) (d room : ℕ) (b : List ℕ) → AliveIn r d room b → length b < room → Stands r d room b
 alive_stands r d room b a lt = more a.rest refl
   where
@@ -146,7 +146,7 @@ pub record SizedStands (r : Reading) (room : ℕ) (b : List ℕ) : Type 0 where
   pub left : ℕ
   pub position : PositionSized r room openers b at role left
 
--- a front of a length and its objects
+-- a prefix of a length and its objects
 pub sized_prefix : (r : Reading) (room : ℕ) (f : Objects) (one b : List ℕ) (y : ℕ) (x : List ℕ) → Sized r f one → one ≡ b ++ y ∷ x → length one ≤ room → SizedStands r room b
 sized_prefix r room f one b y x p e within = by_size (split p.size p.content b (y ∷ x) (sym p.whole ∙ e))
   where

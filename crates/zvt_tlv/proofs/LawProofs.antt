@@ -133,7 +133,7 @@ answers_are_one r d room bytes (Refused j v) (Refused k w) p q =
     let e = place_once (Filled r d room) bytes j k p.0.0 q.0.0 in
     refused_once Objects (Refused j v) (Refused k w) j k v w refl refl e (why_once r d room k bytes v w (subst (λ (n : ℕ). WhyIn r d room bytes n v) e p.1) q.1)
 
--- the length and the objects that stand first are one
+-- the length and the objects that come first are one
 found_once : (r : Reading) (room : ℕ) (bytes : List ℕ) (f g : Objects) (m n : ℕ) → SizedFound r room bytes f m → SizedFound r room bytes g n → (f ≡ g) × (m ≡ n)
 found_once r room bytes f g m n p q =
     let e = sized_end_themselves r f g (take m bytes) (take n bytes) (drop m bytes) (drop n bytes) p.spelled.spelled q.spelled.spelled (take-append-drop m bytes ∙ sym (take-append-drop n bytes)) in

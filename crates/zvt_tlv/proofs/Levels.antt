@@ -19,7 +19,7 @@ use Rattle.zvt_tlv.proofs.Room.{Fits}
 use Rattle.zvt_tlv.proofs.Alive.{alive_size, alive_joined, alive_apart, alive_within, alive_inside, opener_fits, alive_bytes, bytes_prefix}
 use Rattle.zvt_tlv.proofs.TreeLemmas.{before_prim, before_cons, before_some, objects_joined}
 
--- a position behind complete objects
+-- a position after complete objects
 pub position_after : (r : Reading) (d room : ℕ) (f : Objects) (a : List ℕ) (os : List Opener) (b : List ℕ) (at : ℕ) (role : Role) (left : ℕ) →
     Spells r d f a → Position r d room os b at role left → (qs : List Opener) × Position r d (length a + room) qs (a ++ b) at role left
 position_after r d room f a [] b at role left p (items, done, beginning, e, spelled, begins, filled, same) = (
@@ -52,7 +52,7 @@ byte_from k n x bytes lt e =
     slice_get-get_or bytes (k + n) 0 (omega (arith, lt, length-drop k bytes))
     ∙ ap Some (sym (get_or-drop k bytes n 0) ∙ get_or_from_slice_get (drop k bytes) n x 0 e)
 
--- a refusal behind complete objects
+-- a refusal after complete objects
 pub refused_after : (r : Reading) (d room k p : ℕ) (f : Objects) (bytes : List ℕ) (why : Why) → k ≤ length bytes → k ≤ room → Spells r d f (take k bytes) →
     PlaceIn r d (room - k) (drop k bytes) p × WhyIn r d (room - k) (drop k bytes) p why →
     PlaceIn r d room bytes (k + p) × WhyIn r d room bytes (k + p) why
@@ -84,7 +84,7 @@ refused_after r d room k p f bytes why short within spelled (place, reason) =
       },
     )
 
--- too few bytes behind complete objects
+-- too few bytes after complete objects
 pub more_after : (r : Reading) (d room k : ℕ) (f : Objects) (bytes : List ℕ) → k ≤ length bytes → k ≤ room → Spells r d f (take k bytes) →
     (length (drop k bytes) < room - k) × AliveIn r d (room - k) (drop k bytes) → (length bytes < room) × AliveIn r d room bytes
 more_after r d room k f bytes short within spelled (few, alive) =
@@ -124,7 +124,7 @@ within_of r d room bytes o h =
       is_length = h.is_length;
     }
 
--- the opener, and some bytes behind it
+-- the opener, and some bytes after it
 from_opener : (bytes tag size : List ℕ) (k n : ℕ) → take k bytes ≡ tag ++ size → take (k + n) bytes ≡ tag ++ (size ++ take n (drop k bytes))
 from_opener bytes tag size k n e = take_from k n bytes ∙ ap (λ (x : List ℕ). x ++ take n (drop k bytes)) e ∙ append_assoc tag size (take n (drop k bytes))
 
@@ -263,7 +263,7 @@ objects_more r d room k n bytes ts t short spelled h =
     (subst (Spells r d (joined (objects_of ts) (before t none))) (sym (take_from k n bytes))
     (spells_joined r d (objects_of ts) (before t none) (take k bytes) (take n (drop k bytes)) spelled h.spelled))
 
--- what is left behind an object is not one byte
+-- what is left after an object is not one byte
 pub rest_of : (r : Reading) (d room n : ℕ) (bytes : List ℕ) (t : Tlv) → ObjectFound r d room bytes t n → (n ≤ room) × (room - n ≢ 1)
 rest_of r d room n bytes t h =
     let size : length (take n bytes) ≡ n = length-take-le n bytes h.present in

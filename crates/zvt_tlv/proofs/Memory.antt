@@ -14,7 +14,7 @@ use Rattle.zvt_tlv.proofs.Spelling.{from}
 use Rattle.zvt_tlv.proofs.Levels.{ReadTo}
 use Rattle.zvt_tlv.proofs.Moves.{One, next_object}
 
--- behind a tag and a length
+-- after a tag and a length
 head_takes : (r : Reading) (d room : ℕ) (bytes : List ℕ) (head : Head) → 0 < room → (h : HeadFound r d room bytes head)
     → ((head.constructed ≡ true) ⊎ (head.content ≤ length (drop head.size bytes))) → TakesMemory r room bytes
 head_takes r d room bytes head some h kept =
@@ -42,7 +42,7 @@ pub bytes_take : (r : Reading) (d room : ℕ) (bytes : List ℕ) (head : Head) �
 bytes_take r d room bytes head some h enough =
     head_takes r d room bytes head some h (inr (subst (λ (s : List ℕ). head.content ≤ length s) (take_rest bytes head.size) enough))
 
--- where objects stand first
+-- where objects come first
 spelled_takes : (r : Reading) (d room : ℕ) (f : Objects) (prefix rest bytes : List ℕ) → 0 < room → Spells r d f prefix → 0 < length prefix → bytes ≡ prefix ++ rest → TakesMemory r room bytes
 spelled_takes r d room none prefix rest bytes some p lt e = absurd (omega (arith, ap length p, lt))
 spelled_takes r d room (primitive tag c others) prefix rest bytes some p lt e = record {
@@ -72,7 +72,7 @@ read_takes : (r : Reading) (d room : ℕ) (bytes : List ℕ) (ts : List Tlv) (k 
 read_takes r d room bytes ts k i lt =
     spelled_takes r d room (objects_of ts) (take k bytes) (drop k bytes) bytes (omega (arith, lt, i.within)) i.spelled (omega (arith, lt, length-take-le k bytes i.present)) (sym (take-append-drop k bytes))
 
--- behind objects that were read
+-- after objects that were read
 pub next_takes : (r : Reading) (d room : ℕ) (bytes : List ℕ) (ts : List Tlv) (k : ℕ) → ReadTo r d room bytes ts k → TakesMemory r (room - k) (from k bytes) → TakesMemory r room bytes
 next_takes r d room bytes ts zero i t =
     let same : room - 0 ≡ room = omega arith in

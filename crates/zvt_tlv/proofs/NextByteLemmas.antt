@@ -230,7 +230,7 @@ forest_follows r d (primitive tag c rest) s p =
 forest_follows r d (constructed tag inner rest) s p =
     parts_follow r d true tag s _ _ p (λ e. p.inside.0) (p.inside.0, record { objects = inner; spelled = p.inside.1 }) (record { objects = rest; spelled = p.others })
 
--- a length stands first
+-- a length comes first
 pub record LengthFirst (r : Reading) (d : ℕ) (nests : Bool) (s : List ℕ) : Type 0 where
   pub n : ℕ
   pub size : List ℕ
@@ -269,7 +269,7 @@ length_first r d nests (x ∷ s) h = by_value (cases_lt x 128) (cases_eq x 0x81)
     by_value (inr ge) (inr other) (inl e) = high s (unstep r d (first_length nests) x (byte (high_length nests)) s (next_82 r d nests x e) h) e
     by_value (inr ge) (inr other) (inr nor) = absurd (unstep r d (first_length nests) x (wrong LengthForm) s (next_no_length r d nests x ge other nor) h)
 
--- a tag stands first
+-- a tag comes first
 pub record TagFirst (r : Reading) (d : ℕ) (s : List ℕ) : Type 0 where
   pub nests : Bool
   pub tag : List ℕ

@@ -33,7 +33,7 @@ module _ {V : Type 0} (spells : V → List ℕ → Type 0) where
     dead = λ h. p.dead (subst (Alive spells) (take-append-le (suc k) bytes more (omega (arith, p.present))) h);
   }
 
-  -- behind it nothing becomes whole
+  -- after it nothing becomes whole
   pub none_more : (bytes more : List ℕ) (k : ℕ) → NoneWhole spells bytes → Place spells bytes k → NoneWhole spells (bytes ++ more)
   none_more bytes more k none p v prefix rest e s = by_size (cases_lt (length bytes) (length prefix))
     where

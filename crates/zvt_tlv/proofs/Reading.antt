@@ -109,7 +109,7 @@ room_left r d room role b p some a = by_rest a.rest refl
         let size : length b ≡ room = sym (ap length whole) ∙ a.spelled.1 in
         absurd (begins_unfinished r d role b p a.value b [] (subst (Spells r d a.value) whole a.spelled.0) (omega arith) (sym (append-nil b)))
 
--- a reader stands in the beginning of an object
+-- a reader is in the beginning of an object
 pub record InHead (r : Reading) (d room : ℕ) (role : Role) (bytes : List ℕ) (k : ℕ) : Type 0 where
   pub begins : Begins r d role (take k bytes)
   pub alive : AliveIn r d room (take k bytes)
@@ -125,7 +125,7 @@ pub head_room : (r : Reading) (d room : ℕ) (role : Role) (bytes : List ℕ) (k
 head_room r d room role bytes k i some short =
     omega (arith, room_left r d room role (take k bytes) i.begins some i.alive, length-take-le k bytes short)
 
--- it stands at a position
+-- it is at a position
 head_stands : (r : Reading) (d room : ℕ) (role : Role) (bytes : List ℕ) (k : ℕ) → InHead r d room role bytes k → 0 < room →
     k ≤ length bytes → Position r d room [] (take k bytes) d role (room - k - 1)
 head_stands r d room role bytes k i some short =

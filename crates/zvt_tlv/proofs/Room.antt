@@ -19,7 +19,7 @@ abbrev pub Nested : Bool → ℕ → ℕ → Type 0
 Nested true t n = t ≢ n
 Nested false t n = Unit {0}
 
--- a constructed object stands at depth 5 at most
+-- a constructed object is at depth 5 at most
 abbrev pub Shallow : ℕ → Bool → Type 0
 Shallow d nests = nests ≡ true → d < 6
 

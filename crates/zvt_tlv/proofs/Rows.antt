@@ -144,7 +144,7 @@ padded_spelled = record {
   others = refl;
 }
 
--- an object of one byte is kept, and of no bytes nothing is
+-- an object of one byte is stored, and of no bytes nothing is
 kept : TakesMemory shortest 3 (0x07 ∷ 0x01 ∷ 0x41 ∷ [])
 kept = record {
   some = omega arith;

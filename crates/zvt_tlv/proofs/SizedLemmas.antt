@@ -12,14 +12,14 @@ use Rattle.zvt_tlv.proofs.Alive.{prefix_of, fit, says_of}
 use Rattle.zvt_tlv.proofs.Room.{Says}
 use Rattle.zvt_tlv.proofs.Unique.{Unfinished, begins_unfinished, opened_unfinished}
 
--- the tag that stands for what is before the length
+-- the tag that represents what is before the length
 abbrev pub opening : List ℕ
 opening = 0x25 ∷ []
 
 opening_tag : Tagged 0 true opening
 opening_tag = record { is_tag = (omega arith, refl); is_kind = refl; deep = λ e. omega arith }
 
--- behind the tag, an object and objects that fill
+-- after the tag, an object and objects that fill
 as_objects : (r : Reading) (f g : Objects) (one after : List ℕ) → Sized r f one → Spells r 0 g after → Spells r 0 (constructed opening f g) (0x25 ∷ (one ++ after))
 as_objects r f g one after p q = record {
   size = p.size;
@@ -33,7 +33,7 @@ as_objects r f g one after p q = record {
   others = q;
 }
 
--- what stands behind the tag
+-- what comes after the tag
 pub record After (r : Reading) (s : List ℕ) : Type 0 where
   pub objects : Objects
   pub others : Objects
@@ -64,7 +64,7 @@ trailing r (constructed tag inner rest) s p =
 abbrev pub NotLonger : Reading → List ℕ → Type 0
 NotLonger r c = (f : Objects) (one x y : List ℕ) → Sized r f one → c ++ x ≡ one ++ y → length c ≤ length one
 
--- alive in the room is alive behind the tag
+-- alive in the room is alive after the tag
 pub sized_object : (r : Reading) (room : ℕ) (c : List ℕ) → Alive (SizedIn r room) c → AliveIn r 0 (suc room) (0x25 ∷ c)
 sized_object r room c h =
     let p = h.spelled in
@@ -94,7 +94,7 @@ object_sized r room c longer h =
       };
     }
 
--- a position as one behind the tag
+-- a position as one after the tag
 opener_of : Opener → Opener
 opener_of o = record { items = none; done = []; tag = opening; size = o.size; content = o.content }
 

@@ -69,7 +69,7 @@ more_sized r room os bytes at role left p a = record {
       omega (arith, less, ap length w, length-append prefix rest);
 }
 
--- a reader stands in the length
+-- a reader is in the length
 pub record InLength (r : Reading) (room : ℕ) (role : Role) (bytes : List ℕ) (k : ℕ) : Type 0 where
   pub begins : Begins r 0 role (0x25 ∷ take k bytes)
   pub alive : Alive (SizedIn r room) (take k bytes)

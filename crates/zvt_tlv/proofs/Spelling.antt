@@ -34,7 +34,7 @@ filled r d (suc (suc zero)) = record { size = 0 ∷ []; content = []; after = []
 filled r d (suc (suc (suc zero))) = record { size = 1 ∷ []; content = 0 ∷ []; after = []; whole = refl; is_tag = (omega arith, refl); is_kind = refl; is_length = (omega arith, refl); inside = (refl, (omega arith, tt)); others = refl }
 filled r d (suc (suc (suc (suc n)))) = record { size = 0 ∷ []; content = []; after = filling (suc (suc n)); whole = refl; is_tag = (omega arith, refl); is_kind = refl; is_length = (omega arith, refl); inside = (refl, tt); others = filled r d (suc (suc n)) }
 
--- what stands at a depth could stand at a lesser one
+-- what is at a depth could be at a lesser one
 pub shallower : (r : Reading) (d e : ℕ) (f : Objects) (s : List ℕ) → e ≤ d → Spells r d f s → Spells r e f s
 shallower r d e none s le p = p
 shallower r d e (primitive tag content rest) s le p = record {

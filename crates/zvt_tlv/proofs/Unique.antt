@@ -27,11 +27,11 @@ no_head r d n nests role tag size x b t l e h =
     ended [] q = cc (q)
     ended (y ∷ x) q = q
 
--- no complete object stands first
+-- no complete object comes first
 unfoldable pub Unfinished : Reading → ℕ → List ℕ → Type 0
 Unfinished r d b = (f : Objects) (m x : List ℕ) → Spells r d f m → 0 < length m → b ≡ m ++ x → ⊥
 
--- what a complete object at the front shows
+-- what a complete object at the start shows
 pub record First (r : Reading) (d : ℕ) (b : List ℕ) : Type 0 where
   pub nests : Bool
   pub tag : List ℕ
@@ -100,7 +100,7 @@ part_once r d f g a b a' b' p q u v e = by_size (cases_lt (length a') (length a)
     by_size (inl lt) = let s = shorter g f a' b' a b q p v (sym e) (omega arith) in (sym s.0, sym s.1)
     by_size (inr le) = shorter f g a b a' b' p q u e le
 
--- two positions behind the same bytes are one
+-- two positions after the same bytes are one
 pub record SamePlace (at at' : ℕ) (role role' : Role) (left left' : ℕ) : Type 0 where
   pub ats : at ≡ at'
   pub roles : role ≡ role'

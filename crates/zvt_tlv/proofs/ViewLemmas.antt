@@ -1,4 +1,4 @@
--- Facts on views: what stands first in bytes that spell objects, and what is behind it.
+-- Facts on views: what comes first in bytes that spell objects, and what is after it.
 use Rattle.std.proofs.Common.{◌≡◌, ℕ, ◌-◌, ◌/◌, ◌%◌, ◌<◌, ◌≤◌, ◌==◌, Bool, true, false, eqb-true, List, [], ◌∷◌, ◌++◌, length, take, drop, slice_index_or, refl, sym, ◌∙◌, ap, subst, arith, length-append, suc}
 use Rattle.std.proofs.lemmas.Bool.{eqb-false}
 use Rattle.std.proofs.lemmas.List.{length-take-le, take-append-drop}
@@ -61,7 +61,7 @@ length_three b (n, x ∷ y ∷ [], after, e, l) m =
     let is : x ≡ 0x82 = ap (λ (s : List ℕ). slice_index_or s 0 0) (sym e) ∙ m in absurd (omega (arith, is, l.0))
 length_three b (n, x ∷ y ∷ z ∷ size, after, e, l) m = omega (arith, ap length e)
 
--- the parts that a walk found are those that stand first
+-- the parts that a walk found are those that come first
 abbrev pub Exact : (b t c a : List ℕ) → Type 0
 Exact b t c a = (tag size content after : List ℕ) → Starts tag size content after b → (t ≡ tag) × (c ≡ content) × (a ≡ after)
 
@@ -112,7 +112,7 @@ pub kind_is : (t : List ℕ) → 1 ≤ length t → slice_index_or t 0 0 / 32 % 
 kind_is [] some e = absurd (omega arith)
 kind_is (x ∷ t) some e = ap (λ (n : ℕ). n == 1) e
 
--- the parts that stand first in a spelling
+-- the parts that come first in a spelling
 first_parts : {k : Bool} {tag b : List ℕ} {C A : List ℕ → Type 0} → (t c a : List ℕ) → (p : Parts padded k tag C A b) → Exact b t c a → (t ≡ tag) × (c ≡ p.content) × (a ≡ p.after)
 first_parts {tag = tag} t c a p x = x tag p.size p.content p.after (record { whole = p.whole; is_tag = p.is_tag; is_length = p.is_length })
 

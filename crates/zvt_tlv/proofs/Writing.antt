@@ -1,4 +1,4 @@
--- One write behind another.
+-- One write after another.
 use Rattle.std.proofs.Common.{◌≡◌, ◌^◌, ℕ, Bool, true, false, ◌+◌, ◌-◌, ◌<◌, ◌≤◌, List, [], ◌∷◌, ◌++◌, length, take, drop, get_or, refl, sym, ◌∙◌, ap, subst, append_assoc, arith, length-append, length-drop, suc, ◌⊎◌, inl, inr, ◌/◌, ◌%◌}
 use Rattle.std.proofs.lemmas.List.{take-append-drop, take_rest, take_at, drop_at, drop-drop, drop_all, append-nil, take_more}
 use Rattle.std.proofs.lemmas.Bool.{cond-true, cond-false, lt-ltb, le-ltb, cases_lt}
@@ -102,7 +102,7 @@ size_before ts i t lt is =
       spelling_size (objects_of ts),
     )
 
--- what is left behind a write
+-- what is left after a write
 pub room_after : (a old mid : List ℕ) (n k : ℕ) → Puts a old mid n → length a + k ≤ length old → k ≤ length (from n mid)
 room_after a old mid n k p room =
     omega (arith, p.1, ap length p.0, length-append a (drop (length a) old), length-drop (length a) old, ap length (take_rest mid n), length-drop n mid)
@@ -163,7 +163,7 @@ pub writes_spelling : (f : Objects) (old new : List ℕ) (n : ℕ) → HasSpelli
 writes_spelling f old new n h p =
     record { bytes = spelling f; spelled = subst (Spells shortest 1 f) (spelled 1 f h.bytes h.spelled) h.spelled; prefix = p.0; size = p.1 }
 
--- and so is what is written behind its length
+-- and so is what is written after its length
 pub writes_sized : (f g : Objects) (size : ℕ) (old mid sub : List ℕ) (n m : ℕ) → HasSpelling f → f ≡ g → size ≡ size_of f → Puts (length_bytes size) old mid n → Puts (spelling g) (from n mid) sub m →
     Writes (Sized shortest f) old (put_mid n (length mid - n) mid sub) (n + m)
 writes_sized f g size old mid sub n m h same sized p q =

@@ -60,13 +60,13 @@ Answers r depth room bytes Found (Refused place why) = PlaceIn r depth room byte
 abbrev pub AnswersForest : Reading → (depth room : ℕ) → (bytes : List ℕ) → Scan Objects → Type 0
 AnswersForest r depth room bytes = Answers r depth room bytes (λ f. (room ≤ length bytes) × Spells r depth f (take room bytes))
 
--- A tag stands first, and the bytes are alive behind it.
+-- A tag comes first, and the bytes are alive after it.
 pub record TagFound (r : Reading) (depth room : ℕ) (bytes : List ℕ) (size : ℕ) (constructed : Bool) : Type 0 where
   pub present : size ≤ length bytes
   pub tagged : Tagged depth constructed (take size bytes)
   pub alive : AliveIn r depth room (take size bytes)
 
--- A tag and a length stand first, and the bytes are alive behind them.
+-- A tag and a length come first, and the bytes are alive after them.
 pub record HeadFound (r : Reading) (depth room : ℕ) (bytes : List ℕ) (head : Head) : Type 0 where
   pub tag : List ℕ
   pub size : List ℕ
@@ -78,7 +78,7 @@ pub record HeadFound (r : Reading) (depth room : ℕ) (bytes : List ℕ) (head :
   pub is_length : IsLength r head.content size
   pub alive : AliveIn r depth room (take head.size bytes)
 
--- An object stands first, and the bytes are alive behind it.
+-- An object comes first, and the bytes are alive after it.
 pub record ObjectFound (r : Reading) (depth room : ℕ) (bytes : List ℕ) (object : Tlv) (size : ℕ) : Type 0 where
   pub present : size ≤ length bytes
   pub spelled : Spells r depth (before object none) (take size bytes)
@@ -89,7 +89,7 @@ pub record ObjectsFound (r : Reading) (depth room : ℕ) (bytes : List ℕ) (obj
   pub present : room ≤ length bytes
   pub spelled : Spells r depth (objects_of objects) (take room bytes)
 
--- The tag and the length of an object of the room stand first, and where it is primitive all of its content: to keep what
+-- The tag and the length of an object of the room come first, and where it is primitive all of its content: to keep what
 -- was read takes memory.
 pub record TakesMemory (r : Reading) (room : ℕ) (bytes : List ℕ) : Type 0 where
   pub some : 0 < room

@@ -1,5 +1,5 @@
 -- The spelling of trees of objects: tag, length, content (PA00P015, TLV container).
--- Lists are whole spellings; no cursor and no count of what is left stands in these definitions.
+-- Lists are whole spellings; no cursor and no count of what is left is in these definitions.
 use Rattle.std.specs.Prelude.{◌≡◌, ℕ, ◌+◌, ◌*◌, ◌/◌, ◌%◌, ◌<◌, ◌≤◌, ◌==◌, Bool, true, false, List, [], ◌∷◌, ◌++◌, length, suc}
 use Rattle.zvt_grammar.specs.Reading.{Reading, least, AreBytes}
 
@@ -52,8 +52,8 @@ pub record Parts (r : Reading) (kind : Bool) (tag : List ℕ) (Content After : L
   pub inside : Content content
   pub others : After after
 
--- The bytes are a spelling of the objects, which stand at that depth, one after another. A primitive's content is its
--- bytes; a constructed object stands at depth 5 at most, and its content is a spelling of its objects, one depth more.
+-- The bytes are a spelling of the objects, which are at that depth, one after another. A primitive's content is its
+-- bytes; a constructed object is at depth 5 at most, and its content is a spelling of its objects, one depth more.
 abbrev pub Spells : Reading → ℕ → Objects → List ℕ → Type 0
 Spells r depth none bytes = bytes ≡ []
 Spells r depth (primitive tag content rest) bytes =

@@ -7,7 +7,7 @@ use Rattle.zvt_grammar.specs.Reading.{Reading, shortest, padded, least}
 use Rattle.zvt_tlv.specs.Grammar.{Objects, Spells, IsTag, IsLength, is_constructed, holds_objects, continues}
 use Rattle.zvt_grammar.specs.Tests.{check, fits}
 
--- The bytes are a spelling of the objects in exactly so many bytes.
+-- The bytes are a spelling of the objects in exactly that many bytes.
 abbrev pub Filled : Reading → (depth room : ℕ) → Objects → List ℕ → Type 0
 Filled r depth room objects bytes = Spells r depth objects bytes × (length bytes ≡ room)
 
@@ -30,7 +30,7 @@ pub data Role : Type 0 where
   low_length : (nests : Bool) (high : ℕ) → Role
   in_content : Role
 
--- A whole tag of that kind, of an object that may stand at that depth.
+-- A whole tag of that kind, of an object that may be at that depth.
 pub record Tagged (depth : ℕ) (nests : Bool) (tag : List ℕ) : Type 0 where
   pub is_tag : IsTag tag
   pub is_kind : is_constructed tag ≡ nests
@@ -100,7 +100,7 @@ avoids padded nests left n = true
 abbrev pub content_fits : Bool → ℕ → ℕ → Bool
 content_fits nests n left = fits n left && not (nests && (n == 1))
 
--- The opener of a length in so many further bytes, which is for sizes from `from` on.
+-- The opener of a length in that many further bytes, which is for sizes from `from` on.
 abbrev pub long_form : Reading → Bool → ℕ → ℕ → ℕ → Option Why
 long_form shortest nests left from bytes = check (nat_le (bytes + from) left) NotShortest None
 long_form padded nests left from bytes = check (nat_le bytes left && not (nests && (left == bytes + 1))) DoesNotFit None

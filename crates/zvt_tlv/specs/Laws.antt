@@ -18,12 +18,12 @@ use Rattle.zvt_tlv.specs.Sized.{Sized, SizedIn, PositionSized, AnswersSized}
 abbrev pub EachSizeIsFilled : Type 0
 EachSizeIsFilled = (r : Reading) (depth size : ℕ) → size ≢ 1 → (f : Objects) × (s : List ℕ) × Spells r depth f s × (length s ≡ size)
 
--- Bytes that are alive and don't fill the room stand at a position.
+-- Bytes that are alive and don't fill the room are at a position.
 abbrev pub EachBeginningStands : Type 0
 EachBeginningStands = (r : Reading) (depth room : ℕ) (b : List ℕ) → AliveIn r depth room b → length b < room →
     (os : List Opener) × (at : ℕ) × (role : Role) × (left : ℕ) × Position r depth room os b at role left
 
--- They stand at one alone.
+-- They are at one alone.
 abbrev pub PositionsAreOne : Type 0
 PositionsAreOne = (r : Reading) (depth room : ℕ) (os qs : List Opener) (b : List ℕ) (at at' : ℕ) (role role' : Role) (left left' : ℕ) →
     Position r depth room os b at role left → Position r depth room qs b at' role' left' → (at ≡ at') × (role ≡ role') × (left ≡ left')
@@ -57,7 +57,7 @@ abbrev pub SizedAnswersAreOne : Type 0
 SizedAnswersAreOne = (r : Reading) (room : ℕ) (bytes : List ℕ) (q q' : Scan (Objects × ℕ)) →
     AnswersSized r room bytes q → AnswersSized r room bytes q' → q ≡ q'
 
--- More bytes leave each answer but More as it is: nothing behind a whole, or behind the place of a refusal, counts.
+-- More bytes leave each answer but More as it is: nothing after a whole, or after the place of a refusal, counts.
 abbrev pub AnswersStay : Type 0
 AnswersStay = (r : Reading) (depth room : ℕ) (bytes more : List ℕ) (q : Scan Objects) → q ≢ More →
     AnswersForest r depth room bytes q → AnswersForest r depth room (bytes ++ more) q
@@ -80,7 +80,7 @@ IsOne (constructed tag inner (constructed t i f)) = ⊥
 abbrev pub SpellsOne : Reading → (depth : ℕ) → Objects → List ℕ → Type 0
 SpellsOne r depth object bytes = IsOne object × Spells r depth object bytes
 
--- Where two objects stand at the front of the same bytes, they are one, in one spelling.
+-- Where two objects are at the start of the same bytes, they are one, in one spelling.
 abbrev pub ObjectsEndThemselves : Type 0
 ObjectsEndThemselves = (r : Reading) (depth : ℕ) → EndThemselves (SpellsOne r depth)
 

@@ -17,7 +17,7 @@ pub record Sized (r : Reading) (objects : Objects) (bytes : List ℕ) : Type 0 w
   pub is_length : IsLength r (length content) size
   pub inside : Spells r 1 objects content
 
--- The same in a room of so many bytes, of which not a single one is left over.
+-- The same in a room of that many bytes, of which not a single one is left over.
 pub record SizedIn (r : Reading) (room : ℕ) (objects : Objects) (bytes : List ℕ) : Type 0 where
   pub spelled : Sized r objects bytes
   pub left : ℕ
@@ -25,7 +25,7 @@ pub record SizedIn (r : Reading) (room : ℕ) (objects : Objects) (bytes : List 
   pub apart : left ≢ 1
 
 -- After these bytes stands a byte of that role, itself at depth `at`, and `left` bytes of its own level after it.
--- A byte of the length stands as behind a tag of one byte that says constructed; the first opener's tag is not looked at.
+-- A byte of the length is as after a tag of one byte that says constructed; the first opener's tag is not looked at.
 abbrev pub PositionSized : Reading → (room : ℕ) → List Opener → List ℕ → (at : ℕ) → Role → (left : ℕ) → Type 0
 PositionSized r room [] bytes at role left = Begins r 0 role (0x25 ∷ bytes) × (length bytes + suc left ≡ room) × (at ≡ 0)
 PositionSized r room (o ∷ os) bytes at role left =
@@ -42,7 +42,7 @@ pub record WhySized (r : Reading) (room : ℕ) (bytes : List ℕ) (place : ℕ) 
   pub is_byte : slice_get bytes place ≡ Some byte
   pub fails : fault r at role left byte ≡ Some why
 
--- A length and its objects stand first, and fit the room.
+-- A length and its objects come first, and fit the room.
 pub record SizedFound (r : Reading) (room : ℕ) (bytes : List ℕ) (objects : Objects) (size : ℕ) : Type 0 where
   pub present : size ≤ length bytes
   pub spelled : SizedIn r room objects (take size bytes)
@@ -54,7 +54,7 @@ AnswersSized r room bytes More = Unfinished (SizedIn r room) bytes
 AnswersSized r room bytes (Refused place why) =
     NoneWhole (SizedIn r room) bytes × Place (SizedIn r room) bytes place × WhySized r room bytes place why
 
--- A length stands first, and the bytes are alive behind it.
+-- A length comes first, and the bytes are alive after it.
 pub record SizeFound (r : Reading) (room : ℕ) (bytes : List ℕ) (size content : ℕ) : Type 0 where
   pub present : size ≤ length bytes
   pub is_length : IsLength r content (take size bytes)
@@ -66,7 +66,7 @@ AnswersSize r room bytes More = Unfinished (SizedIn r room) bytes
 AnswersSize r room bytes (Refused place why) =
     NoneWhole (SizedIn r room) bytes × Place (SizedIn r room) bytes place × WhySized r room bytes place why
 
--- A length stands first, and objects that it counts take memory.
+-- A length comes first, and objects that it counts take memory.
 pub record SizedTakesMemory (r : Reading) (bytes : List ℕ) : Type 0 where
   pub size : List ℕ
   pub content : ℕ

@@ -30,13 +30,13 @@ spelling none = []
 spelling (primitive tag c rest) = whole tag c ++ spelling rest
 spelling (constructed tag inner rest) = whole tag (spelling inner) ++ spelling rest
 
--- Bytes that are a spelling stand at the front, and what was behind them stays; the count is their size.
+-- Bytes that are a spelling are at the start, and what was after them stays; the count is their size.
 pub record Writes (Spelling : List ℕ → Type 0) (old new : List ℕ) (count : ℕ) : Type 0 where
   pub bytes : List ℕ
   pub spelled : Spelling bytes
   pub prefix : new ≡ bytes ++ drop (length bytes) old
   pub size : count ≡ length bytes
 
--- These bytes stand at the front, and what was behind them stays; the count is their size.
+-- These bytes are at the start, and what was after them stays; the count is their size.
 abbrev pub Puts : List ℕ → (old new : List ℕ) → ℕ → Type 0
 Puts bytes old new count = (new ≡ bytes ++ drop (length bytes) old) × (count ≡ length bytes)

@@ -1,4 +1,4 @@
--- The tree of objects that a list of them stands for.
+-- The tree of objects that a list of them represents.
 use Rattle.std.specs.Prelude.{ℕ, List, [], ◌∷◌, map}
 use Rattle.zvt_tlv.specs.declared.trees.Tlv.{Tlv, fold-Tlv}
 use Rattle.zvt_tlv.specs.declared.trees.Body.TheOpen.{Body-F, Tlv-F, Prim, Cons}

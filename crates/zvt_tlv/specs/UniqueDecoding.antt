@@ -50,7 +50,7 @@ length_prefix r m n (a ∷ b ∷ z ∷ w ∷ v) b' x y p q e = absurd p
 abbrev pub from : ℕ → List ℕ → List ℕ
 from k bytes = take (length bytes - k) (drop k bytes)
 
--- fronts of one length are one
+-- prefixes of one length are one
 pub same_prefix : (a b x y : List ℕ) → length a ≡ length b → a ++ x ≡ b ++ y → (a ≡ b) × (x ≡ y)
 same_prefix [] [] x y l e = (refl, e)
 same_prefix [] (b ∷ vs) x y l e = absurd (omega arith)
@@ -91,7 +91,7 @@ joined (constructed tag inner rest) g = constructed tag inner (joined rest g)
 pub regroup : (a b c d e : List ℕ) → (a ++ (b ++ (c ++ d))) ++ e ≡ a ++ (b ++ (c ++ (d ++ e)))
 regroup a b c d e = simp append_assoc
 
--- an object, and more behind it
+-- an object, and more after it
 parts_more : (r : Reading) (k : Bool) (tag a b : List ℕ) (C A B : List ℕ → Type 0) → (p : Parts r k tag C A a) → B (p.after ++ b) → Parts r k tag C B (a ++ b)
 parts_more r k tag a b C A B p others = record {
   size = p.size;
@@ -130,14 +130,14 @@ shared r tag tag' size size' content content' after after' t t' l l' e =
     let three = same_prefix content content' after after' two.1 two.2 in
     record { tags = one.0; sizes = two.0; numbers = two.1; contents = three.0; afters = three.1 }
 
--- the same of two objects, one behind the start of the other
+-- the same of two objects, one after the start of the other
 pub shared_parts : (r : Reading) (k k' : Bool) (tag tag' a b s : List ℕ) (C A C' A' : List ℕ → Type 0) → (p : Parts r k tag C A a) → (q : Parts r k' tag' C' A' b) → a ++ s ≡ b →
     Shared (length p.content) (length q.content) tag tag' p.size q.size p.content q.content (p.after ++ s) q.after
 shared_parts r k k' tag tag' a b s C A C' A' p q e =
     shared r tag tag' p.size q.size p.content q.content (p.after ++ s) q.after p.is_tag q.is_tag p.is_length q.is_length
     (sym (regroup tag p.size p.content p.after s) ∙ ap (λ (x : List ℕ). x ++ s) (sym p.whole) ∙ e ∙ q.whole)
 
--- what follows the objects that stand first is objects
+-- what follows the objects that come first is objects
 pub after_objects : (r : Reading) (d : ℕ) (f g : Objects) (a s : List ℕ) → Spells r d f a → Spells r d g (a ++ s) →
     (h : Objects) × Spells r d h s
 after_objects r d none g a s p q = (g, let e : a ++ s ≡ s = rw p refl in subst (Spells r d g) e q)

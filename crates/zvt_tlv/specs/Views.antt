@@ -26,22 +26,22 @@ ForestBytes = OneOf (Spells padded 1)
 pub forest_once : (bytes : List ℕ) → (a b : ForestBytes bytes) → a ≡ b
 forest_once bytes = one_value objects_code (Spells padded 1) bytes (λ f g p q. one_tree padded 1 f g bytes bytes refl p q)
 
--- Objects stand in the content of a constructed tag.
+-- Objects are in the content of a constructed tag.
 abbrev pub ContentOf : (tag content : List ℕ) → Type 0
 ContentOf tag content = is_constructed tag ≡ true → ForestBytes content
 
 pub content_once : (tag content : List ℕ) → (a b : ContentOf tag content) → a ≡ b
 content_once tag content = Π_prop (λ _. forest_once content)
 
--- A tag stands first.
+-- A tag comes first.
 abbrev pub TagFirst : List ℕ → Type 0
 TagFirst bytes = (tag : List ℕ) × (after : List ℕ) × (bytes ≡ tag ++ after) × IsTag tag
 
--- A length stands first.
+-- A length comes first.
 abbrev pub LengthFirst : List ℕ → Type 0
 LengthFirst bytes = (n : ℕ) × (size : List ℕ) × (after : List ℕ) × (bytes ≡ size ++ after) × IsLength padded n size
 
--- An object's parts stand first.
+-- An object's parts come first.
 pub record Starts (tag size content after bytes : List ℕ) : Type 0 where
   pub whole : bytes ≡ tag ++ (size ++ (content ++ after))
   pub is_tag : IsTag tag

@@ -1,4 +1,4 @@
-//! The reader of what stands before a content.
+//! The reader of what comes before a content.
 
 ghost use Rattle.std.specs.Prelude.{◌≢◌, [], ◌<◌};
 ghost use Rattle.zvt_grammar.specs.Beginnings.{Alive};
@@ -20,7 +20,7 @@ pub struct Head {
     pub size: usize,
 }
 
-/// Reads a tag, at that depth in a room of so many bytes: its size, and whether it is constructed.
+/// Reads a tag, at that depth in a room of that many bytes: its size, and whether it is constructed.
 fn scan_tag(bytes: &[u8], room: usize, depth: usize, lengths: Lengths) -> Scan<(usize, bool)>
     requires some { 0 < room }
     requires filled { room ≢ 1 }
@@ -37,7 +37,7 @@ fn scan_tag(bytes: &[u8], room: usize, depth: usize, lengths: Lengths) -> Scan<(
     Scan::More
 }
 
-/// Reads the length behind a tag.
+/// Reads the length after a tag.
 fn scan_length(
     bytes: &[u8],
     room: usize,
@@ -67,7 +67,7 @@ fn scan_length(
     Scan::More
 }
 
-/// Reads a tag and its length, at that depth in a room of so many bytes.
+/// Reads a tag and its length, at that depth in a room of that many bytes.
 pub fn scan_head(bytes: &[u8], room: usize, depth: usize, lengths: Lengths) -> Scan<Head>
     requires some { 0 < room }
     requires filled { room ≢ 1 }
@@ -87,7 +87,7 @@ pub fn scan_head(bytes: &[u8], room: usize, depth: usize, lengths: Lengths) -> S
     }
 }
 
-/// Reads the length of objects that stand without a tag, in a room of so many bytes: its size, and the size that it
+/// Reads the length of objects that stand without a tag, in a room of that many bytes: its size, and the size that it
 /// says.
 pub fn scan_size(bytes: &[u8], room: usize, lengths: Lengths) -> Scan<(usize, usize)>
     requires { Alive (SizedIn (reading_of lengths) room) [] }

@@ -39,7 +39,7 @@ pub enum LengthAt {
 pub enum LengthNext {
     /// Another byte of the length.
     More(LengthAt),
-    /// The length is whole: so many bytes of content follow.
+    /// The length is whole: that many bytes of content follow.
     Done(usize),
 }
 
@@ -64,7 +64,7 @@ fn content_fits(nests: bool, size: usize, left: usize) -> bool
     fits(size, left) && !(nests && size == 1)
 }
 
-/// Whether what is left is not just so many bytes that a shortest length would count a single byte of objects.
+/// Whether what is left is not just that many bytes that a shortest length would count a single byte of objects.
 #[inline(always)]
 fn avoids(lengths: Lengths, nests: bool, left: usize, size: usize) -> bool
     ensures { result ≡ avoids (reading_of lengths) nests left size }
@@ -226,7 +226,7 @@ fn judge_first_length_byte(
     }
 }
 
-/// Why no length in so many further bytes can follow, of a form that the shortest reading takes from `least` on.
+/// Why no length in that many further bytes can follow, of a form that the shortest reading takes from `least` on.
 #[inline(always)]
 fn long_form(lengths: Lengths, nests: bool, left: usize, least: usize, bytes: usize) -> Option<Why>
     requires { bytes + least < 2 ^ 16 }

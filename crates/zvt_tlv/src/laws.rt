@@ -7,7 +7,7 @@ pub fn each_size_is_filled()
     ensures { EachSizeIsFilled }
 {}
 
-/// What is alive and unfinished stands at one position, whose tests decide of each next byte whether it leaves the bytes
+/// What is alive and unfinished is at one position, whose tests decide of each next byte whether it leaves the bytes
 /// alive.
 pub fn tests_decide()
     ensures decide { TestsDecide }
@@ -15,7 +15,7 @@ pub fn tests_decide()
     ensures one { PositionsAreOne }
 {}
 
-/// Of a length and its objects, too, the next byte's tests decide, and each beginning stands at one position.
+/// Of a length and its objects, too, the next byte's tests decide, and each beginning is at one position.
 pub fn sized_tests_decide()
     ensures decide { SizedTestsDecide }
     ensures some { EachSizedBeginningStands }
@@ -34,7 +34,7 @@ pub fn answers_stay()
     ensures sized { SizedAnswersStay }
 {}
 
-/// Where two spellings stand at the front of the same bytes, they are one, and of one value.
+/// Where two spellings are at the start of the same bytes, they are one, and of one value.
 pub fn spellings_end_themselves()
     ensures objects { ObjectsEndThemselves }
     ensures rooms { RoomsEndThemselves }

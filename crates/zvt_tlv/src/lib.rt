@@ -1,7 +1,7 @@
 //! Objects of tag, length and content (PA00P015, chapter on TLV containers): their tree, its one spelling, and a reader
-//! that says for each byte whether it can stand where it stands.
+//! that says for each byte whether it can be where it stands.
 //!
-//! The readers stay in their module, since `scan` can't stand beside `Scan`.
+//! The readers stay in their module, since `scan` can't be beside `Scan`.
 #![tactic(auto)]
 
 mod checks;

@@ -11,7 +11,7 @@ use crate::trees::{Body, Forest, Tlv};
 use crate::views::ForestView;
 use std::alloc::{AllocError, Global};
 
-/// The objects of a view, in memory of their own. The only error is want of memory, and no objects want none. The shortest spelling of the objects
+/// The objects of a view, in memory of their own. The only error is that memory runs out, and no objects want none. The shortest spelling of the objects
 /// has to fit 65,535 bytes; that of the view may be longer.
 pub fn owned(alloc: Global, objects: ForestView<'_>) -> Result<Forest, AllocError>
     requires { ∥ HasSpelling objects ∥₁ }

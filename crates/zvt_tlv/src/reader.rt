@@ -1,6 +1,6 @@
-//! The readers. Each looks at no byte behind its room, and takes nothing from the bytes: after `More` the caller comes
-//! again with more of them from the same start. `Err` is want of memory alone, and comes only where the bytes go on behind
-//! the tag and the length of the first object, and behind its content where that is bytes (`TakesMemory`).
+//! The readers. Each looks at no byte after its room, and takes nothing from the bytes: after `More` the caller comes
+//! again with more of them from the same start. `Err` is that memory runs out alone, and comes only where the bytes go on after
+//! the tag and the length of the first object, and after its content where that is bytes (`TakesMemory`).
 
 ghost use Rattle.std.specs.Prelude.{◌≢◌, [], ◌≤◌, ◌<◌, ◌^◌, MatchResult};
 ghost use Rattle.zvt_grammar.specs.Beginnings.{Alive};
@@ -32,7 +32,7 @@ pub fn scan(
     scan_forest(alloc, bytes, room, depth, Lengths::Shortest)
 }
 
-/// Reads the objects of a room, where each length may stand in any form that holds it.
+/// Reads the objects of a room, where each length may be in any form that holds it.
 pub fn scan_loose(
     alloc: Global,
     bytes: &[u8],
@@ -48,8 +48,8 @@ pub fn scan_loose(
     scan_forest(alloc, bytes, room, depth, Lengths::Padded)
 }
 
-/// Reads a length and the objects at depth 1 that it counts, in a room of so many bytes of which not a single one may be
-/// left over: the objects, and the size of both. Each length stands in its shortest form. No such bytes fit a room of
+/// Reads a length and the objects at depth 1 that it counts, in a room of that many bytes of which not a single one may be
+/// left over: the objects, and the size of both. Each length is in its shortest form. No such bytes fit a room of
 /// two.
 pub fn scan_sized(
     alloc: Global,
@@ -64,7 +64,7 @@ pub fn scan_sized(
     scan_sized_forest(alloc, bytes, room, Lengths::Shortest)
 }
 
-/// Reads a length and its objects, where each length may stand in any form that holds it. A room of two may hold `81 00`.
+/// Reads a length and its objects, where each length may be in any form that holds it. A room of two may hold `81 00`.
 pub fn scan_sized_loose(
     alloc: Global,
     bytes: &[u8],
@@ -125,7 +125,7 @@ pub fn scan_sized_forest(
     )
 }
 
-/// Reads the objects that fill a room of so many bytes.
+/// Reads the objects that fill a room of that many bytes.
 #[cycle(scan)]
 fn scan_objects(
     alloc: Global,
@@ -157,7 +157,7 @@ fn scan_objects(
     Ok(Scan::Whole(objects))
 }
 
-/// Reads one object, in a room of so many bytes: the object and its size.
+/// Reads one object, in a room of that many bytes: the object and its size.
 #[cycle(scan)]
 fn scan_object(
     alloc: Global,

@@ -19,7 +19,7 @@ pub fn size(forest: &Forest) -> usize
     objects_size(forest.objects())
 }
 
-/// The size of the shortest length of a content of so many bytes.
+/// The size of the shortest length of a content of that many bytes.
 pub fn length_size(content: usize) -> usize
     ensures { result ≡ length_size content }
 {

@@ -54,7 +54,7 @@ impl Model for Forest {
 pub enum BadForest {
     /// A tag and its body disagree: one says objects, the other holds bytes, or the other way round.
     Kind,
-    /// More than six objects stand in one another, or six do and the innermost is constructed.
+    /// More than six objects are in one another, or six do and the innermost is constructed.
     TooDeep,
     /// The spelling would have more than 65,535 bytes.
     TooLarge,

@@ -87,7 +87,7 @@ impl<'a> Iterator for ForestView<'a> {
     }
 }
 
-/// The size of the tag that stands first.
+/// The size of the tag that comes first.
 fn tag_size(bytes: &[u8]) -> usize
     requires { ∥ TagFirst bytes.now ∥₁ }
     ensures value { (tag after : List ℕ) → bytes.now ≡ tag ++ after → IsTag tag → result ≡ length tag }
@@ -101,7 +101,7 @@ fn tag_size(bytes: &[u8]) -> usize
     }
 }
 
-/// The size of the length that stands first, and what it says.
+/// The size of the length that comes first, and what it says.
 pub fn length_first(bytes: &[u8]) -> (usize, usize)
     requires { ∥ LengthFirst bytes.now ∥₁ }
     ensures { (n : ℕ) (size after : List ℕ) → bytes.now ≡ size ++ after → IsLength padded n size → (result.0 ≡ length size) × (result.1 ≡ n) }
@@ -113,7 +113,7 @@ pub fn length_first(bytes: &[u8]) -> (usize, usize)
     }
 }
 
-/// The tag and the content of the object that stands first, and what is behind it.
+/// The tag and the content of the object that comes first, and what is after it.
 fn first_object(bytes: &[u8]) -> (&[u8], &[u8], &[u8])
     requires { ∥ ObjectFirst bytes.now ∥₁ }
     ensures { (tag size content after : List ℕ) → Starts tag size content after bytes.now → (result.0.now ≡ tag) × (result.1.now ≡ content) × (result.2.now ≡ after) }

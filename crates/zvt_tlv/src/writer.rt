@@ -1,4 +1,4 @@
-//! The writers. Each answers how many bytes it wrote at the front, and leaves those behind them.
+//! The writers. Each answers how many bytes it wrote at the start, and leaves those after them.
 
 ghost use Rattle.std.specs.Prelude.{◌≡◌, length, ◌+◌, ◌<◌, ◌≤◌, ◌^◌, ◌++◌, nat_lt};
 ghost use Rattle.zvt_grammar.specs.Reading.{shortest};
@@ -19,7 +19,7 @@ pub fn write_into(forest: &Forest, out: &mut [u8]) -> usize
     write_objects(out, forest.objects())
 }
 
-/// Writes the length of the forest's spelling, and the spelling: what stands behind the name of a container.
+/// Writes the length of the forest's spelling, and the spelling: what comes after the name of a container.
 pub fn put_sized(forest: &Forest, out: &mut [u8]) -> usize
     requires { length_size (size_of forest.now) + size_of forest.now ≤ length out.old }
     ensures { Writes (Sized shortest forest.now) out.old out.new result }
@@ -28,7 +28,7 @@ pub fn put_sized(forest: &Forest, out: &mut [u8]) -> usize
     at + write_objects(&mut out[at..], forest.objects())
 }
 
-/// Puts bytes at the front.
+/// Puts bytes at the start.
 fn put(out: &mut [u8], bytes: &[u8]) -> usize
     requires { length bytes.now ≤ length out.old }
     ensures { Puts bytes.now out.old out.new result }
@@ -37,7 +37,7 @@ fn put(out: &mut [u8], bytes: &[u8]) -> usize
     bytes.len()
 }
 
-/// Writes the shortest length of a content of so many bytes.
+/// Writes the shortest length of a content of that many bytes.
 fn put_length(out: &mut [u8], content: usize) -> usize
     requires small { content < 2 ^ 16 }
     requires room { length_size content ≤ length out.old }

@@ -12,7 +12,7 @@ use Rattle.zvt_grammar.specs.declared.why.Why.TheVariants.{NotShortest, DoesNotF
 use Rattle.zvt_vectors.specs.Vectors.{IsClaim, IsDigit, IsNumber, IsOther, IsReason, IsRefusal, IsSpelling, IsVector}
 use Rattle.zvt_vectors.specs.declared.claims.TheConstants.{REASONS}
 
--- so many stand before it
+-- that many come before it
 pub count_is : (P : ℕ → Type 0) (c : ℕ) → (P c → ⊥) → (prefix rest : List ℕ) (n : ℕ) → All P prefix → n ≤ length (prefix ++ c ∷ rest) → All P (take n (prefix ++ c ∷ rest))
     → (n < length (prefix ++ c ∷ rest) → P (slice_index (prefix ++ c ∷ rest) n) → ⊥) → n ≡ length prefix
 count_is P c stop [] rest zero are few first all = refl
@@ -70,7 +70,7 @@ same_prefix p q a is = ap (λ (r : List ℕ). r ++ a) is
 
 -- ---- a vector
 
--- what stands before the first '=', and from there on
+-- what comes before the first '=', and from there on
 pub record CutAt (prefix back spelled claim : List ℕ) : Type 0 where
   pub before : prefix ≡ spelled ++ codes " "
   pub after : back ≡ codes "= " ++ claim
@@ -109,7 +109,7 @@ pub some_named : (r : Bool) (text : List ℕ) → MatchBool r ((k : ℕ) × (k <
 some_named true text (k, few, is) e = (slice_index_or REASONS k NotShortest, sym (is NotShortest))
 some_named false text none e = absurd (false≢true e)
 
--- each reason stands among them
+-- each reason is among them
 listed : (why : Why) → (k : ℕ) × (k < length REASONS) × (slice_index_or REASONS k NotShortest ≡ why)
 listed NotShortest = (0, omega arith, refl)
 listed DoesNotFit = (1, omega arith, refl)

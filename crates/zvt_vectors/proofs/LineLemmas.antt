@@ -29,7 +29,7 @@ both-both p q r = λ i. record { text = append_assoc p.text q.text r.text i; mes
     plus_plus : (a b c : ℕ) → (a + b) + c ≡ a + (b + c)
     plus_plus a b c = omega arith
 
--- one line more behind those that were read
+-- one line more after those that were read
 push : (before : ℕ) (done : List (List ℕ)) (line : List ℕ) (meaning : Meaning) (all part : Part) → LinesSay before done all → Means line (Ok meaning) → LineSays (before + length done + 1) meaning part
     → LinesSay before (done ++ line ∷ []) (both all part)
 push before [] line meaning all part none means says = record {
@@ -51,7 +51,7 @@ push before (first ∷ done) line meaning all part some means says = record {
   whole = ap (λ (p : Part). both p part) some.whole ∙ both-both some.part some.rest part;
 }
 
--- so many lines were read, and this is left
+-- that many lines were read, and this is left
 pub record SoFar (text rest : List ℕ) (number : ℕ) (tally : Tally) (old new : Option (List ℕ)) : Type 0 where
   pub done : List (List ℕ)
   pub all : Part

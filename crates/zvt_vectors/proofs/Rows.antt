@@ -60,7 +60,7 @@ whole = (
   refl,
 )
 
--- what stands before the first '=' is text that spells bytes and one space
+-- what comes before the first '=' is text that spells bytes and one space
 before : (prefix rest spelled claim : List ℕ) → All IsOther prefix → IsVector (prefix ++ 61 ∷ rest) spelled claim → prefix ≡ spelled ++ codes " "
 before prefix rest spelled claim none is =
     let line : List ℕ = prefix ++ 61 ∷ rest in
@@ -73,7 +73,7 @@ before prefix rest spelled claim none is =
 pub no_bytes : Means (codes "= more") (Err Form)
 no_bytes = (λ is. omega (arith, is), λ spelled claim v. omega (arith, ap length (before [] (codes " more") spelled claim (others [] refl) v), length-append spelled (codes " ")))
 
--- the same behind a space
+-- the same after a space
 pub no_bytes_but_a_space : Means (codes " = more") (Err Form)
 no_bytes_but_a_space = (λ is. omega (arith, is), λ spelled claim v. omega (arith, ap length (before (codes " ") (codes " more") spelled claim (others (codes " ") refl) v), length-append spelled (codes " "), v.spells.some))
 

@@ -56,7 +56,7 @@ pub record OneMore (number : ℕ) (line : List ℕ) (Others : Part → Type 0) (
   pub others : Others rest
   pub whole : all ≡ both part rest
 
--- what lines come to, of which the first has the number behind that
+-- what lines come to, of which the first has the number after that
 abbrev pub LinesSay : (before : ℕ) → List (List ℕ) → Part → Type 0
 LinesSay before [] all = all ≡ nothing
 LinesSay before (line ∷ later) all = OneMore (before + 1) line (LinesSay (before + 1) later) all
@@ -78,7 +78,7 @@ pub record Broken (lines : List (List ℕ)) (number : ℕ) (what : TraceLineErro
   pub wrong : Means line (Err what)
   pub is_number : number ≡ length done + 1
 
--- so many lines from the first on come to that, or all of them
+-- that many lines from the first on come to that, or all of them
 abbrev pub AnswersLines : List (List ℕ) → (old new : Option (List ℕ)) → Result Tally TraceFault → Type 0
 AnswersLines lines old new (Ok tally) = (all : Part) × LinesSay 0 lines all × Appends old new all.text × Counts tally all
 AnswersLines lines old new (Err (Trace number what)) = (all : Part) × Broken lines number what all × Appends old new all.text
@@ -88,7 +88,7 @@ AnswersLines lines old new (Err Write) = (all : Part) × Leading lines all × Ap
 AnswersLines lines old new (Err Memory) = (all : Part) × Leading lines all × Appends old new all.text
 
 -- What `vectors` answers for a text of known bytes. Where memory is refused, what the lines before caused to be written is
--- written; of a write that failed, some front of what the lines up to that one cause.
+-- written; of a write that failed, a prefix of what the lines up to that one cause.
 abbrev pub AnswersVectors : (text : List ℕ) → (old new : Option (List ℕ)) → Result Tally TraceFault → Type 0
 AnswersVectors text old new (Ok tally) = (length text ≤ limit) × AnswersLines (lines text) old new (Ok tally)
 AnswersVectors text old new (Err (Trace number what)) = (length text ≤ limit) × AnswersLines (lines text) old new (Err (Trace number what))

@@ -55,7 +55,7 @@ IsClaim text =
 
 -- ---- one line
 
--- what stands before the first '='
+-- what comes before the first '='
 abbrev pub IsOther : ℕ → Type 0
 IsOther character = character ≢ 61
 
@@ -90,7 +90,7 @@ Means line (Err Form) = (IsComment line → ⊥) × ((spelled claim : List ℕ) 
 Means line (Err Hex) =
     (IsComment line → ⊥) × (spelled : List ℕ) × (claim : List ℕ) × IsVector line spelled claim × IsErr (decode_of (without_spaces spelled))
 
--- the meaning that a line of the code stands for
+-- the meaning that a line of the code represents
 abbrev pub meant_by : VectorLine → Meaning
 meant_by code.Comment = comment
 meant_by (code.Vector bytes claim) = vector bytes.items claim.now

@@ -15,7 +15,7 @@ use zvt_trace::{Tally, TraceFault, next_line, read_trace};
 /// what the reader answers. Such lines count as bad; `messages` of the tally counts the vectors.
 ///
 /// A line is bytes in hexadecimal, ` = `, and an answer: `whole N`, `more`, or `refused at P: R`, where R is the name of a
-/// reason. Spaces may stand between the bytes; numbers have no zeros before them. Empty lines and lines that begin with `#`
+/// reason. Spaces may be between the bytes; numbers have no zeros before them. Empty lines and lines that begin with `#`
 /// say nothing. What the lines before a fault caused to be written stays written.
 pub fn vectors<R: Source, W: Sink>(
     alloc: Global,

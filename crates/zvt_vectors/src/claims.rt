@@ -57,7 +57,7 @@ fn is_number(text: &[u8]) -> bool
     }
 }
 
-/// How many decimal digits stand first.
+/// How many decimal digits come first.
 fn count_digits(text: &[u8]) -> usize
     ensures few { result ≤ length text.now }
     ensures digits { All IsDigit (take result text.now) }

@@ -77,7 +77,7 @@ fn is_spelling(text: &[u8]) -> bool
     }
 }
 
-/// How many characters stand before the first `=`.
+/// How many characters come before the first `=`.
 fn count_before(line: &[u8]) -> usize
     ensures few { result ≤ length line.now }
     ensures others { All IsOther (take result line.now) }

@@ -19,8 +19,8 @@ use denote.Triple.Walked.{walk_of}
 use Rattle.std.proofs.raw_atomic.Walks.{proved_at, leaves}
 use Rattle.zvt_c.specs.declared.session.Session.{Session}
 use Rattle.zvt_c.proofs.Pointers.{one_val, one_own, one_made, one_typed}
-use Rattle.zvt_c.specs.contracts.shell.RawHandle.closed.{ended, clauses}
-use Rattle.zvt_c.specs.contracts.shell.RawHandle.closed.Key.{name as #self}
+use Rattle.zvt_c.specs.contracts.raw_handle.RawHandle.closed.{ended, clauses}
+use Rattle.zvt_c.specs.contracts.raw_handle.RawHandle.closed.Key.{name as #self}
 use Rattle.zvt_c.proofs.raw_handle.RawHandle.closed.Statement.{statement}
 use Rattle.zvt_c.proofs.raw_handle.RawHandle.closed.Code as compiled
 

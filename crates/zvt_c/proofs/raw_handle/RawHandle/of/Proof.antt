@@ -22,11 +22,11 @@ use Rattle.std.proofs.raw_atomic.Walks.{proved_at, leaves}
 use Rattle.std_heap.specs.contracts.Global as Heap
 use Rattle.std_heap.specs.contracts.GlobalAllocator.TheImpl.{ghosts}
 use Rattle.std_heap.proofs.Global.TheLaws as heap
-use Rattle.zvt_c.specs.contracts.end.Session.{the_row as R}
-use Rattle.zvt_c.proofs.Values.{both, RawBox, loose_good, loose_out}
+use Rattle.zvt_c.specs.contracts.session.Session.{the_row as R}
+use Rattle.zvt_c.proofs.Values.{both, RawBox, raw_box_good, raw_box_out}
 use Rattle.zvt_c.proofs.Pointers.{one_val, one_own, one_made, one_typed}
-use Rattle.zvt_c.specs.contracts.shell.RawHandle.of.{ended, clauses}
-use Rattle.zvt_c.specs.contracts.shell.RawHandle.of.Key.{name as #self}
+use Rattle.zvt_c.specs.contracts.raw_handle.RawHandle.of.{ended, clauses}
+use Rattle.zvt_c.specs.contracts.raw_handle.RawHandle.of.Key.{name as #self}
 use Rattle.zvt_c.proofs.raw_handle.RawHandle.of.Statement.{statement}
 use Rattle.zvt_c.proofs.raw_handle.RawHandle.of.Code as compiled
 
@@ -37,11 +37,11 @@ of_spec 𝓤 𝓛 𝓜 𝓡 wired =
     proved_at 𝓛 ended stays c 𝓜 𝓡 (Goes-blank 𝓛 0 (plain (λ _. RawBox R Heap.the_row heap.the_row_laws ghosts)) ended.kept.0 (λ κs x f. tt), tt) #self fn (compiled.unfolded 𝓤 H 𝓜 𝓡 wired) (λ z are.
     let Post : Val → SProp 𝓤 = (walk_of 𝓛 ended stays c).post z in let v = z.0.3.0 in
     qed 𝓛 ((raw (alive 𝓛 ended.signature z.0.0 z.0.1) ⊛ ‵ (owns (types_at ended.signature.params z.0.0) z.0.3 z.0.4)) ∷ ‵ ftrue ∷ []) ∵ move ! (1 ∷ []) $ drop ! $ split ! $ move ! (1 ∷ []) $ fsplit ! $
-    loose_out R Heap.the_row heap.the_row_laws ghosts ! v z.0.4.0 (λ b o h e ws fits.
+    raw_box_out R Heap.the_row heap.the_row_laws ghosts ! v z.0.4.0 (λ b o h e ws fits.
     -- [the box; its handle; no more arguments; the tokens]
     move ! (1 ∷ []) $ drop ! $ move ! (1 ∷ []) $ drop ! $
     regoal ! (λ (us : List Val). prop (WpFn 𝓤 H C Λ fn us Post)) (λ i. ws i ++ []) refl $
-    enter ! C Λ fn (both (vptr b o) h ∷ []) Post $ alloc_all ! (λ l. pass_all ! refl (loose_good R Heap.the_row heap.the_row_laws ghosts b o h fits, tt) $
+    enter ! C Λ fn (both (vptr b o) h ∷ []) Post $ alloc_all ! (λ l. pass_all ! refl (raw_box_good R Heap.the_row heap.the_row_laws ghosts b o h fits, tt) $
     sets ! (of_opd ! (get_in ! (fld ! refl (stop !)) (sub ! 0 refl (whole !)))) refl (tt, tt) $
     sets ! (of_opd ! (get_in ! (fld ! refl (stop !)) (sub ! 1 refl (whole !)))) refl fits $
     sets ! (of_opd ! (get ! refl)) refl (tt, tt) $

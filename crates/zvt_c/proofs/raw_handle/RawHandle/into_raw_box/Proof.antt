@@ -1,4 +1,4 @@
--- `into_loose` takes over what the shell owns.
+-- `into_raw_box` takes over what the shell owns.
 use Rattle.std.proofs.Common.{◌≡◌, Bool, Option, Some, is_some, List, [], ◌∷◌, ◌++◌, refl, ap, ◌∙◌}
 use mir.Syntax.{Fn}
 use mir.Raw.{raw as bare}
@@ -30,14 +30,14 @@ use Rattle.std_heap.proofs.Handle.{heap_val, heap_Tells}
 use Rattle.libc.specs.Heap.{chunk}
 use Rattle.zvt_c.specs.Owned.{owned}
 use Rattle.zvt_c.specs.declared.session.Session.{Session}
-use Rattle.zvt_c.specs.contracts.end.Session.{the_row as R}
-use Rattle.zvt_c.specs.contracts.shell.RawHandle.{the_row as RawHandle}
-use Rattle.zvt_c.proofs.Values.{both, loose_good, loose_in}
+use Rattle.zvt_c.specs.contracts.session.Session.{the_row as R}
+use Rattle.zvt_c.specs.contracts.raw_handle.RawHandle.{the_row as RawHandle}
+use Rattle.zvt_c.proofs.Values.{both, raw_box_good, raw_box_in}
 use Rattle.zvt_c.proofs.Pointers.{one_val, one_told, one_typed, some_of}
-use Rattle.zvt_c.specs.contracts.shell.RawHandle.into_loose.{ended, clauses}
-use Rattle.zvt_c.specs.contracts.shell.RawHandle.into_loose.Key.{name as #self}
-use Rattle.zvt_c.proofs.raw_handle.RawHandle.into_loose.Statement.{statement}
-use Rattle.zvt_c.proofs.raw_handle.RawHandle.into_loose.Code as compiled
+use Rattle.zvt_c.specs.contracts.raw_handle.RawHandle.into_raw_box.{ended, clauses}
+use Rattle.zvt_c.specs.contracts.raw_handle.RawHandle.into_raw_box.Key.{name as #self}
+use Rattle.zvt_c.proofs.raw_handle.RawHandle.into_raw_box.Statement.{statement}
+use Rattle.zvt_c.proofs.raw_handle.RawHandle.into_raw_box.Code as compiled
 
 pub into_loose_spec : {M : Type 1} → statement M
 into_loose_spec 𝓤 𝓛 𝓜 𝓡 wired =
@@ -59,9 +59,9 @@ into_loose_spec 𝓤 𝓛 𝓜 𝓡 wired =
     enter ! C Λ fn (one_val (block_ptr b o) ∷ heap_val ∷ []) Post $ alloc_all ! (λ l. pass_all ! refl (one_typed (block_ptr b o), ((tt, ((tt, tt), tt)), tt)) $
     sets ! (of_opd ! (get_in ! (fld ! refl (stop !)) (sub ! 0 refl (whole !)))) refl (tt, tt) $
     sets ! (of_opd ! (get ! refl)) refl (tt, tt) $
-    sets ! (agg ! (and_then ! (get ! refl) (and_then ! (get ! refl) (no_more !)))) refl (loose_good R Heap.the_row heap.the_row_laws ghosts b o heap_val (tt, ((tt, tt), tt))) $
+    sets ! (agg ! (and_then ! (get ! refl) (and_then ! (get ! refl) (no_more !)))) refl (raw_box_good R Heap.the_row heap.the_row_laws ghosts b o heap_val (tt, ((tt, tt), tt))) $
     returns ! (look_at ! 0 refl) $ free_all ! refl $
-    move ! (2 ∷ 0 ∷ []) $ loose_in R Heap.the_row heap.the_row_laws ghosts ! b o heap_val a x $
+    move ! (2 ∷ 0 ∷ []) $ raw_box_in R Heap.the_row heap.the_row_laws ghosts ! b o heap_val a x $
     move ! (1 ∷ []) $ drop ! $
     use0 𝓛 (raw (fact 𝓤 (v.held ≡ Some x))) (fact_i 𝓤 (v.held ≡ Some x) (emp 𝓤) has.1) $ nothing ! $ nothing ! $ fjoin ! $ nothing ! $ fjoin ! $ move ! (3 ∷ 0 ∷ 2 ∷ 1 ∷ []) $
     by ! (leaves 𝓛 ended stays c z (both (vptr b o) heap_val) (record { at = block_ptr b o; alloc = a; value = x }) (tt, (tt, tt)) (tt, (tt, tt))))))))
