@@ -8,7 +8,7 @@ use std::test::Fail;
 use zvt_apdu::ApduView;
 use zvt_grammar::Why;
 use zvt_io::{Counted, Failed, GhostCount, Sink, Source};
-use zvt_stream::{Answers, LineFault, Machine, Stream, Until, pump, send};
+use zvt_stream::{Answers, Endpoint, LineFault, Machine, Stream, Until, pump, send};
 
 const ACK: [u8; 3] = [0x80, 0x00, 0x00];
 
@@ -67,33 +67,20 @@ const REST: Course = Course {
     turns: 10,
 };
 
-/// Runs a line over the stream: how the run ended, how many messages the machine still waits for, and whether its line
-/// was lost and was malformed.
+/// Runs a line at this end: how the run ended, how many messages the machine still waits for, and whether its line was
+/// lost and was malformed.
 fn run<R: Source, W: Sink>(
     alloc: Global,
-    mut reader: R,
-    writer: &mut W,
-    stream: &mut Stream,
+    end: &mut Endpoint<R, W>,
     course: Course,
-) -> (Result<(), LineFault>, [u8; 3])
-where
-    R: Drop,
-{
+) -> (Result<(), LineFault>, [u8; 3]) {
     let Course { left, until, turns } = course;
     let mut machine = Parrot {
         left,
         lost: 0,
         malformed: 0,
     };
-    let ended = pump(
-        alloc,
-        &mut reader,
-        writer,
-        stream,
-        &mut machine,
-        until,
-        turns,
-    );
+    let ended = pump(alloc, end, &mut machine, until, turns);
     (ended, [machine.left, machine.lost, machine.malformed])
 }
 
@@ -123,16 +110,14 @@ fn lines_go_as_far_as_they_are_to(rt: HostRuntime) -> Result<(), Fail> {
             if reserved {
                 stream = Stream::reserved(rt.alloc())?;
             }
-            let mut writer = Counted::new(Vec::new(rt.alloc()));
-            let found = run(
-                rt.alloc(),
-                Counted::new(coming),
-                &mut writer,
-                &mut stream,
-                course,
-            );
+            let mut end = Endpoint {
+                reader: Counted::new(coming),
+                writer: Counted::new(Vec::new(rt.alloc())),
+                stream,
+            };
+            let found = run(rt.alloc(), &mut end, course);
             assert_eq!(rt; found, (ended, machine), "{coming:?}");
-            assert_eq!(rt; writer.inner.as_slice(), written, "{coming:?}");
+            assert_eq!(rt; end.writer.inner.as_slice(), written, "{coming:?}");
         }
     }
     Ok(())
@@ -140,25 +125,23 @@ fn lines_go_as_far_as_they_are_to(rt: HostRuntime) -> Result<(), Fail> {
 
 #[test]
 fn a_refused_line_stays_stopped(rt: HostRuntime) {
-    let mut writer = Counted::new(Vec::new(rt.alloc()));
-    let mut stream = Stream::new(rt.alloc());
     let malformed = LineFault::Malformed {
         place: 3,
         why: Why::UnknownField,
     };
     let refused = [0x06, 0x01, 0x02, 0xD0, 0x80, 0x00, 0x00];
+    let mut end = Endpoint {
+        reader: Counted::new(refused.as_slice()),
+        writer: Counted::new(Vec::new(rt.alloc())),
+        stream: Stream::new(rt.alloc()),
+    };
     let rows: [(&[u8], LineFault); 2] = [(&refused, malformed), (&ACK, LineFault::Stopped)];
     for (coming, fault) in rows {
-        let found = run(
-            rt.alloc(),
-            Counted::new(coming),
-            &mut writer,
-            &mut stream,
-            REST,
-        );
+        end.reader = Counted::new(coming);
+        let found = run(rt.alloc(), &mut end, REST);
         assert_eq!(rt; found, (Err(fault), [2, 0, 1]));
     }
-    assert!(rt; writer.inner.is_empty());
+    assert!(rt; end.writer.inner.is_empty());
 }
 
 #[test]
@@ -180,15 +163,12 @@ impl Read for Broken {
 
 #[test]
 fn read_fails(rt: HostRuntime) {
-    let mut writer = Counted::new(Vec::new(rt.alloc()));
-    let mut stream = Stream::new(rt.alloc());
-    let found = run(
-        rt.alloc(),
-        Counted::new(Broken),
-        &mut writer,
-        &mut stream,
-        REST,
-    );
+    let mut end = Endpoint {
+        reader: Counted::new(Broken),
+        writer: Counted::new(Vec::new(rt.alloc())),
+        stream: Stream::new(rt.alloc()),
+    };
+    let found = run(rt.alloc(), &mut end, REST);
     assert_eq!(rt; found, (Err(LineFault::Read), [2, 1, 0]));
 }
 
@@ -219,16 +199,18 @@ impl Sink for Failing {
 
 #[test]
 fn second_write_fails(rt: HostRuntime) {
-    let mut writer = Failing {
-        taken: Counted::new(Vec::new(rt.alloc())),
-        left: 1,
-        failed: GhostCount::zero(),
+    let mut end = Endpoint {
+        reader: Counted::new([ACK, ACK, ACK].as_flattened()),
+        writer: Failing {
+            taken: Counted::new(Vec::new(rt.alloc())),
+            left: 1,
+            failed: GhostCount::zero(),
+        },
+        stream: Stream::new(rt.alloc()),
     };
-    let mut stream = Stream::new(rt.alloc());
-    let reader = Counted::new([ACK, ACK, ACK].as_flattened());
     let course = Course { left: 9, ..REST };
-    let found = run(rt.alloc(), reader, &mut writer, &mut stream, course);
+    let found = run(rt.alloc(), &mut end, course);
     assert_eq!(rt; found, (Err(LineFault::Write), [7, 1, 0]));
-    assert_eq!(rt; writer.taken.inner.as_slice(), ACK.as_slice());
-    assert_eq!(rt; send(&mut writer, &ACK), Err(LineFault::Write));
+    assert_eq!(rt; end.writer.taken.inner.as_slice(), ACK.as_slice());
+    assert_eq!(rt; send(&mut end.writer, &ACK), Err(LineFault::Write));
 }

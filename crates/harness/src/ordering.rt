@@ -7,7 +7,7 @@ use zvt_apdu::scan;
 use zvt_bcd::{Amount, Trace};
 use zvt_grammar::Scan;
 use zvt_io::Counted;
-use zvt_stream::{LineFault, Stream};
+use zvt_stream::{Endpoint, LineFault, Stream};
 use zvt_term::{Input, Terminal, Verdict};
 use zvt_till::{
     Cause, CurrencyFact, Heard, Order, OrderRefusal, Original, Outcome, RunFault, StatusFacts,
@@ -154,19 +154,13 @@ pub fn orders(alloc: Global) -> &'static str {
 
 /// What comes of a payment on a new stream, where the terminal approves.
 fn pays(alloc: Global, till: &mut Till, price: Amount) -> Result<Outcome, RunFault> {
-    let mut reader = Counted::new(APPROVED.as_slice());
     let mut written = [0; 64];
-    let mut writer = Counted::new(written.as_mut_slice());
-    let mut stream = Stream::new(alloc);
-    run_order(
-        alloc,
-        &mut reader,
-        &mut writer,
-        &mut stream,
-        till,
-        Order::Pay(price),
-        10,
-    )
+    let mut end = Endpoint {
+        reader: Counted::new(APPROVED.as_slice()),
+        writer: Counted::new(written.as_mut_slice()),
+        stream: Stream::new(alloc),
+    };
+    run_order(alloc, &mut end, till, Order::Pay(price), 10)
 }
 
 /// Whether the payment is unclear for the loss of its line, and the next is refused.

@@ -3,12 +3,12 @@
 ghost use Rattle.std.specs.Prelude.{◌≤◌};
 
 use std::alloc::{AllocError, Global};
-use std::io;
+use std::io::{self, Cursor};
 use zvt_apdu::scan;
 use zvt_bcd::{Amount, put};
 use zvt_grammar::Scan;
 use zvt_io::Counted;
-use zvt_stream::Stream;
+use zvt_stream::{Endpoint, Stream};
 use zvt_till::{Event, Order, RunFault, Till, replay, run_order};
 
 /// The most payments that a till's book holds.
@@ -121,32 +121,20 @@ fn ordered(alloc: Global, payments: u32) -> Result<(usize, u64), RunFault>
     let price = price();
     let mut till = Till::with_defaults(alloc);
     till.connected();
-    let mut stream = Stream::new(alloc);
-    let mut writer = Counted::new(Vec::new(alloc));
-    let mut reader = Counted::new(REGISTERED.as_slice());
-    let register = Order::Register;
-    run_order(
-        alloc,
-        &mut reader,
-        &mut writer,
-        &mut stream,
-        &mut till,
-        register,
-        1,
-    )?;
+    let mut end = Endpoint {
+        reader: Counted::new(REGISTERED.as_slice()),
+        writer: Counted::new(Vec::new(alloc)),
+        stream: Stream::new(alloc),
+    };
+    run_order(alloc, &mut end, &mut till, Order::Register, 1)?;
+    let mut end = Endpoint {
+        reader: Counted::new(Cursor::new(APPROVED)),
+        writer: end.writer,
+        stream: end.stream,
+    };
     for number in 0..payments {
-        let answers = approved(number);
-        let mut reader = Counted::new(answers.as_slice());
-        let pay = Order::Pay(price);
-        run_order(
-            alloc,
-            &mut reader,
-            &mut writer,
-            &mut stream,
-            &mut till,
-            pay,
-            1,
-        )?;
+        end.reader = Counted::new(Cursor::new(approved(number)));
+        run_order(alloc, &mut end, &mut till, Order::Pay(price), 1)?;
     }
     Ok((till.book().len(), till.total()))
 }

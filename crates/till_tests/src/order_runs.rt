@@ -6,7 +6,7 @@ use std::test::Fail;
 use zvt_bcd::{Amount, Currency, Trace};
 use zvt_grammar::Why;
 use zvt_io::Counted;
-use zvt_stream::{LineFault, Stream};
+use zvt_stream::{Endpoint, LineFault, Stream};
 use zvt_till::{Cause, Order, OrderRefusal, Outcome, RunFault, Till, run_order, send_order};
 
 const REGISTRATION: [u8; 9] = [0x06, 0x00, 0x06, 0x00, 0x00, 0x00, 0xBE, 0x09, 0x78];
@@ -19,43 +19,37 @@ fn connected_till(rt: &impl Abort, alloc: Global) -> Till {
     till
 }
 
-/// What comes of registering where these bytes come over a stream and that many turns are made, after which this ended last:
-/// what was written.
+/// An end of a line on which these bytes come, and whose writer keeps what is sent.
+fn end_over(alloc: Global, coming: &[u8], stream: Stream) -> Endpoint<Counted<&[u8]>, Counted<Vec<u8>>> {
+    Endpoint {
+        reader: Counted::new(coming),
+        writer: Counted::new(Vec::new(alloc)),
+        stream,
+    }
+}
+
+/// How a registration by a new till at this end goes, and the till's last outcome after it.
 fn registers(
     rt: &impl Abort,
     alloc: Global,
-    mut stream: Stream,
-    coming: &[u8],
+    end: &mut Endpoint<Counted<&[u8]>, Counted<Vec<u8>>>,
     turns: u64,
-    wanted: Result<Outcome, RunFault>,
-    last: Outcome,
-) -> Vec<u8> {
-    let mut reader = Counted::new(coming);
-    let mut writer = Counted::new(Vec::new(alloc));
+) -> (Result<Outcome, RunFault>, Option<Outcome>) {
     let mut till = connected_till(rt, alloc);
-    let result = run_order(
-        alloc,
-        &mut reader,
-        &mut writer,
-        &mut stream,
-        &mut till,
-        Order::Register,
-        turns,
-    );
-    assert_eq!(rt; result, wanted);
-    assert_eq!(rt; till.last_outcome(), Some(last));
-    writer.inner
+    let result = run_order(alloc, end, &mut till, Order::Register, turns);
+    (result, till.last_outcome())
 }
 
-/// A registration that ends over that stream, and what it writes.
+/// A registration over this stream ends, and its message and an acknowledgement are written.
 fn is_registered(rt: &impl Abort, alloc: Global, stream: Stream) {
     let completed = [0x80, 0x00, 0x00, 0x06, 0x0F, 0x00];
-    let (ended, last) = (Ok(Outcome::Registered), Outcome::Registered);
-    let written = registers(rt, alloc, stream, &completed, 10, ended, last);
+    let mut end = end_over(alloc, &completed, stream);
+    let ended = registers(rt, alloc, &mut end, 10);
+    assert_eq!(rt; ended, (Ok(Outcome::Registered), Some(Outcome::Registered)));
     let registration_and_ack = [
         0x06, 0x00, 0x06, 0x00, 0x00, 0x00, 0xBE, 0x09, 0x78, 0x80, 0x00, 0x00,
     ];
-    assert_eq!(rt; written.as_slice(), registration_and_ack.as_slice());
+    assert_eq!(rt; end.writer.inner.as_slice(), registration_and_ack.as_slice());
 }
 
 #[test]
@@ -84,9 +78,10 @@ fn an_order_whose_line_breaks(rt: HostRuntime) {
     for (coming, turns, fault, cause) in rows {
         let wanted = Err(RunFault::Line(fault));
         let last = Outcome::Unclear(cause);
-        let stream = Stream::new(rt.alloc());
-        let written = registers(&rt, rt.alloc(), stream, coming, turns, wanted, last);
-        assert_eq!(rt; written.as_slice(), REGISTRATION.as_slice());
+        let mut end = end_over(rt.alloc(), coming, Stream::new(rt.alloc()));
+        let ended = registers(&rt, rt.alloc(), &mut end, turns);
+        assert_eq!(rt; ended, (wanted, Some(last)));
+        assert_eq!(rt; end.writer.inner.as_slice(), REGISTRATION.as_slice());
     }
 }
 
@@ -119,9 +114,11 @@ impl Write for Full {
 #[test]
 fn an_order_that_cannot_be_sent(rt: HostRuntime) {
     let alloc = rt.alloc();
-    let mut reader = Counted::new([0x80, 0x00, 0x00].as_slice());
-    let mut writer = Counted::new(Full);
-    let mut stream = Stream::new(alloc);
+    let mut end = Endpoint {
+        reader: Counted::new([0x80, 0x00, 0x00].as_slice()),
+        writer: Counted::new(Full),
+        stream: Stream::new(alloc),
+    };
     let mut till = connected_till(&rt, alloc);
     let refused = RunFault::Order(OrderRefusal::NotRegistered);
     for (order, fault) in [
@@ -129,19 +126,11 @@ fn an_order_that_cannot_be_sent(rt: HostRuntime) {
         (Order::Register, RunFault::Line(LineFault::Write)),
         (Order::Register, RunFault::Order(OrderRefusal::Offline)),
     ] {
-        let result = run_order(
-            alloc,
-            &mut reader,
-            &mut writer,
-            &mut stream,
-            &mut till,
-            order,
-            10,
-        );
+        let result = run_order(alloc, &mut end, &mut till, order, 10);
         assert_eq!(rt; result, Err(fault));
     }
     assert_eq!(rt; till.last_outcome(), Some(Outcome::Unclear(Cause::Line)));
-    assert_eq!(rt; reader.inner.len(), 3);
+    assert_eq!(rt; end.reader.inner.len(), 3);
 }
 
 const APPROVED: [u8; 25] = [
@@ -164,8 +153,8 @@ impl Read for Dripping<'_> {
             return Err(io::Error::from(io::ErrorKind::TimedOut));
         }
         match (self.bytes, buffer) {
-            ([first, rest @ ..], [room, ..]) => {
-                *room = *first;
+            ([first, rest @ ..], [place, ..]) => {
+                *place = *first;
                 self.bytes = rest;
                 Ok(1)
             }
@@ -195,20 +184,13 @@ impl Write for Failing {
     }
 }
 
-/// Registers a till over a line on which nothing fails.
-fn register(rt: &impl Abort, alloc: Global, stream: &mut Stream, till: &mut Till) {
-    let mut completed = Counted::new([0x80, 0x00, 0x00, 0x06, 0x0F, 0x00].as_slice());
-    let mut sent = Counted::new(Vec::new(alloc));
-    let registered = run_order(
-        alloc,
-        &mut completed,
-        &mut sent,
-        stream,
-        till,
-        Order::Register,
-        10,
-    );
+/// Registers a till over a line on which nothing fails, and hands on the line's stream.
+fn register(rt: &impl Abort, alloc: Global, till: &mut Till) -> Stream {
+    let completed = [0x80, 0x00, 0x00, 0x06, 0x0F, 0x00];
+    let mut end = end_over(alloc, &completed, Stream::new(alloc));
+    let registered = run_order(alloc, &mut end, till, Order::Register, 10);
     assert_eq!(rt; registered, Ok(Outcome::Registered));
+    end.stream
 }
 
 /// What comes of paying 1234 where the approval comes byte by byte, and that read or that write fails, if there is one: a
@@ -219,28 +201,21 @@ fn pays_over(
     read: usize,
     write: usize,
 ) -> (Result<Outcome, RunFault>, Option<Outcome>, usize, usize) {
-    let mut stream = Stream::new(alloc);
     let mut till = connected_till(rt, alloc);
-    register(rt, alloc, &mut stream, &mut till);
-    let mut reader = Counted::new(Dripping {
-        bytes: &APPROVED,
-        reads: 0,
-        fails: read,
-    });
-    let mut writer = Counted::new(Failing {
-        writes: 0,
-        fails: write,
-    });
+    let mut end = Endpoint {
+        reader: Counted::new(Dripping {
+            bytes: &APPROVED,
+            reads: 0,
+            fails: read,
+        }),
+        writer: Counted::new(Failing {
+            writes: 0,
+            fails: write,
+        }),
+        stream: register(rt, alloc, &mut till),
+    };
     let price = Amount::new(1234).expect(rt, "an amount");
-    let result = run_order(
-        alloc,
-        &mut reader,
-        &mut writer,
-        &mut stream,
-        &mut till,
-        Order::Pay(price),
-        100,
-    );
+    let result = run_order(alloc, &mut end, &mut till, Order::Pay(price), 100);
     let last = till.last_outcome();
     (result, last, till.book().len(), till.unclear().len())
 }

@@ -1,7 +1,7 @@
 //! The terminal on a line, and what it writes without memory.
 use zvt_bcd::Amount;
 use zvt_io::Counted;
-use zvt_stream::{LineFault, Machine, Stream, Until, pump};
+use zvt_stream::{Endpoint, LineFault, Machine, Stream, Until, pump};
 use zvt_term::{Line, Report, Served, Terminal, Verdict, put_report};
 
 #[test]
@@ -16,24 +16,18 @@ fn serves_a_line_until_it_ends(rt: HostRuntime) {
         0x06, 0x00, 0x04, 0x00, 0x00, 0x00, 0xBE, 0x80, 0x00, 0x00, 0x06, 0x01, 0x07, 0x04, 0x00,
         0x00, 0x00, 0x00, 0x10, 0x00, 0x80, 0x00, 0x00,
     ];
-    let mut reader = Counted::new(heard.as_slice());
-    let mut writer = Counted::new(Vec::new(alloc));
-    let mut stream = Stream::new(alloc);
-    let fault = pump(
-        alloc,
-        &mut reader,
-        &mut writer,
-        &mut stream,
-        &mut served,
-        Until::Rest,
-        10,
-    );
+    let mut end = Endpoint {
+        reader: Counted::new(heard.as_slice()),
+        writer: Counted::new(Vec::new(alloc)),
+        stream: Stream::new(alloc),
+    };
+    let fault = pump(alloc, &mut end, &mut served, Until::Rest, 10);
     assert_eq!(rt; fault, Err(LineFault::Ended { have: 0 }));
     let written = [
         0x80, 0x00, 0x00, 0x06, 0x0F, 0x05, 0x29, 0x00, 0x00, 0x00, 0x01, 0x80, 0x00, 0x00, 0x04,
         0x0F, 0x02, 0x27, 0x6C, 0x06, 0x1E, 0x01, 0x6C,
     ];
-    assert_eq!(rt; writer.inner.as_slice(), written.as_slice());
+    assert_eq!(rt; end.writer.inner.as_slice(), written.as_slice());
     assert!(rt; !served.resting());
     served.malformed();
     assert!(rt; served.terminal.ledger().is_empty());

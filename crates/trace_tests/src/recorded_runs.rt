@@ -195,12 +195,7 @@ fn hear(bytes: &mut Vec<u8>, messages: [&[u8]; 4]) -> Result<(), AllocError> {
 
 // Says nothing of what becomes of the order: beside that each step of a caller's proof is dear.
 fn run(alloc: Global, line: &mut Endpoint<Heard<'_>, Sent<'_>>, till: &mut Till, order: Order) {
-    let Endpoint {
-        reader,
-        writer,
-        stream,
-    } = line;
-    let _ = run_order(alloc, reader, writer, stream, till, order, 50);
+    let _ = run_order(alloc, line, till, order, 50);
 }
 
 /// Makes orders at a till over one line, each answered as chance has it, until the line breaks or five are made.

@@ -6,7 +6,7 @@ ghost use Rattle.zvt_session.specs.LineEnd.{EndState, NotOrdered, Ordered, Turn,
 
 use std::alloc::Global;
 use zvt_io::{Sink, Source};
-use zvt_stream::{LineFault, Machine, Stream, Until, pump};
+use zvt_stream::{Endpoint, LineFault, Machine, Until, pump};
 use zvt_till::{Order, RunFault, Till, send_order};
 
 /// The reads of one turn.
@@ -30,14 +30,6 @@ pub trait LineEnd {
             (λ fault. TurnBreaks M.hears M.is_resting M.loses M.malforms fault (state self.old) machine.old (state self.new) machine.new) };
 }
 
-/// An end over these devices.
-#[derive(Drop)]
-pub struct Endpoint<R, W> {
-    pub reader: R,
-    pub writer: W,
-    pub stream: Stream,
-}
-
 impl<R: Source, W: Sink> LineEnd for Endpoint<R, W> {
     ghost use Rattle.zvt_session.specs.LineEnd.{end_state};
 
@@ -48,14 +40,6 @@ impl<R: Source, W: Sink> LineEnd for Endpoint<R, W> {
     }
 
     fn turn<M: Machine>(&mut self, alloc: Global, machine: &mut M) -> Result<(), LineFault> {
-        pump(
-            alloc,
-            &mut self.reader,
-            &mut self.writer,
-            &mut self.stream,
-            machine,
-            Until::Sent,
-            READS_OF_A_TURN,
-        )
+        pump(alloc, self, machine, Until::Sent, READS_OF_A_TURN)
     }
 }

@@ -2,10 +2,9 @@
 ghost use Rattle.zvt_session.specs.LineEnd.{end_state};
 ghost use Rattle.zvt_session.specs.Service.{Serves};
 
-use crate::line_end::Endpoint;
 use std::alloc::Global;
 use zvt_io::{Sink, Source};
-use zvt_stream::{LineFault, Until, pump};
+use zvt_stream::{Endpoint, LineFault, Until, pump};
 use zvt_term::Served;
 
 /// The reads after which a terminal gives up its connection.
@@ -23,16 +22,7 @@ pub fn serve<R: Source, W: Sink>(
         (end_state end.new.stream (R.remaining end.new.reader) (W.written end.new.writer) (R.reads end.new.reader) (R.failures end.new.reader) (W.failures end.new.writer)) served.new
         result }
 {
-    let ended = pump(
-        alloc,
-        &mut end.reader,
-        &mut end.writer,
-        &mut end.stream,
-        served,
-        Until::Rest,
-        READS_OF_A_SERVICE,
-    );
-    match ended {
+    match pump(alloc, end, served, Until::Rest, READS_OF_A_SERVICE) {
         Ok(()) | Err(LineFault::Ended { have: 0 }) => Ok(()),
         Err(fault) => Err(fault),
     }

@@ -16,7 +16,6 @@ use crate::arguments::Ends;
 use crate::both_ends::{BothEnds, run_both_ends};
 use crate::connection::{Door, both_ends, connect, listen};
 use crate::fault::{EndFault, by_trace};
-use crate::line_end::Endpoint;
 use crate::plans::{Planned, plan};
 use crate::recorder::{Recorded, Way, ends_lacking};
 use crate::reports::{report_address, report_ledger};
@@ -28,7 +27,7 @@ use std::fs::File;
 use std::net::{Net, TcpListener, TcpStream};
 use zvt_grammar::Lengths;
 use zvt_io::{Counted, Sink, Source};
-use zvt_stream::{LineFault, Stream};
+use zvt_stream::{Endpoint, LineFault, Stream};
 use zvt_term::{DEFAULT_TID, Served, Terminal, Verdict};
 
 /// Runs both ends of a line in this process: it listens at a free port of 127.0.0.1, connects to itself, and till and

@@ -8,13 +8,13 @@ ghost use Rattle.zvt_session.specs.TillEnd.{BeginsThere, MakesThere};
 
 use crate::arguments::Step;
 use crate::fault::EndFault;
-use crate::line_end::Endpoint;
 use crate::plans::Planned;
 use crate::reversals::report_reversals;
 use crate::settings::TillSettings;
 use crate::steps::{StepLine, connected_till, run_steps};
 use std::alloc::Global;
 use zvt_io::{Sink, Source};
+use zvt_stream::Endpoint;
 use zvt_till::{Outcome, RunFault, Till, run_order};
 
 /// The turns of one read each after which an order is given up.
@@ -28,15 +28,7 @@ impl<R: Source, W: Sink> StepLine for Endpoint<R, W> {
     ghost makes = { λ old till step result new left. MakesThere (end_state old.stream (R.remaining old.reader) (W.written old.writer) (R.reads old.reader) (R.failures old.reader) (W.failures old.writer)) till step result (end_state new.stream (R.remaining new.reader) (W.written new.writer) (R.reads new.reader) (R.failures new.reader) (W.failures new.writer)) left };
 
     fn make(&mut self, alloc: Global, till: &mut Till, step: &Step) -> Result<Outcome, RunFault> {
-        run_order(
-            alloc,
-            &mut self.reader,
-            &mut self.writer,
-            &mut self.stream,
-            till,
-            step.order(),
-            READS_OF_AN_ORDER,
-        )
+        run_order(alloc, self, till, step.order(), READS_OF_AN_ORDER)
     }
 }
 

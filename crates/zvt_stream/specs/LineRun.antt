@@ -35,7 +35,7 @@ pub record CutOff {S : Type 0} (r : Reading) (step : S → Message → Answered 
   pub answered : written ≡ bytes_of answers ++ part
   pub some_part : IsPrefix part answer.bytes
 
--- Where a line broke, the machine not told of it yet.
+-- Where a line broke, which is not yet reported to the machine.
 abbrev pub Breaks : {S : Type 0} → (S → Message → Answered → S → Type 0) → LineFault → StreamState → List ℕ → StreamState → S → S → List ℕ → Type 0
 Breaks step Read before read after old new written = (sent : Bool) × Course step before read after old new written sent
 Breaks step (Ended have) before read after old new written = (sent : Bool) × Course step before read after old new written sent × (have ≡ length after.held)
@@ -74,15 +74,15 @@ abbrev pub reached : Until → (resting sent : Bool) → Bool
 reached Rest resting sent = resting
 reached Sent resting sent = sent || resting
 
--- What the machine was told of a fault: of a malformed line, or that the line is lost.
-abbrev pub Told : {S : Type 0} → (S → S → Type 0) → (S → S → Type 0) → LineFault → S → S → Type 0
-Told loses malforms (Malformed place why) old new = malforms old new
-Told loses malforms Stopped old new = malforms old new
-Told loses malforms Read old new = loses old new
-Told loses malforms Write old new = loses old new
-Told loses malforms (Ended have) old new = loses old new
-Told loses malforms Turns old new = loses old new
-Told loses malforms Memory old new = loses old new
+-- What a report of a fault makes of the machine: a malformed line, or a lost one.
+abbrev pub Reported : {S : Type 0} → (S → S → Type 0) → (S → S → Type 0) → LineFault → S → S → Type 0
+Reported loses malforms (Malformed place why) old new = malforms old new
+Reported loses malforms Stopped old new = malforms old new
+Reported loses malforms Read old new = loses old new
+Reported loses malforms Write old new = loses old new
+Reported loses malforms (Ended have) old new = loses old new
+Reported loses malforms Turns old new = loses old new
+Reported loses malforms Memory old new = loses old new
 
 -- A line that ended has nothing more to come.
 abbrev pub EndsAt : LineFault → Option (List ℕ) → Type 0

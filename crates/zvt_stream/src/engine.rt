@@ -1,6 +1,6 @@
 //! The line engine: reads, hears and answers.
 
-ghost use Rattle.std.specs.Prelude.{◌≡◌, ◌≢◌, ℕ, ◌+◌, ◌<◌, ◌≤◌, Bool, false, true, List, [], ◌++◌, IfOk, IfErr, IsOk, OnOk, OnErr, MatchResult, length};
+ghost use Rattle.std.specs.Prelude.{◌≡◌, ◌≢◌, ℕ, ◌+◌, ◌<◌, ◌≤◌, Bool, false, true, List, [], ◌++◌, IfOk, IfErr, IsOk, IsSome, Some, OnOk, OnErr, MatchResult, length};
 ghost use Rattle.std.specs.Result.{IsErrOf};
 ghost use Rattle.std.specs.Io.KnownBytes.{Consumes, Appends};
 ghost use Rattle.zvt_apdu.specs.Message.{Message};
@@ -8,17 +8,18 @@ ghost use Rattle.zvt_stream.specs.Apdus.{Unfinished};
 ghost use Rattle.zvt_stream.specs.StreamState.{IsReserved};
 ghost use Rattle.zvt_stream.specs.Answered.{Answered};
 ghost use Rattle.zvt_stream.specs.Hearing.{Heard};
-ghost use Rattle.zvt_stream.specs.LineRun.{Course, Breaks, Pumped, Broken, Told, failed_reads, failed_writes, there_at_once, reached, IsPieceFault};
+ghost use Rattle.zvt_stream.specs.LineRun.{Course, Breaks, Pumped, Broken, Reported, failed_reads, failed_writes, there_at_once, reached, IsPieceFault};
 ghost use Rattle.zvt_stream.specs.Turns.{Arrives, Ends, Falters, line_state, line_ends};
 ghost use Rattle.zvt_stream.specs.Replies.{Replies, Unanswered};
 
+use crate::endpoint::Endpoint;
 use crate::line::{LineFault, Machine, Until};
 use crate::stream::{FedView, FeedError, Stream};
 use std::alloc::Global;
-use zvt_apdu::ApduView;
+use zvt_apdu::{ApduView, view};
 use zvt_io::{Sink, Source};
 
-/// Writes all the bytes. Its one fault is `Write`, where the writer counted a failure; no machine is told.
+/// Writes all the bytes. Its only fault is `Write`, where the writer counted a failure. It is reported to no machine.
 pub fn send<W: Sink>(writer: &mut W, bytes: &[u8]) -> Result<(), LineFault>
     ensures bytes { IfOk result (λ _. Appends (W.written writer.old) (W.written writer.new) bytes.now) }
     ensures err { IfErr result (λ fault. fault ≡ LineFault.Write) }
@@ -30,7 +31,7 @@ pub fn send<W: Sink>(writer: &mut W, bytes: &[u8]) -> Result<(), LineFault>
     }
 }
 
-// Lets the machine hear one message, and writes its answers. Says whether there were any.
+// Lets the machine hear one message, and writes its answers. Returns whether there were any.
 fn answer<W: Sink, M: Machine>(
     alloc: Global,
     writer: &mut W,
@@ -54,8 +55,16 @@ fn answer<W: Sink, M: Machine>(
     }
 }
 
-// Feeds a piece: the machine hears each message that ends in it, and its answers are written before
-// the next one is heard. Says whether any message was written.
+// The message that the stream lends.
+fn lent_message(stream: &Stream) -> ApduView<'_>
+    requires { IsSome stream.now.lent }
+    ensures { Some result ≡ stream.now.lent }
+{
+    view(stream.held.spelled())
+}
+
+// Feeds a chunk: the machine hears each message that ends in it, and its answers are written before
+// the next one is heard. Returns whether any message was written.
 fn hear_piece<W: Sink, M: Machine>(
     alloc: Global,
     writer: &mut W,
@@ -77,10 +86,7 @@ fn hear_piece<W: Sink, M: Machine>(
     'messages: loop {
         match stream.feed_view(rest) {
             Ok(FedView::Message { taken }) => {
-                let Some(apdu) = stream.lent() else {
-                    unreachable!()
-                };
-                sent |= answer(alloc, writer, machine, &apdu)?;
+                sent |= answer(alloc, writer, machine, &lent_message(stream))?;
                 rest = &rest[taken..];
             }
             Ok(FedView::More) => return Ok(sent),
@@ -91,71 +97,73 @@ fn hear_piece<W: Sink, M: Machine>(
     }
 }
 
-// One read, and all that it brings.
+// Reads once, and feeds what was read. Returns whether any message was written.
 fn turn<R: Source, W: Sink, M: Machine>(
     alloc: Global,
-    reader: &mut R,
-    writer: &mut W,
-    stream: &mut Stream,
+    end: &mut Endpoint<R, W>,
     machine: &mut M,
 ) -> Result<bool, LineFault>
-    ensures ok { IfOk result (λ sent. (pumped : Pumped M.hears stream.old stream.new machine.old machine.new
-        (R.remaining reader.old) (R.remaining reader.new) (W.written writer.old) (W.written writer.new) sent)
+    ensures ok { IfOk result (λ sent. (pumped : Pumped M.hears end.old.stream end.new.stream machine.old machine.new
+        (R.remaining end.old.reader) (R.remaining end.new.reader) (W.written end.old.writer) (W.written end.new.writer) sent)
         × (length pumped.read ≤ 1024) × (0 < length pumped.read)) }
-    ensures err { IfErr result (λ fault. Broken M.hears fault stream.old stream.new machine.old machine.new
-        (R.remaining reader.old) (R.remaining reader.new) (W.written writer.old) (W.written writer.new)) }
+    ensures err { IfErr result (λ fault. Broken M.hears fault end.old.stream end.new.stream machine.old machine.new
+        (R.remaining end.old.reader) (R.remaining end.new.reader) (W.written end.old.writer) (W.written end.new.writer)) }
     ensures kinds { IfErr result (λ fault. fault ≢ LineFault.Turns) }
-    ensures reads { R.reads reader.new ≡ R.reads reader.old + 1 }
-    ensures reader_failures { MatchResult result (λ _. R.failures reader.new ≡ R.failures reader.old) (λ fault. R.failures reader.new ≡ R.failures reader.old + failed_reads fault) }
-    ensures writer_failures { MatchResult result (λ _. W.failures writer.new ≡ W.failures writer.old) (λ fault. W.failures writer.new ≡ W.failures writer.old + failed_writes fault) }
-    ensures room { stream.old.room ≤ stream.new.room }
-    ensures frugal { M.wants_memory ≡ false → IsReserved stream.old → IsErrOf result LineFault.Memory → ⊥ }
+    ensures reads { R.reads end.new.reader ≡ R.reads end.old.reader + 1 }
+    ensures reader_failures { MatchResult result (λ _. R.failures end.new.reader ≡ R.failures end.old.reader) (λ fault. R.failures end.new.reader ≡ R.failures end.old.reader + failed_reads fault) }
+    ensures writer_failures { MatchResult result (λ _. W.failures end.new.writer ≡ W.failures end.old.writer) (λ fault. W.failures end.new.writer ≡ W.failures end.old.writer + failed_writes fault) }
+    ensures room { end.old.stream.room ≤ end.new.stream.room }
+    ensures frugal { M.wants_memory ≡ false → IsReserved end.old.stream → IsErrOf result LineFault.Memory → ⊥ }
 {
-    let have = stream.held();
+    let have = end.stream.held();
     let mut buffer = [0; 1024];
-    let Ok(count) = reader.read(&mut buffer) else {
+    let Ok(count) = end.reader.read(&mut buffer) else {
         return Err(LineFault::Read);
     };
     if count == 0 {
         return Err(LineFault::Ended { have });
     }
-    hear_piece(alloc, writer, stream, machine, &buffer[..count])
+    hear_piece(
+        alloc,
+        &mut end.writer,
+        &mut end.stream,
+        machine,
+        &buffer[..count],
+    )
 }
 
-// Makes turns until the line has come to where it is to go. The machine isn't told of a fault.
+// Makes turns until the line has come to where it is to go. No fault is reported to the machine.
 fn run_turns<R: Source, W: Sink, M: Machine>(
     alloc: Global,
-    reader: &mut R,
-    writer: &mut W,
-    stream: &mut Stream,
+    end: &mut Endpoint<R, W>,
     machine: &mut M,
     until: Until,
     turns: u64,
 ) -> Result<(), LineFault>
-    ensures ok { OnOk result ((sent : Bool) × Pumped M.hears stream.old stream.new machine.old machine.new
-        (R.remaining reader.old) (R.remaining reader.new) (W.written writer.old) (W.written writer.new) sent
+    ensures ok { OnOk result ((sent : Bool) × Pumped M.hears end.old.stream end.new.stream machine.old machine.new
+        (R.remaining end.old.reader) (R.remaining end.new.reader) (W.written end.old.writer) (W.written end.new.writer) sent
         × (reached until (M.is_resting machine.new) sent ≡ true)) }
-    ensures err { IfErr result (λ fault. Broken M.hears fault stream.old stream.new machine.old machine.new
-        (R.remaining reader.old) (R.remaining reader.new) (W.written writer.old) (W.written writer.new)) }
-    ensures reads { R.reads reader.new ≤ R.reads reader.old + turns }
+    ensures err { IfErr result (λ fault. Broken M.hears fault end.old.stream end.new.stream machine.old machine.new
+        (R.remaining end.old.reader) (R.remaining end.new.reader) (W.written end.old.writer) (W.written end.new.writer)) }
+    ensures reads { R.reads end.new.reader ≤ R.reads end.old.reader + turns }
     // The line ends at the first turn after which it has come to where it was to go.
-    ensures first { OnOk result (Arrives M.hears M.is_resting until turns (R.reads reader.old) (R.reads reader.new)
-        (line_state stream.old machine.old (R.remaining reader.old) (W.written writer.old))
-        (line_ends stream.new machine.new (R.remaining reader.new) (W.written writer.new))) }
+    ensures first { OnOk result (Arrives M.hears M.is_resting until turns (R.reads end.old.reader) (R.reads end.new.reader)
+        (line_state end.old.stream machine.old (R.remaining end.old.reader) (W.written end.old.writer))
+        (line_ends end.new.stream machine.new (R.remaining end.new.reader) (W.written end.new.writer))) }
     // No turn after which it had stands before a fault.
-    ensures falters { IfErr result (λ fault. Falters M.hears M.is_resting until fault turns (R.reads reader.old) (R.reads reader.new)
-        (line_state stream.old machine.old (R.remaining reader.old) (W.written writer.old))
-        (line_ends stream.new machine.new (R.remaining reader.new) (W.written writer.new))) }
-    ensures reader_failures { MatchResult result (λ _. R.failures reader.new ≡ R.failures reader.old) (λ fault. R.failures reader.new ≡ R.failures reader.old + failed_reads fault) }
-    ensures writer_failures { MatchResult result (λ _. W.failures writer.new ≡ W.failures writer.old) (λ fault. W.failures writer.new ≡ W.failures writer.old + failed_writes fault) }
-    ensures room { stream.old.room ≤ stream.new.room }
-    ensures frugal { M.wants_memory ≡ false → IsReserved stream.old → IsErrOf result LineFault.Memory → ⊥ }
+    ensures falters { IfErr result (λ fault. Falters M.hears M.is_resting until fault turns (R.reads end.old.reader) (R.reads end.new.reader)
+        (line_state end.old.stream machine.old (R.remaining end.old.reader) (W.written end.old.writer))
+        (line_ends end.new.stream machine.new (R.remaining end.new.reader) (W.written end.new.writer))) }
+    ensures reader_failures { MatchResult result (λ _. R.failures end.new.reader ≡ R.failures end.old.reader) (λ fault. R.failures end.new.reader ≡ R.failures end.old.reader + failed_reads fault) }
+    ensures writer_failures { MatchResult result (λ _. W.failures end.new.writer ≡ W.failures end.old.writer) (λ fault. W.failures end.new.writer ≡ W.failures end.old.writer + failed_writes fault) }
+    ensures room { end.old.stream.room ≤ end.new.stream.room }
+    ensures frugal { M.wants_memory ≡ false → IsReserved end.old.stream → IsErrOf result LineFault.Memory → ⊥ }
 {
     // What is held begins a message: nothing of it is still to be heard.
-    let _ = stream.held();
+    let _ = end.stream.held();
     let mut sent = false;
     'turns: for made in 0..turns {
-        sent |= turn(alloc, reader, writer, stream, machine)?;
+        sent |= turn(alloc, end, machine)?;
         if until.is_reached(machine.resting(), sent) {
             return Ok(());
         }
@@ -163,59 +171,57 @@ fn run_turns<R: Source, W: Sink, M: Machine>(
     Err(LineFault::Turns)
 }
 
-/// Makes turns until the line has come to where it is to go, `turns` at most. A turn is one read of at most 1,024 bytes:
-/// the machine hears each message that ends in them, in order, and its answers are written before the next is heard.
-/// Under `Until::Rest` a machine that rests ends the line before the first turn.
+/// Makes turns until the line has come to where it is to go, `turns` at most. A turn is one read of at most 1,024 bytes.
+/// The machine hears each message that ends in them, in order, and its answers are written before the next is heard.
+/// Under `Until::Rest` a machine that rests ends the run before the first turn.
 ///
-/// Before a fault is answered the machine is told of it, once: `malformed` for `Malformed` and `Stopped`, `lost` for
-/// the others. `Read` and `Write` come only where the reader or the writer counted a failure. After `Read`, `Ended`,
-/// `Turns` and `Malformed` all whole messages were heard and answered, after `Write` and `Memory` a front of them,
-/// after `Stopped` none. `Memory` never comes where the machine wants none and the stream was made by
+/// A fault is first reported to the machine, once: by `malformed` for `Malformed` and `Stopped`, by `lost` for the
+/// others. `Read` and `Write` come only where the reader or the writer counted a failure. After `Read`, `Ended`, `Turns`
+/// and `Malformed` all whole messages were heard and answered. After `Write` and `Memory` a prefix of them was, and
+/// after `Stopped` none was. `Memory` never comes where the machine wants none and the stream was made by
 /// `Stream::reserved`.
 pub fn pump<R: Source, W: Sink, M: Machine>(
     alloc: Global,
-    reader: &mut R,
-    writer: &mut W,
-    stream: &mut Stream,
+    end: &mut Endpoint<R, W>,
     machine: &mut M,
     until: Until,
     turns: u64,
 ) -> Result<(), LineFault>
-    ensures ok { OnOk result ((sent : Bool) × Pumped M.hears stream.old stream.new machine.old machine.new
-        (R.remaining reader.old) (R.remaining reader.new) (W.written writer.old) (W.written writer.new) sent
+    ensures ok { OnOk result ((sent : Bool) × Pumped M.hears end.old.stream end.new.stream machine.old machine.new
+        (R.remaining end.old.reader) (R.remaining end.new.reader) (W.written end.old.writer) (W.written end.new.writer) sent
         × (reached until (M.is_resting machine.new) sent ≡ true)) }
-    ensures err { IfErr result (λ fault. (middle : M) × Broken M.hears fault stream.old stream.new machine.old middle
-        (R.remaining reader.old) (R.remaining reader.new) (W.written writer.old) (W.written writer.new)
-        × Falters M.hears M.is_resting until fault turns (R.reads reader.old) (R.reads reader.new)
-        (line_state stream.old machine.old (R.remaining reader.old) (W.written writer.old))
-        (line_ends stream.new middle (R.remaining reader.new) (W.written writer.new))
-        × Told M.loses M.malforms fault middle machine.new) }
-    ensures at_once { there_at_once until (M.is_resting machine.old) ≡ true → IsOk result × (R.reads reader.new ≡ R.reads reader.old) }
-    ensures reads { R.reads reader.new ≤ R.reads reader.old + turns }
+    ensures err { IfErr result (λ fault. (middle : M) × Broken M.hears fault end.old.stream end.new.stream machine.old middle
+        (R.remaining end.old.reader) (R.remaining end.new.reader) (W.written end.old.writer) (W.written end.new.writer)
+        × Falters M.hears M.is_resting until fault turns (R.reads end.old.reader) (R.reads end.new.reader)
+        (line_state end.old.stream machine.old (R.remaining end.old.reader) (W.written end.old.writer))
+        (line_ends end.new.stream middle (R.remaining end.new.reader) (W.written end.new.writer))
+        × Reported M.loses M.malforms fault middle machine.new) }
+    ensures at_once { there_at_once until (M.is_resting machine.old) ≡ true → IsOk result × (R.reads end.new.reader ≡ R.reads end.old.reader) }
+    ensures reads { R.reads end.new.reader ≤ R.reads end.old.reader + turns }
     // The line ends at the first turn after which it has come to where it was to go.
-    ensures first { OnOk result (Ends M.hears M.is_resting until turns (R.reads reader.old) (R.reads reader.new)
-        (line_state stream.old machine.old (R.remaining reader.old) (W.written writer.old))
-        (line_ends stream.new machine.new (R.remaining reader.new) (W.written writer.new))) }
-    ensures reader_failures { MatchResult result (λ _. R.failures reader.new ≡ R.failures reader.old) (λ fault. R.failures reader.new ≡ R.failures reader.old + failed_reads fault) }
-    ensures writer_failures { MatchResult result (λ _. W.failures writer.new ≡ W.failures writer.old) (λ fault. W.failures writer.new ≡ W.failures writer.old + failed_writes fault) }
-    ensures room { stream.old.room ≤ stream.new.room }
-    ensures frugal { M.wants_memory ≡ false → IsReserved stream.old → IsErrOf result LineFault.Memory → ⊥ }
+    ensures first { OnOk result (Ends M.hears M.is_resting until turns (R.reads end.old.reader) (R.reads end.new.reader)
+        (line_state end.old.stream machine.old (R.remaining end.old.reader) (W.written end.old.writer))
+        (line_ends end.new.stream machine.new (R.remaining end.new.reader) (W.written end.new.writer))) }
+    ensures reader_failures { MatchResult result (λ _. R.failures end.new.reader ≡ R.failures end.old.reader) (λ fault. R.failures end.new.reader ≡ R.failures end.old.reader + failed_reads fault) }
+    ensures writer_failures { MatchResult result (λ _. W.failures end.new.writer ≡ W.failures end.old.writer) (λ fault. W.failures end.new.writer ≡ W.failures end.old.writer + failed_writes fault) }
+    ensures room { end.old.stream.room ≤ end.new.stream.room }
+    ensures frugal { M.wants_memory ≡ false → IsReserved end.old.stream → IsErrOf result LineFault.Memory → ⊥ }
 {
     // What is held begins a message: nothing of it is still to be heard.
-    let _ = stream.held();
+    let _ = end.stream.held();
     if until.is_there(machine.resting()) {
         return Ok(());
     }
-    let Err(fault) = run_turns(alloc, reader, writer, stream, machine, until, turns) else {
+    let Err(fault) = run_turns(alloc, end, machine, until, turns) else {
         return Ok(());
     };
-    tell(machine, fault);
+    report(machine, fault);
     Err(fault)
 }
 
-// Tells a machine of a fault of its line.
-fn tell<M: Machine>(machine: &mut M, fault: LineFault)
-    ensures { Told M.loses M.malforms fault machine.old machine.new }
+// Reports a fault of its line to a machine.
+fn report<M: Machine>(machine: &mut M, fault: LineFault)
+    ensures { Reported M.loses M.malforms fault machine.old machine.new }
 {
     match fault {
         LineFault::Malformed { .. } | LineFault::Stopped => machine.malformed(),

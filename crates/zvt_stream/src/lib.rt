@@ -2,6 +2,7 @@
 #![tactic(auto)]
 
 mod buffer;
+mod endpoint;
 mod engine;
 mod head;
 mod judge;
@@ -11,6 +12,7 @@ mod stream;
 mod transitions;
 
 pub use buffer::{Held, MAX_APDU_LEN};
+pub use endpoint::Endpoint;
 pub use engine::{pump, send};
 pub use head::Head;
 pub use judge::{DecodeRun, Judge, Judged, Steps};

@@ -135,13 +135,13 @@ impl Until {
     }
 }
 
-/// How a line broke. It is then given up: a new line has a new stream.
+/// How a line broke. It is then given up: a new line has a new endpoint.
 #[derive(Clone, Copy, Debug, Drop, PartialEq, Eq, Error)]
 pub enum LineFault {
     /// A read failed, or took longer than the device waits.
     #[error("a read failed, or nothing came in time")]
     Read,
-    /// A write failed. Some front of the bytes may have been written.
+    /// A write failed. A prefix of the bytes may have been written.
     #[error("a write failed")]
     Write,
     /// The line ended, with `have` bytes of an unfinished message.

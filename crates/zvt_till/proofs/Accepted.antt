@@ -4,7 +4,7 @@ use Rattle.zvt_apdu.specs.Message.{Message}
 use Rattle.zvt_stream.specs.Answered.{Answered}
 use Rattle.zvt_stream.specs.StreamState.{StreamState}
 use Rattle.zvt_stream.specs.Hearing.{Hears}
-use Rattle.zvt_stream.specs.LineRun.{Breaks, Told}
+use Rattle.zvt_stream.specs.LineRun.{Breaks, Reported}
 use Rattle.zvt_stream.specs.declared.line.LineFault.{LineFault}
 use Rattle.zvt_stream.specs.declared.line.LineFault.TheVariants as faults
 use Rattle.zvt_till.specs.declared.happenings.Happening.{Happening}
@@ -97,15 +97,15 @@ lost-over old new e k = let o = over-lost old old.running refl k in subst Over (
 malformed-over : (old new : TillState) → new ≡ step old Malformed → IsKnown old → Over new
 malformed-over old new e k = let o = over-malformed old old.running refl k in subst Over (sym e) (o.0, refl, o.1)
 
--- a till that was told of a fault
-pub told-over : (fault : LineFault) (old new : TillValue) → Told till_loses till_malforms fault old new → IsKnown old.state → IsOver (Line fault) new.state
-told-over faults.Read old new t k = lost-over old.state new.state t.0 k
-told-over (faults.Ended have) old new t k = lost-over old.state new.state t.0 k
-told-over faults.Turns old new t k = lost-over old.state new.state t.0 k
-told-over (faults.Malformed place why) old new t k = malformed-over old.state new.state t.0 k
-told-over faults.Memory old new t k = lost-over old.state new.state t.0 k
-told-over faults.Write old new t k = lost-over old.state new.state t.0 k
-told-over faults.Stopped old new t k = malformed-over old.state new.state t.0 k
+-- a till to which a fault was reported
+pub reported-over : (fault : LineFault) (old new : TillValue) → Reported till_loses till_malforms fault old new → IsKnown old.state → IsOver (Line fault) new.state
+reported-over faults.Read old new t k = lost-over old.state new.state t.0 k
+reported-over (faults.Ended have) old new t k = lost-over old.state new.state t.0 k
+reported-over faults.Turns old new t k = lost-over old.state new.state t.0 k
+reported-over (faults.Malformed place why) old new t k = malformed-over old.state new.state t.0 k
+reported-over faults.Memory old new t k = lost-over old.state new.state t.0 k
+reported-over faults.Write old new t k = lost-over old.state new.state t.0 k
+reported-over faults.Stopped old new t k = malformed-over old.state new.state t.0 k
 
 idle-none : (run : Option Running) → is_idle run ≡ true → run ≡ None
 idle-none None e = refl

@@ -19,7 +19,7 @@ use Rattle.zvt_till.specs.View.{TillValue}
 use Rattle.zvt_till.specs.Log.{facts_in}
 use Rattle.zvt_till.specs.Events.{hears}
 use Rattle.zvt_till.specs.Line.{Fails}
-use Rattle.zvt_till.specs.TillHistory.{Stands, told_of, UnsentAreLogged, Takes, Readies, TakesAll, sent_by, sent_by_all, sent_in, OrdersAreLogged}
+use Rattle.zvt_till.specs.TillHistory.{Stands, reported_as, UnsentAreLogged, Takes, Readies, TakesAll, sent_by, sent_by_all, sent_in, OrdersAreLogged}
 use Rattle.zvt_till.proofs.Steps.{steps_meet_log}
 use Rattle.zvt_till.proofs.Runs.{follows-order, step-order}
 use Rattle.zvt_till.proofs.TillHistoryLemmas.{stands-more, runs_are_logged, faults_are_logged}
@@ -38,14 +38,14 @@ sent-heard : (messages : List Message) (more : List Happening) → sent_in (map 
 sent-heard [] more = refl
 sent-heard (m ∷ messages) more = sent-heard messages more
 
-sent-told : (fault : LineFault) → sent_in (told_of fault ∷ []) ≡ []
-sent-told faults.Read = refl
-sent-told (faults.Ended have) = refl
-sent-told faults.Turns = refl
-sent-told (faults.Malformed place why) = refl
-sent-told faults.Memory = refl
-sent-told faults.Write = refl
-sent-told faults.Stopped = refl
+sent-reported : (fault : LineFault) → sent_in (reported_as fault ∷ []) ≡ []
+sent-reported faults.Read = refl
+sent-reported (faults.Ended have) = refl
+sent-reported faults.Turns = refl
+sent-reported (faults.Malformed place why) = refl
+sent-reported faults.Memory = refl
+sent-reported faults.Write = refl
+sent-reported faults.Stopped = refl
 
 sent-append : (prefix back : List Happening) → sent_in (prefix ++ back) ≡ sent_in prefix ++ sent_in back
 sent-append [] back = refl
@@ -79,9 +79,9 @@ failed settings log fault order before after old new coming left first last turn
     let l = faults_are_logged settings log broken order before after old new coming left first last turns reads_before reads_after t b in
     subst (λ f. Adds settings log new.state (sent_by settings.currency order (Err f))) (sym e)
     (record {
-      added = SentOut (sent_as settings.currency order) ∷ (map hears l.0 ++ told_of broken ∷ []);
+      added = SentOut (sent_as settings.currency order) ∷ (map hears l.0 ++ reported_as broken ∷ []);
       stands = l.3;
-      sent = ap (λ x. sent_as settings.currency order ∷ x) (sent-heard l.0 (told_of broken ∷ []) ∙ sent-told broken);
+      sent = ap (λ x. sent_as settings.currency order ∷ x) (sent-heard l.0 (reported_as broken ∷ []) ∙ sent-reported broken);
     })
 
 took : (settings : Settings) (log : List Happening) (order : Order) (answer : Result Outcome RunFault) (old new : TillValue) → Stands settings log old.state → Takes order answer old new

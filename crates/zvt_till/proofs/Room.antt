@@ -4,7 +4,7 @@ use Rattle.zvt_apdu.specs.Message.{Message}
 use Rattle.zvt_stream.specs.Answered.{Answered}
 use Rattle.zvt_stream.specs.StreamState.{StreamState}
 use Rattle.zvt_stream.specs.Hearing.{Hears}
-use Rattle.zvt_stream.specs.LineRun.{Breaks, Told}
+use Rattle.zvt_stream.specs.LineRun.{Breaks, Reported}
 use Rattle.zvt_stream.specs.declared.line.LineFault.{LineFault}
 use Rattle.zvt_stream.specs.declared.line.LineFault.TheVariants as faults
 use Rattle.zvt_till.specs.declared.orders.Order.{Order}
@@ -46,11 +46,11 @@ broken-keeps faults.Memory before after read written old new b = heard-keeps old
 broken-keeps faults.Write before after read written old new b = heard-keeps old new _ _ b.heard
 broken-keeps faults.Stopped before after read written old new b = subst (λ (t : TillValue). KeepsRoom old t) b.1 (omega arith)
 
-pub told-keeps : (fault : LineFault) (old new : TillValue) → Told till_loses till_malforms fault old new → KeepsRoom old new
-told-keeps faults.Read old new t = t.1
-told-keeps (faults.Ended have) old new t = t.1
-told-keeps faults.Turns old new t = t.1
-told-keeps (faults.Malformed place why) old new t = t.1
-told-keeps faults.Memory old new t = t.1
-told-keeps faults.Write old new t = t.1
-told-keeps faults.Stopped old new t = t.1
+pub reported-keeps : (fault : LineFault) (old new : TillValue) → Reported till_loses till_malforms fault old new → KeepsRoom old new
+reported-keeps faults.Read old new t = t.1
+reported-keeps (faults.Ended have) old new t = t.1
+reported-keeps faults.Turns old new t = t.1
+reported-keeps (faults.Malformed place why) old new t = t.1
+reported-keeps faults.Memory old new t = t.1
+reported-keeps faults.Write old new t = t.1
+reported-keeps faults.Stopped old new t = t.1

@@ -5,7 +5,7 @@ use Rattle.zvt_stream.specs.Apdus.{SpelledIn}
 use Rattle.zvt_stream.specs.StreamState.{StreamState}
 use Rattle.zvt_stream.specs.Answered.{Answered}
 use Rattle.zvt_stream.specs.Hearing.{Hears}
-use Rattle.zvt_stream.specs.LineRun.{Breaks, Told}
+use Rattle.zvt_stream.specs.LineRun.{Breaks, Reported}
 use Rattle.zvt_stream.specs.declared.line.LineFault.{LineFault}
 use Rattle.zvt_stream.specs.declared.line.LineFault.TheVariants as faults
 use Rattle.zvt_till.specs.declared.happenings.Happening.{Happening}
@@ -20,7 +20,7 @@ use Rattle.zvt_till.specs.View.{TillValue}
 use Rattle.zvt_till.specs.Log.{CanFollow, facts_in, line_after, line_up}
 use Rattle.zvt_till.specs.Events.{hears}
 use Rattle.zvt_till.specs.Line.{till_hears, till_loses, till_malforms, Sends}
-use Rattle.zvt_till.specs.TillHistory.{Stands, RunsAreLogged, told_of, FaultsAreLogged}
+use Rattle.zvt_till.specs.TillHistory.{Stands, RunsAreLogged, reported_as, FaultsAreLogged}
 use Rattle.zvt_till.proofs.Segments.{fold-snoc}
 use Rattle.zvt_till.proofs.Steps.{steps_meet_log}
 use Rattle.zvt_till.proofs.Runs.{is_log-snoc, follows-order, step-order}
@@ -85,29 +85,29 @@ heard-before faults.Memory before after read written old new b = record { messag
 heard-before faults.Write before after read written old new b = record { messages = _; answers = _; rest = _; spelled = b.spelled; heard = b.heard }
 heard-before faults.Stopped before after read written old new b = record { messages = []; answers = []; rest = _; spelled = refl; heard = b.1 }
 
-told-step : (fault : LineFault) (old new : TillValue) → Told till_loses till_malforms fault old new → new.state ≡ step old.state (told_of fault)
-told-step faults.Read old new t = t.0
-told-step (faults.Ended have) old new t = t.0
-told-step faults.Turns old new t = t.0
-told-step (faults.Malformed place why) old new t = t.0
-told-step faults.Memory old new t = t.0
-told-step faults.Write old new t = t.0
-told-step faults.Stopped old new t = t.0
+reported-step : (fault : LineFault) (old new : TillValue) → Reported till_loses till_malforms fault old new → new.state ≡ step old.state (reported_as fault)
+reported-step faults.Read old new t = t.0
+reported-step (faults.Ended have) old new t = t.0
+reported-step faults.Turns old new t = t.0
+reported-step (faults.Malformed place why) old new t = t.0
+reported-step faults.Memory old new t = t.0
+reported-step faults.Write old new t = t.0
+reported-step faults.Stopped old new t = t.0
 
-can-be-told : (settings : Settings) (fault : LineFault) (log : List Happening) → line_up log ≡ true → CanFollow settings (facts_in log) (told_of fault)
-can-be-told settings faults.Read log up = tt
-can-be-told settings (faults.Ended have) log up = tt
-can-be-told settings faults.Turns log up = tt
-can-be-told settings (faults.Malformed place why) log up = up
-can-be-told settings faults.Memory log up = tt
-can-be-told settings faults.Write log up = tt
-can-be-told settings faults.Stopped log up = up
+can-be-reported : (settings : Settings) (fault : LineFault) (log : List Happening) → line_up log ≡ true → CanFollow settings (facts_in log) (reported_as fault)
+can-be-reported settings faults.Read log up = tt
+can-be-reported settings (faults.Ended have) log up = tt
+can-be-reported settings faults.Turns log up = tt
+can-be-reported settings (faults.Malformed place why) log up = up
+can-be-reported settings faults.Memory log up = tt
+can-be-reported settings faults.Write log up = tt
+can-be-reported settings faults.Stopped log up = up
 
 pub faults_are_logged : FaultsAreLogged
 faults_are_logged settings log fault order before after old new coming left first last turns reads_before reads_after t b =
     let heard = heard-before fault before after b.broken.read b.broken.written b.sent_till b.middle b.broken.breaks in
     let here = log ++ SentOut (sent_as settings.currency order) ∷ map hears heard.messages in
     let stands = after-order settings log order old b.sent_till b.middle first b.between heard.messages heard.answers t b.sends heard.heard in
-    let told = stands-more settings here b.middle.state (told_of fault) stands.0 (can-be-told settings fault here stands.1) in
-    let whole = append_assoc log (SentOut (sent_as settings.currency order) ∷ map hears heard.messages) (told_of fault ∷ []) in
-    (heard.messages, heard.rest, heard.spelled, subst (λ l. Stands settings l new.state) whole (subst (λ s. Stands settings (here ++ told_of fault ∷ []) s) (sym (told-step fault b.middle new b.told)) told))
+    let stands_after = stands-more settings here b.middle.state (reported_as fault) stands.0 (can-be-reported settings fault here stands.1) in
+    let whole = append_assoc log (SentOut (sent_as settings.currency order) ∷ map hears heard.messages) (reported_as fault ∷ []) in
+    (heard.messages, heard.rest, heard.spelled, subst (λ l. Stands settings l new.state) whole (subst (λ s. Stands settings (here ++ reported_as fault ∷ []) s) (sym (reported-step fault b.middle new b.reported)) stands_after))

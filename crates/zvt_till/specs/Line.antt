@@ -5,7 +5,7 @@ use Rattle.zvt_apdu.specs.Message.{Message}
 use Rattle.zvt_stream.specs.Apdus.{Spells}
 use Rattle.zvt_stream.specs.StreamState.{StreamState}
 use Rattle.zvt_stream.specs.Answered.{Answered}
-use Rattle.zvt_stream.specs.LineRun.{Pumped, Broken, Told, failed_reads, failed_writes}
+use Rattle.zvt_stream.specs.LineRun.{Pumped, Broken, Reported, failed_reads, failed_writes}
 use Rattle.zvt_stream.specs.Turns.{Ends, Falters, line_state, line_ends}
 use Rattle.zvt_stream.specs.declared.line.LineFault.{LineFault}
 use Rattle.zvt_stream.specs.declared.line.LineFault.TheVariants.{Write}
@@ -76,7 +76,7 @@ pub record Runs (order : Order) (outcome : Outcome) (before after : StreamState)
   pub rests : till_rests new ≡ true
   pub came : new.state.last_outcome ≡ Some outcome
 
--- An order was sent, and then the line broke, of which the till was told.
+-- An order was sent, and then the line broke, which was reported to the till.
 pub record BreaksOff (fault : LineFault) (order : Order) (before after : StreamState) (old new : TillValue) (coming left first last : Option (List ℕ)) (turns reads_before reads_after : ℕ) : Type 0 where
   pub sent_till : TillValue
   pub between : Option (List ℕ)
@@ -84,7 +84,7 @@ pub record BreaksOff (fault : LineFault) (order : Order) (before after : StreamS
   pub sends : Sends order old sent_till first between
   pub broken : Broken till_hears fault before after sent_till middle coming left between last
   pub falters : Falters till_hears till_rests Rest fault turns reads_before reads_after (line_state before sent_till coming between) (line_ends after middle left last)
-  pub told : Told till_loses till_malforms fault middle new
+  pub reported : Reported till_loses till_malforms fault middle new
 
 -- An order was not sent, and nothing was read; or the line broke.
 abbrev pub Fails : RunFault → Order → (before after : StreamState) → (old new : TillValue) → (coming left first last : Option (List ℕ)) → (turns reads_before reads_after : ℕ) → Type 0

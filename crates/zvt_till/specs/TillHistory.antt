@@ -32,24 +32,24 @@ RunsAreLogged =
     → (runs : Runs order outcome before after old new coming left first last turns reads_before reads_after)
     → Stands settings (log ++ SentOut (sent_as settings.currency order) ∷ map hears runs.pumped.course.heard.messages) new.state
 
--- what a till is told of a fault
-abbrev pub told_of : LineFault → Happening
-told_of (faults.Malformed place why) = Malformed
-told_of faults.Stopped = Malformed
-told_of faults.Read = Lost
-told_of faults.Write = Lost
-told_of (faults.Ended have) = Lost
-told_of faults.Turns = Lost
-told_of faults.Memory = Lost
+-- what a report of a fault is in a till's log
+abbrev pub reported_as : LineFault → Happening
+reported_as (faults.Malformed place why) = Malformed
+reported_as faults.Stopped = Malformed
+reported_as faults.Read = Lost
+reported_as faults.Write = Lost
+reported_as (faults.Ended have) = Lost
+reported_as faults.Turns = Lost
+reported_as faults.Memory = Lost
 
--- an order whose line broke adds itself, messages at the front of the bytes that were read, and what the till was told
+-- an order whose line broke adds itself, messages of a prefix of the bytes that were read, and the report of the fault
 abbrev pub FaultsAreLogged : Type 0
 FaultsAreLogged =
     (settings : Settings) (log : List Happening) (fault : LineFault) (order : Order) (before after : StreamState) (old new : TillValue) (coming left first last : Option (List ℕ)) (turns reads_before reads_after : ℕ)
     → Stands settings log old.state
     → (breaks : BreaksOff fault order before after old new coming left first last turns reads_before reads_after)
     → (messages : List Message) × (rest : List ℕ) × SpelledIn before.reading (before.held ++ breaks.broken.read) messages rest
-    × Stands settings (log ++ SentOut (sent_as settings.currency order) ∷ (map hears messages ++ told_of fault ∷ [])) new.state
+    × Stands settings (log ++ SentOut (sent_as settings.currency order) ∷ (map hears messages ++ reported_as fault ∷ [])) new.state
 
 -- an accepted order whose message could not be written stands in the log as sent, and then the line was lost
 abbrev pub UnsentAreLogged : Type 0

@@ -51,7 +51,7 @@ pub fn runs_are_logged()
     ensures { RunsAreLogged }
 {}
 
-/// An order whose line broke adds itself, messages at the front of the bytes that were read, and what the till was told.
+/// An order whose line broke adds itself, messages of a prefix of the bytes that were read, and the report of the fault.
 pub fn faults_are_logged()
     ensures { FaultsAreLogged }
 {}

@@ -11,7 +11,7 @@ use crate::till::Till;
 use std::alloc::{AllocError, Global};
 use zvt_apdu::{ApduView, MAX_TILL_MESSAGE_LEN};
 use zvt_io::{Sink, Source};
-use zvt_stream::{Answers, LineFault, Machine, Stream, Until, pump, send};
+use zvt_stream::{Answers, Endpoint, LineFault, Machine, Until, pump, send};
 
 /// A till rests where no order runs. It never wants memory.
 impl Machine for Till {
@@ -57,12 +57,12 @@ impl Machine for Till {
 pub enum RunFault {
     /// It was refused. Nothing was sent or read, and the till is as it was.
     Order(OrderRefusal),
-    /// The line broke. The till was told of it, and its last outcome is what became of the order. The line is given up:
-    /// a new one has a new stream.
+    /// The line broke, which was reported to the till. The till's last outcome is what became of the order. The line is
+    /// given up: a new one has a new endpoint.
     Line(LineFault),
 }
 
-/// Gives the till an order, and writes its message. A refused order sends nothing; where the writing fails the till has
+/// Gives the till an order, and writes its message. A refused order sends nothing. Where the write fails the till has
 /// lost its line, and the fault is `Write`.
 pub fn send_order<W: Sink>(writer: &mut W, till: &mut Till, order: Order) -> Result<(), RunFault>
     ensures ok { OnOk result (Sends order till.old till.new (W.written writer.old) (W.written writer.new)) }
@@ -82,35 +82,34 @@ pub fn send_order<W: Sink>(writer: &mut W, till: &mut Till, order: Order) -> Res
     Ok(())
 }
 
-/// Gives the till an order, and goes on with the line, for so many turns of one read each at most, until no order runs.
-/// It answers what became of the order. Over a stream that was made by `Stream::reserved` no line breaks for want of
+/// Gives the till an order, and pumps the line until no order runs, for at most `turns` turns of one read each.
+///
+/// It returns what became of the order. Over a stream that was made by `Stream::reserved` no line breaks for want of
 /// memory.
 pub fn run_order<R: Source, W: Sink>(
     alloc: Global,
-    reader: &mut R,
-    writer: &mut W,
-    stream: &mut Stream,
+    end: &mut Endpoint<R, W>,
     till: &mut Till,
     order: Order,
     turns: u64,
 ) -> Result<Outcome, RunFault>
-    ensures ok { IfOk result (λ outcome. Runs order outcome stream.old stream.new till.old till.new
-        (R.remaining reader.old) (R.remaining reader.new) (W.written writer.old) (W.written writer.new) turns (R.reads reader.old) (R.reads reader.new)) }
-    ensures err { IfErr result (λ fault. Fails fault order stream.old stream.new till.old till.new
-        (R.remaining reader.old) (R.remaining reader.new) (W.written writer.old) (W.written writer.new) turns (R.reads reader.old) (R.reads reader.new)) }
+    ensures ok { IfOk result (λ outcome. Runs order outcome end.old.stream end.new.stream till.old till.new
+        (R.remaining end.old.reader) (R.remaining end.new.reader) (W.written end.old.writer) (W.written end.new.writer) turns (R.reads end.old.reader) (R.reads end.new.reader)) }
+    ensures err { IfErr result (λ fault. Fails fault order end.old.stream end.new.stream till.old till.new
+        (R.remaining end.old.reader) (R.remaining end.new.reader) (W.written end.old.writer) (W.written end.new.writer) turns (R.reads end.old.reader) (R.reads end.new.reader)) }
     // However it goes, it takes the place of one payment at most.
     ensures room { till.old.spare ≤ till.new.spare + 1 }
     // After a broken line it is known what became of the order.
     ensures over { IfErr result (λ fault. IsOver fault till.new.state) }
-    ensures reads { R.reads reader.new ≤ R.reads reader.old + turns }
-    ensures frugal { IsReserved stream.old → IsErrOf result (RunFault.Line LineFault.Memory) → ⊥ }
-    ensures reader_failures { MatchResult result (λ _. R.failures reader.new ≡ R.failures reader.old) (λ fault. R.failures reader.new ≡ R.failures reader.old + reads_failed fault) }
-    ensures writer_failures { MatchResult result (λ _. W.failures writer.new ≡ W.failures writer.old) (λ fault. W.failures writer.new ≡ W.failures writer.old + writes_failed fault) }
+    ensures reads { R.reads end.new.reader ≤ R.reads end.old.reader + turns }
+    ensures frugal { IsReserved end.old.stream → IsErrOf result (RunFault.Line LineFault.Memory) → ⊥ }
+    ensures reader_failures { MatchResult result (λ _. R.failures end.new.reader ≡ R.failures end.old.reader) (λ fault. R.failures end.new.reader ≡ R.failures end.old.reader + reads_failed fault) }
+    ensures writer_failures { MatchResult result (λ _. W.failures end.new.writer ≡ W.failures end.old.writer) (λ fault. W.failures end.new.writer ≡ W.failures end.old.writer + writes_failed fault) }
 {
-    if let Err(fault) = send_order(writer, till, order) {
+    if let Err(fault) = send_order(&mut end.writer, till, order) {
         return Err(fault);
     }
-    if let Err(fault) = pump(alloc, reader, writer, stream, till, Until::Rest, turns) {
+    if let Err(fault) = pump(alloc, end, till, Until::Rest, turns) {
         return Err(RunFault::Line(fault));
     }
     let Some(outcome) = till.last_outcome() else {

@@ -1,13 +1,13 @@
 use Rattle.std.proofs.Common.{sym, ◌∙◌}
-use Rattle.zvt_till.proofs.Accepted.{known-sent, known-heard, known-broken, told-over, rests-known}
-use Rattle.zvt_till.proofs.Room.{takes-one, keeps-twice, heard-keeps, broken-keeps, told-keeps}
+use Rattle.zvt_till.proofs.Accepted.{known-sent, known-heard, known-broken, reported-over, rests-known}
+use Rattle.zvt_till.proofs.Room.{takes-one, keeps-twice, heard-keeps, broken-keeps, reported-keeps}
 use Rattle.zvt_till.proofs.line.run_order.Goals as goal
 
 pub returns-in-Err-pump-clause-over : goal.returns-in-Err-pump-clause-over
 returns-in-Err-pump-clause-over g c =
     let known = known-sent c.args.order c.args.till.now c.send_order.new.till _ _ c.in_default.ensures.ok in
     let broken = c.in-Err-pump.ensures.err in
-    told-over c.in-Err-pump.fault broken.0 c.pump.new.machine broken.3 (known-broken c.in-Err-pump.fault _ _ broken.1.read broken.1.written c.send_order.new.till broken.0 broken.1.breaks known)
+    reported-over c.in-Err-pump.fault broken.0 c.pump.new.machine broken.3 (known-broken c.in-Err-pump.fault _ _ broken.1.read broken.1.written c.send_order.new.till broken.0 broken.1.breaks known)
 
 pub unreachable-requires : goal.unreachable-requires
 unreachable-requires g c =
@@ -21,7 +21,7 @@ returns-in-Err-pump-clause-room g c =
     let broken = c.in-Err-pump.ensures.err in
     let heard = broken-keeps c.in-Err-pump.fault _ _ broken.1.read broken.1.written c.send_order.new.till broken.0 broken.1.breaks in
     takes-one c.args.till.now c.send_order.new.till c.pump.new.machine sends.room
-    (keeps-twice c.send_order.new.till broken.0 c.pump.new.machine heard (told-keeps c.in-Err-pump.fault broken.0 c.pump.new.machine broken.3))
+    (keeps-twice c.send_order.new.till broken.0 c.pump.new.machine heard (reported-keeps c.in-Err-pump.fault broken.0 c.pump.new.machine broken.3))
 
 pub returns-clause-room : goal.returns-clause-room
 returns-clause-room g c =

@@ -1,4 +1,4 @@
--- `closed` makes a shell that owns nothing.
+-- `closed` makes a handle that owns nothing.
 use Rattle.std.proofs.Common.{◌≡◌, Option, None, [], ◌∷◌, refl}
 use mir.Syntax.{Fn}
 use mir.Val.{Val}

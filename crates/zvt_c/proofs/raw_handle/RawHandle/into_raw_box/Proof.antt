@@ -1,4 +1,4 @@
--- `into_raw_box` takes over what the shell owns.
+-- `into_raw_box` takes over what the handle owns.
 use Rattle.std.proofs.Common.{◌≡◌, Bool, Option, Some, is_some, List, [], ◌∷◌, ◌++◌, refl, ap, ◌∙◌}
 use mir.Syntax.{Fn}
 use mir.Raw.{raw as bare}
@@ -39,8 +39,8 @@ use Rattle.zvt_c.specs.contracts.raw_handle.RawHandle.into_raw_box.Key.{name as 
 use Rattle.zvt_c.proofs.raw_handle.RawHandle.into_raw_box.Statement.{statement}
 use Rattle.zvt_c.proofs.raw_handle.RawHandle.into_raw_box.Code as compiled
 
-pub into_loose_spec : {M : Type 1} → statement M
-into_loose_spec 𝓤 𝓛 𝓜 𝓡 wired =
+pub into_raw_box_spec : {M : Type 1} → statement M
+into_raw_box_spec 𝓤 𝓛 𝓜 𝓡 wired =
     let H = 𝓛.H in let c = clauses 𝓛 𝓜.mem 𝓡.returns in let fn : Fn = compiled.function in let C = (tables 𝓤 H 𝓜 𝓡 𝓡.env).C in let Λ = (tables 𝓤 H 𝓜 𝓡 𝓡.env).Λ in
     let stays : Stays ended.signature.params ended.kept = (stay_dropped (plain (λ _. RawHandle)) ended.kept.0, (stay_dropped (plain (λ _. Heap.the_row)) ended.kept.1.0, tt)) in
     proved_at 𝓛 ended stays c 𝓜 𝓡 (Goes-blank 𝓛 0 (plain (λ _. RawHandle)) ended.kept.0 (λ κs x f. tt), (Goes-blank 𝓛 0 (plain (λ _. Heap.the_row)) ended.kept.1.0 (λ κs x f. tt), tt)) #self fn (compiled.unfolded 𝓤 H 𝓜 𝓡 wired) (λ z are.
@@ -48,7 +48,7 @@ into_loose_spec 𝓤 𝓛 𝓜 𝓡 wired =
     let told = one_told v.at z.0.4.0 are.0.0 in
     qed 𝓛 ((raw (alive 𝓛 ended.signature z.0.0 z.0.1) ⊛ ‵ (owns (types_at ended.signature.params z.0.0) z.0.3 z.0.4)) ∷ raw (fact 𝓤 (is_some v.held ≡ Bool.true)) ∷ []) ∵ move ! (1 ∷ []) $ heard ! (is_some v.held ≡ Bool.true) (λ given. let has = some_of v.held given in let x = has.0 in
     split ! $ move ! (1 ∷ []) $ fsplit ! $ fsplit ! $ drop ! $
-    -- [what the shell owns; the handle and no more arguments; the tokens]
+    -- [what the handle owns; the handle and no more arguments; the tokens]
     rewrite ! 0 (λ (held : Option Session). ‵ (owned v.at held)) has.1 refl $
     in_a_block ! v.at (λ p. box_owns chunk R p x) (fst∗ 𝓤 (never 𝓤) (sem 𝓛 (chunk (bare (lone R.mir)) null_ptr))) (λ b o e.
     move ! (1 ∷ []) $ fsplit ! $ peeks ! Heap.the_row (Is Heap.the_row) (shows 𝓛 Heap.the_row) a z.0.4.1.0 (λ is. let eh = heap_Tells a z.0.4.1.0 is in

@@ -1,0 +1,54 @@
+//! Walks over a trace with a listener of its own, which counts the messages of each side.
+
+use std::io;
+use zvt_grammar::Lengths;
+use zvt_trace::{Direction, Listener, ListenerError, Scope, TraceEvent, walk};
+
+/// A trace: the till asks for 12.34, and the terminal acknowledges the order.
+pub const TRACE: &[u8] = b"> 06 01 07 04 00 00 00 00 12 34\n< 80 00 00\n";
+
+/// How many whole messages each side sent.
+#[derive(Drop)]
+struct Counts {
+    till: u64,
+    terminal: u64,
+}
+
+impl Listener<()> for Counts {
+    ghost use Rattle.std.specs.Prelude.{⊤};
+
+    ghost hears = { λ _ _ _. ⊤ };
+
+    ghost fails = { λ _ _ _ _. ⊤ };
+
+    fn hear(
+        &mut self,
+        _device: &mut (),
+        _line: u64,
+        trace_event: &TraceEvent<'_>,
+    ) -> Result<(), ListenerError> {
+        if let TraceEvent::Message { from, .. } = trace_event {
+            let count = match from {
+                Direction::FromTill => &mut self.till,
+                Direction::FromTerminal => &mut self.terminal,
+            };
+            *count = count.saturating_add(1);
+        }
+        Ok(())
+    }
+}
+
+/// Prints how many messages each side of the trace sent, or why the trace can't be read.
+pub fn print_counts(rt: &HostRuntime, trace: &[u8]) -> io::Result<()> {
+    let mut counts = Counts {
+        till: 0,
+        terminal: 0,
+    };
+    match walk(&mut counts, &mut (), rt.alloc(), Scope::OneSide, trace) {
+        Ok(_) => println!(rt;
+            "listen: {} from the till, {} from the terminal",
+            counts.till, counts.terminal
+        ),
+        Err(fault) => println!(rt; "listen: {fault}"),
+    }
+}
