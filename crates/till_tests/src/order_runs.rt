@@ -20,7 +20,11 @@ fn connected_till(rt: &impl Abort, alloc: Global) -> Till {
 }
 
 /// An end of a line on which these bytes come, and whose writer keeps what is sent.
-fn end_over(alloc: Global, coming: &[u8], stream: Stream) -> Endpoint<Counted<&[u8]>, Counted<Vec<u8>>> {
+fn end_over(
+    alloc: Global,
+    coming: &[u8],
+    stream: Stream,
+) -> Endpoint<Counted<&[u8]>, Counted<Vec<u8>>> {
     Endpoint {
         reader: Counted::new(coming),
         writer: Counted::new(Vec::new(alloc)),
@@ -49,7 +53,10 @@ fn is_registered(rt: &impl Abort, alloc: Global, stream: Stream) {
     let registration_and_ack = [
         0x06, 0x00, 0x06, 0x00, 0x00, 0x00, 0xBE, 0x09, 0x78, 0x80, 0x00, 0x00,
     ];
-    assert_eq!(rt; end.writer.inner.as_slice(), registration_and_ack.as_slice());
+    assert_eq!(rt;
+        end.writer.inner.as_slice(),
+        registration_and_ack.as_slice()
+    );
 }
 
 #[test]
