@@ -3,8 +3,9 @@ use std::alloc::Global;
 use std::io::{self, Read, Write};
 use std::test::Fail;
 use zvt_io::Counted;
-use zvt_session::{EndFault, Endpoint, Ends, TillSettings, plan, run_loop, run_till_end};
+use zvt_session::{EndFault, Endpoint, Ends, plan, run_loop, run_till_end};
 use zvt_stream::{LineFault, Stream};
+use zvt_till::TillSettings;
 
 /// A writer that takes nothing.
 #[derive(Drop)]
@@ -24,8 +25,9 @@ impl Write for Full {
 fn a_text_that_cannot_be_written(rt: HostRuntime) -> Result<(), Fail> {
     let mut writer = Counted::new(Full);
     let mut report = Counted::new(Vec::new(rt.alloc()));
-    let words = ["close"];
-    let ended = run_loop(&rt, rt.alloc(), &words, None, &mut writer, &mut report);
+    let plan = plan(rt.alloc(), Ends::Both, ["close"].as_slice())?;
+    let steps = plan.as_slice();
+    let ended = run_loop(&rt, rt.alloc(), steps, None, &mut writer, &mut report);
     assert!(rt; matches!(ended, Err(EndFault::Write)));
     Ok(())
 }
@@ -84,11 +86,11 @@ fn reverses<E: Write>(
         stream: Stream::new(alloc),
     };
     let mut writer = Counted::new(Vec::new(alloc));
-    let usual = TillSettings::usual();
+    let settings = TillSettings::default();
     let ended = run_till_end(
         alloc,
         &mut line,
-        &usual,
+        &settings,
         plan.as_slice(),
         &mut writer,
         report,

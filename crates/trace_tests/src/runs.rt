@@ -8,14 +8,15 @@ use std::test::Fail;
 use zvt_grammar::{Lengths, Why};
 use zvt_io::{Counted, Sink, Source};
 use zvt_session::{
-    BothEnds, EndFault, Endpoint, Ends, NetFault, Recorded, TillSettings, Way, config_of,
+    BothEnds, EndFault, Endpoint, Ends, NetFault, Recorded, TerminalRun, TillRun, Way, config_of,
     currency_of, password_of, plan, run_both_ends, run_loop, run_terminal, run_till, run_till_end,
     serve,
 };
 use zvt_stream::{LineFault, Stream};
 use zvt_term::{Served, Terminal, Verdict};
+use zvt_till::TillSettings;
 
-const USUAL: &str = r#"register -> registered
+const DEFAULT_STEPS: &str = r#"register -> registered
 pay:1000 -> paid trace 000001 receipt 0001
 decline:500:6C -> aborted 6C abort by time-out or abort key
 reverse:1 -> reversed
@@ -42,7 +43,12 @@ total 25
 fn looped(rt: &HostRuntime, words: &[&str]) -> (Result<(), EndFault>, Vec<u8>) {
     let mut writer = Counted::new(Vec::new(rt.alloc()));
     let mut report = Counted::new(Vec::new(rt.alloc()));
-    let ended = run_loop(rt, rt.alloc(), words, None, &mut writer, &mut report);
+    let plan = match plan(rt.alloc(), Ends::Both, words) {
+        Ok(plan) => plan,
+        Err(fault) => return (Err(fault), writer.inner),
+    };
+    let steps = plan.as_slice();
+    let ended = run_loop(rt, rt.alloc(), steps, None, &mut writer, &mut report);
     (ended, writer.inner)
 }
 
@@ -56,7 +62,7 @@ fn wrote(rt: &impl Abort, run: (Result<(), EndFault>, Vec<u8>), text: &str) -> R
 
 #[test]
 fn both_ends_run(rt: HostRuntime) -> Result<(), Fail> {
-    wrote(&rt, looped(&rt, &[]), USUAL)?;
+    wrote(&rt, looped(&rt, &[]), DEFAULT_STEPS)?;
     let unregistered = "pay:100 -> not sent: NotRegistered\ntotal 0\n";
     wrote(&rt, looped(&rt, &["pay:100"]), unregistered)?;
     let twice = ["register", "pay:100", "reverse:1", "reverse:1"];
@@ -81,7 +87,7 @@ fn registers_and_pays(
     let ended = run_till_end(
         alloc,
         &mut line,
-        &TillSettings::usual(),
+        &TillSettings::default(),
         plan.as_slice(),
         &mut writer,
         &mut report,
@@ -164,13 +170,13 @@ fn registers_without_rest(
             verdict: Verdict::Approve,
         },
     };
-    let usual = TillSettings::usual();
+    let settings = TillSettings::default();
     let mut writer = Counted::new(Vec::new(alloc));
     let mut report = Counted::new(Vec::new(alloc));
     let ended = run_both_ends(
         alloc,
         &mut line,
-        &usual,
+        &settings,
         plan.as_slice(),
         &mut writer,
         &mut report,
@@ -237,18 +243,16 @@ fn a_terminal_reports_how_its_line_broke(rt: HostRuntime) {
 /// A run of a terminal at this port, and what it tells.
 fn terminal_at(rt: &HostRuntime, port: u16) -> (Result<(), EndFault>, Vec<u8>) {
     let mut report = Counted::new(Vec::new(rt.alloc()));
-    let ended = run_terminal(
-        rt,
-        rt.alloc(),
-        "127.0.0.1",
+    let run = TerminalRun {
+        host: "127.0.0.1",
         port,
-        1,
-        Verdict::Approve,
-        Lengths::Shortest,
-        1,
-        None,
-        &mut report,
-    );
+        tid: 1,
+        verdict: Verdict::Approve,
+        lengths: Lengths::Shortest,
+        connections: 1,
+        trace: None,
+    };
+    let ended = run_terminal(rt, rt.alloc(), &run, &mut report);
     (ended, report.inner)
 }
 
@@ -269,21 +273,22 @@ fn closed_port(rt: &HostRuntime) -> Result<u16, Fail> {
 }
 
 /// A run of a till against this port, and what it writes.
-fn till_at(rt: &HostRuntime, port: u16, steps: &[&str]) -> (Result<(), EndFault>, Vec<u8>) {
+fn till_at(rt: &HostRuntime, port: u16, words: &[&str]) -> (Result<(), EndFault>, Vec<u8>) {
     let mut writer = Counted::new(Vec::new(rt.alloc()));
     let mut report = Counted::new(Vec::new(rt.alloc()));
-    let ended = run_till(
-        rt,
-        rt.alloc(),
-        "127.0.0.1",
+    let plan = match plan(rt.alloc(), Ends::Till, words) {
+        Ok(plan) => plan,
+        Err(fault) => return (Err(fault), writer.inner),
+    };
+    let run = TillRun {
+        host: "127.0.0.1",
         port,
-        &TillSettings::usual(),
-        Lengths::Shortest,
-        steps,
-        None,
-        &mut writer,
-        &mut report,
-    );
+        settings: TillSettings::default(),
+        lengths: Lengths::Shortest,
+        trace: None,
+    };
+    let steps = plan.as_slice();
+    let ended = run_till(rt, rt.alloc(), &run, steps, &mut writer, &mut report);
     (ended, writer.inner)
 }
 

@@ -20,6 +20,9 @@ impl Model for Currency {
 }
 
 impl Currency {
+    /// The euro.
+    pub const EURO: Currency = Currency { number: 978 };
+
     /// The currency of this number, from 0 to 9,999.
     pub fn new(number: u16) -> Option<Currency>
         ensures given { IsSome result ↔ (number ≤ 9999) }

@@ -4,11 +4,9 @@ use Rattle.zvt_grammar.specs.Reading.{Reading}
 use Rattle.zvt_till.specs.declared.entries.Entry.{Entry}
 use Rattle.zvt_till.specs.Sending.{Settings}
 use Rattle.zvt_session.specs.OverTcp.{AnswersRun, RunsPlan}
-use Rattle.zvt_session.specs.Plans.{Plans, words_of}
 use Rattle.zvt_session.specs.Runs.{Law}
 use Rattle.zvt_session.specs.TillEnd.{BeginsThere, MakesThere}
 use Rattle.zvt_session.specs.declared.plans.Planned.{Planned}
-use Rattle.zvt_session.specs.declared.arguments.Ends.{Ends}
 use Rattle.zvt_session.specs.Traced.{AnswersTraced, by_trace}
 use Rattle.zvt_session.specs.declared.fault.EndFault.{EndFault}
 use Rattle.zvt_session.specs.declared.fault.EndFault.TheVariants.{BadStep, Line, Memory, Net, Trace, Write}
@@ -33,24 +31,24 @@ traced Answers true (Err Memory) never a = a
 traced Answers true (Err (BadStep at)) never a = a
 traced Answers true (Err (Net why)) never a = a
 
--- what a run of words answers
-answers : {L : Type 0} (makes : Law L) (begins : L → Type 0) (settings : Settings) (ends : Ends) (words : List (List ℕ)) (plan : List Planned) (old new : Option (List ℕ)) (Reported : List Entry → Type 0) (Quiet : Type 0) (result : Result Unit EndFault)
-    → Plans ends (words_of ends words) plan → AnswersTraced (RunsPlan makes begins settings plan old new Reported) result → AnswersRun makes begins settings ends words old new Reported Quiet result
-answers makes begins settings ends words plan old new Reported Quiet (Ok done) plans runs = record { plan = plan; plans = plans; runs = runs }
-answers makes begins settings ends words plan old new Reported Quiet (Err (Line fault)) plans runs = record { plan = plan; plans = plans; runs = runs }
-answers makes begins settings ends words plan old new Reported Quiet (Err Trace) plans runs = record { plan = plan; plans = plans; runs = runs }
-answers makes begins settings ends words plan old new Reported Quiet (Err Write) plans runs = record { plan = plan; plans = plans; runs = runs }
-answers makes begins settings ends words plan old new Reported Quiet (Err Memory) plans runs = inr (record { plan = plan; plans = plans; runs = runs })
-answers makes begins settings ends words plan old new Reported Quiet (Err (BadStep at)) plans runs = absurd runs.answers
-answers makes begins settings ends words plan old new Reported Quiet (Err (Net why)) plans runs = absurd runs.answers
+-- what a run of steps answers
+answers : {L : Type 0} (makes : Law L) (begins : L → Type 0) (settings : Settings) (plan : List Planned) (old new : Option (List ℕ)) (Reported : List Entry → Type 0) (Quiet : Type 0) (result : Result Unit EndFault)
+    → AnswersTraced (RunsPlan makes begins settings plan old new Reported) result → AnswersRun makes begins settings plan old new Reported Quiet result
+answers makes begins settings plan old new Reported Quiet (Ok done) runs = runs
+answers makes begins settings plan old new Reported Quiet (Err (Line fault)) runs = runs
+answers makes begins settings plan old new Reported Quiet (Err Trace) runs = runs
+answers makes begins settings plan old new Reported Quiet (Err Write) runs = runs
+answers makes begins settings plan old new Reported Quiet (Err Memory) runs = inr runs
+answers makes begins settings plan old new Reported Quiet (Err (BadStep at)) runs = absurd runs.answers
+answers makes begins settings plan old new Reported Quiet (Err (Net why)) runs = absurd runs.answers
 
-pub traced_run : {L : Type 0} (makes : Law L) (begins : L → Type 0) (settings given : Settings) (ends : Ends) (words : List (List ℕ)) (plan made : List Planned) (broken : Bool) (old new : Option (List ℕ)) (Reported : List Entry → Type 0) (Quiet : Type 0) (answer result : Result Unit EndFault)
-    → given ≡ settings → made ≡ plan → result ≡ by_trace broken answer → Plans ends (words_of ends words) plan → RunsPlan makes begins given made old new Reported answer
-    → AnswersRun makes begins settings ends words old new Reported Quiet result
-traced_run makes begins settings given ends words plan made broken old new Reported Quiet answer result set same is plans runs =
-    let run : RunsPlan makes begins settings plan old new Reported answer = subst (λ (p : List Planned). RunsPlan makes begins settings p old new Reported answer) same (subst (λ (s : Settings). RunsPlan makes begins s made old new Reported answer) set runs) in
-    subst (λ (r : Result Unit EndFault). AnswersRun makes begins settings ends words old new Reported Quiet r) (sym is)
-    (answers makes begins settings ends words plan old new Reported Quiet (by_trace broken answer) plans (traced (RunsPlan makes begins settings plan old new Reported) broken answer (λ r. r.answers) run))
+-- a run whose trace is whole, or broke
+pub traced_run : {L : Type 0} (makes : Law L) (begins : L → Type 0) (settings given : Settings) (plan : List Planned) (broken : Bool) (old new : Option (List ℕ)) (Reported : List Entry → Type 0) (Quiet : Type 0) (answer result : Result Unit EndFault)
+    → given ≡ settings → result ≡ by_trace broken answer → RunsPlan makes begins given plan old new Reported answer → AnswersRun makes begins settings plan old new Reported Quiet result
+traced_run makes begins settings given plan broken old new Reported Quiet answer result set is runs =
+    let run : RunsPlan makes begins settings plan old new Reported answer = subst (λ (s : Settings). RunsPlan makes begins s plan old new Reported answer) set runs in
+    subst (λ (r : Result Unit EndFault). AnswersRun makes begins settings plan old new Reported Quiet r) (sym is)
+    (answers makes begins settings plan old new Reported Quiet (by_trace broken answer) (traced (RunsPlan makes begins settings plan old new Reported) broken answer (λ r. r.answers) run))
 
 -- a run on a line whose stream has that reading
 pub begun_by : {r k : Reading} {settings : Settings} {plan : List Planned} {old new : Option (List ℕ)} {Reported : List Entry → Type 0} {result : Result Unit EndFault} → r ≡ k → RunsPlan MakesThere (BeginsThere r) settings plan old new Reported result

@@ -1,19 +1,18 @@
 -- Both ends of a line, turn after turn.
-use Rattle.std.proofs.Common.{◌≡◌, ℕ, zero, suc, ◌+◌, ◌<◌, true, false, Option, Some, None, refl, subst, add-one, inl, inr, is_some, option_map}
+use Rattle.std.proofs.Common.{◌≡◌, ℕ, zero, suc, ◌+◌, ◌<◌, Bool, true, false, cond, Option, Some, None, refl, sym, ◌∙◌, subst, add-one, inl, inr}
 use Rattle.zvt_stream.specs.Turns.{Ends, LineState, Waited, line_ends, line_state}
 use Rattle.zvt_stream.specs.declared.line.LineFault.{LineFault}
 use Rattle.zvt_stream.specs.declared.line.LineFault.TheVariants as faults
 use Rattle.zvt_stream.specs.declared.line.Until.TheVariants.{Sent}
-use Rattle.zvt_till.specs.Line.{IsOver, till_hears, till_loses, till_rests, is_idle}
+use Rattle.zvt_till.specs.Line.{IsOver, till_hears, till_loses, till_rests}
 use Rattle.zvt_till.specs.View.{TillValue}
 use Rattle.zvt_till.specs.declared.line.RunFault.TheVariants.{Line}
 use Rattle.zvt_till.specs.declared.orders.Order.{Order}
 use Rattle.zvt_till.specs.declared.outcomes.Outcome.{Outcome}
-use Rattle.zvt_till.specs.declared.statuses.Running.{Running}
-use Rattle.zvt_till.proofs.Accepted.{IsKnown, known-broken, known-heard, known-sent, rests-known, reported-over}
+use Rattle.zvt_till.proofs.Accepted.{IsKnown, known-broken, known-heard, known-sent, rests-known, told-over as reported-over}
 use Rattle.zvt_session.specs.declared.arguments.Step.{Step}
 use Rattle.zvt_session.specs.Steps.{order_of}
-use Rattle.zvt_session.specs.BothEnds.{Alternates, Begins, BreaksOff, Both, Comes, Fails, Underway}
+use Rattle.zvt_session.specs.BothEnds.{Alternates, Begins, BreaksOff, Both, Comes, Fails, Underway, ended_of}
 
 -- ---- it stays known what became of the order
 
@@ -61,39 +60,40 @@ begun step old sent b = record {
   known = known_begun step old sent b;
 }
 
-busy : (run : Option Running) (order : Option Order) → order ≡ option_map (λ (r : Running). r.order) run → is_some order ≡ true → is_idle run ≡ false
-busy None order e none = let f : is_some {T = Order} None ≡ true = subst (λ (o : Option Order). is_some o ≡ true) e none in absurd (cc)
-busy (Some run) order e none = refl
+busy : (rests : Bool) (last : Option Outcome) → cond rests last None ≡ None → (rests ≡ true → last ≡ None → ⊥) → rests ≡ false
+busy true last e never = absurd (never refl e)
+busy false last e never = refl
 
-idle : (run : Option Running) (order : Option Order) → order ≡ option_map (λ (r : Running). r.order) run → is_some order ≡ false → is_idle run ≡ true
-idle None order e none = refl
-idle (Some run) order e none = let f : is_some (Some run.order) ≡ false = subst (λ (o : Option Order). is_some o ≡ false) e none in absurd (cc)
+idle : (rests : Bool) (last : Option Outcome) (outcome : Outcome) → cond rests last None ≡ Some outcome → (rests ≡ true) × (last ≡ Some outcome)
+idle true last outcome e = (refl, e)
+idle false last outcome e = absurd (cc)
 
-pub goes_on : (step : Step) (count : ℕ) (old now new : Both) (order : Option Order) → Going step count old now → Alternates now new → order ≡ option_map (λ (r : Running). r.order) new.till.state.running → is_some order ≡ true
+pub goes_on : (step : Step) (count : ℕ) (old now new : Both) (ended : Option Outcome) → Going step count old now → Alternates now new → ended ≡ ended_of new.till → ended ≡ None
     → Going step (count + 1) old new
-goes_on step count old now new order going a e none = rw add-one (record {
-  underway = record {
-    sent = going.underway.sent;
-    begins = going.underway.begins;
-    alternations = (now, going.underway.alternations, a, busy new.till.state.running order e none);
-  };
-  known = known_after now new a going.known;
-})
+goes_on step count old now new ended going a is none =
+    let known = known_after now new a going.known in
+    rw add-one (record {
+      underway = record {
+        sent = going.underway.sent;
+        begins = going.underway.begins;
+        alternations = (now, going.underway.alternations, a, busy (till_rests new.till) new.till.state.last_outcome (sym is ∙ none) (λ rests unknown. rests-known new.till.state rests known unknown));
+      };
+      known = known;
+    })
 
-pub comes : (step : Step) (count : ℕ) (outcome : Outcome) (old now new : Both) (order : Option Order) → count < 1000 → Going step count old now → Alternates now new → order ≡ option_map (λ (r : Running). r.order) new.till.state.running → is_some order ≡ false
-    → new.till.state.last_outcome ≡ Some outcome → Comes step outcome old new
-comes step count outcome old now new order fewer going a e none came = record {
-  count = count;
-  middle = now;
-  fewer = fewer;
-  underway = going.underway;
-  last = a;
-  rests = idle new.till.state.running order e none;
-  came = came;
-}
-
-pub never_unknown : (now new : Both) (order : Option Order) → IsKnown now.till.state → Alternates now new → order ≡ option_map (λ (r : Running). r.order) new.till.state.running → is_some order ≡ false → new.till.state.last_outcome ≡ None → ⊥
-never_unknown now new order k a e none unknown = rests-known new.till.state (idle new.till.state.running order e none) (known_after now new a k) unknown
+pub comes : (step : Step) (count : ℕ) (outcome : Outcome) (old now new : Both) (ended : Option Outcome) → count < 1000 → Going step count old now → Alternates now new → ended ≡ ended_of new.till → ended ≡ Some outcome
+    → Comes step outcome old new
+comes step count outcome old now new ended fewer going a is some =
+    let came = idle (till_rests new.till) new.till.state.last_outcome outcome (sym is ∙ some) in
+    record {
+      count = count;
+      middle = now;
+      fewer = fewer;
+      underway = going.underway;
+      last = a;
+      rests = came.0;
+      came = came.1;
+    }
 
 pub breaks : (step : Step) (count : ℕ) (fault : LineFault) (old now new : Both) → count < 1000 → Going step count old now → BreaksOff fault now new → Fails step (Line fault) old new
 breaks step count fault old now new fewer going b = inr (inl (record { count = count; middle = now; fewer = fewer; underway = going.underway; last = b }))

@@ -1,5 +1,5 @@
 -- Both ends of a line, which take turns.
-use Rattle.std.specs.Prelude.{◌≡◌, ◌⊎◌, ℕ, zero, suc, ◌<◌, Bool, true, false, Some, Result, Ok, Err}
+use Rattle.std.specs.Prelude.{◌≡◌, ◌⊎◌, ℕ, zero, suc, ◌<◌, Bool, true, false, cond, Option, Some, None, Result, Ok, Err}
 use Rattle.zvt_stream.specs.StreamState.{at_start}
 use Rattle.zvt_stream.specs.declared.line.LineFault.{LineFault}
 use Rattle.zvt_stream.specs.declared.line.LineFault.TheVariants.{Turns}
@@ -69,6 +69,10 @@ Alternations zero old new = old ≡ new
 Alternations (suc n) old new = (middle : Both) × Alternations n old middle × Alternates middle new × (till_rests new.till ≡ false)
 
 -- ---- a step
+
+-- how the last order ended, where none runs
+abbrev pub ended_of : TillValue → Option Outcome
+ended_of till = cond (till_rests till) till.state.last_outcome None
 
 -- the terminal has its verdict, and does nothing
 pub record Decided (step : Step) (old new : Both) : Type 0 where

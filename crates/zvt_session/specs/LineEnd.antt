@@ -2,7 +2,7 @@
 use Rattle.std.specs.Prelude.{◌≡◌, ℕ, ◌+◌, Bool, List, Option}
 use Rattle.zvt_apdu.specs.Message.{Message}
 use Rattle.zvt_stream.specs.Answered.{Answered}
-use Rattle.zvt_stream.specs.LineRun.{Broken, Reported, failed_reads, failed_writes}
+use Rattle.zvt_stream.specs.LineRun.{Broken, Told as Reported, failed_reads, failed_writes}
 use Rattle.zvt_stream.specs.StreamState.{StreamState}
 use Rattle.zvt_stream.specs.Turns.{Ends, Falters, line_state, line_ends}
 use Rattle.zvt_stream.specs.declared.line.LineFault.{LineFault}

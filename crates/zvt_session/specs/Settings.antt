@@ -1,14 +1,6 @@
--- What a till is set to, and the words that say so.
+-- The words that a till's settings are given by.
 use Rattle.std.specs.Prelude.{ℕ, ◌+◌, ◌-◌, ◌*◌, ◌&&◌, cond, List, [], ◌∷◌, Option, Some, None}
 use Rattle.std.specs.Char.{digit_value, is_ascii_digit, is_ascii_hexdigit}
-use Rattle.zvt_till.specs.Sending.{Settings}
-use Rattle.zvt_session.specs.declared.settings.TillSettings.{TillSettings}
-
--- as zvt_till has them
-abbrev pub settings_of : TillSettings → Settings
-settings_of set = record { password = set.password; config = set.config; currency = set.currency }
-
--- ---- words
 
 -- a byte of two decimal digits
 abbrev pub digits_of : ℕ → ℕ → Option ℕ

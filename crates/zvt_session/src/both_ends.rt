@@ -1,9 +1,9 @@
 //! Both ends of a line, which take turns.
 ghost use Rattle.std.specs.Prelude.{◌≡◌, ◌<◌, Err, MatchResult};
 ghost use Rattle.zvt_till.specs.Line.{till_loses};
-ghost use Rattle.zvt_session.specs.BothEnds.{Alternates, BeginsHere, BreaksOff, MakesHereBy, here, line_of};
+ghost use Rattle.zvt_session.specs.BothEnds.{Alternates, BeginsHere, BreaksOff, MakesHereBy, ended_of, here, line_of};
 ghost use Rattle.zvt_session.specs.OverTcp.{RunsPlan};
-ghost use Rattle.zvt_session.specs.Settings.{settings_of};
+ghost use Rattle.zvt_till.specs.Settings.{settings_of};
 ghost use Rattle.zvt_session.specs.Reporting.{ReportsReversals};
 
 use crate::arguments::Step;
@@ -11,13 +11,12 @@ use crate::fault::EndFault;
 use crate::line_end::LineEnd;
 use crate::plans::Planned;
 use crate::reversals::report_reversals;
-use crate::settings::TillSettings;
 use crate::steps::{StepLine, connected_till, run_steps};
 use std::alloc::Global;
 use zvt_io::Sink;
 use zvt_stream::LineFault;
 use zvt_term::Served;
-use zvt_till::{Outcome, RunFault, Till};
+use zvt_till::{Outcome, RunFault, Till, TillSettings};
 
 /// The turns of each end after which an order is given up.
 const ALTERNATIONS: u64 = 1_000;
@@ -31,7 +30,7 @@ pub struct BothEnds<A, B> {
 }
 
 impl<A: LineEnd, B: LineEnd> BothEnds<A, B> {
-    /// A turn of the terminal, and one of the till. The till was told of a fault of either.
+    /// A turn of the terminal, and one of the till. A fault of either was reported to the till.
     fn alternate(&mut self, alloc: Global, till: &mut Till) -> Result<(), LineFault>
         ensures { MatchResult result
             (λ _. Alternates (here A.state B.state self.old till.old) (here A.state B.state self.new till.new))
@@ -56,10 +55,7 @@ impl<A: LineEnd, B: LineEnd> StepLine for BothEnds<A, B> {
             if let Err(fault) = self.alternate(alloc, till) {
                 return Err(RunFault::Line(fault));
             }
-            if till.running().is_none() {
-                let Some(outcome) = till.last_outcome() else {
-                    unreachable!()
-                };
+            if let Some(outcome) = ended(till) {
                 return Ok(outcome);
             }
         }
@@ -87,7 +83,17 @@ pub fn run_both_ends<A: LineEnd, B: LineEnd, T: Sink, E: Sink>(
     answer
 }
 
-/// Tells the till that its line is lost, by this fault.
+/// How the last order of a till ended, where no order runs.
+fn ended(till: &Till) -> Option<Outcome>
+    ensures { result ≡ ended_of till.now }
+{
+    match till.running() {
+        None => till.last_outcome(),
+        Some(_) => None,
+    }
+}
+
+/// Reports to the till that this fault broke its line.
 fn lose(till: &mut Till, fault: LineFault) -> LineFault
     ensures reported { till_loses till.old till.new }
     ensures fault { result ≡ fault }

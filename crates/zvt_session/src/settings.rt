@@ -1,39 +1,9 @@
-//! What a till is set to, and the words that say so.
+//! The words that a till's settings are given by.
 ghost use Rattle.std.specs.Prelude.{◌≡◌, ◌∷◌, []};
-ghost use Rattle.zvt_till.specs.Events.{run_settings};
-ghost use Rattle.zvt_session.specs.Settings.{config_of, currency_of, digits_of, password_of, settings_of};
+ghost use Rattle.zvt_session.specs.Settings.{config_of, currency_of, digits_of, password_of};
 
 use crate::arguments::digit;
 use zvt_bcd::Currency;
-
-/// The euro.
-const EURO: u16 = 978;
-
-/// What a till registers with.
-#[derive(Clone, Copy, Debug, PartialEq, Eq)]
-pub struct TillSettings {
-    /// Six digits, two to a byte.
-    pub password: [u8; 3],
-    /// The configuration byte.
-    pub config: u8,
-    pub currency: Currency,
-}
-
-impl TillSettings {
-    /// The password 00 00 00, the configuration byte BE and the euro.
-    pub fn usual() -> TillSettings
-        ensures { settings_of result ≡ run_settings }
-    {
-        let Some(currency) = Currency::new(EURO) else {
-            unreachable!()
-        };
-        TillSettings {
-            password: [0; 3],
-            config: 0xBE,
-            currency,
-        }
-    }
-}
 
 /// A byte of two decimal digits.
 fn digits(high: u8, low: u8) -> Option<u8>

@@ -10,19 +10,18 @@ ghost use Rattle.zvt_till.specs.declared.line.RunFault.{RunFault};
 ghost use Rattle.zvt_till.specs.declared.outcomes.Outcome.{Outcome};
 ghost use Rattle.zvt_session.specs.declared.arguments.Step.{Step};
 ghost use Rattle.zvt_session.specs.Outcomes.{ending_text, total_text};
-ghost use Rattle.zvt_session.specs.Settings.{settings_of};
+ghost use Rattle.zvt_till.specs.Settings.{settings_of};
 ghost use Rattle.zvt_session.specs.Runs.{Answers, AnswersStep, AnswersText, fault_of, standing, wants_memory};
 
 use crate::arguments::Step;
 use crate::fault::EndFault;
 use crate::outcomes::outcome_text;
 use crate::plans::Planned;
-use crate::settings::TillSettings;
 use std::alloc::{AllocError, Global};
 use zvt_io::Sink;
 use zvt_stream::LineFault;
 use zvt_text::Text;
-use zvt_till::{OrderRefusal, Outcome, RunFault, Till};
+use zvt_till::{OrderRefusal, Outcome, RunFault, Till, TillSettings};
 
 /// A line on which each step of a till is made from end to end.
 pub(crate) trait StepLine {

@@ -1,26 +1,25 @@
 //! Runs over TCP.
-ghost use Rattle.std.specs.Prelude.{◌≡◌, ◌<◌, ◌≤◌, ◌||◌, true, false, Err, IfOk, map};
+ghost use Rattle.std.specs.Prelude.{◌≡◌, ◌<◌, ◌≤◌, ◌||◌, true, false, Err, IfOk};
 ghost use Rattle.zvt_session.specs.BothEnds.{BeginsHere, MakesHereBy};
 ghost use Rattle.zvt_stream.specs.StreamState.{at_start, start_in};
 ghost use Rattle.zvt_grammar.specs.Lengths.{reading_of};
 ghost use Rattle.zvt_till.specs.Events.{run_settings};
 ghost use Rattle.zvt_session.specs.OverTcp.{AnswersRun};
-ghost use Rattle.zvt_session.specs.Settings.{settings_of};
+ghost use Rattle.zvt_till.specs.Settings.{settings_of};
 ghost use Rattle.zvt_session.specs.Connecting.{given_by};
 ghost use Rattle.zvt_session.specs.Reporting.{ReportsNothing, ReportsReversals};
 ghost use Rattle.zvt_session.specs.Service.{AnswersService, AnswersTill, AnswersTills, IsOffline, TakesTills};
 ghost use Rattle.zvt_session.specs.TillEnd.{BeginsThere, MakesThere};
 ghost use Rattle.zvt_term.specs.Terminal.{new_terminal};
 
-use crate::arguments::Ends;
 use crate::both_ends::{BothEnds, run_both_ends};
 use crate::connection::{Door, both_ends, connect, listen};
 use crate::fault::{EndFault, by_trace};
-use crate::plans::{Planned, plan};
+use crate::options::{TerminalRun, TillRun};
+use crate::plans::Planned;
 use crate::recorder::{Recorded, Way, ends_lacking};
 use crate::reports::{report_address, report_ledger};
 use crate::service::serve;
-use crate::settings::TillSettings;
 use crate::till_end::run_till_end;
 use std::alloc::{AllocError, Global};
 use std::fs::File;
@@ -29,17 +28,16 @@ use zvt_grammar::Lengths;
 use zvt_io::{Counted, Sink, Source};
 use zvt_stream::{Endpoint, LineFault, Stream};
 use zvt_term::{DEFAULT_TID, Served, Terminal, Verdict};
+use zvt_till::TillSettings;
 
-/// Runs both ends of a line in this process: it listens at a free port of 127.0.0.1, connects to itself, and till and
-/// terminal take turns. The words name the steps, and no words the usual ones: `register pay:1000 decline:500:6C
-/// reverse:1 close`. The trace has what the till heard and sent.
+/// Runs the steps between a till and a terminal that are both in this process. It listens at a free port of 127.0.0.1 and
+/// connects to itself. The trace has what the till heard and sent.
 ///
-/// `BadStep` comes before anything is opened, and `Net` before anything is written or told. Else see
-/// [`run_both_ends`].
+/// `Net` comes before anything is written or reported. [`run_both_ends`] says what else is answered.
 pub fn run_loop<R, W, E>(
     rt: &R,
     alloc: Global,
-    steps: &[&str],
+    plan: &[Planned],
     trace: Option<&File>,
     writer: &mut W,
     report: &mut E,
@@ -48,23 +46,21 @@ where
     R: Net<Listener = TcpListener, Stream = TcpStream>,
     W: Sink,
     E: Sink,
-    ensures run { AnswersRun MakesHereBy BeginsHere run_settings Ends.Both (map (λ step. step.now) steps.now) (W.written writer.old) (W.written writer.new) (ReportsReversals (E.written report.old) (E.written report.new) (E.failures report.old) (E.failures report.new)) (ReportsNothing (E.written report.old) (E.written report.new) (E.failures report.old) (E.failures report.new)) result }
+    ensures run { AnswersRun MakesHereBy BeginsHere run_settings plan.now (W.written writer.old) (W.written writer.new) (ReportsReversals (E.written report.old) (E.written report.new) (E.failures report.old) (E.failures report.new)) (ReportsNothing (E.written report.old) (E.written report.new) (E.failures report.old) (E.failures report.new)) result }
     ensures write { result ≡ Err EndFault.Write → W.failures writer.old < W.failures writer.new }
 {
-    let plan = plan(alloc, Ends::Both, steps)?;
-    let plan = plan.as_slice();
-    let usual = TillSettings::usual();
+    let settings = TillSettings::default();
     let (till_end, terminal_end) = both_ends(rt).map_err(EndFault::Net)?;
     match trace {
         None => {
             let till = plain_end(alloc, &till_end, Lengths::Shortest);
             let mut line = both_ends_of(alloc, till, &terminal_end);
-            run_both_ends(alloc, &mut line, &usual, plan, writer, report)
+            run_both_ends(alloc, &mut line, &settings, plan, writer, report)
         }
         Some(file) => {
             let till = recorded_till_end(alloc, &till_end, Lengths::Shortest, file)?;
             let mut line = both_ends_of(alloc, till, &terminal_end);
-            let answer = run_both_ends(alloc, &mut line, &usual, plan, writer, report);
+            let answer = run_both_ends(alloc, &mut line, &settings, plan, writer, report);
             by_trace(is_broken(&line.till, file), answer)
         }
     }
@@ -91,20 +87,16 @@ fn both_ends_of<'a, R: Source, W: Sink>(
     }
 }
 
-/// Connects a till to a terminal at this host and port, and runs the steps that the words name, by no words `register
-/// close`. It reads such lengths. Each order has 100,000 reads. The trace has what the till heard and sent: each read and
-/// each write a line, and `!` at the end. One that can't be written ends the run with `Trace`.
+/// Connects a till to its terminal, and runs the steps. Each order has 100,000 reads. The trace has what the till heard
+/// and sent: a line for each read and each write, and `!` at the end. A trace that can't be written ends the run with
+/// `Trace`.
 ///
-/// `BadStep` comes before anything is opened, and `Net` before anything is written or told. Else see [`run_till_end`].
+/// `Net` comes before anything is written or reported. [`run_till_end`] says what else is answered.
 pub fn run_till<R, W, E>(
     rt: &R,
     alloc: Global,
-    host: &str,
-    port: u16,
-    settings: &TillSettings,
-    lengths: Lengths,
-    steps: &[&str],
-    trace: Option<&File>,
+    run: &TillRun<'_>,
+    plan: &[Planned],
     writer: &mut W,
     report: &mut E,
 ) -> Result<(), EndFault>
@@ -112,89 +104,74 @@ where
     R: Net<Listener = TcpListener, Stream = TcpStream>,
     W: Sink,
     E: Sink,
-    ensures run { AnswersRun MakesThere (BeginsThere (reading_of lengths)) (settings_of settings.now) Ends.Till (map (λ step. step.now) steps.now) (W.written writer.old) (W.written writer.new) (ReportsReversals (E.written report.old) (E.written report.new) (E.failures report.old) (E.failures report.new)) (ReportsNothing (E.written report.old) (E.written report.new) (E.failures report.old) (E.failures report.new)) result }
+    ensures run { AnswersRun MakesThere (BeginsThere (reading_of run.now.lengths)) (settings_of run.now.settings) plan.now (W.written writer.old) (W.written writer.new) (ReportsReversals (E.written report.old) (E.written report.new) (E.failures report.old) (E.failures report.new)) (ReportsNothing (E.written report.old) (E.written report.new) (E.failures report.old) (E.failures report.new)) result }
     ensures write { result ≡ Err EndFault.Write → W.failures writer.old < W.failures writer.new }
 {
-    let plan = plan(alloc, Ends::Till, steps)?;
-    let end = connect(rt, host, port).map_err(EndFault::Net)?;
-    match trace {
+    let end = connect(rt, run.host, run.port).map_err(EndFault::Net)?;
+    match run.trace {
         None => {
-            let mut line = plain_end(alloc, &end, lengths);
-            run_till_end(alloc, &mut line, settings, plan.as_slice(), writer, report)
+            let mut line = plain_end(alloc, &end, run.lengths);
+            run_till_end(alloc, &mut line, &run.settings, plan, writer, report)
         }
         Some(file) => {
-            let mut line = recorded_till_end(alloc, &end, lengths, file)?;
-            let answer = run_till_end(alloc, &mut line, settings, plan.as_slice(), writer, report);
+            let mut line = recorded_till_end(alloc, &end, run.lengths, file)?;
+            let answer = run_till_end(alloc, &mut line, &run.settings, plan, writer, report);
             by_trace(is_broken(&line, file), answer)
         }
     }
 }
 
-/// Listens at this port of this address, and serves so many tills one after another, each to the end of its connection,
-/// with one terminal of this number and this verdict on each payment, which reads such lengths. It waits for each till
-/// as long as it takes. The terminal's ledger goes on from till to till, and each begins unregistered.
+/// Listens, and serves the tills one after another with one terminal, each to the end of its connection. It waits for each
+/// till as long as it takes. The terminal's ledger goes on from till to till, and each till begins unregistered.
 ///
-/// The end of a connection between two messages is no fault. One that breaks otherwise ends that till's service alone:
-/// the first such fault is answered, as `Line`, once all tills were served. `Net` ends the service where the port can't be
-/// had or no connection can be taken, `Trace` where the trace can't be written, and `Memory` where there is too little to
-/// begin with a till or to tell of it. The trace has what the terminal heard and answered, seen from the till. Where it
-/// listens, and how many approvals the ledger has when a till has gone, is told by `report`.
+/// The end of a connection between two messages is no fault. A connection that breaks otherwise ends the service of its
+/// till alone. The first such fault is answered, as `Line`, once all tills were served.
+///
+/// `Net` ends the service where the port can't be had, or where no connection can be taken. `Trace` ends it where the
+/// trace can't be written, and `Memory` where a till can't be begun with or reported.
+///
+/// The trace has what the terminal heard and answered, as the till sees it. `report` gets the address at which the terminal
+/// listens. For each till that disconnects it gets the number of approvals in the ledger.
 pub fn run_terminal<R, W>(
     rt: &R,
     alloc: Global,
-    host: &str,
-    port: u16,
-    tid: u32,
-    verdict: Verdict,
-    lengths: Lengths,
-    connections: u16,
-    trace: Option<&File>,
+    run: &TerminalRun<'_>,
     report: &mut W,
 ) -> Result<(), EndFault>
 where
     R: Net<Listener = TcpListener, Stream = TcpStream>,
     W: Sink,
-    requires { tid ≤ 99999999 }
-    ensures { AnswersService (reading_of lengths) connections tid verdict result }
+    requires { run.now.tid ≤ 99999999 }
+    ensures { AnswersService (reading_of run.now.lengths) run.now.connections run.now.tid run.now.verdict result }
 {
-    let mut door = match listen(rt, host, port) {
+    let mut door = match listen(rt, run.host, run.port) {
         Ok(door) => door,
         Err(why) => return Err(EndFault::Net(why)),
     };
     report_address(alloc, &door.listener, report)?;
     let mut served = Served {
-        terminal: Terminal::new(alloc, tid),
-        verdict,
+        terminal: Terminal::new(alloc, run.tid),
+        verdict: run.verdict,
     };
-    serve_tills(
-        alloc,
-        &mut door,
-        lengths,
-        connections,
-        &mut served,
-        trace,
-        report,
-    )
+    serve_tills(alloc, run, &mut door, &mut served, report)
 }
 
-/// Serves so many tills one after another, each on a connection of its own.
+/// Serves the tills of a run one after another, each on a connection of its own.
 fn serve_tills<W: Sink>(
     alloc: Global,
+    run: &TerminalRun<'_>,
     door: &mut Door,
-    lengths: Lengths,
-    connections: u16,
     served: &mut Served,
-    trace: Option<&File>,
     report: &mut W,
 ) -> Result<(), EndFault>
     requires { IsOffline served.old.terminal }
-    ensures served { AnswersTills (reading_of lengths) connections served.old served.new result }
-    ensures taken { TakesTills connections (given_by door.old) (given_by door.new) result }
+    ensures served { AnswersTills (reading_of run.now.lengths) run.now.connections served.old served.new result }
+    ensures taken { TakesTills run.now.connections (given_by door.old) (given_by door.new) result }
 {
     let mut first = None;
-    'tills: for gone in 0..connections {
+    'tills: for gone in 0..run.connections {
         let connection = door.next().map_err(EndFault::Net)?;
-        let broke = serve_till(alloc, &connection, lengths, served, trace)?;
+        let broke = serve_till(alloc, &connection, run.lengths, served, run.trace)?;
         report_ledger(alloc, gone + 1, broke, &served.terminal, report)?;
         if first.is_none() {
             first = broke;

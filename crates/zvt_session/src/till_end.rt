@@ -2,7 +2,7 @@
 ghost use Rattle.std.specs.Prelude.{◌≡◌, ◌<◌, Err};
 ghost use Rattle.zvt_stream.specs.StreamState.{start_in};
 ghost use Rattle.zvt_session.specs.OverTcp.{RunsPlan};
-ghost use Rattle.zvt_session.specs.Settings.{settings_of};
+ghost use Rattle.zvt_till.specs.Settings.{settings_of};
 ghost use Rattle.zvt_session.specs.Reporting.{ReportsReversals};
 ghost use Rattle.zvt_session.specs.TillEnd.{BeginsThere, MakesThere};
 
@@ -10,12 +10,11 @@ use crate::arguments::Step;
 use crate::fault::EndFault;
 use crate::plans::Planned;
 use crate::reversals::report_reversals;
-use crate::settings::TillSettings;
 use crate::steps::{StepLine, connected_till, run_steps};
 use std::alloc::Global;
 use zvt_io::{Sink, Source};
 use zvt_stream::Endpoint;
-use zvt_till::{Outcome, RunFault, Till, run_order};
+use zvt_till::{Outcome, RunFault, Till, TillSettings, run_order};
 
 /// The turns of one read each after which an order is given up.
 const READS_OF_AN_ORDER: u64 = 100_000;

@@ -8,6 +8,7 @@ pub mod UsedTraces
 pub mod Refusals
 pub mod Restoring
 pub mod Sending
+pub mod Settings
 pub mod Till
 pub mod Log
 pub mod View

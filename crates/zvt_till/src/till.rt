@@ -10,6 +10,7 @@ use crate::happenings::{Happening, ends};
 use crate::messages::{Heard, reply_to};
 use crate::orders::{Order, Reply};
 use crate::outcomes::{Cause, Outcome, outcome_by};
+use crate::settings::TillSettings;
 use crate::statuses::{Running, demand_of, listened};
 use crate::used_traces::UsedTraces;
 pub use restoring::RestoreError;
@@ -19,9 +20,6 @@ use zvt_bcd::{Amount, Currency};
 
 /// The rows that the book, and the list of unclear payments, can have at most.
 pub const MAX_BOOK_ENTRIES: usize = 10_000;
-
-/// The number of the euro.
-const EURO: u16 = 978;
 
 /// A till with its line, its running order and its book. It speaks to one terminal over one line at a
 /// time; a new line begins with Register.
@@ -79,14 +77,12 @@ impl Till {
         }
     }
 
-    /// A new till with the password 00 00 00, the configuration byte BE and the euro.
+    /// A new till with the default settings: the password 00 00 00, the configuration byte BE and the euro.
     pub fn with_defaults(alloc: Global) -> Till
         ensures { result.state ≡ new_till run_settings }
     {
-        let Some(euro) = Currency::new(EURO) else {
-            unreachable!()
-        };
-        Till::new(alloc, [0; 3], 0xBE, euro)
+        let settings = TillSettings::default();
+        Till::new(alloc, settings.password, settings.config, settings.currency)
     }
 
     /// The line is up. Nothing changes where it was up before.

@@ -2,7 +2,7 @@ use Rattle.std.proofs.Common.{List, subst}
 use Rattle.zvt_till.specs.declared.entries.Entry.{Entry}
 use Rattle.zvt_session.specs.BothEnds.{BeginsHere, MakesHereBy, line_of}
 use Rattle.zvt_session.specs.Runs.{standing}
-use Rattle.zvt_session.specs.Settings.{settings_of}
+use Rattle.zvt_till.specs.Settings.{settings_of}
 use Rattle.zvt_session.specs.Reporting.{ReportsReversals}
 use Rattle.zvt_session.proofs.OverTcp.{ran}
 use Rattle.zvt_session.proofs.both_ends.run_both_ends.Goals as goal

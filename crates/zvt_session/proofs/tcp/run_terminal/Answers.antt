@@ -8,13 +8,13 @@ use Rattle.zvt_session.proofs.ManyTills.{none_served}
 use Rattle.zvt_session.proofs.tcp.run_terminal.Goals as goal
 
 pub returns-in-Err : goal.returns-in-Err
-returns-in-Err g c = (record { terminal = new_terminal c.args.tid; verdict = c.args.verdict }, none_served (reading_of c.args.lengths) c.args.connections (record { terminal = new_terminal c.args.tid; verdict = c.args.verdict }))
+returns-in-Err g c = (record { terminal = new_terminal c.args.run.now.tid; verdict = c.args.run.now.verdict }, none_served (reading_of c.args.run.now.lengths) c.args.run.now.connections (record { terminal = new_terminal c.args.run.now.tid; verdict = c.args.run.now.verdict }))
 
 pub returns-in_err-report_address : goal.returns-in_err-report_address
 returns-in_err-report_address g c =
     let p = err_from_is_err_and c.from_residual.result c.from_residual.ensures.1 in
-    rw (p.1, p.2) (record { terminal = new_terminal c.args.tid; verdict = c.args.verdict }, none_served (reading_of c.args.lengths) c.args.connections (record { terminal = new_terminal c.args.tid; verdict = c.args.verdict }))
+    rw (p.1, p.2) (record { terminal = new_terminal c.args.run.now.tid; verdict = c.args.run.now.verdict }, none_served (reading_of c.args.run.now.lengths) c.args.run.now.connections (record { terminal = new_terminal c.args.run.now.tid; verdict = c.args.run.now.verdict }))
 
 pub returns : goal.returns
 returns g c =
-    subst (λ (t : TerminalState). (new : Served) × AnswersTills (reading_of c.args.lengths) c.args.connections (record { terminal = t; verdict = c.args.verdict }) new c.serve_tills.result) c.new.ensures (c.serve_tills.new.served, c.serve_tills.ensures.served)
+    subst (λ (t : TerminalState). (new : Served) × AnswersTills (reading_of c.args.run.now.lengths) c.args.run.now.connections (record { terminal = t; verdict = c.args.run.now.verdict }) new c.serve_tills.result) c.new.ensures (c.serve_tills.new.served, c.serve_tills.ensures.served)

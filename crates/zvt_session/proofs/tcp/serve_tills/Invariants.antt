@@ -6,7 +6,7 @@ use Rattle.zvt_session.proofs.tcp.serve_tills.Given as goal
 
 abbrev pub invariant-tills : goal.invariant-tills
 invariant-tills g l = record {
-  served : ServesMany (reading_of l.lengths) l.gone l.first l.fn.served l.served;
+  served : ServesMany (reading_of l.run.lengths) l.gone l.first l.fn.served l.served;
   offline : IsOffline l.served.terminal;
   taken : given_by l.door ≡ given_by l.fn.door + l.gone;
 }

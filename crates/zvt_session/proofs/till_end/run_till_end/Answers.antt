@@ -3,7 +3,7 @@ use Rattle.zvt_till.specs.declared.entries.Entry.{Entry}
 use Rattle.zvt_session.specs.LineEnd.{end_state}
 use Rattle.zvt_session.specs.TillEnd.{BeginsThere, MakesThere}
 use Rattle.zvt_session.specs.Runs.{standing}
-use Rattle.zvt_session.specs.Settings.{settings_of}
+use Rattle.zvt_till.specs.Settings.{settings_of}
 use Rattle.zvt_session.specs.Reporting.{ReportsReversals}
 use Rattle.zvt_session.proofs.OverTcp.{ran}
 use Rattle.zvt_session.proofs.till_end.run_till_end.Goals as goal

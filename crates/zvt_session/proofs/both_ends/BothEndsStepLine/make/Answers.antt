@@ -1,6 +1,6 @@
-use Rattle.std.proofs.Common.{sym, ◌∙◌, refl, arith}
+use Rattle.std.proofs.Common.{refl, arith}
 use Rattle.zvt_session.specs.BothEnds.{here}
-use Rattle.zvt_session.proofs.Turns.{given_up, goes_on, never_unknown, over_broken}
+use Rattle.zvt_session.proofs.Turns.{comes, given_up, goes_on, over_broken}
 use Rattle.zvt_session.proofs.both_ends.BothEndsStepLine.make.Goals as goal
 
 pub returns-in-Err-clause-over : goal.returns-in-Err-clause-over
@@ -8,17 +8,17 @@ returns-in-Err-clause-over g c =
     let seen = here g.A.LineEnd.state g.B.LineEnd.state in
     over_broken c.in-Err.fault (seen c.alternations.self c.alternations.till) (seen c.alternate.new.self c.alternate.new.till) c.in-Err.ensures c.alternations.invariant.known
 
-pub unreachable-requires : goal.unreachable-requires
-unreachable-requires g c =
+pub returns-in-Some-clause-made : goal.returns-in-Some-clause-made
+returns-in-Some-clause-made g c =
     let seen = here g.A.LineEnd.state g.B.LineEnd.state in
-    never_unknown (seen c.alternations.self c.alternations.till) (seen c.alternate.new.self c.alternate.new.till) c.running.result c.alternations.invariant.known c.in_default.ensures c.running.ensures c.if-is_none.ensures
-    (sym c.last_outcome.ensures ∙ c.in_default-last_outcome.is)
+    comes c.args.step.now c.alternations.made c.in-Some.outcome (seen c.args.self.now c.args.till.now) (seen c.alternations.self c.alternations.till) (seen c.alternate.new.self c.alternate.new.till) c.ended.result
+    c.alternations-test.true c.alternations.invariant c.in_default.ensures c.ended.ensures c.in-Some.is
 
 pub alternations-preserved : goal.alternations-preserved
 alternations-preserved g c =
     let seen = here g.A.LineEnd.state g.B.LineEnd.state in
-    goes_on c.args.step.now c.alternations.made (seen c.args.self.now c.args.till.now) (seen c.alternations.self c.alternations.till) (seen c.alternate.new.self c.alternate.new.till) c.running.result
-    c.alternations.invariant c.in_default.ensures c.running.ensures c.if-is_none.ensures
+    goes_on c.args.step.now c.alternations.made (seen c.args.self.now c.args.till.now) (seen c.alternations.self c.alternations.till) (seen c.alternate.new.self c.alternate.new.till) c.ended.result
+    c.alternations.invariant c.in_default.ensures c.ended.ensures c.in_default-ended.is
 
 pub returns-clause-made : goal.returns-clause-made
 returns-clause-made g c =

@@ -1,0 +1,39 @@
+//! What a run over TCP is given.
+use std::fs::File;
+use zvt_grammar::Lengths;
+use zvt_term::Verdict;
+use zvt_till::TillSettings;
+
+/// The run of a till: the terminal that it connects to, its settings, and how its line is read and traced.
+#[derive(Clone, Copy)]
+pub struct TillRun<'a> {
+    /// The name or address of the terminal's host.
+    pub host: &'a str,
+    /// The port that the terminal listens at.
+    pub port: u16,
+    /// The settings that the till registers with.
+    pub settings: TillSettings,
+    /// The length encodings that the till reads.
+    pub lengths: Lengths,
+    /// The file that the trace is written to.
+    pub trace: Option<&'a File>,
+}
+
+/// The run of a simulated terminal: where it listens, what it answers, and how its lines are read and traced.
+#[derive(Clone, Copy)]
+pub struct TerminalRun<'a> {
+    /// The name or address that the terminal listens at.
+    pub host: &'a str,
+    /// The port that the terminal listens at. Port 0 stands for a free one.
+    pub port: u16,
+    /// The terminal's number, at most 99,999,999.
+    pub tid: u32,
+    /// The terminal's decision on each payment.
+    pub verdict: Verdict,
+    /// The length encodings that the terminal reads.
+    pub lengths: Lengths,
+    /// The number of tills that are served, one after another.
+    pub connections: u16,
+    /// The file that the trace is written to.
+    pub trace: Option<&'a File>,
+}
