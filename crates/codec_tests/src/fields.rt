@@ -43,7 +43,7 @@ fn numbers(fields: &Fields) -> Numbers {
     )
 }
 
-fn wanted_numbers() -> Numbers {
+fn expected_numbers() -> Numbers {
     (
         Some(0),
         Amount::new(1_000),
@@ -60,7 +60,7 @@ fn only_bmp(fields: &Fields, bmp: u8) -> Option<u8> {
 #[test]
 fn fields_of_a_status(rt: HostRuntime) {
     let fields = read(&rt, rt.alloc(), &STATUS, 27);
-    assert_eq!(rt; numbers(&fields), wanted_numbers());
+    assert_eq!(rt; numbers(&fields), expected_numbers());
     assert_eq!(rt; original(&fields), Some([0, 0, 1]));
     assert_eq!(rt; receipt(&fields), Some([0, 2]));
     for (bmp, found) in [(0x3C, Some(0x3C)), (0x22, None)] {
@@ -121,7 +121,7 @@ fn scanned(
 }
 
 #[test]
-fn fields_fill_their_room(rt: HostRuntime) -> Result<(), Fail> {
+fn fields_fill_their_length(rt: HostRuntime) -> Result<(), Fail> {
     let rows: [(&[u8], usize, &str); 12] = [
         (&[], 0, ""),
         (&[0x22, 0xF0, 0xF1, 0x55], 4, "22=55;"),

@@ -140,7 +140,7 @@ const NESTED: [u8; 12] = [
 ];
 
 #[test]
-fn objects_fill_their_room(rt: HostRuntime) -> Result<(), Fail> {
+fn objects_fill_their_length(rt: HostRuntime) -> Result<(), Fail> {
     let several = [0x25, 0x06, 0x07, 0x01, 0x41, 0x1F, 0x2A, 0x00, 0x08, 0x00];
     let rows: [Row; 9] = [
         (&[], 0, 1, "whole "),

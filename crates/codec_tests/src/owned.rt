@@ -18,7 +18,7 @@ fn is_owned(rt: &impl Abort, alloc: Global, bytes: &[u8]) -> Result<(), Fail> {
 }
 
 #[test]
-fn makes_a_status(rt: HostRuntime) -> Result<(), Fail> {
+fn a_status_is_owned(rt: HostRuntime) -> Result<(), Fail> {
     let status = [
         0x04, 0x0F, 0x10, 0x27, 0x00, 0x04, 0x00, 0x00, 0x00, 0x00, 0x10, 0x00, 0x0B, 0x00, 0x00,
         0x01, 0x49, 0x09, 0x78,
@@ -27,7 +27,7 @@ fn makes_a_status(rt: HostRuntime) -> Result<(), Fail> {
 }
 
 #[test]
-fn makes_objects_in_objects(rt: HostRuntime) -> Result<(), Fail> {
+fn nested_objects_are_owned(rt: HostRuntime) -> Result<(), Fail> {
     let status = [
         0x04, 0x0F, 0x19, 0x27, 0x00, 0x06, 0x15, 0x60, 0x0F, 0x43, 0x07, 0xA0, 0x00, 0x00, 0x00,
         0x04, 0x10, 0x10, 0x44, 0x04, 0x56, 0x49, 0x53, 0x41, 0x1F, 0x10, 0x01, 0x01,
@@ -41,7 +41,7 @@ fn makes_objects_in_objects(rt: HostRuntime) -> Result<(), Fail> {
 }
 
 #[test]
-fn makes_each_message(rt: HostRuntime) -> Result<(), Fail> {
+fn each_message_is_owned(rt: HostRuntime) -> Result<(), Fail> {
     let rows: [&[u8]; 15] = [
         &[0x80, 0x00, 0x01, 0x07],
         &[0x84, 0x6C, 0x00],
@@ -93,7 +93,7 @@ fn largest_container(alloc: Global) -> Result<Vec<u8>, AllocError> {
 }
 
 #[test]
-fn makes_the_largest_messages(rt: HostRuntime) -> Result<(), Fail> {
+fn the_largest_messages_are_owned(rt: HostRuntime) -> Result<(), Fail> {
     let list = longest_list(rt.alloc())?;
     assert_eq!(rt; list.len(), 65_540);
     is_owned(&rt, rt.alloc(), &list)?;

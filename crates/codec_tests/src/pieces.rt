@@ -101,7 +101,7 @@ fn refused_at_the_fatal_byte(rt: HostRuntime) {
 }
 
 #[test]
-fn a_message_is_lent_at_any_cut(rt: HostRuntime) {
+fn a_message_is_borrowed_at_any_cut(rt: HostRuntime) {
     for cut in 1..19 {
         let (first, last) = STATUS.split_at(cut);
         let mut stream = Stream::new(rt.alloc());

@@ -27,7 +27,7 @@ fn euro(rt: &impl Abort) -> Currency {
 
 /// What a till hears, and what it makes of it.
 #[derive(Clone, Copy)]
-enum Told {
+enum TillEvent {
     /// An order that is sent.
     Sent(Order, TillMessage),
     /// An order that is refused.
@@ -46,14 +46,14 @@ fn hear(till: &mut Till, heard: Heard) -> Reply {
 }
 
 /// The till hears this, one thing after another.
-fn goes(rt: &impl Abort, till: &mut Till, course: &[Told]) {
+fn goes(rt: &impl Abort, till: &mut Till, course: &[TillEvent]) {
     for told in course {
         match *told {
-            Told::Sent(sent, till_message) => {
+            TillEvent::Sent(sent, till_message) => {
                 assert_eq!(rt; order(till, sent), Ok(Outgoing { till_message }));
             }
-            Told::Refused(sent, refusal) => assert_eq!(rt; order(till, sent), Err(refusal)),
-            Told::Heard(heard, answer, outcome) => {
+            TillEvent::Refused(sent, refusal) => assert_eq!(rt; order(till, sent), Err(refusal)),
+            TillEvent::Heard(heard, answer, outcome) => {
                 let send = answer.map(|till_message| Outgoing { till_message });
                 assert_eq!(rt; hear(till, heard), Reply { send, outcome });
             }
@@ -62,8 +62,8 @@ fn goes(rt: &impl Abort, till: &mut Till, course: &[Told]) {
 }
 
 /// A message that is acknowledged, and ends the running order so, if it does.
-fn acknowledged(heard: Heard, outcome: Option<Outcome>) -> Told {
-    Told::Heard(heard, Some(TillMessage::Ack), outcome)
+fn acknowledged(heard: Heard, outcome: Option<Outcome>) -> TillEvent {
+    TillEvent::Heard(heard, Some(TillMessage::Ack), outcome)
 }
 
 /// A till whose line is up.
@@ -85,9 +85,9 @@ fn registers(rt: &impl Abort, till: &mut Till) {
         currency: euro(rt),
     };
     let course = [
-        Told::Refused(Order::CloseDay, OrderRefusal::NotRegistered),
-        Told::Sent(Order::Register, register),
-        Told::Heard(Heard::Positive, None, None),
+        TillEvent::Refused(Order::CloseDay, OrderRefusal::NotRegistered),
+        TillEvent::Sent(Order::Register, register),
+        TillEvent::Heard(Heard::Positive, None, None),
         acknowledged(Heard::Completion, Some(Outcome::Registered)),
     ];
     goes(rt, till, &course);
@@ -143,17 +143,17 @@ fn paid(rt: &impl Abort, number: u32, receipt: u8) -> Outcome {
 }
 
 /// The order to pay the worked price is sent.
-fn pay(rt: &impl Abort) -> Told {
-    Told::Sent(Order::Pay(price(rt)), TillMessage::Pay(price(rt), euro(rt)))
+fn pay(rt: &impl Abort) -> TillEvent {
+    TillEvent::Sent(Order::Pay(price(rt)), TillMessage::Pay(price(rt), euro(rt)))
 }
 
 /// The order to take the first payment of the book back is sent.
-fn reverse() -> Told {
+fn reverse() -> TillEvent {
     let message = TillMessage::Reverse {
         password: PASSWORD,
         receipt: [0, 5],
     };
-    Told::Sent(Order::Reverse(0), message)
+    TillEvent::Sent(Order::Reverse(0), message)
 }
 
 /// Pays the worked price, hears the messages, and answers the last outcome that one of them had.
@@ -194,8 +194,8 @@ fn repeated_messages_book_once(rt: HostRuntime) {
     let mut till = registered_till(&rt, rt.alloc());
     let course = [
         pay(&rt),
-        Told::Heard(Heard::Positive, None, None),
-        Told::Refused(Order::Pay(price(&rt)), OrderRefusal::Busy),
+        TillEvent::Heard(Heard::Positive, None, None),
+        TillEvent::Refused(Order::Pay(price(&rt)), OrderRefusal::Busy),
         acknowledged(approval(PRICE, 17, 5), None),
         acknowledged(approval(PRICE, 17, 5), None),
         acknowledged(Heard::Completion, Some(paid(&rt, 17, 5))),
@@ -232,11 +232,11 @@ fn each_trace_number_serves_once(rt: HostRuntime) {
 fn a_payment_is_taken_back_once(rt: HostRuntime) {
     let mut till = paid_till(&rt, rt.alloc());
     let course = [
-        Told::Refused(Order::Reverse(1), OrderRefusal::UnknownEntry),
+        TillEvent::Refused(Order::Reverse(1), OrderRefusal::UnknownEntry),
         reverse(),
         acknowledged(reversal(Some([0, 6])), None),
         acknowledged(Heard::Completion, Some(Outcome::Reversed)),
-        Told::Refused(Order::Reverse(0), OrderRefusal::AlreadyReversed),
+        TillEvent::Refused(Order::Reverse(0), OrderRefusal::AlreadyReversed),
     ];
     goes(&rt, &mut till, &course);
     let row = Entry {
@@ -334,9 +334,9 @@ fn what_changes_nothing_leaves_the_doubt(rt: HostRuntime) {
     ];
     let refused = [
         reverse(),
-        Told::Heard(Heard::Negative(0x6C), None, Some(Outcome::Refused(0x6C))),
+        TillEvent::Heard(Heard::Negative(0x6C), None, Some(Outcome::Refused(0x6C))),
     ];
-    let courses: [&[Told]; 3] = [&declined, &aborted, &refused];
+    let courses: [&[TillEvent]; 3] = [&declined, &aborted, &refused];
     for course in courses {
         let mut clear = paid_till(&rt, rt.alloc());
         goes(&rt, &mut clear, course);
@@ -352,12 +352,12 @@ fn other_orders_end_too(rt: HostRuntime) {
     let mut till = registered_till(&rt, rt.alloc());
     let closes = TillMessage::CloseDay { password: PASSWORD };
     let course = [
-        Told::Refused(Order::Cancel, OrderRefusal::NothingToCancel),
-        Told::Sent(Order::CloseDay, closes),
-        Told::Refused(Order::Cancel, OrderRefusal::NothingToCancel),
-        Told::Heard(Heard::Positive, None, None),
-        Told::Sent(Order::Cancel, TillMessage::AbortOrder),
-        Told::Heard(Heard::Strange, Some(TillMessage::Nack(0x83)), None),
+        TillEvent::Refused(Order::Cancel, OrderRefusal::NothingToCancel),
+        TillEvent::Sent(Order::CloseDay, closes),
+        TillEvent::Refused(Order::Cancel, OrderRefusal::NothingToCancel),
+        TillEvent::Heard(Heard::Positive, None, None),
+        TillEvent::Sent(Order::Cancel, TillMessage::AbortOrder),
+        TillEvent::Heard(Heard::Strange, Some(TillMessage::Nack(0x83)), None),
         acknowledged(Heard::Completion, Some(Outcome::DayClosed)),
     ];
     goes(&rt, &mut till, &course);
@@ -378,8 +378,8 @@ fn a_full_book_takes_no_payment(rt: HostRuntime) {
     assert_eq!(rt; till.book().len(), 10_000);
     assert_eq!(rt; till.total(), 12_340_000);
     let course = [
-        Told::Refused(Order::Pay(price(&rt)), OrderRefusal::BookFull),
-        Told::Sent(
+        TillEvent::Refused(Order::Pay(price(&rt)), OrderRefusal::BookFull),
+        TillEvent::Sent(
             Order::CloseDay,
             TillMessage::CloseDay { password: PASSWORD },
         ),

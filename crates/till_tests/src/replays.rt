@@ -236,7 +236,7 @@ fn what_leaves_a_payment_unclear(rt: HostRuntime) -> Result<(), Fail> {
 }
 
 #[test]
-fn negative_answers(rt: HostRuntime) -> Result<(), Fail> {
+fn a_nack_ends_an_order_that_was_not_taken_up(rt: HostRuntime) -> Result<(), Fail> {
     let alloc = rt.alloc();
     let mut events = Vec::new(alloc);
     registers(alloc, &mut events)?;

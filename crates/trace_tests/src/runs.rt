@@ -150,7 +150,7 @@ impl Read for Again<'_> {
 
 /// How a registration ends between ends to which the same bytes come again and again, the text that is written of it,
 /// and how much the till and the terminal send.
-fn registers_without_rest(
+fn registers_endlessly(
     alloc: Global,
 ) -> Result<(Result<(), EndFault>, Vec<u8>, usize, usize), EndFault> {
     let plan = plan(alloc, Ends::Both, ["register"].as_slice())?;
@@ -189,7 +189,7 @@ fn registers_without_rest(
 
 #[test]
 fn ends_that_never_rest(rt: HostRuntime) -> Result<(), Fail> {
-    let (ended, written, till_sent, terminal_sent) = registers_without_rest(rt.alloc())?;
+    let (ended, written, till_sent, terminal_sent) = registers_endlessly(rt.alloc())?;
     assert!(rt; matches!(ended, Err(EndFault::Line(LineFault::Turns))));
     let text = "register -> unclear Line\ntotal 0\n";
     assert_eq!(rt; written.as_slice(), text.as_bytes());

@@ -21,7 +21,7 @@ use Rattle.zvt_c.specs.Numbers.{nothing, outcome_of, silent}
 use Rattle.zvt_c.specs.Saving.{Written}
 
 -- What the till is to send: nothing, or the spelling of one message at the start of the room.
-abbrev pub Sends : Option Outgoing → (room_before room_after : List ℕ) → (send : ℕ) → Type 0
+abbrev pub Sends : Option Outgoing → (buffer_before buffer_after : List ℕ) → (send : ℕ) → Type 0
 Sends None before after send = (send ≡ 0) × (after ≡ before)
 Sends (Some outgoing) before after send = PutsMessage (message_of_till_message outgoing.till_message) before after send
 
@@ -35,9 +35,9 @@ Prints None before after size printed = (after ≡ before) × (size ≡ 0) × (p
 Prints (Some text) before after size printed = Written text size before after × (printed ≡ 1)
 
 -- A message leads the till from one state to another, is answered so, and is reported in these numbers.
-pub record TellsMessage (apdu : Message) (taken : ℕ) (before after : TillState) (room_before room_after line_before line_after : List ℕ) (answer : ZvtStep) : Type 0 where
+pub record TellsMessage (apdu : Message) (taken : ℕ) (before after : TillState) (buffer_before buffer_after line_before line_after : List ℕ) (answer : ZvtStep) : Type 0 where
   pub state : after ≡ step before (Heard (heard_as apdu))
-  pub sends : Sends (replied before apdu) room_before room_after answer.send
+  pub sends : Sends (replied before apdu) buffer_before buffer_after answer.send
   pub prints : Prints (text_in apdu) line_before line_after answer.line answer.printed
   pub outcome : answer.outcome ≡ outcome_of (cond before.line_up (outcome_at before (Heard (heard_as apdu))) None)
   pub taken_is : answer.taken ≡ taken
@@ -46,13 +46,13 @@ pub record TellsMessage (apdu : Message) (taken : ℕ) (before after : TillState
   pub reason : answer.reason ≡ 0
 
 -- What was fed leads the till from one state to another, is answered so, and is reported in these numbers.
-abbrev pub Told : Fed → (piece : List ℕ) → (before after : TillState) → (room_before room_after line_before line_after : List ℕ) → ZvtStep → (status : ℕ) → Type 0
-Told (Whole apdu taken) piece before after room_before room_after line_before line_after answer status =
-    TellsMessage apdu taken before after room_before room_after line_before line_after answer × (status ≡ 0)
-Told More piece before after room_before room_after line_before line_after answer status =
-    (after ≡ before) × (room_after ≡ room_before) × (line_after ≡ line_before) × (answer ≡ silent (length piece) 0 0 (outcome_of None)) × (status ≡ 0)
-Told (Refused place why) piece before after room_before room_after line_before line_after answer status =
-    (after ≡ step before Malformed) × (room_after ≡ room_before) × (line_after ≡ line_before)
+abbrev pub Told : Fed → (piece : List ℕ) → (before after : TillState) → (buffer_before buffer_after line_before line_after : List ℕ) → ZvtStep → (status : ℕ) → Type 0
+Told (Whole apdu taken) piece before after buffer_before buffer_after line_before line_after answer status =
+    TellsMessage apdu taken before after buffer_before buffer_after line_before line_after answer × (status ≡ 0)
+Told More piece before after buffer_before buffer_after line_before line_after answer status =
+    (after ≡ before) × (buffer_after ≡ buffer_before) × (line_after ≡ line_before) × (answer ≡ silent (length piece) 0 0 (outcome_of None)) × (status ≡ 0)
+Told (Refused place why) piece before after buffer_before buffer_after line_before line_after answer status =
+    (after ≡ step before Malformed) × (buffer_after ≡ buffer_before) × (line_after ≡ line_before)
     × (answer ≡ silent 0 place (code_of_why why) (outcome_of (outcome_at before Malformed))) × (status ≡ 2)
 
 -- The status of a feed that failed.
@@ -66,14 +66,14 @@ IsFailure Stopped end = end.stream.stopped ≡ true
 IsFailure Memory end = Unit {0}
 
 -- What a feed of an open handle is: the stream's, and the till's; or nothing, where bytes were refused before or memory was.
-pub data FeedsEnd (before : Session) (piece : List ℕ) (after : Session) (room_before room_after line_before line_after : List ℕ) (answer : ZvtStep) (status : ℕ) : Type 0 where
-  fed : (fed : Fed) → Feeds before.stream piece fed after.stream → Told fed piece before.till.state after.till.state room_before room_after line_before line_after answer status
-      → FeedsEnd before piece after room_before room_after line_before line_after answer status
-  failed : (why : FeedError) → IsFailure why before → Keeps before.stream after.stream → after.till ≡ before.till → room_after ≡ room_before → line_after ≡ line_before
-      → answer ≡ nothing → status ≡ status_of_failure why → FeedsEnd before piece after room_before room_after line_before line_after answer status
+pub data FeedsEnd (before : Session) (piece : List ℕ) (after : Session) (buffer_before buffer_after line_before line_after : List ℕ) (answer : ZvtStep) (status : ℕ) : Type 0 where
+  fed : (fed : Fed) → Feeds before.stream piece fed after.stream → Told fed piece before.till.state after.till.state buffer_before buffer_after line_before line_after answer status
+      → FeedsEnd before piece after buffer_before buffer_after line_before line_after answer status
+  failed : (why : FeedError) → IsFailure why before → Keeps before.stream after.stream → after.till ≡ before.till → buffer_after ≡ buffer_before → line_after ≡ line_before
+      → answer ≡ nothing → status ≡ status_of_failure why → FeedsEnd before piece after buffer_before buffer_after line_before line_after answer status
 
 -- A handle is fed, and no print line is handed out.
-abbrev pub FeedsHandle : Option Session → (piece : List ℕ) → Option Session → (room_before room_after : List ℕ) → ZvtStep → (status : ℕ) → Type 0
-FeedsHandle None piece after room_before room_after answer status = (after ≡ None) × (room_after ≡ room_before) × (answer ≡ nothing) × (status ≡ 6)
-FeedsHandle (Some before) piece after room_before room_after answer status =
-    (end : Session) × (after ≡ Some end) × FeedsEnd before piece end room_before room_after [] [] answer status
+abbrev pub FeedsHandle : Option Session → (piece : List ℕ) → Option Session → (buffer_before buffer_after : List ℕ) → ZvtStep → (status : ℕ) → Type 0
+FeedsHandle None piece after buffer_before buffer_after answer status = (after ≡ None) × (buffer_after ≡ buffer_before) × (answer ≡ nothing) × (status ≡ 6)
+FeedsHandle (Some before) piece after buffer_before buffer_after answer status =
+    (end : Session) × (after ≡ Some end) × FeedsEnd before piece end buffer_before buffer_after [] [] answer status

@@ -20,30 +20,30 @@ added so_far one =
     }
 
 -- Bytes of the piece are left, and room for an answer, and no print line waits.
-abbrev pub goes_on : (piece room : ℕ) → ZvtStep → Bool
-goes_on piece room so_far = nat_lt so_far.taken piece && (nat_le 32 (room - so_far.send) && (so_far.printed == 0))
+abbrev pub goes_on : (piece buffer : ℕ) → ZvtStep → Bool
+goes_on piece buffer so_far = nat_lt so_far.taken piece && (nat_le 32 (buffer - so_far.send) && (so_far.printed == 0))
 
 -- Single feeds one after another, each of what is left of the piece, into what is left of the room.
-pub data FedSoFar (before : Session) (piece room line : List ℕ) : Session → List ℕ → List ℕ → ZvtStep → Type 0 where
-  start : FedSoFar before piece room line before room line nothing
-  further : {end after : Session} {room_so_far rest line_so_far line_after : List ℕ} {so_far one : ZvtStep}
-      → FedSoFar before piece room line end room_so_far line_so_far so_far → goes_on (length piece) (length room) so_far ≡ true
-      → FeedsEnd end (drop so_far.taken piece) after (drop so_far.send room_so_far) rest line_so_far line_after one 0
-      → FedSoFar before piece room line after (take so_far.send room_so_far ++ rest) line_after (added so_far one)
+pub data FedSoFar (before : Session) (piece buffer line : List ℕ) : Session → List ℕ → List ℕ → ZvtStep → Type 0 where
+  start : FedSoFar before piece buffer line before buffer line nothing
+  further : {end after : Session} {buffer_so_far rest line_so_far line_after : List ℕ} {so_far one : ZvtStep}
+      → FedSoFar before piece buffer line end buffer_so_far line_so_far so_far → goes_on (length piece) (length buffer) so_far ≡ true
+      → FeedsEnd end (drop so_far.taken piece) after (drop so_far.send buffer_so_far) rest line_so_far line_after one 0
+      → FedSoFar before piece buffer line after (take so_far.send buffer_so_far ++ rest) line_after (added so_far one)
 
 -- Feeds go on as long as they may; or the last of them is refused or fails, and what the others told stands.
-pub data FeedsAll (before : Session) (piece : List ℕ) (after : Session) (room_before room_after line_before line_after : List ℕ) (answer : ZvtStep) (status : ℕ) : Type 0 where
-  ended : FedSoFar before piece room_before line_before after room_after line_after answer → goes_on (length piece) (length room_before) answer ≡ false → status ≡ 0
-      → FeedsAll before piece after room_before room_after line_before line_after answer status
-  broken : {end : Session} {room_so_far rest line_so_far : List ℕ} {so_far one : ZvtStep}
-      → FedSoFar before piece room_before line_before end room_so_far line_so_far so_far → goes_on (length piece) (length room_before) so_far ≡ true
-      → FeedsEnd end (drop so_far.taken piece) after (drop so_far.send room_so_far) rest line_so_far line_after one status → (status ≡ 0 → ⊥)
-      → room_after ≡ take so_far.send room_so_far ++ rest → answer ≡ added so_far one
-      → FeedsAll before piece after room_before room_after line_before line_after answer status
+pub data FeedsAll (before : Session) (piece : List ℕ) (after : Session) (buffer_before buffer_after line_before line_after : List ℕ) (answer : ZvtStep) (status : ℕ) : Type 0 where
+  ended : FedSoFar before piece buffer_before line_before after buffer_after line_after answer → goes_on (length piece) (length buffer_before) answer ≡ false → status ≡ 0
+      → FeedsAll before piece after buffer_before buffer_after line_before line_after answer status
+  broken : {end : Session} {buffer_so_far rest line_so_far : List ℕ} {so_far one : ZvtStep}
+      → FedSoFar before piece buffer_before line_before end buffer_so_far line_so_far so_far → goes_on (length piece) (length buffer_before) so_far ≡ true
+      → FeedsEnd end (drop so_far.taken piece) after (drop so_far.send buffer_so_far) rest line_so_far line_after one status → (status ≡ 0 → ⊥)
+      → buffer_after ≡ take so_far.send buffer_so_far ++ rest → answer ≡ added so_far one
+      → FeedsAll before piece after buffer_before buffer_after line_before line_after answer status
 
 -- A handle is fed message by message.
-abbrev pub FeedsAllHandle : Option Session → (piece : List ℕ) → Option Session → (room_before room_after line_before line_after : List ℕ) → ZvtStep → (status : ℕ) → Type 0
-FeedsAllHandle None piece after room_before room_after line_before line_after answer status =
-    (after ≡ None) × (room_after ≡ room_before) × (line_after ≡ line_before) × (answer ≡ nothing) × (status ≡ 6)
-FeedsAllHandle (Some before) piece after room_before room_after line_before line_after answer status =
-    (end : Session) × (after ≡ Some end) × FeedsAll before piece end room_before room_after line_before line_after answer status
+abbrev pub FeedsAllHandle : Option Session → (piece : List ℕ) → Option Session → (buffer_before buffer_after line_before line_after : List ℕ) → ZvtStep → (status : ℕ) → Type 0
+FeedsAllHandle None piece after buffer_before buffer_after line_before line_after answer status =
+    (after ≡ None) × (buffer_after ≡ buffer_before) × (line_after ≡ line_before) × (answer ≡ nothing) × (status ≡ 6)
+FeedsAllHandle (Some before) piece after buffer_before buffer_after line_before line_after answer status =
+    (end : Session) × (after ≡ Some end) × FeedsAll before piece end buffer_before buffer_after line_before line_after answer status

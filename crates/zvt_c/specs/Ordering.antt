@@ -37,17 +37,17 @@ status_of Memory = 3
 
 -- An order is sent: its message is at the start of the room, it runs, and the answer says the message's size alone. Or it is refused:
 -- nothing changes, and the answer is nothing.
-pub data OrdersEnd (before : Session) (order : Order) (after : Session) (room_before room_after : List ℕ) (answer : ZvtStep) (status : ℕ) : Type 0 where
+pub data OrdersEnd (before : Session) (order : Order) (after : Session) (buffer_before buffer_after : List ℕ) (answer : ZvtStep) (status : ℕ) : Type 0 where
   sent : (message : Outgoing) → refusal (facts_of before.till.state) order ≡ None → message_of before.till.state.settings before.till.state.book order ≡ Some message
       → after.till.state ≡ accept before.till.state order → after.stream ≡ before.stream
-      → PutsMessage (message_of_till_message message.till_message) room_before room_after answer.send → answer ≡ only_sends answer.send → status ≡ 0 → OrdersEnd before order after room_before room_after answer status
-  refused : (why : OrderRefusal) → IsRefusedAs (facts_of before.till.state) before.till.spare order why → after ≡ before → room_after ≡ room_before → answer ≡ nothing → status ≡ status_of why
-      → OrdersEnd before order after room_before room_after answer status
+      → PutsMessage (message_of_till_message message.till_message) buffer_before buffer_after answer.send → answer ≡ only_sends answer.send → status ≡ 0 → OrdersEnd before order after buffer_before buffer_after answer status
+  refused : (why : OrderRefusal) → IsRefusedAs (facts_of before.till.state) before.till.spare order why → after ≡ before → buffer_after ≡ buffer_before → answer ≡ nothing → status ≡ status_of why
+      → OrdersEnd before order after buffer_before buffer_after answer status
 
 -- A handle is given an order by two numbers. Where they name none, or the handle is closed, nothing changes, and the answer is nothing.
-abbrev pub OrdersHandle : Option Session → (kind number : ℕ) → Option Session → (room_before room_after : List ℕ) → ZvtStep → (status : ℕ) → Type 0
-OrdersHandle None kind number after room_before room_after answer status =
-    (after ≡ None) × (room_after ≡ room_before) × (answer ≡ nothing) × (status ≡ cond (is_some (order_named kind number)) 6 5)
-OrdersHandle (Some before) kind number after room_before room_after answer status =
-    MatchOption (order_named kind number) ((after ≡ Some before) × (room_after ≡ room_before) × (answer ≡ nothing) × (status ≡ 5))
-    (λ order. (end : Session) × (after ≡ Some end) × OrdersEnd before order end room_before room_after answer status)
+abbrev pub OrdersHandle : Option Session → (kind number : ℕ) → Option Session → (buffer_before buffer_after : List ℕ) → ZvtStep → (status : ℕ) → Type 0
+OrdersHandle None kind number after buffer_before buffer_after answer status =
+    (after ≡ None) × (buffer_after ≡ buffer_before) × (answer ≡ nothing) × (status ≡ cond (is_some (order_named kind number)) 6 5)
+OrdersHandle (Some before) kind number after buffer_before buffer_after answer status =
+    MatchOption (order_named kind number) ((after ≡ Some before) × (buffer_after ≡ buffer_before) × (answer ≡ nothing) × (status ≡ 5))
+    (λ order. (end : Session) × (after ≡ Some end) × OrdersEnd before order end buffer_before buffer_after answer status)

@@ -9,7 +9,7 @@ use Rattle.zvt_c.specs.declared.session.Session.{Session}
 use Rattle.zvt_c.specs.Texts.{Writes}
 
 -- The size of the bytes, which are at the start of the room where they fit.
-abbrev pub Written : (bytes : List ℕ) (size : ℕ) (room_before room_after : List ℕ) → Type 0
+abbrev pub Written : (bytes : List ℕ) (size : ℕ) (buffer_before buffer_after : List ℕ) → Type 0
 Written bytes size before after = (size ≡ length bytes) × Writes bytes before after
 
 abbrev pub bare : ℕ → ZvtAnswer
@@ -20,7 +20,7 @@ abbrev pub sized : ℕ → ZvtAnswer
 sized size = record { size = size; place = 0; reason = 0; status = 0 }
 
 -- The bytes of the till after its connection was lost, which can be loaded; or nothing, where the handle is closed or memory was refused.
-abbrev pub Saves : Option Session → (room_before room_after : List ℕ) → ZvtAnswer → Type 0
+abbrev pub Saves : Option Session → (buffer_before buffer_after : List ℕ) → ZvtAnswer → Type 0
 Saves None before after answer = (after ≡ before) × (answer ≡ bare 6)
 Saves (Some end) before after answer =
     ((answer ≡ sized answer.size) × Written (saved (step end.till.state Lost)) answer.size before after × IsKept (step end.till.state Lost)) ⊎ ((after ≡ before) × (answer ≡ bare 3))

@@ -35,13 +35,13 @@ pub extern "C" fn zvt_scan(alloc: Global, bytes: &[u8], answer: &mut ZvtAnswer)
 pub extern "C" fn zvt_text(
     alloc: Global,
     bytes: &[u8],
-    room: &mut [u8],
+    buffer: &mut [u8],
     answer: &mut ZvtAnswer,
 ) -> usize
-    ensures { Texts bytes.now room.old room.new answer.new result }
+    ensures { Texts bytes.now buffer.old buffer.new answer.new result }
 {
     match zvt_apdu::scan(alloc, bytes) {
-        Ok(Scan::Whole((_, size))) => match tell(alloc, &view(&bytes[..size]), room) {
+        Ok(Scan::Whole((_, size))) => match report(alloc, &view(&bytes[..size]), buffer) {
             Some(written) => {
                 *answer = found(size);
                 written
@@ -72,17 +72,17 @@ pub extern "C" fn zvt_text(
 }
 
 /// Writes the text of a message where it fits, and answers its size, or None where memory was refused.
-fn tell(alloc: Global, apdu: &ApduView<'_>, room: &mut [u8]) -> Option<usize>
-    ensures some { IfSome result (λ size. (size ≡ length (said apdu.now)) × Writes (said apdu.now) room.old room.new) }
-    ensures none { IfNone result (room.new ≡ room.old) }
+fn report(alloc: Global, apdu: &ApduView<'_>, buffer: &mut [u8]) -> Option<usize>
+    ensures some { IfSome result (λ size. (size ≡ length (said apdu.now)) × Writes (said apdu.now) buffer.old buffer.new) }
+    ensures none { IfNone result (buffer.new ≡ buffer.old) }
 {
     let mut text = Text::new(alloc);
     if zvt_text::message(&mut text, b"", apdu).is_err() {
         return None;
     }
     let size = text.size();
-    if size <= room.len() {
-        room[..size].copy_from_slice(text.bytes());
+    if size <= buffer.len() {
+        buffer[..size].copy_from_slice(text.bytes());
     }
     Some(size)
 }

@@ -9,13 +9,13 @@ use zvt_grammar::Why;
 use zvt_till::{Cause, OrderRefusal};
 
 /// Writes a name where it fits, and answers its size.
-fn put_name(name: &str, room: &mut [u8]) -> usize
-    ensures { Written name.now result room.old room.new }
+fn put_name(name: &str, buffer: &mut [u8]) -> usize
+    ensures { Written name.now result buffer.old buffer.new }
 {
     let bytes = name.as_bytes();
     let size = bytes.len();
-    if size <= room.len() {
-        room[..size].copy_from_slice(bytes);
+    if size <= buffer.len() {
+        buffer[..size].copy_from_slice(bytes);
     }
     size
 }
@@ -93,32 +93,32 @@ fn refusal_word(number: u32) -> &'static str
 
 /// The name of the reason why a byte is refused, 1 to 8.
 #[unsafe(no_mangle)]
-pub extern "C" fn zvt_reason_name(number: u32, room: &mut [u8]) -> usize
-    ensures { Written (name_in reasons number) result room.old room.new }
+pub extern "C" fn zvt_reason_name(number: u32, buffer: &mut [u8]) -> usize
+    ensures { Written (name_in reasons number) result buffer.old buffer.new }
 {
-    put_name(reason_word(number), room)
+    put_name(reason_word(number), buffer)
 }
 
 /// The name of the cause of an unclear payment, 1 to 10.
 #[unsafe(no_mangle)]
-pub extern "C" fn zvt_cause_name(number: u32, room: &mut [u8]) -> usize
-    ensures { Written (name_in causes number) result room.old room.new }
+pub extern "C" fn zvt_cause_name(number: u32, buffer: &mut [u8]) -> usize
+    ensures { Written (name_in causes number) result buffer.old buffer.new }
 {
-    put_name(cause_word(number), room)
+    put_name(cause_word(number), buffer)
 }
 
 /// The name of a kind of outcome, 1 to 8.
 #[unsafe(no_mangle)]
-pub extern "C" fn zvt_outcome_name(number: u32, room: &mut [u8]) -> usize
-    ensures { Written (name_in outcomes number) result room.old room.new }
+pub extern "C" fn zvt_outcome_name(number: u32, buffer: &mut [u8]) -> usize
+    ensures { Written (name_in outcomes number) result buffer.old buffer.new }
 {
-    put_name(outcome_word(number), room)
+    put_name(outcome_word(number), buffer)
 }
 
 /// The name of the status with which an order is refused, 3 or 10 to 17.
 #[unsafe(no_mangle)]
-pub extern "C" fn zvt_refusal_name(number: u32, room: &mut [u8]) -> usize
-    ensures { Written (name_in refusals number) result room.old room.new }
+pub extern "C" fn zvt_refusal_name(number: u32, buffer: &mut [u8]) -> usize
+    ensures { Written (name_in refusals number) result buffer.old buffer.new }
 {
-    put_name(refusal_word(number), room)
+    put_name(refusal_word(number), buffer)
 }

@@ -13,16 +13,16 @@ use zvt_stream::Stream;
 use zvt_till::{Happening, Till};
 
 /// Writes what a till is saved in where it fits, and answers its size, or None where memory was refused.
-fn write_saved(alloc: Global, till: &Till, room: &mut [u8]) -> Option<usize>
-    ensures some { IfSome result (λ size. Written (saved (step till.now.state Happening.Lost)) size room.old room.new × IsKept (step till.now.state Happening.Lost)) }
-    ensures none { IfNone result (room.new ≡ room.old) }
+fn write_saved(alloc: Global, till: &Till, buffer: &mut [u8]) -> Option<usize>
+    ensures some { IfSome result (λ size. Written (saved (step till.now.state Happening.Lost)) size buffer.old buffer.new × IsKept (step till.now.state Happening.Lost)) }
+    ensures none { IfNone result (buffer.new ≡ buffer.old) }
 {
     let Ok(bytes) = save(alloc, till) else {
         return None;
     };
     let size = bytes.len();
-    if size <= room.len() {
-        room[..size].copy_from_slice(bytes.as_slice());
+    if size <= buffer.len() {
+        buffer[..size].copy_from_slice(bytes.as_slice());
     }
     Some(size)
 }
@@ -33,17 +33,17 @@ fn write_saved(alloc: Global, till: &Till, room: &mut [u8]) -> Option<usize>
 pub extern "C" fn zvt_till_save(
     alloc: Global,
     till: &mut ZvtTill,
-    room: &mut [u8],
+    buffer: &mut [u8],
     answer: &mut ZvtAnswer,
 )
     ensures same { till.new.raw_handle.held ≡ till.old.raw_handle.held }
-    ensures said { Saves till.old.raw_handle.held room.old room.new answer.new }
+    ensures said { Saves till.old.raw_handle.held buffer.old buffer.new answer.new }
 {
     let Some(end) = till.take(alloc) else {
         *answer = bare(6);
         return;
     };
-    *answer = match write_saved(alloc, &end.till, room) {
+    *answer = match write_saved(alloc, &end.till, buffer) {
         Some(size) => ZvtAnswer {
             size,
             place: 0,

@@ -11,7 +11,7 @@ use crate::answer::reason_code;
 use crate::handle::ZvtTill;
 use crate::numbers::{ZvtStep, no_step, outcome_numbers};
 use crate::session::Session;
-use crate::till::{lacks_room, write_message};
+use crate::till::{lacks_capacity, write_message};
 use std::alloc::Global;
 use zvt_apdu::ApduView;
 use zvt_stream::{FedView, FeedError};
@@ -32,7 +32,7 @@ pub extern "C" fn zvt_till_feed(
     ensures full { MatchBool (nat_lt (length out.old) 32) ((till.new.raw_handle.held ≡ till.old.raw_handle.held) × (out.new ≡ out.old) × (answer.new ≡ nothing) × (result ≡ 4))
         (FeedsHandle till.old.raw_handle.held piece.now till.new.raw_handle.held out.old out.new answer.new result) }
 {
-    if lacks_room(out, answer) {
+    if lacks_capacity(out, answer) {
         return 4;
     }
     let Some(mut end) = till.take(alloc) else {
@@ -58,7 +58,7 @@ pub extern "C" fn zvt_till_feed_all(
     ensures { MatchBool (nat_lt (length out.old) 32) ((till.new.raw_handle.held ≡ till.old.raw_handle.held) × (out.new ≡ out.old) × (line.new ≡ line.old) × (answer.new ≡ nothing) × (result ≡ 4))
         (FeedsAllHandle till.old.raw_handle.held piece.now till.new.raw_handle.held out.old out.new line.old line.new answer.new result) }
 {
-    if lacks_room(out, answer) {
+    if lacks_capacity(out, answer) {
         return 4;
     }
     let Some(mut end) = till.take(alloc) else {
@@ -98,11 +98,11 @@ fn feed_all(
 }
 
 /// Whether another message is to be heard: bytes are left, room for its answer, and no print line waits.
-fn goes_on(piece: usize, room: usize, answer: &ZvtStep) -> bool
-    requires { answer.now.send ≤ room }
-    ensures { result ≡ goes_on piece room answer.now }
+fn goes_on(piece: usize, buffer: usize, answer: &ZvtStep) -> bool
+    requires { answer.now.send ≤ buffer }
+    ensures { result ≡ goes_on piece buffer answer.now }
 {
-    answer.taken < piece && 32 <= room - answer.send && answer.printed == 0
+    answer.taken < piece && 32 <= buffer - answer.send && answer.printed == 0
 }
 
 /// Adds what one message came to.
@@ -133,7 +133,7 @@ fn hear(till: &mut Till, apdu: &ApduView<'_>, out: &mut [u8]) -> (usize, Option<
     requires { 32 ≤ length out.old }
     ensures state { till.new.state ≡ step till.old.state (Happening.Heard (heard_as apdu.now)) }
     ensures sent { Sends (replied till.old.state apdu.now) out.old out.new result.0 }
-    ensures room { result.0 ≤ length out.old }
+    ensures buffer { result.0 ≤ length out.old }
     ensures outcome { result.1 ≡ cond till.old.state.line_up (outcome_at till.old.state (Happening.Heard (heard_as apdu.now))) None }
 {
     let reply = till.hear(heard_view(apdu));
@@ -159,7 +159,7 @@ fn put_line(apdu: &ApduView<'_>, line: &mut [u8]) -> (usize, u32)
 }
 
 /// Lets the till hear a message that ends after that many bytes of the piece, and tells all of it.
-fn tell(
+fn report(
     till: &mut Till,
     apdu: &ApduView<'_>,
     taken: usize,
@@ -168,7 +168,7 @@ fn tell(
 ) -> ZvtStep
     requires { 32 ≤ length out.old }
     ensures told { TellsMessage apdu.now taken till.old.state till.new.state out.old out.new line.old line.new result }
-    ensures room { result.send ≤ length out.old }
+    ensures buffer { result.send ≤ length out.old }
 {
     let (send, outcome) = hear(till, apdu, out);
     let (size, printed) = put_line(apdu, line);
@@ -208,7 +208,7 @@ fn feed(
     requires { 32 ≤ length out.old }
     ensures fed { FeedsEnd end.old piece.now end.new out.old out.new line.old line.new answer.new result }
     ensures taken { answer.new.taken ≤ length piece.now }
-    ensures room { answer.new.send ≤ length out.old }
+    ensures buffer { answer.new.send ≤ length out.old }
     ensures goes { result ≡ 0 → 0 < length piece.now → 0 < answer.new.taken }
 {
     match end.stream.feed_view(piece) {
@@ -216,7 +216,7 @@ fn feed(
             let Some(apdu) = end.stream.lent() else {
                 unreachable!()
             };
-            *answer = tell(&mut end.till, &apdu, taken, out, line);
+            *answer = report(&mut end.till, &apdu, taken, out, line);
             0
         }
         Ok(FedView::More) => {

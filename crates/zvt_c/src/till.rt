@@ -100,7 +100,7 @@ pub extern "C" fn zvt_till_lost(alloc: Global, till: &mut ZvtTill, answer: &mut 
 pub(crate) fn write_message(outgoing: &Outgoing, out: &mut [u8]) -> usize
     requires { 32 ≤ length out.old }
     ensures written { PutsMessage (message_of_till_message outgoing.now.till_message) out.old out.new result }
-    ensures room { result ≤ length out.old }
+    ensures capacity { result ≤ length out.old }
 {
     let mut buffer = [0; MAX_TILL_MESSAGE_LEN];
     let size = outgoing.put(&mut buffer);
@@ -109,7 +109,7 @@ pub(crate) fn write_message(outgoing: &Outgoing, out: &mut [u8]) -> usize
 }
 
 /// Clears the answer, and says whether there is less room than a message may need.
-pub(crate) fn lacks_room(out: &[u8], answer: &mut ZvtStep) -> bool
+pub(crate) fn lacks_capacity(out: &[u8], answer: &mut ZvtStep) -> bool
     ensures lacks { result ≡ nat_lt (length out.now) 32 }
     ensures cleared { answer.new ≡ nothing }
 {
@@ -131,7 +131,7 @@ pub extern "C" fn zvt_till_order(
     ensures { MatchBool (nat_lt (length out.old) 32) ((till.new.raw_handle.held ≡ till.old.raw_handle.held) × (out.new ≡ out.old) × (answer.new ≡ nothing) × (result ≡ 4))
         (OrdersHandle till.old.raw_handle.held kind number till.new.raw_handle.held out.old out.new answer.new result) }
 {
-    if lacks_room(out, answer) {
+    if lacks_capacity(out, answer) {
         return 4;
     }
     let Some(order) = order_of(kind, number) else {

@@ -92,8 +92,8 @@ impl Goes {
     }
 }
 
-/// What the bytes of an unfinished message leave open: the part that the next byte plays, and for each open level, the
-/// frame, the fields, a container and the objects in one another, how many of its bytes are to come.
+/// The state of a message that is being read: the part that the next byte plays, and the open levels. Levels are the frame,
+/// the fields, a container, and objects in one another. Of each the judge counts how many of its bytes are to come.
 #[derive(Drop)]
 pub struct Judge {
     /// The forms of length that it takes.

@@ -43,7 +43,7 @@ impl Text {
     }
 
     /// An empty text with room for so many bytes, which ask for no memory.
-    pub fn with_room(alloc: Global, size: usize) -> Result<Text, AllocError>
+    pub fn with_capacity(alloc: Global, size: usize) -> Result<Text, AllocError>
         ensures { IfOk result (λ text. text ≡ []) }
     {
         let mut buffer = Vec::new(alloc);

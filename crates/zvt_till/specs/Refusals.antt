@@ -65,8 +65,8 @@ abbrev pub most_rows : ℕ
 most_rows = 10000
 
 -- a list is full
-abbrev pub room_refusal : Facts → Option OrderRefusal
-room_refusal f = cond (nat_lt (length f.book) most_rows && nat_lt (length f.unclear) most_rows) None (Some BookFull)
+abbrev pub capacity_refusal : Facts → Option OrderRefusal
+capacity_refusal f = cond (nat_lt (length f.book) most_rows && nat_lt (length f.unclear) most_rows) None (Some BookFull)
 
 -- the entry is not there, was taken back, or has no receipt number
 abbrev pub row_refusal : Option Entry → Option OrderRefusal
@@ -76,7 +76,7 @@ row_refusal (Some row) = cond row.reversed (Some AlreadyReversed) (elim row.rece
 -- by what the order asks for
 abbrev pub asked_refusal : Facts → Order → Option OrderRefusal
 asked_refusal f RegisterOrder = None
-asked_refusal f (PayOrder a) = room_refusal f
+asked_refusal f (PayOrder a) = capacity_refusal f
 asked_refusal f (ReverseOrder e) = row_refusal (slice_get f.book e)
 asked_refusal f CloseDayOrder = None
 asked_refusal f CancelOrder = None

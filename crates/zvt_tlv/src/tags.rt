@@ -24,8 +24,8 @@ impl Model for Tag {
 }
 
 impl Tag {
-    /// The tag of these bytes, if they are one and no more: where the low five bits of the first are all ones a
-    /// second follows, and where bit 8 of that is set a third, whose bit 8 is clear.
+    /// The tag of these bytes, or `None` where they are no tag or more than one. A second byte follows where the low five
+    /// bits of the first are all ones. A third follows where bit 8 of the second is set, and its own bit 8 is clear.
     pub fn checked(bytes: &[u8]) -> Option<Tag>
         ensures some { IfSome result (λ t. (t ≡ bytes.now) × IsTag bytes.now) }
         ensures none { IfNone result (IsTag bytes.now → ⊥) }

@@ -8,7 +8,7 @@ use std::alloc::AllocError;
 use zvt_apdu::TillMessage;
 
 impl Till {
-    ghost use Rattle.zvt_till.specs.Refusals.{cancel_refusal, room_refusal, row_refusal, line_refusal, refusal};
+    ghost use Rattle.zvt_till.specs.Refusals.{cancel_refusal, capacity_refusal, row_refusal, line_refusal, refusal};
     ghost use Rattle.zvt_till.specs.Sending.{receipt_at, message_of};
     ghost use Rattle.zvt_till.specs.Till.{accept, facts_of};
     ghost use Rattle.zvt_till.specs.View.{IsRefusedAs, CanEnd};
@@ -24,8 +24,8 @@ impl Till {
     }
 
     /// Why there is no room for one more payment, if so.
-    fn room_refusal(&self) -> Option<OrderRefusal>
-        ensures { result ≡ room_refusal (facts_of self.now.state) }
+    fn capacity_refusal(&self) -> Option<OrderRefusal>
+        ensures { result ≡ capacity_refusal (facts_of self.now.state) }
     {
         if self.book.len() < MAX_BOOK_ENTRIES && self.unclear.len() < MAX_BOOK_ENTRIES {
             None
@@ -83,7 +83,7 @@ impl Till {
                 config: self.config,
                 currency: self.currency,
             },
-            Order::Pay(amount) => match self.room_refusal() {
+            Order::Pay(amount) => match self.capacity_refusal() {
                 Some(why) => return Err(why),
                 None => TillMessage::Pay(*amount, self.currency),
             },

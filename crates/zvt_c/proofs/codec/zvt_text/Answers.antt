@@ -28,7 +28,7 @@ returns-in-Some c =
     let shown : c.view.result ≡ m = c.view.ensures m (message_loosened m _ found.spelled) in
     told m c.in-Ok-Whole.size found c.found.ensures
     (c.in-Some.ensures.some.0 ∙ ap (λ (v : Message). length (said v)) shown)
-    (subst (λ (v : Message). Writes (said v) c.args.room.now c.tell.new.room) shown c.in-Some.ensures.some.1)
+    (subst (λ (v : Message). Writes (said v) c.args.buffer.now c.report.new.buffer) shown c.in-Some.ensures.some.1)
 
 pub returns-in-Ok-More : goal.returns-in-Ok-More
 returns-in-Ok-More c =

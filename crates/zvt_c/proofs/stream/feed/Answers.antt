@@ -15,7 +15,7 @@ pub returns-in-Some-clause-fed : goal.returns-in-Some-clause-fed
 returns-in-Some-clause-fed c =
     let lends = rw c.in-Ok-Message.field-0-is at c.in-Ok-Message.ensures.fed in
     fed (Whole c.in-Some.apdu c.in-Ok-Message.taken) (feeds_shown c.args.end.now.stream c.feed_view.new.self _ c.in-Ok-Message.taken c.lent.result c.in-Some.apdu lends c.lent.ensures c.in-Some.is)
-    (c.tell.ensures.told, refl)
+    (c.report.ensures.told, refl)
 
 pub returns-in-Ok-More-clause-fed : goal.returns-in-Ok-More-clause-fed
 returns-in-Ok-More-clause-fed c =

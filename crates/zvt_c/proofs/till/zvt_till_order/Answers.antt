@@ -10,7 +10,7 @@ returns c =
     subst
     (λ (small : Bool). MatchBool small ((c.of.result.raw_handle.held ≡ c.args.till.now.raw_handle.held) × (c.give-status.new.out ≡ c.args.out.now) × (c.give-status.new.answer ≡ nothing) × (c.give-status.result ≡ 4))
     (OrdersHandle c.args.till.now.raw_handle.held c.args.kind c.args.number c.of.result.raw_handle.held c.args.out.now c.give-status.new.out c.give-status.new.answer c.give-status.result))
-    (sym (sym c.lacks_room.ensures.lacks ∙ c.if-lacks_room.false))
+    (sym (sym c.lacks_capacity.ensures.lacks ∙ c.if-lacks_capacity.false))
     (subst
     (λ (held : Option Session). OrdersHandle held c.args.kind c.args.number c.of.result.raw_handle.held c.args.out.now c.give-status.new.out c.give-status.new.answer c.give-status.result)
     (ap Some c.deref_mut.ensures.value ∙ (sym (ap (option_map (λ end. end.value)) c.in-Some-take.is) ∙ c.take.ensures.taken))
