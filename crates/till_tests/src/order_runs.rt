@@ -19,12 +19,11 @@ fn connected_till(rt: &impl Abort, alloc: Global) -> Till {
     till
 }
 
-/// An end of a line on which these bytes come, and whose writer keeps what is sent.
-fn end_over(
-    alloc: Global,
-    coming: &[u8],
-    stream: Stream,
-) -> Endpoint<Counted<&[u8]>, Counted<Vec<u8>>> {
+/// An end of a line over memory, whose writer keeps what is sent.
+type MemoryEnd<'a> = Endpoint<Counted<&'a [u8]>, Counted<Vec<u8>>>;
+
+/// An end of a line on which these bytes come.
+fn end_over(alloc: Global, coming: &[u8], stream: Stream) -> MemoryEnd<'_> {
     Endpoint {
         reader: Counted::new(coming),
         writer: Counted::new(Vec::new(alloc)),
@@ -36,7 +35,7 @@ fn end_over(
 fn registers(
     rt: &impl Abort,
     alloc: Global,
-    end: &mut Endpoint<Counted<&[u8]>, Counted<Vec<u8>>>,
+    end: &mut MemoryEnd<'_>,
     turns: u64,
 ) -> (Result<Outcome, RunFault>, Option<Outcome>) {
     let mut till = connected_till(rt, alloc);
@@ -48,8 +47,8 @@ fn registers(
 fn is_registered(rt: &impl Abort, alloc: Global, stream: Stream) {
     let completed = [0x80, 0x00, 0x00, 0x06, 0x0F, 0x00];
     let mut end = end_over(alloc, &completed, stream);
-    let ended = registers(rt, alloc, &mut end, 10);
-    assert_eq!(rt; ended, (Ok(Outcome::Registered), Some(Outcome::Registered)));
+    let found = registers(rt, alloc, &mut end, 10);
+    assert_eq!(rt; found, (Ok(Outcome::Registered), Some(Outcome::Registered)));
     let registration_and_ack = [
         0x06, 0x00, 0x06, 0x00, 0x00, 0x00, 0xBE, 0x09, 0x78, 0x80, 0x00, 0x00,
     ];
@@ -86,8 +85,8 @@ fn an_order_whose_line_breaks(rt: HostRuntime) {
         let wanted = Err(RunFault::Line(fault));
         let last = Outcome::Unclear(cause);
         let mut end = end_over(rt.alloc(), coming, Stream::new(rt.alloc()));
-        let ended = registers(&rt, rt.alloc(), &mut end, turns);
-        assert_eq!(rt; ended, (wanted, Some(last)));
+        let found = registers(&rt, rt.alloc(), &mut end, turns);
+        assert_eq!(rt; found, (wanted, Some(last)));
         assert_eq!(rt; end.writer.inner.as_slice(), REGISTRATION.as_slice());
     }
 }

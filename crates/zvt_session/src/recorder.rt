@@ -54,7 +54,7 @@ impl<D: Drop, T: Drop> Recorded<D, T> {
         ensures way { IfOk result (λ recorded. recorded.way ≡ way) }
         ensures whole { IfOk result (λ recorded. recorded.broken ≡ false) }
     {
-        let text = Text::with_room(alloc, LINE)?;
+        let text = Text::with_capacity(alloc, LINE)?;
         Ok(Recorded {
             device,
             trace,

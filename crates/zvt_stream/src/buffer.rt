@@ -1,4 +1,7 @@
 //! The bytes of an unfinished message.
+//!
+//! The methods that each feed calls are `#[inline(always)]`: a chunk of one byte costs no call. `grow` is `#[cold]`,
+//! since few feeds need more capacity.
 
 ghost use Rattle.std.specs.Prelude.{◌≡◌, ◌+◌, ◌<◌, ◌≤◌, [], ◌∷◌, ◌++◌, length, min, take, IfOk, IsOk, OnErr, OnOk};
 ghost use Rattle.zvt_apdu.specs.Views.{MessageBytes};
@@ -9,13 +12,13 @@ use std::marker::Model;
 /// How many bytes the longest message has.
 pub const MAX_APDU_LEN: usize = 65_540;
 
-/// The room of the first bytes.
+/// The capacity for the first bytes.
 const FIRST_CAPACITY: usize = 64;
 
-/// The bytes of an unfinished message. They are lent only where they have become a whole one.
+/// The bytes of an unfinished message. They can be borrowed only where they have become a whole one.
 #[derive(Drop)]
 pub struct Held {
-    /// The bytes, and room behind them.
+    /// The bytes, and the capacity after them.
     room: Vec<u8>,
     size: usize,
 }
@@ -32,7 +35,7 @@ impl Model for Held {
 }
 
 impl Held {
-    /// No bytes, and room for none.
+    /// No bytes, and capacity for none.
     pub fn new(alloc: Global) -> Held
         ensures { result ≡ record { bytes = []; room = 0 } }
     {
@@ -42,7 +45,7 @@ impl Held {
         }
     }
 
-    /// No bytes, and room for those of the longest message: adding them never asks for memory.
+    /// No bytes, and capacity for the longest message: adding its bytes never asks for memory.
     pub fn reserved(alloc: Global) -> Result<Held, AllocError>
         ensures { IfOk result (λ held. held ≡ record { bytes = []; room = 65540 }) }
     {
@@ -51,8 +54,8 @@ impl Held {
         Ok(Held { room, size: 0 })
     }
 
-    /// Sees to it that there is room for so many bytes more, or for the rest of the longest message. Where memory is
-    /// refused nothing changes.
+    /// Makes the capacity enough for so many more bytes, or for the rest of the longest message. Where memory is refused
+    /// nothing changes.
     #[inline(always)]
     pub fn reserve_for(&mut self, more: usize) -> Result<(), AllocError>
         requires { length self.old.bytes ≤ 65540 }
@@ -96,7 +99,7 @@ impl Held {
         Ok(())
     }
 
-    /// Appends bytes for which there is room.
+    /// Appends bytes for which there is capacity.
     #[inline(always)]
     pub fn put(&mut self, bytes: &[u8])
         requires { length self.old.bytes + length bytes.now ≤ self.old.room }
@@ -114,7 +117,7 @@ impl Held {
         self.size = end;
     }
 
-    /// Keeps the first `count` bytes, and the room.
+    /// Keeps the first `count` bytes, and the capacity.
     #[inline(always)]
     pub fn cut(&mut self, count: usize)
         requires { count ≤ length self.old.bytes }
@@ -141,7 +144,7 @@ impl Held {
     }
 }
 
-/// Makes so much room at least, and twice as much as there was.
+/// Raises the capacity to `least` bytes, and to at least twice what it was.
 #[cold]
 fn grow(room: &mut Vec<u8>, least: usize) -> Result<(), AllocError>
     requires { length room.old.items < least }

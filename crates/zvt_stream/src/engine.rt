@@ -56,7 +56,7 @@ fn answer<W: Sink, M: Machine>(
 }
 
 // The message that the stream lends.
-fn lent_message(stream: &Stream) -> ApduView<'_>
+fn borrowed_message(stream: &Stream) -> ApduView<'_>
     requires { IsSome stream.now.lent }
     ensures { Some result ≡ stream.now.lent }
 {
@@ -86,7 +86,7 @@ fn hear_piece<W: Sink, M: Machine>(
     'messages: loop {
         match stream.feed_view(rest) {
             Ok(FedView::Message { taken }) => {
-                sent |= answer(alloc, writer, machine, &lent_message(stream))?;
+                sent |= answer(alloc, writer, machine, &borrowed_message(stream))?;
                 rest = &rest[taken..];
             }
             Ok(FedView::More) => return Ok(sent),

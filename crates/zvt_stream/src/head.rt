@@ -1,4 +1,6 @@
-//! The control bytes at the front of a message.
+//! The control bytes that begin a message.
+//!
+//! `then` is `#[inline(always)]`, as all of a step of the judge is.
 
 ghost use Rattle.std.specs.Prelude.{◌≡◌, ◌++◌, ◌∷◌, [], ℕ, List};
 ghost use Rattle.zvt_stream.specs.Head.{head_of};
@@ -12,7 +14,7 @@ pub enum Head {
 }
 
 impl Head {
-    /// The control bytes with one more byte of the message behind those that have come.
+    /// The control bytes after one more byte of the message.
     #[inline(always)]
     pub fn then(self, byte: u8) -> Head
         ensures { (bytes : List ℕ) → self ≡ head_of bytes → result ≡ head_of (bytes ++ byte ∷ []) }

@@ -1,4 +1,7 @@
 //! The judge of a line's bytes, each looked at once.
+//!
+//! The functions of a run and of a step are `#[inline(always)]`: no byte costs a call. `bench/throughput` counts the
+//! instructions for a byte.
 
 ghost use Rattle.std.specs.Prelude.{◌≡◌, ℕ, ◌+◌, ◌-◌, ◌<◌, ◌≤◌, List, [], ◌∷◌, ◌++◌, false, length, take, reverse, IfNone, IfSome};
 ghost use Rattle.zvt_grammar.specs.Reading.{Reading, padded, shortest};
@@ -20,7 +23,7 @@ use zvt_grammar::{Lengths, Why};
 use zvt_io::GhostCount;
 use zvt_tlv::TagAt;
 
-/// How many bytes were judged. Contracts alone see it: it takes no room and no time.
+/// How many bytes were judged. Contracts alone see it: it takes no memory and no time.
 #[derive(Drop)]
 pub struct Steps {
     judged: GhostCount,
@@ -99,7 +102,7 @@ pub struct Judge {
     /// The forms of length that it takes.
     lengths: Lengths,
     goes: Goes,
-    /// For each level around the innermost one the bytes that are to come behind the level in it, the frame's first.
+    /// For each level around the innermost one, the bytes that are to come after the level in it. The frame is the first.
     outer: ArrayVec<usize, 7>,
 }
 
@@ -224,7 +227,7 @@ impl Judge {
         }
     }
 
-    // Goes where a byte behind the control bytes leads, or begins anew where it is refused.
+    // Goes where a byte after the control bytes leads, or begins anew where it is refused.
     #[inline(always)]
     fn go(&mut self, byte: u8, moved: Result<Transition, Why>) -> Result<Judged, Why>
         requires { (bytes : List ℕ) × StandsFor self.old bytes × Moves self.old.reading self.old.at self.old.left self.old.outer bytes byte moved × (self.old.head ≡ head_of (bytes ++ byte ∷ [])) }
@@ -265,7 +268,7 @@ impl Judge {
     }
 }
 
-/// Goes on in the innermost level that has bytes to come, or begins anew behind the end of the message.
+/// Goes on in the innermost level that has bytes to come, or begins anew after the end of the message.
 #[inline(always)]
 fn settle(left: usize, outer: &mut ArrayVec<usize, 7>, goes: &mut Goes) -> Judged
     ensures { (r : Reading) (bytes : List ℕ) → Between r left (reverse outer.old.items) bytes → Settles r goes.old goes.new (reverse outer.new.items) bytes result }

@@ -1,4 +1,6 @@
 //! Messages out of pieces of a line.
+//!
+//! `feed_view` and `head` are `#[inline(always)]`: a reader that feeds byte by byte calls both for each byte.
 
 ghost use Rattle.std.specs.Prelude.{◌≡◌, ℕ, ◌+◌, ◌<◌, ◌≤◌, [], ◌++◌, None, IfOk, IfNone, IfSome, IsNone, IsSome, OnErr, List, length, take, false, true, MatchResult};
 ghost use Rattle.std.specs.Result.{IsErrOf};
@@ -71,6 +73,9 @@ pub struct Truncated {
 
 /// One direction of a line: the bytes of its unfinished message and what they leave open, or those of a whole message
 /// that is lent.
+///
+/// Call `feed_view` where each message is read before the next feed. It lends the message and builds nothing. Call `feed`
+/// where a message is to outlive the next feed. It builds an owned `Apdu`, which takes memory.
 #[derive(Drop)]
 pub struct Stream {
     pub(crate) held: Held,

@@ -1,4 +1,6 @@
 //! What one byte leads to.
+//!
+//! Each transition is `#[inline(always)]`: `Judge::step` becomes one function, and no byte costs a call.
 
 ghost use Rattle.std.specs.Prelude.{◌≡◌, ℕ, ◌+◌, ◌<◌, ◌≤◌, ◌^◌, Bool, List, Ok, Err};
 ghost use Rattle.zvt_grammar.specs.Reading.{Reading};
@@ -47,7 +49,7 @@ pub(crate) enum Transition {
     Within { at: At, left: usize },
     /// The end of an item.
     Ends { left: usize },
-    /// A level inside of the item, and so many bytes of the item's own level behind it.
+    /// A level inside of the item, and so many bytes of the item's own level after it.
     Opens { trailing: usize, left: usize },
 }
 

@@ -1,4 +1,7 @@
 //! The books of a whole log.
+//!
+//! What an audit calls for each message is `#[inline(always)]`. What few messages need is `#[inline(never)]`, so that it
+//! does not make that way longer.
 ghost use Rattle.std.specs.Prelude.{◌≡◌, ◌++◌, ◌∷◌, [], List, IfOk, OnOk};
 ghost use Rattle.zvt_till.specs.Books.{books};
 ghost use Rattle.zvt_till.specs.declared.happenings.Happening.TheVariants.{Heard as HeardIn};

@@ -1,4 +1,6 @@
 //! What happens on a till's line, and what of it ends an order.
+//!
+//! `ends`, `force_after` and `is_positive` are `#[inline(always)]`: an audit calls them for each happening.
 ghost use Rattle.std.specs.Prelude.{◌≡◌};
 ghost use Rattle.zvt_till.specs.Segments.{ends, force_after, is_positive};
 

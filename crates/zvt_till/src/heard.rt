@@ -1,4 +1,6 @@
 //! What a message of the terminal is to a till.
+//!
+//! The functions over views are `#[inline(always)]`: a till and an audit call them for each message.
 ghost use Rattle.std.specs.Prelude.{◌≡◌, ◌==◌, cond, List};
 ghost use Rattle.zvt_field.specs.Grammar.{Field};
 ghost use Rattle.zvt_field.specs.Single.{Says};

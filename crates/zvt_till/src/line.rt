@@ -112,8 +112,8 @@ pub fn run_order<R: Source, W: Sink>(
     if let Err(fault) = pump(alloc, end, till, Until::Rest, turns) {
         return Err(RunFault::Line(fault));
     }
-    let Some(outcome) = till.last_outcome() else {
-        unreachable!()
-    };
-    Ok(outcome)
+    match till.last_outcome() {
+        Some(outcome) => Ok(outcome),
+        None => Err(RunFault::Line(LineFault::Turns)),
+    }
 }

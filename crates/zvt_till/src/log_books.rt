@@ -1,4 +1,6 @@
 //! A log's payments, judged one after another.
+//!
+//! What an audit calls for each happening is `#[inline(always)]`.
 ghost use Rattle.std.specs.Prelude.{◌≡◌, ◌++◌, ◌∷◌, [], ◌||◌, List, OnOk};
 ghost use Rattle.zvt_till.specs.Segments.{begun, in_force, is_positive, status_of};
 ghost use Rattle.zvt_till.specs.Books.{books};

@@ -67,8 +67,8 @@ impl CurrencyFact {
     }
 }
 
-/// What a status information says. A field that stands more than once is as good as absent; that BMP 37 or
-/// BMP 49 stands more than once is told.
+/// What a status information says. A field that stands more than once is as good as absent. BMP 37 and BMP 49 say that
+/// they stand more than once.
 #[derive(Clone, Copy, Debug, PartialEq, Eq)]
 pub struct StatusFacts {
     /// The result code (BMP 27), 0 where the terminal approves.

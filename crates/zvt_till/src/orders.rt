@@ -87,8 +87,8 @@ impl Outgoing {
     ghost use Rattle.std.specs.Prelude.{◌≡◌, ◌≤◌, IfOk};
     ghost use Rattle.zvt_apdu.specs.TillMessages.{message_of_till_message, PutsMessage};
 
-    /// Writes its bytes at the front of the buffer, and says how many. They always fit, and what stands behind them
-    /// stays.
+    /// Writes its bytes from the start of the buffer, and returns how many. They always fit, and the bytes after them
+    /// stay.
     pub fn put(&self, buffer: &mut [u8; MAX_TILL_MESSAGE_LEN]) -> usize
         ensures written { PutsMessage (message_of_till_message self.now.till_message) buffer.old buffer.new result }
         ensures fits { result ≤ 32 }

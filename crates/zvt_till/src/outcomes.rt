@@ -1,4 +1,6 @@
 //! How an order ends.
+//!
+//! The outcomes of a payment are `#[inline(always)]`: an audit calls for one at the end of each payment.
 ghost use Rattle.std.specs.Prelude.{◌≡◌, List};
 ghost use Rattle.zvt_till.specs.Outcomes.{payment_outcome, reversal_outcome, closing_outcome, completion_outcome, broken_outcome, outcome_by};
 ghost use Rattle.zvt_till.specs.UsedTraces.{AreTracesOf};

@@ -1,4 +1,6 @@
 //! What one status says under an order, and what the statuses of an order say together.
+//!
+//! The functions that judge a status are `#[inline(always)]`: an audit calls them for each status.
 ghost use Rattle.std.specs.Prelude.{◌≡◌};
 ghost use Rattle.zvt_till.specs.Statuses.{class_of, class_undeclined, same_trace};
 ghost use Rattle.zvt_till.specs.Outcomes.{note, note_class, demand_of, listened};

@@ -1,9 +1,9 @@
 //! The till: its state, its book, and what it makes of what it hears.
 ghost use Rattle.std.specs.Prelude.{◌≡◌, ◌+◌, ◌≤◌, length, if◌then◌else◌, option_map};
 
+mod capacity;
 mod ordering;
 mod restoring;
-mod room;
 
 use crate::entries::{Doubt, Entry};
 use crate::happenings::{Happening, ends};

@@ -12,7 +12,7 @@ const WORDS: usize = 15_625;
 /// looked up and inserted in a time that does not depend on how many it has.
 #[derive(Drop)]
 pub struct UsedTraces {
-    /// A number is bit `number % 64` of word `number / 64`. Without room there are no words.
+    /// A number is bit `number % 64` of word `number / 64`. Without capacity there are no words.
     words: Vec<u64>,
 }
 
@@ -27,7 +27,7 @@ impl Model for UsedTraces {
 impl UsedTraces {
     ghost use Rattle.zvt_till.specs.UsedTraces.{has_capacity, has};
 
-    /// No numbers, and no room for any.
+    /// No numbers, and no capacity for any.
     pub fn new(alloc: Global) -> UsedTraces
         ensures { (number : ℕ) → has result number ≡ false }
     {

@@ -23,7 +23,7 @@ impl Till {
         }
     }
 
-    /// Why there is no room for one more payment, if so.
+    /// Why there is no capacity for one more payment, if so.
     fn capacity_refusal(&self) -> Option<OrderRefusal>
         ensures { result ≡ capacity_refusal (facts_of self.now.state) }
     {

@@ -81,7 +81,7 @@ impl Till {
     pub fn can_be_restored(&self)
         ensures { CanStand (step self.now.state Happening.Lost).book (step self.now.state Happening.Lost).unclear }
     {
-        // that a field is looked at is what tells the proof what holds of all of them
+        // The proof learns what holds of all fields from a look at one.
         let _ = &self.book;
     }
 }

@@ -5,7 +5,7 @@ use Rattle.zvt_grammar.specs.Reading.{padded}
 use Rattle.zvt_stream.specs.Lending.{LentBytes, lent_of}
 use Rattle.zvt_stream.specs.StreamState.{StreamState}
 use Rattle.zvt_stream.proofs.LentLemmas.{lent_is}
-use Rattle.zvt_stream.proofs.engine.lent_message.Goals as goal
+use Rattle.zvt_stream.proofs.engine.borrowed_message.Goals as goal
 
 shown : (has_message : Bool) (bytes d : List ℕ) (s : LentBytes has_message bytes) (r : Message) → IsSome (lent_of has_message bytes s) → d ≡ bytes → ((m : Message) → Spells padded m d → r ≡ m) → Some r ≡ lent_of has_message bytes s
 shown true bytes d s r some is spells = lent_is true bytes d s r refl is spells

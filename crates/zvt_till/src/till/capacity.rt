@@ -1,4 +1,4 @@
-//! The room that a till has for the payments to come.
+//! The capacity that a till has for the payments to come.
 ghost use Rattle.std.specs.Prelude.{◌≡◌, ◌<◌, ◌≤◌, OnOk, OnErr};
 
 use super::{MAX_BOOK_ENTRIES, Till};
@@ -19,8 +19,8 @@ impl Till {
         }
     }
 
-    /// Sees to it that so many payments can be taken and written down without more memory: `spare` is at least so many
-    /// then. Where memory is refused it is less, though it may have risen; nothing else changes.
+    /// Makes the capacity enough for so many payments to be taken and written down: `spare` is then at least `pays`.
+    /// Where memory is refused it is less, though it may have risen. Nothing else changes.
     pub fn reserve(&mut self, pays: usize) -> Result<(), AllocError>
         requires { pays ≤ MAX_BOOK_ENTRIES }
         ensures room { OnOk result (pays ≤ self.new.spare) }
