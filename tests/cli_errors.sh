@@ -73,7 +73,7 @@ notes() { # NAME STATUS OUTPUT ERRORS TRACE COMMAND
 bad='> 06 01 02 D0\n> 80 00 00\n< 80 00 00 04\n> 80\n!\n< 06\n'
 shown="zvt: line 1 of the trace: > Authorisation refused at 3, byte D0: UnknownField
 zvt: line 5 of the trace: < a message of 04 cut off after 1
-zvt: 2 lines of > not read behind that, up to line 4
+zvt: 2 lines of > not read after that, up to line 4
 zvt: line 6 of the trace: < a message of 06 cut off after 1
 zvt: 1 message, 1 stream refused, 2 cut off"
 notes "bad streams that are shown" 1 "> refused at 3: UnknownField
@@ -92,7 +92,7 @@ notes "bad streams that are joined" 1 "# > refused at 3: UnknownField
 # < truncated after 1" "$shown" "$bad" join
 notes "bad streams among receipts" 1 "" "$shown" "$bad" receipts
 notes "bad streams that are audited" 1 "total 0" "zvt: line 1 of the trace: > Authorisation refused at 3, byte D0: UnknownField
-zvt: 3 lines not read behind that, up to line 4
+zvt: 3 lines not read after that, up to line 4
 zvt: line 6 of the trace: < a message of 06 cut off after 1
 zvt: 0 messages, 1 stream refused, 1 cut off" "$bad" audit
 notes "directions that are swapped" 0 "total 0" "zvt: '<' sent orders, and '>' none: the directions of the trace may be swapped" '< 06 50 03 00 00 00\n> 80 00 00\n' audit
@@ -100,16 +100,16 @@ for command in show join receipts; do
     notes "a trace without a message under $command" 0 "" "zvt: the trace has no message" '# nothing\n' "$command"
 done
 notes "a trace without a message under audit" 0 "total 0" "zvt: the trace has no message" '' audit
-form="a line begins with '>' or '<' and goes on in hexadecimal, or is '!' alone, or begins with '#'"
-digits="after '>' or '<' stand two hexadecimal digits for each byte, and spaces"
+form="expected '>' or '<' and hexadecimal digits, '!' alone, or a comment that begins with '#'"
+digits="expected two hexadecimal digits for each byte after '>' or '<', with or without spaces"
 notes "a line that can't be read behind a bad stream" 3 "> refused at 3: UnknownField" "zvt: line 1 of the trace: > Authorisation refused at 3, byte D0: UnknownField
 zvt: 0 messages, 1 stream refused
 zvt: line 2 of the trace: $digits
-zvt: column 5 is ':': between bytes stand spaces alone" '> 06 01 02 D0\n> 80:00:00\n' show
+zvt: column 5 is ':': put spaces between bytes" '> 06 01 02 D0\n> 80:00:00\n' show
 notes "a byte order mark" 3 "" "zvt: line 1 of the trace: $form
-zvt: column 1 begins a byte order mark: a trace is plain text without one" '\357\273\277> 80 00 00\n' audit
+zvt: column 1 has a byte order mark: save the trace as plain text without one" '\357\273\277> 80 00 00\n' audit
 notes "a capture" 3 "" "zvt: line 2 of the trace: $form
-zvt: a capture: see 'From a capture to a trace' in docs/FORMAT.md" '\n\r\r\n\034' receipts
+zvt: the input is a capture, not a trace: see 'From a capture to a trace' in docs/FORMAT.md" '\n\r\r\n\034' receipts
 
 # Padded lengths are refused, but by a loose command, whose notes read as it does.
 reads() { # NAME STATUS OUTPUT WORDS ARGUMENT..

@@ -16,9 +16,9 @@ import sys
 
 HERE = os.path.dirname(os.path.abspath(__file__))
 PROGRAM = os.path.abspath(sys.argv[1]) if len(sys.argv) > 1 else os.path.join(HERE, "..", "crates", "zvt", "out", "zvt")
-FORM = "a line begins with '>' or '<' and goes on in hexadecimal, or is '!' alone, or begins with '#'"
-DIGITS = "after '>' or '<' stand two hexadecimal digits for each byte, and spaces"
-CAPTURE = "a capture: see 'From a capture to a trace' in docs/FORMAT.md"
+FORM = "expected '>' or '<' and hexadecimal digits, '!' alone, or a comment that begins with '#'"
+DIGITS = "expected two hexadecimal digits for each byte after '>' or '<', with or without spaces"
+CAPTURE = "the input is a capture, not a trace: see 'From a capture to a trace' in docs/FORMAT.md"
 # Traces that can't be read, the line, what it should be, and what is said of it besides. Text would hide some of these bytes.
 UNREADABLE = [
     (b"x", 1, FORM, "column 1 is 'x'"),
@@ -28,13 +28,13 @@ UNREADABLE = [
     (b"!!", 1, FORM, "column 2 is '!'"),
     (b"> 8G", 1, DIGITS, "column 4 is 'G'"),
     (b"> 80 \xC3\xA4", 1, DIGITS, "column 6 is byte C3"),
-    (b"> 0", 1, DIGITS, "column 4 is the end of the line: the last byte has one digit alone"),
-    (b"> 80 0\n", 1, DIGITS, "column 7 is the end of the line: the last byte has one digit alone"),
-    (b">\t80", 1, DIGITS, "column 2 is byte 09, a tab: between bytes stand spaces alone"),
-    (b"< 0x80", 1, DIGITS, "column 4 is 'x': bytes are written without '0x'"),
-    (b"< 80:00:00", 1, DIGITS, "column 5 is ':': between bytes stand spaces alone"),
-    (b"> 80-00-00", 1, DIGITS, "column 5 is '-': between bytes stand spaces alone"),
-    (b"\xEF\xBB\xBF> 80 00 00", 1, FORM, "column 1 begins a byte order mark: a trace is plain text without one"),
+    (b"> 0", 1, DIGITS, "column 4 is the end of the line: the last byte has only one digit"),
+    (b"> 80 0\n", 1, DIGITS, "column 7 is the end of the line: the last byte has only one digit"),
+    (b">\t80", 1, DIGITS, "column 2 is byte 09, a tab: put spaces between bytes"),
+    (b"< 0x80", 1, DIGITS, "column 4 is 'x': write bytes without '0x'"),
+    (b"< 80:00:00", 1, DIGITS, "column 5 is ':': put spaces between bytes"),
+    (b"> 80-00-00", 1, DIGITS, "column 5 is '-': put spaces between bytes"),
+    (b"\xEF\xBB\xBF> 80 00 00", 1, FORM, "column 1 has a byte order mark: save the trace as plain text without one"),
     (b"\xD4\xC3\xB2\xA1\x02\x00", 1, FORM, CAPTURE),
     (b"\n\r\r\n\x1C\x00", 2, FORM, CAPTURE),
     (b"\x1F\x8B\x08", 1, FORM, CAPTURE),

@@ -1,11 +1,10 @@
 //! Commands on a trace over devices that fail, and the longest trace.
 use std::alloc::{AllocError, Global};
 use std::test::Fail;
-use zvt_audit::audit;
 use zvt_diagnostics::write_notes;
 use zvt_grammar::Lengths;
 use zvt_io::{Counted, Failed, GhostCount, Sink, Source};
-use zvt_show::show;
+use zvt_tool::{audit, show};
 use zvt_trace::{ListenerError, Scope, TraceFault};
 
 /// Gives so many bytes of a remark, and then fails or ends.

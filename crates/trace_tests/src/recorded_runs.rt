@@ -6,13 +6,12 @@ use std::fmt::Write as FmtWrite;
 use std::io::{self, Write};
 use std::process::Abort;
 use std::test::Fail;
-use zvt_audit::audit;
 use zvt_bcd::{Amount, Currency};
 use zvt_io::{Counted, Failed, GhostCount, Source};
 use zvt_session::{Endpoint, Recorded, Way, end_trace};
-use zvt_show::show;
 use zvt_stream::Stream;
 use zvt_till::{Entry, Order, Till, run_order};
+use zvt_tool::{audit, show};
 
 const ACK: &[u8] = &[0x80, 0x00, 0x00];
 

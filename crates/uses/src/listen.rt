@@ -1,8 +1,8 @@
 //! Walks over a trace with a listener of its own, which counts the messages of each side.
 
 use std::io;
-use zvt_grammar::Lengths;
-use zvt_trace::{Direction, Listener, ListenerError, Scope, TraceEvent, walk};
+use zvt_io::Counted;
+use zvt_trace::{Direction, Listener, ListenerError, Scope, TraceEvent, read_trace, walk};
 
 /// A trace: the till asks for 12.34, and the terminal acknowledges the order.
 pub const TRACE: &[u8] = b"> 06 01 07 04 00 00 00 00 12 34\n< 80 00 00\n";
@@ -39,12 +39,22 @@ impl Listener<()> for Counts {
 }
 
 /// Prints how many messages each side of the trace sent, or why the trace can't be read.
-pub fn print_counts(rt: &HostRuntime, trace: &[u8]) -> io::Result<()> {
+pub fn print_counts(rt: &HostRuntime, text: &[u8]) -> io::Result<()> {
+    let trace = match read_trace(rt.alloc(), &mut Counted::new(text)) {
+        Ok(trace) => trace,
+        Err(fault) => return println!(rt; "listen: {fault}"),
+    };
     let mut counts = Counts {
         till: 0,
         terminal: 0,
     };
-    match walk(&mut counts, &mut (), rt.alloc(), Scope::OneSide, trace) {
+    match walk(
+        &mut counts,
+        &mut (),
+        rt.alloc(),
+        Scope::OneSide,
+        trace.as_slice(),
+    ) {
         Ok(_) => println!(rt;
             "listen: {} from the till, {} from the terminal",
             counts.till, counts.terminal

@@ -76,10 +76,7 @@ fn print_order<R: Source, W: Sink>(
 ) -> io::Result<()> {
     match run_order(rt.alloc(), line, till, order, TURNS) {
         Ok(Outcome::Registered) => println!(rt; "pay: registered"),
-        Ok(Outcome::Paid { trace, .. }) => println!(rt;
-            "pay: paid under the trace number {}",
-            trace.get()
-        ),
+        Ok(Outcome::Paid { .. }) => println!(rt; "pay: paid"),
         Ok(_) => println!(rt; "pay: the terminal did not do it"),
         Err(RunFault::Order(_)) => println!(rt; "pay: the till refused the order"),
         Err(RunFault::Line(_)) => println!(rt; "pay: the line broke"),

@@ -4,11 +4,12 @@ use Rattle.zvt_cli.specs.declared.choice.Choice.{Choice}
 use Rattle.zvt_cli.specs.declared.choice.Choice.TheVariants as choice
 use Rattle.zvt_grammar.specs.declared.lengths.Lengths.{Lengths}
 use Rattle.zvt_grammar.specs.declared.lengths.Lengths.TheVariants.{Shortest, Padded}
+use Rattle.zvt_show.specs.declared.render.Style.TheVariants.{Show, Join, Receipts}
 use Rattle.zvt.specs.declared.command.Command.{Command}
 use Rattle.zvt.specs.declared.command.Command.TheVariants.{OnTrace, Loop, Till, Terminal}
 use Rattle.zvt.specs.declared.command.TraceCommand.{TraceCommand}
 use Rattle.zvt.specs.declared.command.TraceWork.{TraceWork}
-use Rattle.zvt.specs.declared.command.TraceWork.TheVariants.{Show, Join, Audit, Receipts, Vectors}
+use Rattle.zvt.specs.declared.command.TraceWork.TheVariants.{Render, Audit, Vectors}
 
 abbrev pub lengths_by : (loose : Bool) → Lengths
 lengths_by false = Shortest
@@ -19,11 +20,11 @@ working work lengths = Some (record { work = work; lengths = lengths })
 
 -- what is written of a trace, and by which lengths, if the choice is a command on one; `normalise` joins what it reads loosely
 abbrev pub chosen_on_trace : Choice → Option TraceCommand
-chosen_on_trace (choice.Show file loose) = working Show (lengths_by loose)
-chosen_on_trace (choice.Join file) = working Join Shortest
-chosen_on_trace (choice.Normalise file) = working Join Padded
+chosen_on_trace (choice.Show file loose) = working (Render Show) (lengths_by loose)
+chosen_on_trace (choice.Join file) = working (Render Join) Shortest
+chosen_on_trace (choice.Normalise file) = working (Render Join) Padded
 chosen_on_trace (choice.Audit file loose) = working Audit (lengths_by loose)
-chosen_on_trace (choice.Receipts file loose) = working Receipts (lengths_by loose)
+chosen_on_trace (choice.Receipts file loose) = working (Render Receipts) (lengths_by loose)
 chosen_on_trace (choice.Vectors file) = working Vectors Shortest
 chosen_on_trace (choice.Loop trace steps) = None
 chosen_on_trace (choice.Till port host password config currency trace loose steps) = None

@@ -7,12 +7,10 @@ use Rattle.zvt_trace.specs.declared.listener.Scope.{Scope}
 use Rattle.zvt_trace.specs.declared.listener.Scope.TheVariants.{OneSide, WholeLine}
 use Rattle.zvt.specs.declared.command.TraceCommand.{TraceCommand}
 use Rattle.zvt.specs.declared.command.TraceWork.{TraceWork}
-use Rattle.zvt.specs.declared.command.TraceWork.TheVariants.{Show, Join, Audit, Receipts, Vectors}
+use Rattle.zvt.specs.declared.command.TraceWork.TheVariants.{Render, Audit, Vectors}
 
 abbrev pub scope_by : TraceWork → Option Scope
-scope_by Show = Some OneSide
-scope_by Join = Some OneSide
-scope_by Receipts = Some OneSide
+scope_by (Render style) = Some OneSide
 scope_by Audit = Some WholeLine
 scope_by Vectors = None
 

@@ -1,15 +1,14 @@
 -- What the commands on a trace answer.
-use Rattle.std.specs.Prelude.{◌≡◌, ℕ, List, [], Option, None, Some, Result, Ok, Err, codes}
+use Rattle.std.specs.Prelude.{ℕ, List, Option, Result, Ok, Err}
 use Rattle.std.specs.Str.Lines.{lines}
 use Rattle.zvt_grammar.specs.Reading.{Reading}
 use Rattle.zvt_grammar.specs.Lengths.{reading_of}
 use Rattle.zvt.specs.declared.command.TraceCommand.{TraceCommand}
 use Rattle.zvt.specs.declared.command.TraceWork.{TraceWork}
-use Rattle.zvt.specs.declared.command.TraceWork.TheVariants.{Show, Join, Audit, Receipts, Vectors}
+use Rattle.zvt.specs.declared.command.TraceWork.TheVariants.{Render, Audit, Vectors}
 use Rattle.zvt_audit.specs.Audited.{AnswersReadBy}
 use Rattle.zvt_audit.specs.declared.summary.AuditSummary.{AuditSummary}
 use Rattle.zvt_vectors.specs.Checked.{AnswersVectors}
-use Rattle.zvt_show.specs.Lines.{mark_of}
 use Rattle.zvt_show.specs.Written.{AnswersLinesBy}
 use Rattle.zvt_trace.specs.declared.fault.Tally.{Tally}
 use Rattle.zvt_trace.specs.declared.fault.TraceFault.{TraceFault}
@@ -18,16 +17,9 @@ abbrev pub tally_of : Result AuditSummary TraceFault → Result Tally TraceFault
 tally_of (Ok found) = Ok found.tally
 tally_of (Err fault) = Err fault
 
--- what is answered and written by that reading of lengths, in the style that marks its faults so
-abbrev pub AnswersMarked : Reading → Option (List ℕ) → (trace : List ℕ) → (old new : Option (List ℕ)) → Result Tally TraceFault → Type 0
-AnswersMarked r mark trace old new result = (style : _) × (mark_of style ≡ mark) × AnswersLinesBy r style (lines trace) old new result
-
--- What is answered and written of a trace by these lengths. Of the three styles `show` writes its faults as they are, `join`
--- as remarks, and `receipts` none.
+-- what is answered and written of a trace by these lengths
 abbrev pub AnswersWork : TraceWork → Reading → (trace : List ℕ) → (old new : Option (List ℕ)) → Result AuditSummary TraceFault → Type 0
-AnswersWork Show r trace old new result = AnswersMarked r (Some []) trace old new (tally_of result)
-AnswersWork Join r trace old new result = AnswersMarked r (Some (codes "# ")) trace old new (tally_of result)
-AnswersWork Receipts r trace old new result = AnswersMarked r None trace old new (tally_of result)
+AnswersWork (Render style) r trace old new result = AnswersLinesBy r style (lines trace) old new (tally_of result)
 AnswersWork Audit r trace old new result = AnswersReadBy r trace old new result
 AnswersWork Vectors r trace old new result = AnswersVectors trace old new (tally_of result)
 

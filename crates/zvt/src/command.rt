@@ -3,17 +3,19 @@ ghost use Rattle.std.specs.Prelude.{◌≡◌, Option, List};
 ghost use Rattle.clap.specs.Words.{Row, Text};
 ghost use Rattle.zvt_cli.specs.Chosen.{IsChoiceOf};
 ghost use Rattle.zvt.specs.Commands.{HasTerminalNumber, chosen_on_trace, lengths_by, on_trace, working};
+ghost use Rattle.zvt.specs.declared.command.TraceWork.TheVariants.{Render};
 
 use crate::settings::SettingWords;
-use zvt_tool::{Choice, Lengths};
+use zvt_tool::{Choice, Lengths, Style};
 
 /// What is written of a trace, or of vectors.
 #[derive(Clone, Copy, Debug, PartialEq, Eq)]
 pub enum TraceWork {
-    Show,
-    Join,
+    /// The text of the trace, in this style.
+    Render(Style),
+    /// The books of its payments.
     Audit,
-    Receipts,
+    /// The vectors to which the reader of messages gives another answer.
     Vectors,
 }
 
@@ -77,6 +79,14 @@ fn working<'a>(work: TraceWork, lengths: Lengths, file: Option<&'a str>) -> Comm
     Command::OnTrace(TraceCommand { work, lengths }, file)
 }
 
+/// A command that writes the text of the trace in that file.
+fn rendering<'a>(style: Style, lengths: Lengths, file: Option<&'a str>) -> Command<'a>
+    ensures on_trace { on_trace result ≡ working (Render style) lengths }
+    ensures number { HasTerminalNumber result }
+{
+    working(TraceWork::Render(style), lengths, file)
+}
+
 /// The command that was chosen.
 pub fn command_of<'a>(chosen: &'a Choice<'a>) -> Command<'a>
     requires { (reading : Option (Text × List Row)) × IsChoiceOf reading chosen.now }
@@ -84,11 +94,11 @@ pub fn command_of<'a>(chosen: &'a Choice<'a>) -> Command<'a>
     ensures number { HasTerminalNumber result }
 {
     match chosen {
-        Choice::Show { file, loose } => working(TraceWork::Show, lengths_by(*loose), *file),
-        Choice::Join { file } => working(TraceWork::Join, Lengths::Shortest, *file),
-        Choice::Normalise { file } => working(TraceWork::Join, Lengths::Padded, *file),
+        Choice::Show { file, loose } => rendering(Style::Show, lengths_by(*loose), *file),
+        Choice::Join { file } => rendering(Style::Join, Lengths::Shortest, *file),
+        Choice::Normalise { file } => rendering(Style::Join, Lengths::Padded, *file),
         Choice::Audit { file, loose } => working(TraceWork::Audit, lengths_by(*loose), *file),
-        Choice::Receipts { file, loose } => working(TraceWork::Receipts, lengths_by(*loose), *file),
+        Choice::Receipts { file, loose } => rendering(Style::Receipts, lengths_by(*loose), *file),
         Choice::Vectors { file } => working(TraceWork::Vectors, Lengths::Shortest, *file),
         Choice::Loop { trace, steps } => Command::Loop(*trace, steps.as_slice()),
         Choice::Till {

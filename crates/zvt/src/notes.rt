@@ -71,7 +71,7 @@ fn scope_of(command: &TraceCommand) -> Option<Scope>
     ensures { result ≡ scope_of command.now }
 {
     match command.work {
-        TraceWork::Show | TraceWork::Join | TraceWork::Receipts => Some(Scope::OneSide),
+        TraceWork::Render(_) => Some(Scope::OneSide),
         TraceWork::Audit => Some(Scope::WholeLine),
         TraceWork::Vectors => None,
     }

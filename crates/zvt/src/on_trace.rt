@@ -6,10 +6,7 @@ ghost use Rattle.zvt.specs.OnTrace.{AnswersOnTrace, tally_of};
 use crate::command::{TraceCommand, TraceWork};
 use std::alloc::Global;
 use zvt_io::{Counted, Sink};
-use zvt_tool::{
-    AuditSummary, Lengths, Tally, TraceFault, audit_loose, audit_trace, join_trace, receipts_trace,
-    show_trace, vectors,
-};
+use zvt_tool::{AuditSummary, Tally, TraceFault, audit_trace, render_trace, vectors};
 
 /// Does with the trace what the command says, and writes what comes of it.
 pub fn work_on_trace<W: Sink>(
@@ -24,13 +21,8 @@ pub fn work_on_trace<W: Sink>(
 {
     let lengths = command.lengths;
     match command.work {
-        TraceWork::Show => found(show_trace(alloc, lengths, trace, writer)),
-        TraceWork::Join => found(join_trace(alloc, lengths, trace, writer)),
-        TraceWork::Receipts => found(receipts_trace(alloc, lengths, trace, writer)),
-        TraceWork::Audit => match lengths {
-            Lengths::Shortest => audit_trace(alloc, trace, writer),
-            Lengths::Padded => audit_loose(alloc, trace, writer),
-        },
+        TraceWork::Render(style) => found(render_trace(alloc, style, lengths, trace, writer)),
+        TraceWork::Audit => audit_trace(alloc, lengths, trace, writer),
         TraceWork::Vectors => found(vectors(alloc, &mut Counted::new(trace), writer)),
     }
 }

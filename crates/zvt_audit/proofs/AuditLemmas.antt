@@ -1,15 +1,15 @@
--- The books of what a walk tells.
+-- The books of what a walk emits.
 use Rattle.std.proofs.Common.{◌≡◌, inl, inr, ℕ, ◌≤◌, Bool, true, false, not, ◌&&◌, ◌||◌, List, [], ◌∷◌, ◌++◌, Option, Some, None, Ok, Err, length, refl, sym, ◌∙◌, ap, subst, append_assoc, append-nil}
 use Rattle.std.specs.List.{flat_map}
 use Rattle.std.specs.Io.KnownBytes.{Appends, Keeps}
 use Rattle.std.specs.Prelude.{IfSome}
 use Rattle.std.specs.Str.Lines.{lines}
-use Rattle.zvt_grammar.specs.Reading.{Reading, shortest}
+use Rattle.zvt_grammar.specs.Reading.{Reading}
 use Rattle.zvt_till.specs.Books.{Books, books}
 use Rattle.zvt_till.specs.Judging.{BooksSoFar, HasJudged}
 use Rattle.zvt_till.specs.declared.happenings.Happening.{Happening}
 use Rattle.zvt_till.specs.declared.happenings.Happening.TheVariants.{Connected}
-use Rattle.zvt_trace.specs.Listening.{AnswersWalkBy, Fails, Hears, HearsAll, Stops}
+use Rattle.zvt_trace.specs.Listening.{AnswersWalk, Fails, Hears, HearsAll, Stops}
 use Rattle.zvt_trace.specs.TraceEvent.{At}
 use Rattle.zvt_trace.specs.Emitting.{EventsSoFar}
 use Rattle.zvt_trace.specs.Written.{AppendsPrefix, limit}
@@ -19,7 +19,7 @@ use Rattle.zvt_trace.specs.declared.fault.TraceFault.{TraceFault}
 use Rattle.zvt_trace.specs.declared.fault.TraceFault.TheVariants.{Memory, Read, TooLong, Trace, Write}
 use Rattle.zvt_trace.specs.declared.listener.ListenerError.TheVariants as failure
 use Rattle.zvt_trace.specs.declared.listener.Scope.TheVariants.{WholeLine}
-use Rattle.zvt_audit.specs.Audited.{AnswersAudit, AnswersReadBy, Takes}
+use Rattle.zvt_audit.specs.Audited.{AnswersAuditBy, AnswersReadBy, Takes}
 use Rattle.zvt_audit.specs.Booked.{books_text}
 use Rattle.zvt_audit.specs.Happened.{happenings_of, log_of}
 use Rattle.zvt_audit.specs.Orders.{are_swapped, is_order_from, noticed, orders_from}
@@ -90,7 +90,7 @@ keeps_same (Some bytes) = refl
 
 pub audited : {S : Type 0} {r : Reading} (books_of : S → BooksSoFar) (orders : S → Orders) (trace : List ℕ) (answer : AuditSummary) (old new : Option (List ℕ)) (first : BooksSoFar) (connected closed : S) (found : Books) (text : List ℕ)
     → HasJudged [] first → Takes first (books_of connected) (Connected ∷ []) → (orders connected).till ≡ false → (orders connected).terminal ≡ false
-    → AnswersWalkBy r (hears books_of orders) wants_memory WholeLine (lines trace) connected closed (Ok answer.tally) → answer.swapped ≡ (not (orders closed).till && (orders closed).terminal)
+    → AnswersWalk r (hears books_of orders) wants_memory WholeLine (lines trace) connected closed (Ok answer.tally) → answer.swapped ≡ (not (orders closed).till && (orders closed).terminal)
     → ((log : List Happening) → HasJudged log (books_of closed) → found ≡ books log) → text ≡ books_text found → Appends old new text
     → AnswersReadBy r trace old new (Ok answer)
 audited books_of orders trace answer old new first connected closed found text start connects till terminal walked is_swapped closes says appended =
@@ -103,7 +103,7 @@ audited books_of orders trace answer old new first connected closed found text s
     )
 
 pub audit_failed : {S : Type 0} {r : Reading} (books_of : S → BooksSoFar) (orders : S → Orders) (trace : List ℕ) (tally : Tally) (old new : Option (List ℕ)) (first : BooksSoFar) (connected closed : S) (found : Books) (text : List ℕ)
-    → HasJudged [] first → Takes first (books_of connected) (Connected ∷ []) → AnswersWalkBy r (hears books_of orders) wants_memory WholeLine (lines trace) connected closed (Ok tally)
+    → HasJudged [] first → Takes first (books_of connected) (Connected ∷ []) → AnswersWalk r (hears books_of orders) wants_memory WholeLine (lines trace) connected closed (Ok tally)
     → ((log : List Happening) → HasJudged log (books_of closed) → found ≡ books log) → text ≡ books_text found → AppendsPrefix old new text
     → AnswersReadBy r trace old new (Err Write)
 audit_failed books_of orders trace tally old new first connected closed found text start connects walked closes says prefix =
@@ -113,7 +113,7 @@ audit_failed books_of orders trace tally old new first connected closed found te
 -- ---- where the walk fails
 
 -- an auditor writes nothing, so no write fails
-pub no_write : {S : Type 0} {r : Reading} (books_of : S → BooksSoFar) (orders : S → Orders) (lines : List (List ℕ)) (old new : S) → AnswersWalkBy r (hears books_of orders) wants_memory WholeLine lines old new (Err Write) → ⊥
+pub no_write : {S : Type 0} {r : Reading} (books_of : S → BooksSoFar) (orders : S → Orders) (lines : List (List ℕ)) (old new : S) → AnswersWalk r (hears books_of orders) wants_memory WholeLine lines old new (Err Write) → ⊥
 no_write {S = S} {r = r} books_of orders lines old new failed = by failed.stops
   where
     differ : failure.Write ≡ failure.Memory → ⊥
@@ -124,7 +124,7 @@ no_write {S = S} {r = r} books_of orders lines old new failed = by failed.stops
     by (inr (event, so_far, left)) = differ left
 
 pub walk_failed : {S : Type 0} (r : Reading) (books_of : S → BooksSoFar) (orders : S → Orders) (trace : List ℕ) (fault : TraceFault) (held : Option (List ℕ)) (old new : S)
-    → AnswersWalkBy r (hears books_of orders) wants_memory WholeLine (lines trace) old new (Err fault) → AnswersReadBy r trace held held (Err fault)
+    → AnswersWalk r (hears books_of orders) wants_memory WholeLine (lines trace) old new (Err fault) → AnswersReadBy r trace held held (Err fault)
 walk_failed r books_of orders trace (Trace number what) held old new walked = (walked.0, walked.1, keeps_same held)
 walk_failed r books_of orders trace Memory held old new walked = keeps_same held
 walk_failed r books_of orders trace Write held old new walked = absurd (no_write books_of orders (lines trace) old new walked)
@@ -133,20 +133,20 @@ walk_failed r books_of orders trace Read held old new never = absurd never
 
 -- ---- a trace that is read first
 
-pub read_audited : (left : Option (List ℕ)) (trace slice : List ℕ) (old new : Option (List ℕ)) (found : AuditSummary) → IfSome left (λ bytes. trace ≡ bytes) → length trace ≤ limit → slice ≡ trace
-    → AnswersReadBy shortest slice old new (Ok found) → IfSome left (λ bytes. AnswersAudit bytes old new (Ok found.tally))
-read_audited None trace slice old new found read few same answers = tt
-read_audited (Some bytes) trace slice old new found read few same answers =
-    let here = subst (λ (b : List ℕ). AnswersReadBy shortest b old new (Ok found)) same answers in
-    subst (λ (b : List ℕ). AnswersAudit b old new (Ok found.tally)) read (few, (here.0, here.1, here.2, here.3))
+pub read_audited : (r : Reading) (left : Option (List ℕ)) (trace slice : List ℕ) (old new : Option (List ℕ)) (found : AuditSummary) → IfSome left (λ bytes. trace ≡ bytes) → length trace ≤ limit → slice ≡ trace
+    → AnswersReadBy r slice old new (Ok found) → IfSome left (λ bytes. AnswersAuditBy r bytes old new (Ok found.tally))
+read_audited r None trace slice old new found read few same answers = tt
+read_audited r (Some bytes) trace slice old new found read few same answers =
+    let here = subst (λ (b : List ℕ). AnswersReadBy r b old new (Ok found)) same answers in
+    subst (λ (b : List ℕ). AnswersAuditBy r b old new (Ok found.tally)) read (few, (here.0, here.1, here.2, here.3))
 
-pub read_failed : (left : Option (List ℕ)) (trace slice : List ℕ) (old new : Option (List ℕ)) (fault : TraceFault) → IfSome left (λ bytes. trace ≡ bytes) → length trace ≤ limit → slice ≡ trace
-    → AnswersReadBy shortest slice old new (Err fault) → IfSome left (λ bytes. AnswersAudit bytes old new (Err fault))
-read_failed None trace slice old new fault read few same answers = tt
-read_failed (Some bytes) trace slice old new fault read few same answers =
-    subst (λ (b : List ℕ). AnswersAudit b old new (Err fault)) read (by fault (subst (λ (b : List ℕ). AnswersReadBy shortest b old new (Err fault)) same answers))
+pub read_failed : (r : Reading) (left : Option (List ℕ)) (trace slice : List ℕ) (old new : Option (List ℕ)) (fault : TraceFault) → IfSome left (λ bytes. trace ≡ bytes) → length trace ≤ limit → slice ≡ trace
+    → AnswersReadBy r slice old new (Err fault) → IfSome left (λ bytes. AnswersAuditBy r bytes old new (Err fault))
+read_failed r None trace slice old new fault read few same answers = tt
+read_failed r (Some bytes) trace slice old new fault read few same answers =
+    subst (λ (b : List ℕ). AnswersAuditBy r b old new (Err fault)) read (by fault (subst (λ (b : List ℕ). AnswersReadBy r b old new (Err fault)) same answers))
   where
-    by : (fault : TraceFault) → AnswersReadBy shortest trace old new (Err fault) → AnswersAudit trace old new (Err fault)
+    by : (fault : TraceFault) → AnswersReadBy r trace old new (Err fault) → AnswersAuditBy r trace old new (Err fault)
     by (Trace number what) answers = (few, answers.0, answers.1, answers.2)
     by Memory answers = answers
     by Write answers = (few, answers.0, answers.1, answers.2)

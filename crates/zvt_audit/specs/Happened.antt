@@ -1,4 +1,4 @@
--- What a trace tells, as happenings on a till's line.
+-- What a trace emits, as happenings on a till's line.
 use Rattle.std.specs.Prelude.{ℕ, List, [], ◌∷◌, Option, Some, None, option_map}
 use Rattle.std.specs.List.{cons_option, flat_map}
 use Rattle.zvt_field.specs.Named.{amount_of}
@@ -43,7 +43,7 @@ abbrev pub happened : Direction → Message → Option Happening
 happened FromTill message = option_map SentOut (ordered message)
 happened FromTerminal message = Some (HeardIn (heard_as message))
 
--- ---- all that is told
+-- ---- all events
 
 -- Bytes that are refused make the line malformed. What is cut off by that, or where the line is lost, the till never heard,
 -- and no more what is not read.
@@ -54,6 +54,6 @@ happenings_of (trace_event.unread from) = []
 happenings_of (trace_event.cut_off from head have) = []
 happenings_of trace_event.lost = Lost ∷ Connected ∷ []
 
--- the log of a till that is connected, and then lives through what is told
+-- the log of a till that is connected, and then lives through the events
 abbrev pub log_of : List At → List Happening
 log_of events = Connected ∷ flat_map (λ (event : At). happenings_of event.trace_event) events

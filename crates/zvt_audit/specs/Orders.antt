@@ -31,7 +31,7 @@ ordered_from FromTill FromTerminal message = false
 ordered_from FromTerminal FromTill message = false
 ordered_from FromTerminal FromTerminal message = is_order message
 
--- what is told is an order from that side
+-- the event is an order from that side
 abbrev pub is_order_from : Direction → TraceEvent → Bool
 is_order_from side (trace_event.message from m) = ordered_from side from m
 is_order_from side (trace_event.refused from head byte place why) = false

@@ -1,4 +1,4 @@
-//! Books of what a trace tells.
+//! The books of the events of a trace.
 ghost use Rattle.std.specs.Prelude.{◌≡◌, ◌∷◌, [], OnOk};
 ghost use Rattle.zvt_till.specs.declared.happenings.Happening.TheVariants.{Connected, Lost, Malformed};
 ghost use Rattle.zvt_audit.specs.Audited.{Takes};
@@ -11,7 +11,7 @@ use zvt_till::Happening;
 use zvt_till::books::Bookkeeping;
 use zvt_trace::{Direction, Listener, ListenerError, TraceEvent};
 
-/// Judges what happened on the line as it is told, and notices who sends orders. It writes to no device.
+/// Judges the events of a trace as happenings of a till, and notices who sends orders. It writes to no device.
 #[derive(Drop)]
 pub(crate) struct Auditor {
     pub(crate) books: Bookkeeping,

@@ -23,10 +23,7 @@ pub(crate) fn ordered(apdu: &ApduView<'_>) -> Option<Sent>
 {
     match apdu.kind() {
         Kind::Registration => Some(Sent::Register(apdu.currency())),
-        Kind::Authorisation => match apdu.fields() {
-            Some(fields) => Some(paid(&fields)),
-            None => unreachable!(),
-        },
+        Kind::Authorisation => Some(paid(&apdu.fields()?)),
         Kind::AbortOrder => Some(Sent::Cancel),
         Kind::EndOfDay => Some(Sent::CloseDay),
         Kind::Reversal | Kind::Other => Some(Sent::Foreign),

@@ -7,4 +7,4 @@ mod happened;
 mod orders;
 mod summary;
 
-pub use summary::{AuditSummary, audit, audit_loose, audit_trace};
+pub use summary::{AuditSummary, audit_trace};

@@ -1,20 +1,19 @@
 //! The books of a whole trace.
-ghost use Rattle.std.specs.Prelude.{◌≡◌, ◌<◌, ◌≤◌, length, Err, IfSome};
-ghost use Rattle.zvt_grammar.specs.Reading.{padded};
+ghost use Rattle.std.specs.Prelude.{◌≡◌, ◌<◌, ◌≤◌, length, Err};
 ghost use Rattle.zvt_grammar.specs.Lengths.{reading_of};
 ghost use Rattle.zvt_trace.specs.Written.{limit};
-ghost use Rattle.zvt_audit.specs.Audited.{AnswersAudit, AnswersRead, AnswersReadBy};
+ghost use Rattle.zvt_audit.specs.Audited.{AnswersReadBy};
 
 use crate::auditor::Auditor;
 use crate::booked;
 use crate::orders::Orders;
 use std::alloc::Global;
 use zvt_grammar::Lengths;
-use zvt_io::{Sink, Source};
+use zvt_io::Sink;
 use zvt_text::Text;
 use zvt_till::Happening;
 use zvt_till::books::Bookkeeping;
-use zvt_trace::{Scope, Tally, TraceFault, read_trace, walk_by};
+use zvt_trace::{Scope, Tally, TraceFault, walk};
 
 /// What an audit found besides the books.
 #[derive(Clone, Copy, Debug, PartialEq, Eq)]
@@ -26,56 +25,15 @@ pub struct AuditSummary {
 
 /// Writes the books of the trace: a line for each payment that was completed, then one for each of which it is not
 /// known whether it happened, and the sum of the former in the smallest unit of the currency. Payments that were taken
-/// back count too.
+/// back count too. The trace may have such lengths.
 ///
 /// The till's orders and the terminal's messages are judged as a till's log that begins with its connection. Where bytes
 /// of either side are refused, neither is read until the line is lost. A stream that is refused or cut off counts as
 /// bad.
 ///
-/// The text is written once, at the end. Nothing is written where a line can't be read, where the trace is too long or
-/// can't be read to its end, and where there is too little memory.
-pub fn audit<R: Source, W: Sink>(
-    alloc: Global,
-    reader: &mut R,
-    writer: &mut W,
-) -> Result<Tally, TraceFault>
-    ensures writes { IfSome (R.remaining reader.old) (λ trace. AnswersAudit trace (W.written writer.old) (W.written writer.new) result) }
-    ensures read { result ≡ Err TraceFault.Read → R.failures reader.old < R.failures reader.new }
-    ensures write { result ≡ Err TraceFault.Write → W.failures writer.old < W.failures writer.new }
-{
-    let trace = read_trace(alloc, reader)?;
-    let audited = audit_trace(alloc, trace.as_slice(), writer)?;
-    Ok(audited.tally)
-}
-
-/// Audits a trace in memory, and writes what [`audit`] writes of it.
+/// The text is written once, at the end. Nothing is written where a line can't be read, and where there is too little
+/// memory.
 pub fn audit_trace<W: Sink>(
-    alloc: Global,
-    trace: &[u8],
-    writer: &mut W,
-) -> Result<AuditSummary, TraceFault>
-    requires { length trace.now ≤ limit }
-    ensures writes { AnswersRead trace.now (W.written writer.old) (W.written writer.new) result }
-    ensures write { result ≡ Err TraceFault.Write → W.failures writer.old < W.failures writer.new }
-{
-    audit_by(alloc, Lengths::Shortest, trace, writer)
-}
-
-/// Audits a trace in memory, whose lengths may stand in any form that holds them, as [`audit_trace`] does.
-pub fn audit_loose<W: Sink>(
-    alloc: Global,
-    trace: &[u8],
-    writer: &mut W,
-) -> Result<AuditSummary, TraceFault>
-    requires { length trace.now ≤ limit }
-    ensures writes { AnswersReadBy padded trace.now (W.written writer.old) (W.written writer.new) result }
-    ensures write { result ≡ Err TraceFault.Write → W.failures writer.old < W.failures writer.new }
-{
-    audit_by(alloc, Lengths::Padded, trace, writer)
-}
-
-/// Audits streams that take such lengths.
-fn audit_by<W: Sink>(
     alloc: Global,
     lengths: Lengths,
     trace: &[u8],
@@ -91,7 +49,7 @@ fn audit_by<W: Sink>(
         books,
         orders: Orders::none(),
     };
-    let tally = walk_by(
+    let tally = walk(
         &mut auditor,
         &mut (),
         alloc,

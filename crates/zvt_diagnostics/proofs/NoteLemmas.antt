@@ -1,10 +1,10 @@
--- The notes of what a walk tells.
+-- The notes of what a walk emits.
 use Rattle.std.proofs.Common.{◌≡◌, arith, inl, inr, ℕ, List, [], ◌∷◌, ◌++◌, Result, Option, Ok, Err, refl, sym, ◌∙◌, ap, subst, append_assoc, append-nil}
 use Rattle.std.specs.List.{flat_map}
 use Rattle.std.specs.Io.KnownBytes.{Appends}
 use Rattle.std.proofs.lemmas.List.Concat.{flat_map-cons}
 use Rattle.zvt_grammar.specs.Reading.{Reading}
-use Rattle.zvt_trace.specs.Listening.{AnswersWalkBy, Fails, Hears, HearsAll, Stops}
+use Rattle.zvt_trace.specs.Listening.{AnswersWalk, Fails, Hears, HearsAll, Stops}
 use Rattle.zvt_trace.specs.TraceEvent.{At, TraceEvent, message_count, messages_in, on}
 use Rattle.zvt_trace.specs.TraceEvent as trace_event
 use Rattle.zvt_trace.specs.Emitting.{EventsSoFar}
@@ -21,7 +21,7 @@ use Rattle.zvt_diagnostics.specs.declared.counts.Counts.{Counts}
 use Rattle.zvt_diagnostics.specs.declared.notes.Notes.{Notes}
 use Rattle.zvt_diagnostics.proofs.CountLemmas.{Counted, totals}
 
--- ---- the text that is still to come, behind what was told since the line was made
+-- ---- the text that is still to come, after what was emitted since the line was made
 
 abbrev rest_text : Scope → List At → Lives → List ℕ
 rest_text scope since all = (flat_map note_text all.first ++ unread_of scope (since ++ all.first)) ++ flat_map (life_text scope) all.later
@@ -54,7 +54,7 @@ notes view old event new = Noted (view old) (view new) event
 abbrev pub wants_memory : {S : Type 0} → Fails S
 wants_memory old event why new = why ≡ failure.Memory
 
--- what has been told since the line was made last, and what the notes say
+-- what has been emitted since the line was made last, and what the notes say
 record Says (of : Scope) (since events : List At) (old new : Notes) : Type 0 where
   pub now : List At
   pub scope : new.scope ≡ of
@@ -83,7 +83,7 @@ says view scope (event ∷ events) since old new is trailing some =
           ∙ ap (λ (l : List ℕ). (view old).text ++ l) (one_said scope since event.line event.trace_event (lives events));
     }
 
--- ---- how much was told
+-- ---- how much was emitted
 
 messages_step : (old : Counts) (event : TraceEvent) → Counted old.messages (counted_more old event).messages (message_count event)
 messages_step old (trace_event.message from m) = inl refl
@@ -115,7 +115,7 @@ cut_off_step old trace_event.lost = inr (refl, refl)
 cut_off_counted : (old new : Notes) (event : At) → Noted old new event → Counted old.counts.cut_off new.counts.cut_off (cut_off_count event.trace_event)
 cut_off_counted old new event noted = subst (λ (c : Counts). Counted old.counts.cut_off c.cut_off (cut_off_count event.trace_event)) (sym noted.counts) (cut_off_step old.counts event.trace_event)
 
--- nothing was told
+-- nothing was emitted
 pub record AtStart (of : Scope) (notes : Notes) : Type 0 where
   pub scope : notes.scope ≡ of
   pub text : notes.text ≡ []
@@ -144,7 +144,7 @@ all_said {S = S} view scope events old new text start heard closes =
 
 -- ---- what a walk answers
 
-heard_all : {S : Type 0} (r : Reading) (view : S → Notes) (scope : Scope) (lines : List (List ℕ)) (answer : Result Tally TraceFault) (old new : S) → (answer ≡ Err Memory → ⊥) → AnswersWalkBy r (notes view) wants_memory scope lines old new answer
+heard_all : {S : Type 0} (r : Reading) (view : S → Notes) (scope : Scope) (lines : List (List ℕ)) (answer : Result Tally TraceFault) (old new : S) → (answer ≡ Err Memory → ⊥) → AnswersWalk r (notes view) wants_memory scope lines old new answer
     → (events : List At) × EmitsAll r scope lines events × HearsAll (notes view) old events new
 heard_all r view scope lines (Ok tally) old new some walked = (walked.0, inl walked.1, walked.2)
 heard_all r view scope lines (Err (Trace number what)) old new some walked = (walked.0, inr (number, what, walked.1), walked.2)
@@ -160,14 +160,14 @@ heard_all r view scope lines (Err Read) old new some never = absurd never
 -- ---- what is written
 
 pub answered : {S : Type 0} (r : Reading) (view : S → Notes) (scope : Scope) (lines : List (List ℕ)) (answer : Result Tally TraceFault) (old new : S) (text written : List ℕ) (first now : Option (List ℕ)) (done : Unit {0})
-    → AtStart scope (view old) → (answer ≡ Err Memory → ⊥) → AnswersWalkBy r (notes view) wants_memory scope lines old new answer → Closes (view new) text
+    → AtStart scope (view old) → (answer ≡ Err Memory → ⊥) → AnswersWalk r (notes view) wants_memory scope lines old new answer → Closes (view new) text
     → written ≡ text → Appends first now written → AnswersNotes r scope lines first now (Ok done)
 answered r view scope lines answer old new text written first now done start some walked closes same appended =
     let heard = heard_all r view scope lines answer old new some walked in
     (heard.0, heard.1, subst (λ (t : List ℕ). Appends first now t) (same ∙ all_said view scope heard.0 old new text start heard.2 closes) appended)
 
 pub unwritten : {S : Type 0} (r : Reading) (view : S → Notes) (scope : Scope) (lines : List (List ℕ)) (answer : Result Tally TraceFault) (old new : S) (text written : List ℕ) (first now : Option (List ℕ))
-    → AtStart scope (view old) → (answer ≡ Err Memory → ⊥) → AnswersWalkBy r (notes view) wants_memory scope lines old new answer → Closes (view new) text
+    → AtStart scope (view old) → (answer ≡ Err Memory → ⊥) → AnswersWalk r (notes view) wants_memory scope lines old new answer → Closes (view new) text
     → written ≡ text → AppendsPrefix first now written → AnswersNotes r scope lines first now (Err failure.Write)
 unwritten r view scope lines answer old new text written first now start some walked closes same prefix =
     let heard = heard_all r view scope lines answer old new some walked in

@@ -13,7 +13,7 @@ pub adds_ok : (r : Result (Unit {0}) AllocError) (old new text : List ℕ) → A
 adds_ok (Ok u) old new text adds = adds
 adds_ok (Err e) old new text adds = tt
 
--- one part behind another
+-- one part after another
 pub two_parts : (r : Result (Unit {0}) AllocError) (old middle new a b : List ℕ) → middle ≡ old ++ a → OnOk r (new ≡ middle ++ b) → OnOk r (new ≡ old ++ (a ++ b))
 two_parts r old middle new a b first second = on_ok_weaker r (λ e. e ∙ ap (λ l. l ++ b) first ∙ append_assoc old a b) second
 

@@ -8,7 +8,7 @@ use Rattle.zvt_diagnostics.specs.declared.hint.Hint.TheVariants.{Capture, Charac
 use Rattle.zvt_diagnostics.specs.declared.hint.Reason.{Reason}
 use Rattle.zvt_diagnostics.specs.declared.hint.Reason.TheVariants.{Plain, Prefix, Separator, Tab}
 
--- ---- what stands at the front
+-- ---- the first bytes
 
 -- of a capture: pcap in either order of bytes, pcapng, and either of them compressed by gzip
 abbrev pub is_capture : List ℕ → Bool
@@ -27,7 +27,7 @@ is_marked line = starts_with nat_eq line (0xEF ∷ 0xBB ∷ 0xBF ∷ []) || star
 abbrev pub is_separator : ℕ → Bool
 is_separator byte = byte == 58 || byte == 45
 
--- an x behind a 0
+-- an x after a 0
 abbrev pub is_prefix : (before byte : ℕ) → Bool
 is_prefix before byte = before == 48 && (byte == 120 || byte == 88)
 
@@ -46,7 +46,7 @@ is_strange byte = not (is_some (hex_digit_value byte)) && not (byte == 32)
 abbrev pub is_no_space : ℕ → Bool
 is_no_space byte = not (byte == 32)
 
--- Of the text behind the direction: its first character that is none of a hexadecimal text, or a byte that lacks a digit.
+-- Of the text after the direction: its first character that is none of a hexadecimal text, or a byte that lacks a digit.
 -- Columns are counted from 1, at the direction.
 abbrev pub strange_hint : List ℕ → Option ℕ → Option Hint
 strange_hint text (Some at) = hint_at (at + 2) (slice_index text (at - 1)) (slice_index text at)
@@ -72,7 +72,7 @@ line_hint (first ∷ rest) =
 abbrev pub hint_of : (trace line : List ℕ) → Option Hint
 hint_of trace line = if is_capture trace then Some Capture else if is_marked line then Some Mark else line_hint line
 
--- of the line behind so many others
+-- of the line after so many others
 abbrev pub hint_on : (trace : List ℕ) → ℕ → List (List ℕ) → Option Hint
 hint_on trace n [] = None
 hint_on trace zero (line ∷ lines) = hint_of trace line
@@ -87,13 +87,13 @@ character_text byte =
     else codes "byte " ++ padded_integral (format_spec 32 0 4 2 (2 ^ 64 - 1)) false [] (digits 16 true byte)
 
 abbrev pub reason_text : Reason → List ℕ
-reason_text Tab = codes ", a tab: between bytes stand spaces alone"
-reason_text Prefix = codes ": bytes are written without '0x'"
-reason_text Separator = codes ": between bytes stand spaces alone"
+reason_text Tab = codes ", a tab: put spaces between bytes"
+reason_text Prefix = codes ": write bytes without '0x'"
+reason_text Separator = codes ": put spaces between bytes"
 reason_text Plain = []
 
 abbrev pub hint_text : Hint → List ℕ
-hint_text Capture = codes "a capture: see 'From a capture to a trace' in docs/FORMAT.md"
-hint_text Mark = codes "column 1 begins a byte order mark: a trace is plain text without one"
+hint_text Capture = codes "the input is a capture, not a trace: see 'From a capture to a trace' in docs/FORMAT.md"
+hint_text Mark = codes "column 1 has a byte order mark: save the trace as plain text without one"
 hint_text (Character column byte reason) = codes "column " ++ decimal column ++ codes " is " ++ character_text byte ++ reason_text reason
-hint_text (HalfByte column) = codes "column " ++ decimal column ++ codes " is the end of the line: the last byte has one digit alone"
+hint_text (HalfByte column) = codes "column " ++ decimal column ++ codes " is the end of the line: the last byte has only one digit"

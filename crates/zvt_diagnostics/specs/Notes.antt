@@ -1,4 +1,4 @@
--- What is said of what is bad in a trace, by all that the trace tells.
+-- What is said of what is bad in a trace, by all events of the trace.
 use Rattle.std.specs.Prelude.{ℕ, zero, suc, ◌-◌, ◌^◌, ◌==◌, min, Bool, true, false, List, [], ◌∷◌, ◌++◌, length, map, codes, if◌then◌else◌}
 use Rattle.std.specs.Fmt.{decimal}
 use Rattle.std.specs.List.{filter, flat_map, sum_by}
@@ -67,7 +67,7 @@ place_text place byte = codes " refused at " ++ decimal place ++ codes ", byte "
 abbrev pub reason_text : Why → List ℕ
 reason_text why = codes ": " ++ why_name why ++ 10 ∷ []
 
--- of the bytes behind the control bytes the fatal one alone is written
+-- of the bytes after the control bytes the fatal one alone is written
 abbrev pub refused_note : ℕ → Direction → Head → (byte place : ℕ) → Why → List ℕ
 refused_note line from head byte place why =
     begun_text line from head ++ place_text place byte ++ reason_text why
@@ -123,7 +123,7 @@ abbrev pub unread_count : Scope → Direction → ℕ → List ℕ
 unread_count scope side count = codes "zvt: " ++ counted count (codes "line") ++ side_mark scope side
 
 abbrev pub last_text : ℕ → List ℕ
-last_text last = codes " not read trailing that, up to line " ++ decimal last ++ 10 ∷ []
+last_text last = codes " not read after that, up to line " ++ decimal last ++ 10 ∷ []
 
 abbrev pub unread_words : Scope → Direction → (count last : ℕ) → List ℕ
 unread_words scope side count last = unread_count scope side count ++ last_text last
@@ -141,7 +141,7 @@ unread_of scope events = unread_text scope FromTill events ++ unread_text scope 
 
 -- ---- from the line's beginning to its loss
 
--- what is told up to the first loss, and from each loss to the next or to the end
+-- the events up to the first loss, and from each loss to the next or to the end
 pub record Lives : Type 0 where
   pub first : List At
   pub later : List (List At)
@@ -160,7 +160,7 @@ abbrev pub lives : List At → Lives
 lives [] = record { first = []; later = [] }
 lives (event ∷ events) = with_event event.line event.trace_event (lives events)
 
--- a note for each thing that is bad, and then what was not read behind it
+-- a note for each thing that is bad, and then what was not read after it
 abbrev pub life_text : Scope → List At → List ℕ
 life_text scope life = flat_map note_text life ++ unread_of scope life
 

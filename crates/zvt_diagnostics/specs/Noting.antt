@@ -36,7 +36,7 @@ counted_more counts trace_event.lost = counts
 
 -- ---- one thing
 
--- what has been told since the line was made, once this is told
+-- the events since the line was made, with this one
 abbrev pub events_since : List At → (line : ℕ) → TraceEvent → List At
 events_since events line (trace_event.message from m) = events ++ on line (trace_event.message from m) ∷ []
 events_since events line (trace_event.refused from head byte place why) = events ++ on line (trace_event.refused from head byte place why) ∷ []

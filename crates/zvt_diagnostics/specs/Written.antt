@@ -11,12 +11,12 @@ use Rattle.zvt_trace.specs.declared.listener.ListenerError.TheVariants.{Memory, 
 use Rattle.zvt_trace.specs.declared.listener.Scope.{Scope}
 use Rattle.zvt_diagnostics.specs.Notes.{notes_text}
 
--- all that the trace tells, or the lines before one that can't be read
+-- all events of the trace, or the lines before one that can't be read
 abbrev pub EmitsAll : Reading → Scope → List (List ℕ) → List At → Type 0
 EmitsAll r scope lines events = WholeTrace r scope lines events ⊎ ((number : ℕ) × (what : TraceLineError) × BrokenTrace r scope lines number what events)
 
--- The device has besides the notes of all that is told. Where memory is refused nothing is written, and of a write that
--- failed a front of the notes.
+-- The device has besides the notes of all events. Where memory is refused nothing is written, and of a write that
+-- failed a prefix of the notes.
 abbrev pub AnswersNotes : Reading → Scope → List (List ℕ) → (old new : Option (List ℕ)) → Result Unit ListenerError → Type 0
 AnswersNotes r scope lines old new (Ok done) = (events : List At) × EmitsAll r scope lines events × Appends old new (notes_text scope events)
 AnswersNotes r scope lines old new (Err Write) = (events : List At) × EmitsAll r scope lines events × AppendsPrefix old new (notes_text scope events)

@@ -29,7 +29,7 @@ impl Counts {
         }
     }
 
-    /// Counts what is told.
+    /// Counts an event.
     pub(crate) fn add(&mut self, trace_event: &TraceEvent<'_>)
         ensures { self.new ≡ counted_more self.old (event_of trace_event.now) }
     {

@@ -100,7 +100,7 @@ fn line_hint(line: &[u8]) -> Option<Hint>
     }
 }
 
-/// Why the text behind a direction can't be read.
+/// Why the text after a direction can't be read.
 fn piece_hint(text: &[u8]) -> Option<Hint>
     ensures { result ≡ piece_hint text.now }
 {
@@ -141,7 +141,7 @@ fn is_strange(byte: u8) -> bool
     !byte.is_ascii_hexdigit() && byte != b' '
 }
 
-/// The hint of a character in that column, behind another.
+/// The hint of a character in that column, after another.
 fn hint_at(column: usize, before: u8, byte: u8) -> Hint
     ensures { Some result ≡ hint_at column before byte }
 {
@@ -167,10 +167,10 @@ impl fmt::Display for Hint {
     fn fmt<W: fmt::Write>(&self, f: &mut fmt::Formatter<W>) -> fmt::Result {
         match *self {
             Hint::Capture => {
-                f.write_str("a capture: see 'From a capture to a trace' in docs/FORMAT.md")
+                f.write_str("the input is a capture, not a trace: see 'From a capture to a trace' in docs/FORMAT.md")
             }
             Hint::Mark => {
-                f.write_str("column 1 begins a byte order mark: a trace is plain text without one")
+                f.write_str("column 1 has a byte order mark: save the trace as plain text without one")
             }
             Hint::Character {
                 column,
@@ -182,7 +182,7 @@ impl fmt::Display for Hint {
             }
             Hint::HalfByte { column } => write!(
                 f,
-                "column {column} is the end of the line: the last byte has one digit alone"
+                "column {column} is the end of the line: the last byte has only one digit"
             ),
         }
     }
@@ -196,9 +196,9 @@ impl fmt::Display for Reason {
 
     fn fmt<W: fmt::Write>(&self, f: &mut fmt::Formatter<W>) -> fmt::Result {
         f.write_str(match self {
-            Reason::Tab => ", a tab: between bytes stand spaces alone",
-            Reason::Prefix => ": bytes are written without '0x'",
-            Reason::Separator => ": between bytes stand spaces alone",
+            Reason::Tab => ", a tab: put spaces between bytes",
+            Reason::Prefix => ": write bytes without '0x'",
+            Reason::Separator => ": put spaces between bytes",
             Reason::Plain => "",
         })
     }

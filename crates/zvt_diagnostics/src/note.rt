@@ -7,7 +7,7 @@ use std::alloc::AllocError;
 use zvt_apdu::{Kind, kind_at};
 use zvt_grammar::Why;
 use zvt_text::{Text, hexadecimal, kind_name};
-use zvt_trace::{Direction, Head, TraceEvent};
+use zvt_trace::{Direction, Head, Refusal, TraceEvent};
 
 /// Says where a stream was refused or cut off, in which message, and why. Of all else nothing is said.
 pub(crate) fn put(
@@ -18,13 +18,7 @@ pub(crate) fn put(
     ensures { OnOk result (text.new ≡ text.old ++ event_note line (event_of trace_event.now)) }
 {
     match trace_event {
-        TraceEvent::Refused {
-            from,
-            head,
-            byte,
-            place,
-            why,
-        } => { put_refused(text, line, *from, *head, *byte, *place, *why) }
+        TraceEvent::Refused { from, refusal } => put_refused(text, line, *from, refusal),
         TraceEvent::CutOff { from, head, have } => put_cut_off(text, line, *from, *head, *have),
         TraceEvent::Message { .. } | TraceEvent::Unread { .. } | TraceEvent::Lost => Ok(()),
     }
@@ -35,16 +29,13 @@ fn put_refused(
     text: &mut Text,
     line: u64,
     from: Direction,
-    head: Head,
-    byte: u8,
-    place: usize,
-    why: Why,
+    refusal: &Refusal,
 ) -> Result<(), AllocError>
-    ensures { OnOk result (text.new ≡ text.old ++ refused_note line from head byte place why) }
+    ensures { OnOk result (text.new ≡ text.old ++ refused_note line from refusal.now.head refusal.now.byte refusal.now.place refusal.now.why) }
 {
-    put_begun(text, line, from, head)?;
-    put_place(text, place, byte)?;
-    put_reason(text, why)
+    put_begun(text, line, from, refusal.head)?;
+    put_place(text, refusal.place, refusal.byte)?;
+    put_reason(text, refusal.why)
 }
 
 /// The place of the fatal byte, and this byte.

@@ -11,7 +11,7 @@ use std::alloc::{AllocError, Global};
 use zvt_text::Text;
 use zvt_trace::{Listener, ListenerError, Scope, TraceEvent};
 
-/// The notes of what was told, and what they have counted. It writes to no device.
+/// The notes of the events so far, and their counts. It writes to no device.
 #[derive(Drop)]
 pub(crate) struct Notes {
     scope: Scope,
@@ -21,7 +21,7 @@ pub(crate) struct Notes {
 }
 
 impl Notes {
-    /// Nothing was told.
+    /// The notes of no event.
     pub(crate) fn new(alloc: Global, scope: Scope) -> Notes
         ensures scope { result.scope ≡ scope }
         ensures text { result.text ≡ [] }

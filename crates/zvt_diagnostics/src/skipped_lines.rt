@@ -1,4 +1,4 @@
-//! What is not read behind a refusal.
+//! The lines that are not read after a refusal.
 ghost use Rattle.std.specs.Prelude.{◌≡◌, ◌++◌, [], ◌∷◌, ℕ, List, OnOk};
 ghost use Rattle.zvt_trace.specs.TraceEvent.{At, on};
 ghost use Rattle.zvt_trace.specs.TraceEvent as trace_event;
@@ -58,7 +58,7 @@ fn put_count(text: &mut Text, count: u64, scope: Scope, side: Direction) -> Resu
 fn put_last(text: &mut Text, last: u64) -> Result<(), AllocError>
     ensures { OnOk result (text.new ≡ text.old ++ last_text last) }
 {
-    text.word(b" not read behind that, up to line ")?;
+    text.word(b" not read after that, up to line ")?;
     text.number(last)?;
     text.push(b'\n')
 }

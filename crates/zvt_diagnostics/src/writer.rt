@@ -10,15 +10,17 @@ use std::alloc::Global;
 use zvt_grammar::Lengths;
 use zvt_io::Sink;
 use zvt_text::Text;
-use zvt_trace::{ListenerError, Scope, Tally, TraceFault, walk_by};
+use zvt_trace::{ListenerError, Scope, Tally, TraceFault, walk};
 
-/// Writes a line for each stream that was refused or cut off: the line of the trace, who sends, the name of the message
-/// that had begun, the place in it and, of a refusal, the fatal byte and the reason; no other byte of the message, since a
-/// card number may stand there. Behind these stands how many lines were not read up to the next loss of the line or to the
-/// end, and last how many messages and bad streams there were. Nothing is written where no stream is bad.
+/// Writes a line for each stream that was refused or cut off. It has the line of the trace, the sender, the name of the
+/// incomplete message, and the place in it. Of a refusal it has the fatal byte and the reason. It has no other byte of the
+/// message, since a card number may stand there.
 ///
-/// The streams take lengths as those of the command that the notes stand beside. Where a line can't be read the notes are
-/// those of the lines before. The text is written once, at the end.
+/// After these a line says how many lines were not read, up to the next loss of the line or to the end. The last line has
+/// the numbers of messages and bad streams. Nothing is written where no stream is bad.
+///
+/// The streams take such lengths. Where a line can't be read, the notes are about the lines before. The text is written
+/// once, at the end.
 pub fn write_notes<W: Sink>(
     alloc: Global,
     scope: Scope,
@@ -31,14 +33,14 @@ pub fn write_notes<W: Sink>(
     ensures write { result ≡ Err ListenerError.Write → W.failures device.old < W.failures device.new }
 {
     let mut notes = Notes::new(alloc, scope);
-    let answer = walk_by(&mut notes, &mut (), alloc, scope, lengths, trace);
+    let answer = walk(&mut notes, &mut (), alloc, scope, lengths, trace);
     has_memory(&answer)?;
     notes.close()?;
     device.write_all(notes.text.bytes())?;
     Ok(())
 }
 
-/// Want of memory ends the notes. Each other end of a walk leaves those of what was told before.
+/// The fault of notes for which there is no memory. Each other end of a walk leaves the notes of the events before.
 fn has_memory(answer: &Result<Tally, TraceFault>) -> Result<(), ListenerError>
     ensures had { OnOk result (answer.now ≢ Err TraceFault.Memory) }
     ensures fault { IfErr result (λ failure. failure ≡ ListenerError.Memory) }

@@ -36,11 +36,11 @@ extends_none held = ([], appends_none held)
 pub extends_more : (a b c : Option (List ℕ)) → Extends a b → Extends b c → Extends a c
 extends_more a b c first second = (first.0 ++ second.0, Appends-trans a b c first.0 second.0 first.1 second.1)
 
--- a front of a front
+-- a prefix of a prefix
 pub prefix_more : (a b c : List ℕ) → IsPrefix a b → IsPrefix b c → IsPrefix a c
 prefix_more a b c first second = (first.0 ++ second.0, second.1 ∙ ap (λ (l : List ℕ). l ++ second.0) first.1 ∙ append_assoc a first.0 second.0)
 
--- some front of the block was written
+-- some prefix of the block was written
 pub wrote_prefix : (held next : Option (List ℕ)) (block : List ℕ) → AppendsPrefix held next block → IsShortOf (after held block) next
 wrote_prefix None next block wrote = tt
 wrote_prefix (Some bytes) None block wrote = absurd wrote.2
@@ -51,7 +51,7 @@ wrote_prefix (Some bytes) (Some now) block wrote =
 pub given_up : (held next : Option (List ℕ)) (block left : List ℕ) → AppendsPrefix held next block → left ≡ [] → IsShortOf (after held block) (after next left)
 given_up held next block left wrote none = subst (λ (o : Option (List ℕ)). IsShortOf (after held block) o) (sym (after_nothing next left none)) (wrote_prefix held next block wrote)
 
--- the device has what it had and a front of the text, where it has a front of all
+-- the device has what it had and a prefix of the text, where it has a prefix of all
 pub short_of : (first device whole : Option (List ℕ)) (block all : List ℕ) → Extends first device → Appends first whole all → IsShortOf whole (after device block) → AppendsPrefix first (after device block) all
 short_of None device whole block all kept grown short = ([], (all, refl), tt)
 short_of (Some x) None whole block all kept grown short = absurd kept.1
@@ -70,7 +70,7 @@ last_failed first held next block all kept so wrote =
     let part = subst (λ (o : Option (List ℕ)). AppendsPrefix first o so.0) (after_nothing next [] refl) (short_of first next (after held block) [] so.0 extended so.2 whole) in
     (part.0, prefix_more part.0 so.0 all part.1 so.1, part.2)
 
--- all of a text is a front of it
+-- all of a text is a prefix of it
 pub whole_prefix : (old new : Option (List ℕ)) (text : List ℕ) → Appends old new text → AppendsPrefix old new text
 whole_prefix old new text wrote = (text, ([], sym (append-nil text)), wrote)
 

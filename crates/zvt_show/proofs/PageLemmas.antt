@@ -1,11 +1,11 @@
--- The text of what a walk tells.
+-- The text of what a walk emits.
 use Rattle.std.proofs.Common.{◌≡◌, inl, inr, ℕ, ◌<◌, ◌≤◌, List, [], ◌∷◌, ◌++◌, Result, Option, Some, None, Ok, Err, refl, sym, ◌∙◌, subst, arith, append_assoc, append-nil}
 use Rattle.std.proofs.KnownBytes.{Appends-kept, Appends-trans}
 use Rattle.std.specs.Io.KnownBytes.{Appends}
 use Rattle.std.specs.Prelude.{IfSome}
 use Rattle.std.specs.Str.Lines.{lines}
 use Rattle.zvt_grammar.specs.Reading.{Reading}
-use Rattle.zvt_trace.specs.Listening.{AnswersWalkBy, Fails, FailsIn, Hears, HearsAll, Stops}
+use Rattle.zvt_trace.specs.Listening.{AnswersWalk, Fails, FailsIn, Hears, HearsAll, Stops}
 use Rattle.zvt_trace.specs.TraceEvent.{At}
 use Rattle.zvt_trace.specs.Emitting.{BrokenTrace, PrefixOf, SideEnds, EventsSoFar, WholeTrace}
 use Rattle.zvt_trace.specs.Trace.{new_line, running}
@@ -24,10 +24,10 @@ use Rattle.zvt_trace.specs.declared.listener.Scope.TheVariants.{OneSide}
 use Rattle.zvt_trace.proofs.EventLemmas.{prefix_whole}
 use Rattle.zvt_show.specs.Text.{EventsText}
 use Rattle.zvt_show.specs.Written.{AnswersLinesBy, AnswersTraceBy, Extends, FailsEvent, Page, WritesEvent, all_of}
-use Rattle.zvt_show.specs.declared.style.Style.{Style}
+use Rattle.zvt_show.specs.declared.render.Style.{Style}
 use Rattle.zvt_show.proofs.BlockLemmas.{all_written, appends_none, after_nothing, extends_more, extends_none, keeps_same, last_failed, last_written, short_of, whole_prefix}
 
--- ---- a front of what a trace tells
+-- ---- a prefix of what a trace emits
 
 whole_so_far : {r : Reading} (scope : Scope) (lines : List (List ℕ)) (events : List At) → WholeTrace r scope lines events → EventsSoFar r scope lines events
 whole_so_far scope lines events whole = prefix_whole events (record {
@@ -96,7 +96,7 @@ writes view old event new = WritesEvent event.trace_event (view old) (view new)
 abbrev pub fails : {S : Type 0} → (S → Page) → Fails S
 fails view old event why new = FailsEvent why (view old) (view new)
 
--- the text of the events stands behind what was to be written
+-- the text of the events stands after what was to be written
 record Shows (style : Style) (events : List At) (old new : Page) : Type 0 where
   pub text : List ℕ
   pub says : EventsText style events text
@@ -124,7 +124,7 @@ shown view (event ∷ events) old new some =
 
 -- ---- what a walk answers
 
--- the text stands there that these events have, or a front of it; and no write failed before
+-- the text stands there that these events have, or a prefix of it; and no write failed before
 record Wrote (r : Reading) (style : Style) (lines : List (List ℕ)) (old new : Page) : Type 0 where
   pub events : List At
   pub text : List ℕ
@@ -182,7 +182,7 @@ wrote_failed {S = S} r view lines why old new empty failed = by failed.stops
     by (inl (is, so_far, same)) = subst (λ (s : S). Wrote r (view old).style lines (view old) (view s)) (sym same) (wrote_all view lines failed.events old failed.middle empty so_far failed.heard)
     by (inr (event, so_far, left)) = wrote_less view lines failed.events event why old failed.middle new empty so_far failed.heard left
 
-wrote : {S : Type 0} (r : Reading) (view : S → Page) (lines : List (List ℕ)) (answer : Result Tally TraceFault) (old new : S) → (view old).block ≡ [] → AnswersWalkBy r (writes view) (fails view) OneSide lines old new answer → Wrote r (view old).style lines (view old) (view new)
+wrote : {S : Type 0} (r : Reading) (view : S → Page) (lines : List (List ℕ)) (answer : Result Tally TraceFault) (old new : S) → (view old).block ≡ [] → AnswersWalk r (writes view) (fails view) OneSide lines old new answer → Wrote r (view old).style lines (view old) (view new)
 wrote r view lines (Ok tally) old new empty walked = wrote_all view lines walked.0 old new empty (whole_so_far OneSide lines walked.0 walked.1) walked.2
 wrote r view lines (Err (Trace number what)) old new empty walked = wrote_all view lines walked.0 old new empty (broken_so_far OneSide lines number what walked.0 walked.1) walked.2
 wrote r view lines (Err Memory) old new empty failed = wrote_failed r view lines failure.Memory old new empty failed
@@ -207,7 +207,7 @@ memory_written {S = S} r view lines old new device empty failed last = by failed
     by (inl (is, so_far, same)) = all (subst (λ (s : S). Appends (all_of (view old)) (all_of (view s)) shows.text) (sym same) shows.appended) so_far
     by (inr (event, so_far, left)) = all (Appends-kept (all_of (view old)) (all_of (view failed.middle)) (all_of (view new)) shows.text shows.appended left.0) (prefix_fewer failed.events (event ∷ []) so_far)
 
-written_so : {S : Type 0} (r : Reading) (view : S → Page) (lines : List (List ℕ)) (answer : Result Tally TraceFault) (old new : S) (device : Option (List ℕ)) → (view old).block ≡ [] → AnswersWalkBy r (writes view) (fails view) OneSide lines old new answer
+written_so : {S : Type 0} (r : Reading) (view : S → Page) (lines : List (List ℕ)) (answer : Result Tally TraceFault) (old new : S) (device : Option (List ℕ)) → (view old).block ≡ [] → AnswersWalk r (writes view) (fails view) OneSide lines old new answer
     → Appends (view new).written device (view new).block → AnswersLinesBy r (view old).style lines (view old).written device answer
 written_so r view lines (Ok tally) old new device empty walked last =
     let shows = shown view walked.0 old new walked.2 in
@@ -223,12 +223,12 @@ written_so r view lines (Err TooLong) old new device empty never last = absurd n
 written_so r view lines (Err Read) old new device empty never last = absurd never
 
 pub written : {S : Type 0} (r : Reading) (view : S → Page) (style : Style) (lines : List (List ℕ)) (answer : Result Tally TraceFault) (old new : S) (device : Option (List ℕ)) → (view old).style ≡ style → (view old).block ≡ []
-    → AnswersWalkBy r (writes view) (fails view) OneSide lines old new answer → Appends (view new).written device (view new).block → AnswersLinesBy r style lines (view old).written device answer
+    → AnswersWalk r (writes view) (fails view) OneSide lines old new answer → Appends (view new).written device (view new).block → AnswersLinesBy r style lines (view old).written device answer
 written r view style lines answer old new device is empty walked last = subst (λ (s : Style). AnswersLinesBy r s lines (view old).written device answer) is (written_so r view lines answer old new device empty walked last)
 
 -- it could not be written
 pub not_written : {S : Type 0} (r : Reading) (view : S → Page) (style : Style) (lines : List (List ℕ)) (answer : Result Tally TraceFault) (old new : S) (device : Option (List ℕ)) → (view old).style ≡ style → (view old).block ≡ []
-    → AnswersWalkBy r (writes view) (fails view) OneSide lines old new answer → AppendsPrefix (view new).written device (view new).block → AnswersLinesBy r style lines (view old).written device (Err Write)
+    → AnswersWalk r (writes view) (fails view) OneSide lines old new answer → AppendsPrefix (view new).written device (view new).block → AnswersLinesBy r style lines (view old).written device (Err Write)
 not_written r view style lines answer old new device is empty walked last =
     let some = wrote r view lines answer old new empty walked in
     subst (λ (s : Style). AnswersLinesBy r s lines (view old).written device (Err Write)) is
@@ -236,11 +236,11 @@ not_written r view style lines answer old new device is empty walked last =
 
 -- ---- failures
 
-pub least : {S : Type 0} (r : Reading) (view : S → Page) (lines : List (List ℕ)) (answer : Result Tally TraceFault) (old new : S) → (view old).block ≡ [] → AnswersWalkBy r (writes view) (fails view) OneSide lines old new answer → (view old).failures ≤ (view new).failures
+pub least : {S : Type 0} (r : Reading) (view : S → Page) (lines : List (List ℕ)) (answer : Result Tally TraceFault) (old new : S) → (view old).block ≡ [] → AnswersWalk r (writes view) (fails view) OneSide lines old new answer → (view old).failures ≤ (view new).failures
 least r view lines answer old new empty walked = (wrote r view lines answer old new empty walked).least
 
 -- the walk failed since a write did
-pub write_counted : {S : Type 0} (r : Reading) (view : S → Page) (lines : List (List ℕ)) (answer : Result Tally TraceFault) (old new : S) → AnswersWalkBy r (writes view) (fails view) OneSide lines old new answer → answer ≡ Err Write → (view old).failures < (view new).failures
+pub write_counted : {S : Type 0} (r : Reading) (view : S → Page) (lines : List (List ℕ)) (answer : Result Tally TraceFault) (old new : S) → AnswersWalk r (writes view) (fails view) OneSide lines old new answer → answer ≡ Err Write → (view old).failures < (view new).failures
 write_counted r view lines (Ok tally) old new walked e = cc
 write_counted r view lines (Err (Trace number what)) old new walked e = cc
 write_counted r view lines (Err Memory) old new walked e = cc

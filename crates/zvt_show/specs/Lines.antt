@@ -5,8 +5,8 @@ use Rattle.zvt_grammar.specs.Names.{why_name}
 use Rattle.zvt_grammar.specs.declared.why.Why.{Why}
 use Rattle.zvt_trace.specs.Lines.{direction_text}
 use Rattle.zvt_trace.specs.declared.direction.Direction.{Direction}
-use Rattle.zvt_show.specs.declared.style.Style.{Style}
-use Rattle.zvt_show.specs.declared.style.Style.TheVariants.{Join, Receipts, Show}
+use Rattle.zvt_show.specs.declared.render.Style.{Style}
+use Rattle.zvt_show.specs.declared.render.Style.TheVariants.{Join, Receipts, Show}
 
 -- what stands before a line that is no part of a trace, where such lines are written at all
 abbrev pub mark_of : Style → Option (List ℕ)
@@ -22,7 +22,7 @@ abbrev pub refused_text : Style → Direction → ℕ → Why → List ℕ
 refused_text style from place why =
     marked (mark_of style) (direction_text from ++ codes " refused at " ++ decimal place ++ codes ": " ++ why_name why)
 
--- what is said of each piece behind a refusal
+-- what is said of each piece after a refusal
 abbrev pub stopped_text : Style → Direction → List ℕ
 stopped_text style from = marked (mark_of style) (direction_text from ++ codes " stopped")
 

@@ -1,4 +1,4 @@
--- The text of what a trace tells.
+-- The text of what a trace emits.
 use Rattle.std.specs.Prelude.{◌≡◌, ℕ, List, [], ◌∷◌, ◌++◌}
 use Rattle.hex.specs.Hex.{encode_upper}
 use Rattle.zvt_grammar.specs.Reading.{shortest}
@@ -12,8 +12,8 @@ use Rattle.zvt_trace.specs.TraceEvent as trace_event
 use Rattle.zvt_trace.specs.declared.direction.Direction.{Direction}
 use Rattle.zvt_trace.specs.declared.direction.Direction.TheVariants.{FromTill, FromTerminal}
 use Rattle.zvt_show.specs.Lines.{lost_text, refused_text, stopped_text, truncated_text}
-use Rattle.zvt_show.specs.declared.style.Style.{Style}
-use Rattle.zvt_show.specs.declared.style.Style.TheVariants.{Join, Receipts, Show}
+use Rattle.zvt_show.specs.declared.render.Style.{Style}
+use Rattle.zvt_show.specs.declared.render.Style.TheVariants.{Join, Receipts, Show}
 
 -- ---- one message
 
@@ -48,7 +48,7 @@ MessageText Join from message text =
     (bytes : List ℕ) × Spells shortest message bytes × (text ≡ joined from bytes)
 MessageText Receipts from message text = text ≡ receipt from message
 
--- ---- all that is told
+-- ---- all events
 
 abbrev pub EventText : Style → TraceEvent → List ℕ → Type 0
 EventText style (trace_event.message from m) text = MessageText style from m text

@@ -16,7 +16,7 @@ use Rattle.zvt_trace.specs.declared.listener.ListenerError.{ListenerError}
 use Rattle.zvt_trace.specs.declared.listener.ListenerError.TheVariants as failure
 use Rattle.zvt_trace.specs.declared.listener.Scope.TheVariants.{OneSide}
 use Rattle.zvt_show.specs.Text.{EventText, EventsText, MessageText}
-use Rattle.zvt_show.specs.declared.style.Style.{Style}
+use Rattle.zvt_show.specs.declared.render.Style.{Style}
 
 -- ---- what the functions add to the text
 
@@ -26,7 +26,7 @@ pub record AddsMessage (style : Style) (from : Direction) (message : Message) (o
   pub says : MessageText style from message one
   pub grown : new ≡ old ++ one
 
--- the text grew by that of what is told
+-- the text grew by that of the events
 pub record AddsEvent (style : Style) (trace_event : TraceEvent) (old new : List ℕ) : Type 0 where
   pub one : List ℕ
   pub says : EventText style trace_event one
@@ -38,7 +38,7 @@ pub record AddsEvent (style : Style) (trace_event : TraceEvent) (old new : List 
 abbrev pub Extends : (old new : Option (List ℕ)) → Type 0
 Extends old new = (more : List ℕ) × Appends old new more
 
--- the device has a front of what was to stand there
+-- the device has a prefix of what was to stand there
 abbrev pub IsShortOf : (whole new : Option (List ℕ)) → Type 0
 IsShortOf None new = Unit {0}
 IsShortOf (Some bytes) None = ⊥
@@ -64,7 +64,7 @@ page style written block failures = record { style = style; written = written; b
 abbrev pub all_of : Page → Option (List ℕ)
 all_of page = after page.written page.block
 
--- the text of what is told stands behind the block, or the block's does on the device
+-- the text of the events stands after the block, or the block's does on the device
 pub record WritesEvent (trace_event : TraceEvent) (old new : Page) : Type 0 where
   pub text : List ℕ
   pub says : EventText old.style trace_event text
@@ -73,7 +73,7 @@ pub record WritesEvent (trace_event : TraceEvent) (old new : Page) : Type 0 wher
   pub failures : new.failures ≡ old.failures
   pub same : new.style ≡ old.style
 
--- where memory is refused nothing of it is written; of a write that failed, some front of what was to be written before
+-- where memory is refused nothing of it is written; of a write that failed, some prefix of what was to be written before
 abbrev pub FailsEvent : ListenerError → (old new : Page) → Type 0
 FailsEvent failure.Memory old new = Keeps (all_of old) (all_of new) × Extends old.written new.written × (old.failures ≤ new.failures)
 FailsEvent failure.Write old new = IsShortOf (all_of old) (all_of new) × Extends old.written new.written × (old.failures < new.failures)
@@ -81,7 +81,7 @@ FailsEvent failure.Write old new = IsShortOf (all_of old) (all_of new) × Extend
 -- ---- what a command answers
 
 -- What a command answers for the lines of a trace, by that reading of lengths. Where memory is refused, the text of all
--- that the lines before tell is written, and of a front of what comes next; of a write that failed, some front of such a
+-- that the lines before emit is written, and of a prefix of what comes next; of a write that failed, some prefix of such a
 -- text.
 abbrev pub AnswersLinesBy : Reading → Style → List (List ℕ) → (old new : Option (List ℕ)) → Result Tally TraceFault → Type 0
 AnswersLinesBy r style lines old new (Ok tally) =

@@ -1,31 +1,55 @@
-//! Text that goes out in blocks.
-ghost use Rattle.std.specs.Prelude.{[], ◌≡◌, IfErr, OnErr, OnOk};
+//! The text of a trace, which is written in blocks.
+ghost use Rattle.std.specs.Prelude.{[], ◌≡◌, ◌<◌, ◌≤◌, length, Err, IfErr, OnErr, OnOk};
 ghost use Rattle.std.specs.Io.KnownBytes.{Appends, Keeps};
+ghost use Rattle.std.specs.Str.Lines.{lines};
+ghost use Rattle.zvt_grammar.specs.Lengths.{reading_of};
 ghost use Rattle.zvt_io.specs.Devices.{CountsFailure};
-ghost use Rattle.zvt_trace.specs.Written.{AppendsPrefix};
-ghost use Rattle.zvt_show.specs.Written.{Extends, IsShortOf, after};
+ghost use Rattle.zvt_trace.specs.Written.{AppendsPrefix, limit};
+ghost use Rattle.zvt_show.specs.Written.{AnswersLinesBy, Extends, IsShortOf, after};
 
-use crate::event;
-use crate::style::Style;
+use crate::render::{Style, render_event};
 use std::alloc::Global;
+use zvt_grammar::Lengths;
 use zvt_io::Sink;
 use zvt_text::Text;
-use zvt_trace::{Listener, ListenerError, TraceEvent};
+use zvt_trace::{Listener, ListenerError, Scope, Tally, TraceEvent, TraceFault, walk};
 
 /// The size from which a block of text is written.
 const BLOCK: usize = 65_536;
 
-/// Writes what a trace tells. The text of each event joins the block whole or not at all.
-#[derive(Drop)]
-pub(crate) struct Pages {
+/// Writes the text of a trace in this style: the text of each message, and of what becomes of its side and of the line. It
+/// goes out in blocks, the last one also where the walk fails.
+///
+/// The trace may have such lengths. In the style `Join` each whole message is written in its one strict spelling. A stream
+/// that is refused or cut off counts as bad.
+pub fn render_trace<W: Sink>(
     alloc: Global,
     style: Style,
-    pub(crate) block: Text,
+    lengths: Lengths,
+    trace: &[u8],
+    writer: &mut W,
+) -> Result<Tally, TraceFault>
+    requires { length trace.now ≤ limit }
+    ensures writes { AnswersLinesBy (reading_of lengths) style (lines trace.now) (W.written writer.old) (W.written writer.new) result }
+    ensures write { result ≡ Err TraceFault.Write → W.failures writer.old < W.failures writer.new }
+{
+    let mut pages = Pages::new(alloc, style);
+    let answer = walk(&mut pages, writer, alloc, Scope::OneSide, lengths, trace);
+    flush(&mut pages.block, writer)?;
+    answer
+}
+
+/// Writes the text of events. The text of each event joins the block whole or not at all.
+#[derive(Drop)]
+struct Pages {
+    alloc: Global,
+    style: Style,
+    block: Text,
 }
 
 impl Pages {
-    /// Pages in this style, without text.
-    pub(crate) fn new(alloc: Global, style: Style) -> Pages
+    /// Pages of this style, without text.
+    fn new(alloc: Global, style: Style) -> Pages
         ensures style { result.style ≡ style }
         ensures empty { result.block ≡ [] }
     {
@@ -52,7 +76,7 @@ impl<W: Sink> Listener<W> for Pages {
         trace_event: &TraceEvent<'_>,
     ) -> Result<(), ListenerError> {
         flush_full(&mut self.block, device)?;
-        event::write(&mut self.block, self.alloc, self.style, trace_event)?;
+        render_event(&mut self.block, self.alloc, self.style, trace_event)?;
         Ok(())
     }
 }
@@ -73,7 +97,7 @@ fn flush_full<W: Sink>(block: &mut Text, writer: &mut W) -> Result<(), ListenerE
 }
 
 /// Writes the block to the device and empties it, also where the write fails.
-pub(crate) fn flush<W: Sink>(block: &mut Text, writer: &mut W) -> Result<(), ListenerError>
+fn flush<W: Sink>(block: &mut Text, writer: &mut W) -> Result<(), ListenerError>
     ensures bytes { OnOk result (Appends (W.written writer.old) (W.written writer.new) block.old) }
     ensures fault { IfErr result (λ failure. failure ≡ ListenerError.Write) }
     ensures failures { CountsFailure (W.failures writer.old) (W.failures writer.new) result }

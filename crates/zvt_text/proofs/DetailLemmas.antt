@@ -18,7 +18,7 @@ given_up : (m : Message) → kind.Abort ≡ kind_of m → part_text words_part (
 given_up (abort c x) e = refl
 given_up m e = absurd (cc (e))
 
--- what two parts are, put behind a text
+-- what two parts are, put after a text
 joined : (t0 t1 a b whole : List ℕ) → t1 ≡ t0 ++ a → a ++ b ≡ whole → t1 ++ b ≡ t0 ++ whole
 joined t0 t1 a b whole one e = ap (λ (t : List ℕ). t ++ b) one ∙ append_assoc t0 a b ∙ ap (λ (l : List ℕ). t0 ++ l) e
 

@@ -47,7 +47,7 @@ named_first (plain n content) bmp name =
     )
 named_first (tree n objects) bmp name = let same : bmp ≡ n = sym name in (10 ∷ object_lines 1 objects, ap (λ (b : ℕ). named_text b ++ 10 ∷ object_lines 1 objects) same)
 
--- where a room is full at the name, it has no room for the line
+-- where a buffer is full at the name, it has no capacity for the line
 pub name_full : (v : FieldView) (buffer : ℕ) (before : List ℕ) → buffer < length (before ++ named_text v.bmp) → buffer < length (before ++ field_line (shown v))
 name_full v buffer before full =
     let first = named_first (shown v) v.bmp (name_is v.bmp v.content.now v.field) in

@@ -1,4 +1,4 @@
--- The lines of the object that a view shows, and of those behind it.
+-- The lines of the object that a view shows, and of those after it.
 use Rattle.std.proofs.Common.{◌≡◌, ℕ, ◌+◌, ◌<◌, true, Some, None, List, [], ◌∷◌, ◌++◌, codes, sym, ◌∙◌, ap, subst, append_assoc, add-one}
 use Rattle.std.proofs.lemmas.Bool.{and_parts, ltb-true}
 use Rattle.std.proofs.Math.Bool.{Bool-set}

@@ -63,7 +63,7 @@ kind_name kind.Other = codes "Other"
 abbrev pub kind_text : Message → List ℕ
 kind_text message = kind_name (kind_of message)
 
--- what a head says behind the name; a password is never written
+-- what a head says after the name; a password is never written
 abbrev pub detail_text : Message → List ℕ
 detail_text (ack payload) = data_text payload
 detail_text (nack code payload) = hex_part code ++ data_text payload

@@ -54,7 +54,7 @@ pub(crate) fn escape_all(buffer: &mut [u8], at: usize, bytes: &[u8]) -> Result<u
     }
 }
 
-/// How many bytes at the front stand as they are.
+/// How many of the first bytes stand as they are.
 #[inline(always)]
 fn plain_first(bytes: &[u8]) -> usize
     ensures few { result ≤ length bytes.now }

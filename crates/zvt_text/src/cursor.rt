@@ -1,4 +1,4 @@
-//! Text in a room of fixed size: each writes behind a place in it, and answers where the text ends then.
+//! Text in a buffer of fixed size. Each function writes from a place in it, and answers where the text ends then.
 ghost use Rattle.std.specs.Prelude.{◌∷◌, ◌≤◌, [], length, replicate};
 ghost use Rattle.hex.specs.Hex.{encode_upper};
 ghost use Rattle.zvt_text.specs.Writing.{Puts};
@@ -6,7 +6,7 @@ ghost use Rattle.zvt_text.specs.Writing.{Puts};
 use crate::digits::write_digits;
 use itoa::{Buffer, Integer};
 
-/// The room is full.
+/// The buffer is full.
 #[derive(Drop)]
 pub(crate) struct Full;
 
@@ -38,7 +38,7 @@ pub(crate) fn word(buffer: &mut [u8], at: usize, word: &[u8]) -> Result<usize, F
 }
 
 /// Writes a word that the code names. It is passed by value, since then it is stored at once: of a slice the compiler
-/// does not know that it lies outside of the room.
+/// does not know that it lies outside of the buffer.
 #[inline(always)]
 pub(crate) fn fixed<const N: usize>(
     buffer: &mut [u8],

@@ -1,4 +1,4 @@
-//! What a head says behind the name of a message: each part that the message has.
+//! What a head says after the name of a message: each part that the message has.
 ghost use Rattle.std.specs.Prelude.{◌≤◌, ◌+◌, ◌∷◌, [], length};
 ghost use Rattle.std.specs.Option.{option_copied};
 ghost use Rattle.hex.specs.Hex.{encode_upper};
@@ -7,7 +7,7 @@ ghost use Rattle.zvt_text.specs.Writing.{Puts};
 
 use crate::bytes::{byte, quote};
 use crate::cursor::{Full, fixed, hexadecimal, push};
-use crate::results::put_result;
+use crate::write::put_result;
 use zvt_bcd::Currency;
 
 /// The payload, if there is any.

@@ -8,7 +8,7 @@ use crate::cursor::{Full, fixed, word};
 use crate::details::{byte_part, config, control, currency, data, outcome, printed};
 use zvt_apdu::{ApduView, Kind};
 
-/// The name of a message's kind, and what it says behind it.
+/// Writes the name of a message's kind, and what the message says after it.
 pub(crate) fn head(buffer: &mut [u8], at: usize, message: &ApduView<'_>) -> Result<usize, Full>
     requires { at ≤ length buffer.old }
     ensures { Puts result at buffer.old buffer.new (head_text message.now) }
@@ -58,7 +58,7 @@ pub fn kind_name(kind: Kind) -> &'static str
     }
 }
 
-/// What the heads of all other kinds say behind the name.
+/// Writes what the heads of all other kinds say after the name.
 fn detail(buffer: &mut [u8], at: usize, message: &ApduView<'_>) -> Result<usize, Full>
     requires inside { at ≤ length buffer.old }
     requires no_ack { kind_of message.now ≢ Kind.Ack }

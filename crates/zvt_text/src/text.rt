@@ -1,4 +1,4 @@
-//! Bytes of text, written one behind another.
+//! Text that grows.
 ghost use Rattle.std.specs.Prelude.{◌≡◌, ℕ, ◌<◌, ◌≤◌, List, [], ◌∷◌, length, take, IfOk, OnErr, OnOk};
 ghost use Rattle.zvt_text.specs.Writing.{Adds, Puts};
 
@@ -7,13 +7,13 @@ use itoa::{Buffer, Integer};
 use std::alloc::{AllocError, Global};
 use std::marker::Model;
 
-/// The room of the first text that is written.
+/// The capacity for the first text that is written.
 const FIRST_CAPACITY: usize = 128;
 
 /// Text that grows. Where memory is refused nothing of what was to be written stands in it.
 #[derive(Drop)]
 pub struct Text {
-    /// The text, and room behind it.
+    /// The text, and spare capacity after it.
     buffer: Vec<u8>,
     size: usize,
 }
@@ -117,7 +117,7 @@ impl Text {
 pub(crate) trait Says {
     ghost said: { Self → List ℕ };
 
-    /// Writes it where the room begins, and answers its size.
+    /// Writes it at the start of the buffer, and answers its size.
     fn put(&self, buffer: &mut [u8]) -> Result<usize, Full>
         ensures { Puts result 0 buffer.old buffer.new (said self.now) };
 }
@@ -148,7 +148,7 @@ impl Says for Word<'_> {
     }
 }
 
-/// Writes what is said behind what stands in the room, and answers where it ends.
+/// Writes what is said after the text in the buffer, and answers where it ends.
 #[inline(always)]
 fn put_after<S: Says>(buffer: &mut [u8], size: usize, what: &S) -> Result<usize, Full>
     requires { size ≤ length buffer.old }
@@ -159,7 +159,7 @@ fn put_after<S: Says>(buffer: &mut [u8], size: usize, what: &S) -> Result<usize,
     Ok(size + end)
 }
 
-/// Adds as much room as there is.
+/// Doubles the capacity.
 #[cold]
 fn grow(buffer: &mut Vec<u8>) -> Result<(), AllocError>
     ensures ok { OnOk result ((length buffer.old.items < length buffer.new.items) × (take (length buffer.old.items) buffer.new.items ≡ buffer.old.items)) }

@@ -7,7 +7,7 @@ ghost use Rattle.zvt_text.specs.Writing.{Puts};
 
 use crate::bytes::{bytes_or_dash, quote};
 use crate::cursor::{Full, decimal, fixed};
-use crate::results::put_result;
+use crate::write::put_result;
 use zvt_bcd::number;
 
 /// An amount in its smallest unit, a result in words, quoted text, the size of what is hidden, or bytes in hexadecimal.

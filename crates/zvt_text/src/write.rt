@@ -1,25 +1,25 @@
 //! What is written of messages and of their parts, all of it or nothing.
-ghost use Rattle.std.specs.Prelude.{◌++◌, ◌∷◌, []};
+ghost use Rattle.std.specs.Prelude.{◌≡◌, ◌≤◌, ◌++◌, ◌∷◌, [], length, option_map};
 ghost use Rattle.hex.specs.Hex.{encode_upper};
 ghost use Rattle.zvt_text.specs.Bytes.{escaped_text};
-ghost use Rattle.zvt_text.specs.Numbers.{numbers_text};
-ghost use Rattle.zvt_text.specs.Results.{result_words};
+ghost use Rattle.zvt_text.specs.Numbers.{numbers_text, trace_text};
+ghost use Rattle.zvt_text.specs.Results.{meaning_of, result_words};
 ghost use Rattle.zvt_text.specs.MessageTexts.{said};
-ghost use Rattle.zvt_text.specs.Writing.{Adds};
+ghost use Rattle.zvt_text.specs.Writing.{Adds, Puts};
 
-use crate::bytes::escape_all;
-use crate::cursor::{self, Full, push, word};
-use crate::message_text::put_message;
-use crate::receipt_numbers::put_numbers;
-use crate::results::put_result;
+use crate::bytes::{byte, bytes_or_dash, escape_all};
+use crate::cursor::{self, Full, fixed, push, repeat, word};
+use crate::heads::head;
+use crate::lines::field_lines;
 use crate::text::{Says, Text};
+use itoa::Buffer;
 use std::alloc::AllocError;
 use zvt_apdu::ApduView;
 use zvt_bcd::Trace;
 
 // Where memory is refused, the error of each, the text is as it was: so nothing of half a message is ever seen.
 
-/// Writes a message behind a front: the name of its kind and what it says, then a line for each field, each line with
+/// Writes a message after a prefix: the name of its kind and what it says, then a line for each field, each line with
 /// its end. The password of a message is never written, and of the fields 22, 23, 24, 2D, 3A and 3D (card number,
 /// tracks, verification value, password) the size alone.
 #[inline(always)]
@@ -60,7 +60,7 @@ pub fn hexadecimal(text: &mut Text, bytes: &[u8]) -> Result<(), AllocError>
     text.add(&HexDigits(bytes))
 }
 
-/// Writes bytes in hexadecimal behind a front, and the end of the line.
+/// Writes bytes in hexadecimal after a prefix, and the end of the line.
 #[inline(always)]
 pub fn line(text: &mut Text, prefix: &[u8], bytes: &[u8]) -> Result<(), AllocError>
     ensures { Adds result text.old text.new (prefix.now ++ encode_upper bytes.now ++ 10 ∷ []) }
@@ -68,7 +68,7 @@ pub fn line(text: &mut Text, prefix: &[u8], bytes: &[u8]) -> Result<(), AllocErr
     text.add(&HexLine { prefix, bytes })
 }
 
-/// A message behind a front.
+/// A message after a prefix.
 #[derive(Drop)]
 struct MessageText<'a> {
     prefix: &'a [u8],
@@ -85,6 +85,23 @@ impl Says for MessageText<'_> {
     }
 }
 
+/// Puts a message with its fields into the buffer.
+fn put_message(
+    buffer: &mut [u8],
+    at: usize,
+    message: &ApduView<'_>,
+) -> Result<usize, Full>
+    requires { at ≤ length buffer.old }
+    ensures { Puts result at buffer.old buffer.new (said message.now) }
+{
+    let at = head(buffer, at, message)?;
+    let at = push(buffer, at, b'\n')?;
+    match message.fields() {
+        Some(fields) => field_lines(buffer, at, fields),
+        None => Ok(at),
+    }
+}
+
 /// A result code, in words.
 #[derive(Drop)]
 struct ResultCode(u8);
@@ -95,6 +112,41 @@ impl Says for ResultCode {
     fn put(&self, buffer: &mut [u8]) -> Result<usize, Full> {
         put_result(buffer, 0, self.0)
     }
+}
+
+/// Puts a result code and what it means into the buffer.
+pub(crate) fn put_result(buffer: &mut [u8], at: usize, code: u8) -> Result<usize, Full>
+    requires { at ≤ length buffer.old }
+    ensures { Puts result at buffer.old buffer.new (result_words code) }
+{
+    match meaning(code) {
+        Some(meaning) => {
+            let at = byte(buffer, at, code)?;
+            let at = push(buffer, at, b' ')?;
+            word(buffer, at, meaning.as_bytes())
+        }
+        None => {
+            let at = fixed(buffer, at, *b"code ")?;
+            byte(buffer, at, code)
+        }
+    }
+}
+
+/// The meaning of a result code, if it has one of its own.
+fn meaning(code: u8) -> Option<&'static str>
+    ensures { option_map (λ meaning. meaning.now) result ≡ meaning_of code }
+{
+    Some(match code {
+        0x00 => "success",
+        0x64 => "card not readable",
+        0x6C => "abort by time-out or abort key",
+        0x6F => "wrong currency",
+        0x83 => "function not possible",
+        0xB4 => "already reversed",
+        0xB5 => "reversal not possible",
+        0xFF => "system error",
+        _ => return None,
+    })
 }
 
 /// The numbers under which a payment is kept.
@@ -110,6 +162,36 @@ impl Says for PaymentNumbers {
     fn put(&self, buffer: &mut [u8]) -> Result<usize, Full> {
         put_numbers(buffer, 0, self.trace, self.receipt)
     }
+}
+
+/// Puts a trace number and a receipt number into the buffer.
+fn put_numbers(
+    buffer: &mut [u8],
+    at: usize,
+    trace: Trace,
+    receipt: Option<[u8; 2]>,
+) -> Result<usize, Full>
+    requires { at ≤ length buffer.old }
+    ensures { Puts result at buffer.old buffer.new (numbers_text trace receipt) }
+{
+    let at = trace_number(buffer, at, trace)?;
+    let at = fixed(buffer, at, *b" receipt ")?;
+    match receipt {
+        Some(number) => bytes_or_dash(buffer, at, number.as_slice()),
+        None => push(buffer, at, b'-'),
+    }
+}
+
+/// Puts a trace number in six digits into the buffer.
+fn trace_number(buffer: &mut [u8], at: usize, trace: Trace) -> Result<usize, Full>
+    requires { at ≤ length buffer.old }
+    ensures { Puts result at buffer.old buffer.new (trace_text trace) }
+{
+    let mut formatter = Buffer::new();
+    let digits = formatter.format(trace.get());
+    let at = fixed(buffer, at, *b"trace ")?;
+    let at = repeat(buffer, at, b'0', 6usize.saturating_sub(digits.len()))?;
+    word(buffer, at, digits.as_bytes())
 }
 
 /// A line of bytes with escapes.
@@ -137,7 +219,7 @@ impl Says for HexDigits<'_> {
     }
 }
 
-/// A line of bytes in hexadecimal, behind a front.
+/// A line of bytes in hexadecimal, after a prefix.
 #[derive(Drop)]
 struct HexLine<'a> {
     prefix: &'a [u8],

@@ -3,9 +3,13 @@
 #![tactic(auto)]
 
 mod fault;
+mod traces;
 
 pub use fault::ToolFault;
-pub use zvt_audit::{AuditSummary, audit, audit_loose, audit_trace};
+pub use traces::{
+    audit, audit_loose, join, normalise_trace, receipts, receipts_loose, show, show_loose,
+};
+pub use zvt_audit::{AuditSummary, audit_trace};
 pub use zvt_cli::{Choice, ChoiceFault, words};
 pub use zvt_diagnostics::{hint_on, write_notes};
 pub use zvt_grammar::Lengths;
@@ -14,10 +18,7 @@ pub use zvt_session::{
     Way, config_of, currency_of, end_trace, password_of, plan, result_code, run_both_ends,
     run_loop, run_terminal, run_till, run_till_end, serve, step_of,
 };
-pub use zvt_show::{
-    join, join_trace, normalise_trace, receipts, receipts_loose, receipts_trace, show, show_loose,
-    show_trace,
-};
+pub use zvt_show::{Style, render_trace};
 pub use zvt_trace::{
     ListenerError, Scope, Tally, TraceFault, TraceLineError, next_line, read_trace,
 };

@@ -1,4 +1,4 @@
--- A piece behind another one: together they are one piece.
+-- A piece after another one: together they are one piece.
 use Rattle.std.proofs.Common.{◌≡◌, ℕ, ◌+◌, true, false, subst, List, [], ◌∷◌, ◌++◌, take, length, slice_index, refl, sym, ◌∙◌, ap, arith, append_assoc, append-nil, ◌⊎◌, inl, inr, Some}
 use Rattle.std.proofs.lemmas.Bool.{false≢true}
 use Rattle.std.proofs.lemmas.List.{get_or_append_left}
@@ -29,7 +29,7 @@ use Rattle.zvt_trace.specs.Written.{Follows}
 use Rattle.zvt_trace.proofs.EventLemmas.{bad_append, fails_as, fails_after, prefix_after, hears_append, messages_append}
 use Rattle.zvt_trace.proofs.SpelledLemmas.{no_bytes_of}
 
--- ---- what both tell
+-- ---- what both emit
 
 event_both : (line : ℕ) (from : Direction) (a b : List Message) (last : List At) → (messages_emitted line from a ++ []) ++ (messages_emitted line from b ++ last) ≡ messages_emitted line from (a ++ b) ++ last
 event_both line from [] b last = refl
@@ -62,13 +62,13 @@ joined {r = r} line from before first second rest a begun e d middle after arriv
       is_after = there.is_after ∙ ap (λ (bytes : List ℕ). side_after bytes there.ending) (append_assoc before first second);
     }
 
--- a piece that leaves its side running, and the one behind it
+-- a piece that leaves its side running, and the one after it
 pub emits_both : (r : Reading) (line : ℕ) (from : Direction) (side middle after : Side) (first second : List ℕ) (e d : List At) → PieceEmits r line from side first e middle → is_stopped middle ≡ false → PieceEmits r line from middle second d after
     → PieceEmits r line from side (first ++ second) (e ++ d) after
 emits_both r line from stopped middle after first second e d one going two = absurd (false≢true (sym going ∙ ap is_stopped one.1))
 emits_both r line from (running before) middle after first second e d one going two = joined line from before first second one.rest one.messages one.ending e d middle after one.arrives one.is_all one.is_after going two
 
--- ---- a refusal stays what it is with more behind it
+-- ---- a refusal stays what it is with more after it
 
 -- a control byte is never refused
 no_control : (r : Reading) (openers : List Opener) (role : Role) (byte : ℕ) (why : Why) → Position r openers [] role → fault r role byte ≡ Some why → ⊥
@@ -113,7 +113,7 @@ stays_refused {r = r} line from before first second rest a (refused place why) e
       is_after = is_after;
     }
 
--- a piece after which nothing more is read, whatever stands behind it
+-- a piece after which nothing more is read, whatever stands after it
 pub emits_no_more : (r : Reading) (line : ℕ) (from : Direction) (side after : Side) (first second : List ℕ) (e : List At) → PieceEmits r line from side first e after → is_stopped after ≡ true → PieceEmits r line from side (first ++ second) e after
 emits_no_more r line from stopped after first second e one over = one
 emits_no_more r line from (running before) after first second e one over = stays_refused line from before first second one.rest one.messages one.ending e after one.arrives one.is_all one.is_after over
@@ -160,7 +160,7 @@ fails_first hears fails why line from side first second old new failed =
       emits = so.emits;
     })
 
--- hearing the one behind it failed
+-- hearing the one after it failed
 pub fails_second : {S : Type 0} {r : Reading} (hears : Hears S) (fails : Fails S) (why : ListenerError) (line : ℕ) (from : Direction) (side : Side) (first second : List ℕ) (state : StreamState) (one : Hearing) (old now new : S) → (heard : HearsPiece r hears line from side first state one old now)
     → one.stopped ≡ false → FailsIn hears fails why (PieceBegins r line from heard.after second) now new → FailsIn hears fails why (PieceBegins r line from side (first ++ second)) old new
 fails_second {r = r} hears fails why line from side first second state one old now new heard going failed =
@@ -172,9 +172,9 @@ fails_second {r = r} hears fails why line from side first second state one old n
       emits = prefix_after heard.events events so.emits (λ all emits. emits_both r line from side heard.after so.after first so.first heard.events all heard.emits (sym heard.ends ∙ going) emits);
     })
 
--- ---- a piece that is read as it is told
+-- ---- a piece that is read as its events are emitted
 
--- what was heard of its front, with the rest as text
+-- what was heard of its prefix, with the rest as text
 pub record HeardSoFar {S : Type 0} (r : Reading) (hears : Hears S) (line : ℕ) (from : Direction) (bytes rest : List ℕ) (start state : StreamState) (hearing : Hearing) (old now : S) : Type 0 where
   pub done : List ℕ
   pub cut : bytes ≡ done ++ bytes_of rest
@@ -214,7 +214,7 @@ heard_all {r = r} hears line from bytes [] start state hearing old now so (inr n
     subst (λ (b : List ℕ). HearsPiece r hears line from side b state hearing old now) all (so.heard side follows)
 heard_all hears line from bytes (byte ∷ rest) start state hearing old now so (inr none) side follows = absurd (omega (arith, none))
 
--- no text stands behind the bytes
+-- no text stands after the bytes
 pub all_read : (bytes undecoded : List ℕ) → length undecoded ≡ 0 → bytes ++ bytes_of undecoded ≡ bytes
 all_read bytes [] none = ap (λ (b : List ℕ). bytes ++ b) no_bytes_of ∙ append-nil bytes
 all_read bytes (first ∷ undecoded) none = absurd (omega (arith, none))

@@ -1,4 +1,4 @@
--- What a piece tells, one message after another.
+-- What a piece emits, one message after another.
 use Rattle.std.proofs.Common.{◌≡◌, ℕ, ◌+◌, ◌<◌, Bool, true, false, subst, List, [], ◌∷◌, ◌++◌, length, take, drop, refl, sym, ◌∙◌, ap, arith, append_assoc, append-nil, length-append}
 use Rattle.std.proofs.lemmas.List.{take-append-drop, map-append}
 use Rattle.std.proofs.lemmas.Bool.{false≢true}
@@ -33,7 +33,7 @@ use Rattle.zvt_trace.proofs.PieceLemmas.{EndsAs, arrived, undecoded, nothing_lef
 
 -- ---- the messages so far
 
--- so many whole messages came with the front of the piece
+-- so many whole messages came with the prefix of the piece
 pub record Fed (r : Reading) (bytes rest : List ℕ) (start state : StreamState) (count : ℕ) : Type 0 where
   pub messages : List Message
   pub done : List ℕ
@@ -75,7 +75,7 @@ spelled_all {r = r} bytes rest start state count fed =
     let longer = spelled_more (Spells r) fed.messages (start.held ++ fed.done) state.held rest fed.spelled in
     subst (λ (b : List ℕ). Spelled (Spells r) b fed.messages (state.held ++ rest)) (append_assoc start.held fed.done rest ∙ ap (λ (b : List ℕ). start.held ++ b) (sym fed.cut)) longer
 
--- what the whole piece tells
+-- what the whole piece emits
 pub emits_all : {r : Reading} (line : ℕ) (from : Direction) (before bytes rest : List ℕ) (start state : StreamState) (count : ℕ) (ending : Ending) → (fed : Fed r bytes rest start state count)
     → NoneWhole (Spells r) (state.held ++ rest) → EndsIn r (state.held ++ rest) ending → Follows r start (running before)
     → Emits r line from before bytes (messages_emitted line from fed.messages ++ ending_events line from (state.held ++ rest) ending) (side_after (before ++ bytes) ending)
@@ -88,7 +88,7 @@ emits_all line from before bytes rest start state count ending fed none ended fo
   is_after = refl;
 }
 
--- what the messages so far tell is a front of it
+-- what the messages so far emit is a prefix of it
 pub begins : {r : Reading} (line : ℕ) (from : Direction) (side : Side) (bytes rest : List ℕ) (start state : StreamState) (count : ℕ) → (fed : Fed r bytes rest start state count) → state.stopped ≡ false
     → UnfinishedIn r state.held → Follows r start side → PieceBegins r line from side bytes (messages_emitted line from fed.messages)
 begins line from stopped bytes rest start state count fed going unfinished follows = absurd (false≢true (sym going ∙ fed.same ∙ follows.1))
@@ -172,7 +172,7 @@ ends hears line from (running before) bytes rest start state next old now new co
     same_end begun = refl
     same_end (refused place why) = refl
 
--- nothing of the piece is left behind a message
+-- nothing of the piece is left after a message
 pub ends_whole : {S : Type 0} {r : Reading} (hears : Hears S) (line : ℕ) (from : Direction) (side : Side) (bytes rest : List ℕ) (start state : StreamState) (old now : S) (count : ℕ) (hearing : Hearing)
     → SoFar r hears line from bytes rest start state old now count → Holds [] state → length rest ≡ 0
     → hearing.tally.messages ≡ count → hearing.tally.bad ≡ 0 → hearing.stopped ≡ false → Follows r start side → HearsPiece r hears line from side bytes state hearing old now
@@ -181,7 +181,7 @@ ends_whole {r = r} hears line from side bytes rest start state old now count hea
     ends hears line from side bytes rest start state state old now now count begun hearing so holds.1 (subst (NoneWhole (Spells r)) (sym nothing) (nothing_in r).none_whole)
     (subst (λ (b : List ℕ). EndsIn r b begun) (sym nothing) (nothing_in r).alive) (holds.0 ∙ sym nothing, holds.1) refl messages bad over follows
 
--- a piece behind a refusal
+-- a piece after a refusal
 pub stays : {S : Type 0} {r : Reading} (hears : Hears S) (line : ℕ) (from : Direction) (side : Side) (bytes rest : List ℕ) (start state next : StreamState) (old now new : S) (count : ℕ) (hearing : Hearing)
     → SoFar r hears line from bytes rest start state old now count → state.stopped ≡ true → Keeps state next → hears now (on line (unread from)) new
     → hearing.tally.messages ≡ count → hearing.tally.bad ≡ 0 → hearing.stopped ≡ true → Follows r start side → HearsPiece r hears line from side bytes next hearing old new
@@ -259,7 +259,7 @@ none_cut r hears line from (running bytes) state now follows none = record {
 }
 none_cut r hears line from stopped state now follows none = record { events = []; ends = refl; heard = refl; counts = record { messages = refl; bad = refl } }
 
--- what is cut off, as it is told
+-- what is cut off, as its events are emitted
 pub ends_cut : (r : Reading) (line : ℕ) (from : Direction) (side : Side) (state : StreamState) (head : Head) (have : ℕ) → Follows r state side → 0 < have → have ≡ length state.held → head ≡ head_of state.held
     → SideEnds r line from side (on line (trace_event.cut_off from head have) ∷ [])
 ends_cut r line from stopped state head have follows some is is_head = absurd (omega (arith, some, is, ap length follows.0))

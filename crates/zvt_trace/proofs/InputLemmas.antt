@@ -22,23 +22,23 @@ pub record Grown (start after : Option (List ℕ)) (old new : List ℕ) (count :
   pub consumed : Consumes start after new
   pub longer : length new ≡ length old + count
 
-pub one_more : (room count : ℕ) (start before after : Option (List ℕ)) (old new : List ℕ) → Consumes start before old
-    → ReadsPiece room before after old new (Ok count) → Grown start after old new count
-one_more room count start before after old new so r = record {
+pub one_more : (capacity count : ℕ) (start before after : Option (List ℕ)) (old new : List ℕ) → Consumes start before old
+    → ReadsPiece capacity before after old new (Ok count) → Grown start after old new count
+one_more capacity count start before after old new so r = record {
   consumed = subst (λ b. Consumes start after b) (sym r.2) (consumes_more start before after old r.0 so r.1);
   longer = omega (arith, ap length r.2, length-append old r.0, r.3);
 }
 
 -- a read that failed, after so many bytes
-pub broken : (room most : ℕ) (fault : TraceFault) (start before after : Option (List ℕ)) (old new : List ℕ) → Consumes start before old
-    → ReadsPiece room before after old new (Err fault) → length old + room ≤ most → (taken : List ℕ) × (length taken ≤ most) × Consumes start after taken
-broken room most Read start before after old new so k h =
+pub broken : (capacity most : ℕ) (fault : TraceFault) (start before after : Option (List ℕ)) (old new : List ℕ) → Consumes start before old
+    → ReadsPiece capacity before after old new (Err fault) → length old + capacity ≤ most → (taken : List ℕ) × (length taken ≤ most) × Consumes start after taken
+broken capacity most Read start before after old new so k h =
     (old ++ [], omega (arith, length-append old []), consumes_more start before after old [] so (consumes_none before after k))
-broken room most Memory start before after old new so m h =
+broken capacity most Memory start before after old new so m h =
     (old ++ m.0, omega (arith, length-append old m.0, m.2), consumes_more start before after old m.0 so m.1)
-broken room most TooLong start before after old new so m h = absurd m
-broken room most Write start before after old new so m h = absurd m
-broken room most (Trace line what) start before after old new so m h = absurd m
+broken capacity most TooLong start before after old new so m h = absurd m
+broken capacity most Write start before after old new so m h = absurd m
+broken capacity most (Trace line what) start before after old new so m h = absurd m
 
 -- no more than there is
 pub at_least : (limit : ℕ) (start after : Option (List ℕ)) (taken : List ℕ) → Consumes start after taken → limit < length taken → IfSome start (λ bytes. limit < length bytes)

@@ -9,17 +9,17 @@ use Rattle.zvt_trace.proofs.SpelledLemmas.{are_digits, digit_small, hex_more, pa
 abbrev pub pair_at : List ℕ → ℕ → ℕ
 pair_at text count = worth (slice_index text (2 * count)) * 16 + worth (slice_index text (2 * count + 1))
 
-pub none_read : (text room : List ℕ) → ReadsPairs text 0 room
-none_read text room = (tt, λ undecoded. reads_none (spells (without_spaces undecoded)))
+pub none_read : (text buffer : List ℕ) → ReadsPairs text 0 buffer
+none_read text buffer = (tt, λ undecoded. reads_none (spells (without_spaces undecoded)))
 
 -- one pair more, where it is one of digits
-pub one_more : (text room : List ℕ) (count pair : ℕ) → count < length room → 2 * count + 1 < length text → pair ≡ pair_at text count → pair < 256
-    → ReadsPairs text count room → ReadsPairs text (count + 1) (slice_set room count pair)
-one_more text room count pair fits some is few so =
+pub one_more : (text buffer : List ℕ) (count pair : ℕ) → count < length buffer → 2 * count + 1 < length text → pair ≡ pair_at text count → pair < 256
+    → ReadsPairs text count buffer → ReadsPairs text (count + 1) (slice_set buffer count pair)
+one_more text buffer count pair fits some is few so =
     let both = are_digits (slice_index text (2 * count)) (slice_index text (2 * count + 1)) (omega (arith, is, few)) in
     let sum : pair ≡ both.high * 16 + both.low = is ∙ both.is_sum in (
       hex_more text count both.high both.low some both.is_high both.is_low both.high_small both.low_small so.0,
-      λ undecoded. rw sum (read_plain text room undecoded count both.high both.low fits some both.is_high both.is_low both.high_small both.low_small so.1),
+      λ undecoded. rw sum (read_plain text buffer undecoded count both.high both.low fits some both.is_high both.is_low both.high_small both.low_small so.1),
     )
 
 -- two characters of which one is no digit

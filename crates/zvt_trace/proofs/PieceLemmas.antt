@@ -24,7 +24,7 @@ pub nothing_left : (held rest : List ℕ) → held ≡ [] → length rest ≡ 0 
 nothing_left held [] none empty = append-nil held ∙ none
 nothing_left held (byte ∷ rest) none empty = absurd (omega (arith, empty))
 
--- the stream stands behind such an ending
+-- the stream stands after such an ending
 abbrev pub EndsAs : StreamState → List ℕ → Ending → Type 0
 EndsAs next rest begun = Holds rest next
 EndsAs next rest (refused place why) = HasRefused next
@@ -75,7 +75,7 @@ unfinished_by k r bytes e = subst (λ (x : Reading). UnfinishedIn x bytes) e
 pub refused_by : (k r : Reading) (bytes : List ℕ) (place : ℕ) (why : Why) → k ≡ r → IsRefusedIn k bytes place why → IsRefusedIn r bytes place why
 refused_by k r bytes place why e = subst (λ (x : Reading). IsRefusedIn x bytes place why) e
 
--- the bytes that are lent are a spelling of the message that is
+-- the bytes that are borrowed are a spelling of the message that is
 pub lent_spelling : {A : Type 0} (k r : Reading) → k ≡ r → (now : A → List ℕ) (shown : Option A) (bytes : A) (lent : Option Message) (m : Message) → lent ≡ Some m
     → IfSome lent (λ n. IfSome shown (λ b. Spells k n (now b)) × IsSome shown) → shown ≡ Some bytes → Spells r m (now bytes)
 lent_spelling k r same now shown bytes lent m is trace_event found =

@@ -1,4 +1,4 @@
--- A piece in the usual form.
+-- A piece in the plain form.
 use Rattle.std.proofs.Common.{◌≡◌, ◌≢◌, ◌∙◌, sym, ap, subst, refl, arith, ℕ, suc, ◌+◌, ◌-◌, ◌*◌, ◌<◌, ◌≤◌, false, List, [], ◌∷◌, ◌++◌, length, take, drop, slice_index, ◌==◌, Some, Ok, append-nil, length-append, length-drop}
 use Rattle.std.specs.Prelude.{IsSome}
 use Rattle.std.specs.List.{position, position_or_len}
@@ -14,7 +14,7 @@ use Rattle.zvt_trace.specs.declared.direction.Direction.TheVariants.{FromTill, F
 use Rattle.zvt_trace.proofs.LineLemmas.{lines-first, newline}
 use Rattle.zvt_trace.proofs.SpelledLemmas.{no_bytes_of, no_text, reads_all}
 
--- what stands behind so many
+-- what stands after so many
 abbrev pub after_first : ℕ → List ℕ → List ℕ
 after_first n text = take (length text - n) (drop n text)
 
@@ -63,15 +63,15 @@ sign_means : (sign : ℕ) (from : Direction) (digits bytes : List ℕ) → IsSig
 sign_means sign FromTill digits bytes is decoded = rw is ((λ e. cc e), rw decoded refl)
 sign_means sign FromTerminal digits bytes is decoded = rw is ((λ e. cc e), rw decoded refl)
 
--- a piece in the usual form was read
-pub plain_begins : (sign : ℕ) (from : Direction) (text near room after : List ℕ) (count : ℕ) → IsSign sign from
+-- a piece in the plain form was read
+pub plain_begins : (sign : ℕ) (from : Direction) (text near buffer after : List ℕ) (count : ℕ) → IsSign sign from
     → take (2 * count) near ≡ take (2 * count) text → drop (2 * count) text ≡ 10 ∷ after → AreHex (take (2 * count) near)
-    → ((undecoded : List ℕ) → after_bytes (take count room) (spells (without_spaces undecoded)) ≡ spells (without_spaces (take (2 * count) near ++ undecoded)))
+    → ((undecoded : List ℕ) → after_bytes (take count buffer) (spells (without_spaces undecoded)) ≡ spells (without_spaces (take (2 * count) near ++ undecoded)))
     → 2 * count ≤ length text
-    → Begins (sign ∷ 32 ∷ text) (λ line. (meaning_of line ≡ Ok (piece from (take count room))) × (count ≤ length line)) after
-plain_begins sign from text near room after count is same cut all so fits =
+    → Begins (sign ∷ 32 ∷ text) (λ line. (meaning_of line ≡ Ok (piece from (take count buffer))) × (count ≤ length line)) after
+plain_begins sign from text near buffer after count is same cut all so fits =
     let digits = take (2 * count) text in
-    let bytes = take count room in
+    let bytes = take count buffer in
     let whole : digits ++ 10 ∷ after ≡ text = ap (λ (t : List ℕ). digits ++ t) (sym cut) ∙ take-append-drop (2 * count) text in
     let hex : AreHex digits = subst (λ (t : List ℕ). AreHex t) same all in
     let read : after_bytes bytes (spells (without_spaces [])) ≡ spells (without_spaces digits) =
@@ -96,28 +96,28 @@ feed_first : (text : List ℕ) → 1 ≤ length text → slice_index text 0 ≡ 
 feed_first [] some is = absurd (omega arith)
 feed_first (x ∷ text) some is = ap (λ (k : ℕ). k ∷ text) is
 
-pub plain_read : (rest room : List ℕ) (m count : ℕ) (from : Direction) → 2 ≤ length rest → slice_index rest 1 ≡ 32
+pub plain_read : (rest buffer : List ℕ) (m count : ℕ) (from : Direction) → 2 ≤ length rest → slice_index rest 1 ≡ 32
     → IsSign (slice_index rest 0) from
     → 2 * count ≤ length (take m (after_first 2 rest)) → AreHex (take (2 * count) (take m (after_first 2 rest)))
-    → ((undecoded : List ℕ) → after_bytes (take count room) (spells (without_spaces undecoded)) ≡ spells (without_spaces (take (2 * count) (take m (after_first 2 rest)) ++ undecoded)))
+    → ((undecoded : List ℕ) → after_bytes (take count buffer) (spells (without_spaces undecoded)) ≡ spells (without_spaces (take (2 * count) (take m (after_first 2 rest)) ++ undecoded)))
     → 1 ≤ length (after_first (2 * count) (after_first 2 rest)) → slice_index (after_first (2 * count) (after_first 2 rest)) 0 ≡ 10
-    → Begins rest (λ line. (meaning_of line ≡ Ok (piece from (take count room))) × (count ≤ length line)) (after_first 1 (after_first (2 * count) (after_first 2 rest)))
-plain_read [] room m count from some space is fits all so more feed = absurd (omega arith)
-plain_read (sign ∷ []) room m count from some space is fits all so more feed = absurd (omega arith)
-plain_read (sign ∷ blank ∷ after) room m count from some space is fits all so more feed =
+    → Begins rest (λ line. (meaning_of line ≡ Ok (piece from (take count buffer))) × (count ≤ length line)) (after_first 1 (after_first (2 * count) (after_first 2 rest)))
+plain_read [] buffer m count from some space is fits all so more feed = absurd (omega arith)
+plain_read (sign ∷ []) buffer m count from some space is fits all so more feed = absurd (omega arith)
+plain_read (sign ∷ blank ∷ after) buffer m count from some space is fits all so more feed =
     let text = after_first 2 (sign ∷ blank ∷ after) in
     let whole : text ≡ after = after_is 2 (sign ∷ blank ∷ after) in
     let rest = after_first (2 * count) text in
     let few = few_of_prefix (2 * count) m text fits in
     let cut : drop (2 * count) text ≡ 10 ∷ after_first 1 rest =
     sym (after_is (2 * count) text) ∙ feed_first rest more feed ∙ ap (λ (t : List ℕ). 10 ∷ t) (sym (after_is 1 rest)) in
-    let begins = plain_begins sign from text (take m text) room (after_first 1 rest) count is (take-take (2 * count) m text few.0) cut all so few.1 in
+    let begins = plain_begins sign from text (take m text) buffer (after_first 1 rest) count is (take-take (2 * count) m text few.0) cut all so few.1 in
     let same : sign ∷ 32 ∷ text ≡ sign ∷ blank ∷ after = ap (λ (t : List ℕ). sign ∷ 32 ∷ t) whole ∙ ap (λ (k : ℕ). sign ∷ k ∷ after) (sym space) in
-    subst (λ (t : List ℕ). Begins t (λ line. (meaning_of line ≡ Ok (piece from (take count room))) × (count ≤ length line)) (after_first 1 rest)) same begins
+    subst (λ (t : List ℕ). Begins t (λ line. (meaning_of line ≡ Ok (piece from (take count buffer))) × (count ≤ length line)) (after_first 1 rest)) same begins
 
--- a piece in the usual form leaves no text
-pub plain_line : (rest after room : List ℕ) (count : ℕ) (from : Direction) → count ≤ length room → Begins rest (λ line. (meaning_of line ≡ Ok (piece from (take count room))) × (count ≤ length line)) after
-    → Begins rest (λ line. (meaning_of line ≡ Ok (piece from (take count room ++ bytes_of []))) × (length (take count room ++ bytes_of []) ≤ length line) × SpellsBytes []) after
-plain_line rest after room count from few (line, cut, says, size, shorter) =
-    let all : take count room ++ bytes_of [] ≡ take count room = ap (λ (b : List ℕ). take count room ++ b) no_bytes_of ∙ append-nil (take count room) in
-    (line, cut, (says.0 ∙ ap (λ (b : List ℕ). Ok (piece from b)) (sym all), rw all (omega (arith, says.1, length-take-le count room few)), no_text), size, shorter)
+-- a piece in the plain form leaves no text
+pub plain_line : (rest after buffer : List ℕ) (count : ℕ) (from : Direction) → count ≤ length buffer → Begins rest (λ line. (meaning_of line ≡ Ok (piece from (take count buffer))) × (count ≤ length line)) after
+    → Begins rest (λ line. (meaning_of line ≡ Ok (piece from (take count buffer ++ bytes_of []))) × (length (take count buffer ++ bytes_of []) ≤ length line) × SpellsBytes []) after
+plain_line rest after buffer count from few (line, cut, says, size, shorter) =
+    let all : take count buffer ++ bytes_of [] ≡ take count buffer = ap (λ (b : List ℕ). take count buffer ++ b) no_bytes_of ∙ append-nil (take count buffer) in
+    (line, cut, (says.0 ∙ ap (λ (b : List ℕ). Ok (piece from b)) (sym all), rw all (omega (arith, says.1, length-take-le count buffer few)), no_text), size, shorter)

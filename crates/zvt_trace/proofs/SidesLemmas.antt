@@ -1,4 +1,4 @@
--- What both sides of the line tell.
+-- What both sides of the line emit.
 use Rattle.std.proofs.Common.{◌≡◌, ℕ, ◌+◌, Bool, true, false, subst, List, [], ◌∷◌, ◌++◌, refl, sym, ◌∙◌, arith, append-nil}
 use Rattle.std.proofs.lemmas.Bool.{false≢true}
 use Rattle.zvt_grammar.specs.Reading.{Reading}
@@ -10,7 +10,7 @@ use Rattle.zvt_trace.specs.TraceEvent as trace_event
 use Rattle.zvt_trace.specs.Emitting.{PrefixOf, Leaves, LineEnds, LineEmits, MeaningBegins, PieceEmits, SideEnds, both_sides, cut_off_event, other}
 use Rattle.zvt_trace.specs.Trace.{Side, Sides, new_line, running, stopped}
 use Rattle.zvt_trace.specs.Written.{Follows}
-use Rattle.zvt_trace.specs.declared.both_sides.BothSides.{BothSides}
+use Rattle.zvt_trace.specs.declared.walker.BothSides.{BothSides}
 use Rattle.zvt_trace.specs.declared.direction.Direction.{Direction}
 use Rattle.zvt_trace.specs.declared.direction.Direction.TheVariants.{FromTill, FromTerminal}
 use Rattle.zvt_trace.specs.declared.fault.Tally.{Tally}

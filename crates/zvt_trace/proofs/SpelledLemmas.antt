@@ -167,19 +167,19 @@ two_kept rest low next some other same some_low other_low same_next =
     first_kept rest some other ∙ ap (λ w. slice_index rest 0 ∷ w) (sym same ∙ first_kept low some_low other_low ∙ ap (λ w. slice_index low 0 ∷ w) (sym same_next))
 
 -- a pair was read
-pub read_pair : (text rest low next room : List ℕ) (count h l : ℕ) → count < length room
+pub read_pair : (text rest low next buffer : List ℕ) (count h l : ℕ) → count < length buffer
     → 1 ≤ length rest → slice_index rest 0 ≢ 32 → without_spaces low ≡ without_spaces (drop 1 rest)
     → 1 ≤ length low → slice_index low 0 ≢ 32 → without_spaces next ≡ without_spaces (drop 1 low)
     → IsDigit (slice_index rest 0) h → IsDigit (slice_index low 0) l → h ≤ 15 → l ≤ 15
-    → after_bytes (take count room) (spells (without_spaces rest)) ≡ spells (without_spaces text)
-    → after_bytes (take (count + 1) (slice_set room count (h * 16 + l))) (spells (without_spaces next)) ≡ spells (without_spaces text)
-read_pair text rest low next room count h l fits some other same some_low other_low same_next dh dl sh sl so =
+    → after_bytes (take count buffer) (spells (without_spaces rest)) ≡ spells (without_spaces text)
+    → after_bytes (take (count + 1) (slice_set buffer count (h * 16 + l))) (spells (without_spaces next)) ≡ spells (without_spaces text)
+read_pair text rest low next buffer count h l fits some other same some_low other_low same_next dh dl sh sl so =
     let two = two_kept rest low next some other same some_low other_low same_next in
     let high = digit_is _ h dh sh in
     let last = digit_is _ l dl sl in
     let pair : spells (without_spaces rest) ≡ pair_before (Some h) (Some l) (spells (without_spaces next)) =
     ap spells two ∙ pair_spells _ _ _ ∙ rw (high, last) refl in
-    rw (take_more_set room count (h * 16 + l) fits) (after_pair (take count room) h l _ ∙ ap (after_bytes (take count room)) (sym pair) ∙ so)
+    rw (take_more_set buffer count (h * 16 + l) fits) (after_pair (take count buffer) h l _ ∙ ap (after_bytes (take count buffer)) (sym pair) ∙ so)
 
 digit_no_space : (d v : ℕ) → IsDigit d v → v ≤ 15 → d ≢ 32
 digit_no_space d v h small e = absurd (by d e h)
@@ -195,18 +195,18 @@ two_more text n some =
     take_more text (n + 1) 0 some ∙ ap (λ (t : List ℕ). t ++ slice_index text (n + 1) ∷ []) (take_more text n 0 (omega (arith, some)))
     ∙ append_assoc (take n text) (slice_index text n ∷ []) (slice_index text (n + 1) ∷ [])
 
--- the front with one pair more
+-- the prefix with one pair more
 pair_more : (text : List ℕ) (count : ℕ) → 2 * count + 1 < length text → take (2 * (count + 1)) text ≡ take (2 * count) text ++ slice_index text (2 * count) ∷ slice_index text (2 * count + 1) ∷ []
 pair_more text count some =
     let end : 2 * (count + 1) ≡ 2 * count + 1 + 1 = omega arith in
     ap (λ (k : ℕ). take k text) end ∙ two_more text (2 * count) some
 
 -- a pair was read that no space stands in
-pub read_plain : (text room undecoded : List ℕ) (count h l : ℕ) → count < length room → 2 * count + 1 < length text
+pub read_plain : (text buffer undecoded : List ℕ) (count h l : ℕ) → count < length buffer → 2 * count + 1 < length text
     → IsDigit (slice_index text (2 * count)) h → IsDigit (slice_index text (2 * count + 1)) l → h ≤ 15 → l ≤ 15
-    → ((more : List ℕ) → after_bytes (take count room) (spells (without_spaces more)) ≡ spells (without_spaces (take (2 * count) text ++ more)))
-    → after_bytes (take (count + 1) (slice_set room count (h * 16 + l))) (spells (without_spaces undecoded)) ≡ spells (without_spaces (take (2 * (count + 1)) text ++ undecoded))
-read_plain text room undecoded count h l fits some dh dl sh sl so =
+    → ((more : List ℕ) → after_bytes (take count buffer) (spells (without_spaces more)) ≡ spells (without_spaces (take (2 * count) text ++ more)))
+    → after_bytes (take (count + 1) (slice_set buffer count (h * 16 + l))) (spells (without_spaces undecoded)) ≡ spells (without_spaces (take (2 * (count + 1)) text ++ undecoded))
+read_plain text buffer undecoded count h l fits some dh dl sh sl so =
     let a = slice_index text (2 * count) in
     let b = slice_index text (2 * count + 1) in
     let kept : without_spaces (a ∷ b ∷ undecoded) ≡ a ∷ b ∷ without_spaces undecoded =
@@ -215,7 +215,7 @@ read_plain text room undecoded count h l fits some dh dl sh sl so =
     ap spells kept ∙ pair_spells _ _ _ ∙ rw (digit_is _ h dh sh, digit_is _ l dl sl) refl in
     let cut : take (2 * count) text ++ a ∷ b ∷ undecoded ≡ take (2 * (count + 1)) text ++ undecoded =
     sym (ap (λ (t : List ℕ). t ++ undecoded) (pair_more text count some) ∙ append_assoc (take (2 * count) text) (a ∷ b ∷ []) undecoded) in
-    rw (take_more_set room count (h * 16 + l) fits) (after_pair (take count room) h l _ ∙ ap (after_bytes (take count room)) (sym pair) ∙ so (a ∷ b ∷ undecoded) ∙ ap (λ (t : List ℕ). spells (without_spaces t)) cut)
+    rw (take_more_set buffer count (h * 16 + l) fits) (after_pair (take count buffer) h l _ ∙ ap (after_bytes (take count buffer)) (sym pair) ∙ so (a ∷ b ∷ undecoded) ∙ ap (λ (t : List ℕ). spells (without_spaces t)) cut)
 
 is_hex : (d v : ℕ) → IsDigit d v → v ≤ 15 → IsSome (hex_digit_value d)
 is_hex d v h small = rw (digit_is _ v h small) refl
@@ -239,7 +239,7 @@ pub hex_more : (text : List ℕ) (count h l : ℕ) → 2 * count + 1 < length te
 hex_more text count h l some dh dl sh sl all =
     rw (pair_more text count some) (hex_append (take (2 * count) text) (slice_index text (2 * count)) (slice_index text (2 * count + 1)) all (is_hex (slice_index text (2 * count)) h dh sh) (is_hex (slice_index text (2 * count + 1)) l dl sl))
 
--- what refuses the text behind some bytes refuses all
+-- what refuses the text after some bytes refuses all
 pub refused : (done text rest : List ℕ) → spells (without_spaces rest) ≡ None
     → after_bytes done (spells (without_spaces rest)) ≡ spells (without_spaces text) → spells (without_spaces text) ≡ None
 refused done text rest none so = sym so ∙ rw none refl
@@ -285,7 +285,7 @@ unfolding spells
 reads_all done text [] none so = some_in _ _ (spells-decode (without_spaces text) ∙ sym so ∙ ap (λ b. Some b) (append-nil done))
 reads_all done text (x ∷ rest) none so = absurd (omega arith)
 
--- bytes were read, and the text behind them spells others
+-- bytes were read, and the text after them spells others
 reads_more : (done text rest : List ℕ) → after_bytes done (spells (without_spaces rest)) ≡ spells (without_spaces text) → SpellsBytes rest → spells (without_spaces text) ≡ Some (done ++ bytes_of rest)
 reads_more done text rest so spelled = by (spells (without_spaces rest)) refl spelled
   where
@@ -304,7 +304,7 @@ no_piece from text none = by (decode_of (without_spaces text)) (none_in _ (spell
     by (Ok b) e = cc e
     by (Err x) e = refl
 
--- what stands behind the bytes of a text that spells some
+-- what stands after the bytes of a text that spells some
 pub goes_on : (done text rest : List ℕ) → after_bytes done (spells (without_spaces rest)) ≡ spells (without_spaces text) → SpellsBytes text → (bytes_of text ≡ done ++ bytes_of rest) × SpellsBytes rest
 goes_on done text rest so spelled = by (spells (without_spaces rest)) (spells (without_spaces text)) so spelled
   where
@@ -338,11 +338,11 @@ spelled_few (high ∷ low ∷ rest) = by (hex_digit_value high) (hex_digit_value
 pub bytes_few : (text : List ℕ) → length (bytes_of text) ≤ length text
 bytes_few text = let kept = kept_few text in let few = spelled_few (without_spaces text) in omega (arith, kept, few)
 
-pub piece_few : (text rest room : List ℕ) (count : ℕ) → 2 * count + length rest ≤ length text → length (take count room ++ bytes_of rest) ≤ length text
-piece_few text rest room count few =
-    let prefix = length-take count room in
+pub piece_few : (text rest buffer : List ℕ) (count : ℕ) → 2 * count + length rest ≤ length text → length (take count buffer ++ bytes_of rest) ≤ length text
+piece_few text rest buffer count few =
+    let prefix = length-take count buffer in
     let undecoded = bytes_few rest in
-    omega (arith, few, prefix, undecoded, length-append (take count room) (bytes_of rest))
+    omega (arith, few, prefix, undecoded, length-append (take count buffer) (bytes_of rest))
 
 -- ---- digits without spaces
 

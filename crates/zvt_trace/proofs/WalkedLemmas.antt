@@ -1,13 +1,13 @@
--- What the lines of a trace tell, one after another.
+-- What the lines of a trace emit, one after another.
 use Rattle.std.proofs.Common.{◌≡◌, inl, inr, ℕ, ◌+◌, List, [], ◌∷◌, ◌++◌, Ok, Err, length, refl, sym, ◌∙◌, ap, subst, arith, append_assoc, append-nil, length-append}
 use Rattle.std.specs.Str.Lines.{lines}
 use Rattle.zvt_grammar.specs.Reading.{Reading}
-use Rattle.zvt_trace.specs.Listening.{AnswersWalkBy, Fails, FailsIn, FollowBoth, Hears, HearsAll, HearsEnd, WalksLine, fault_of}
+use Rattle.zvt_trace.specs.Listening.{AnswersWalk, Fails, FailsIn, FollowBoth, Hears, HearsAll, HearsEnd, WalksLine, fault_of}
 use Rattle.zvt_trace.specs.Meanings.{Meaning, meaning_of}
 use Rattle.zvt_trace.specs.TraceEvent.{At, Tallies}
 use Rattle.zvt_trace.specs.Emitting.{PrefixOf, LineEnds, LineSoFar, LineEmits, LinesEmit, MeaningBegins, EventsSoFar}
 use Rattle.zvt_trace.specs.Trace.{Sides, new_line}
-use Rattle.zvt_trace.specs.declared.both_sides.BothSides.{BothSides}
+use Rattle.zvt_trace.specs.declared.walker.BothSides.{BothSides}
 use Rattle.zvt_trace.specs.declared.fault.Tally.{Tally}
 use Rattle.zvt_trace.specs.declared.fault.TraceFault.{TraceFault}
 use Rattle.zvt_trace.specs.declared.fault.TraceFault.TheVariants.{Memory, Read, TooLong, Trace, Write}
@@ -44,7 +44,7 @@ LinesEmit-push r scope count start middle after (first ∷ done) line all own me
 
 -- ---- the lines so far
 
--- of the trace all lines but those of the rest were read, and what they tell was heard
+-- of the trace all lines but those of the rest were read, and what they emit was heard
 pub record Walked {S : Type 0} (r : Reading) (hears : Hears S) (scope : Scope) (trace rest : List ℕ) (number : ℕ) (state : BothSides) (tally : Tally) (old now : S) : Type 0 where
   pub done : List (List ℕ)
   pub all : List At
@@ -89,7 +89,7 @@ one_walked {r = r} hears fails scope trace rest content after number state next 
 -- no line is left, and what is cut off was heard
 pub closed : {S : Type 0} {r : Reading} (hears : Hears S) (fails : Fails S) (scope : Scope) (trace rest : List ℕ) (number : ℕ) (state : BothSides) (tally grown : Tally) (bad : ℕ) (old now new : S) → length rest ≡ 0
     → (so : Walked r hears scope trace rest number state tally old now) → HearsEnd hears (LineEnds r number so.sides) bad now new
-    → grown.messages ≡ tally.messages → grown.bad ≡ tally.bad + bad → AnswersWalkBy r hears fails scope (lines trace) old new (Ok grown)
+    → grown.messages ≡ tally.messages → grown.bad ≡ tally.bad + bad → AnswersWalk r hears fails scope (lines trace) old new (Ok grown)
 closed hears fails scope trace (byte ∷ rest) number state tally grown bad old now new none so last messages bads = absurd (omega (arith, none))
 closed {r = r} hears fails scope trace [] number state tally grown bad old now new none so last messages bads =
     let all : lines trace ≡ so.done = so.cut ∙ append-nil so.done in
@@ -141,10 +141,10 @@ next_so_far : {S : Type 0} {r : Reading} (hears : Hears S) (fails : Fails S) (wh
 next_so_far hears fails why scope trace rest content after number state tally old now new so first failed =
     fails_after hears fails why so.all old now new so.heard failed (λ events next. next_reaches hears scope trace rest content after number state tally old now events so first next)
 
--- the next line could not be told
+-- the next line could not be emitted
 pub failed : {S : Type 0} {r : Reading} (hears : Hears S) (fails : Fails S) (scope : Scope) (trace rest content after : List ℕ) (number : ℕ) (state next : BothSides) (tally : Tally) (fault : TraceFault) (old now new : S)
     → (so : Walked r hears scope trace rest number state tally old now) → lines rest ≡ content ∷ lines after → WalksLine r hears fails scope (number + 1) content so.sides next now new (Err fault)
-    → AnswersWalkBy r hears fails scope (lines trace) old new (Err fault)
+    → AnswersWalk r hears fails scope (lines trace) old new (Err fault)
 failed {S = S} hears fails scope trace rest content after number state next tally (Trace line what) old now new so first wrong = (
   so.all,
   record {
@@ -181,13 +181,13 @@ end_so_far {r = r} hears fails why scope trace [] number state tally old now new
       is_all = refl;
     }))
 
--- what is cut off could not be told
+-- what is cut off could not be emitted
 pub end_failed : {S : Type 0} {r : Reading} (hears : Hears S) (fails : Fails S) (why : ListenerError) (scope : Scope) (trace rest : List ℕ) (number : ℕ) (state : BothSides) (tally : Tally) (old now new : S) → length rest ≡ 0
-    → (so : Walked r hears scope trace rest number state tally old now) → FailsIn hears fails why (PrefixOf (LineEnds r number so.sides)) now new → AnswersWalkBy r hears fails scope (lines trace) old new (Err (fault_of why))
+    → (so : Walked r hears scope trace rest number state tally old now) → FailsIn hears fails why (PrefixOf (LineEnds r number so.sides)) now new → AnswersWalk r hears fails scope (lines trace) old new (Err (fault_of why))
 end_failed hears fails failure.Memory scope trace rest number state tally old now new none so fault = end_so_far hears fails failure.Memory scope trace rest number state tally old now new none so fault
 end_failed hears fails failure.Write scope trace rest number state tally old now new none so fault = end_so_far hears fails failure.Write scope trace rest number state tally old now new none so fault
 
--- the line could be read, and not be told
+-- the line could be read, and not be emitted
 pub line_failed : {S : Type 0} {r : Reading} (hears : Hears S) (fails : Fails S) (why : ListenerError) (scope : Scope) (number : ℕ) (line : List ℕ) (meaning : Meaning) (sides : Sides) (state : BothSides) (old new : S) → meaning_of line ≡ Ok meaning
     → FailsIn hears fails why (MeaningBegins r scope number meaning sides) old new → WalksLine r hears fails scope number line sides state old new (Err (fault_of why))
 line_failed hears fails failure.Memory scope number line meaning sides state old new means fault = fails_as hears fails failure.Memory old new fault (λ events so. inr (meaning, means, so))

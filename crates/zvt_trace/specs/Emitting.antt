@@ -1,4 +1,4 @@
--- What a piece, a line and a whole trace tell.
+-- What a piece, a line and a whole trace emit.
 use Rattle.std.specs.Prelude.{◌≡◌, ◌⊎◌, ℕ, ◌+◌, List, [], ◌∷◌, ◌++◌, length, map, slice_index, Ok, Err}
 use Rattle.zvt_grammar.specs.Cuts.{Cut}
 use Rattle.zvt_grammar.specs.Reading.{Reading}
@@ -24,7 +24,7 @@ abbrev pub ending_events : ℕ → Direction → List ℕ → Ending → List At
 ending_events line from rest begun = []
 ending_events line from rest (refused place why) = on line (trace_event.refused from (head_of rest) (slice_index rest place) place why) ∷ []
 
--- A piece tells the messages that arrive with it, and what is refused behind them.
+-- A piece emits the messages that arrive with it, and what is refused after them.
 pub record Emits (r : Reading) (line : ℕ) (from : Direction) (before bytes : List ℕ) (events : List At) (after : Side) : Type 0 where
   pub messages : List Message
   pub rest : List ℕ
@@ -71,7 +71,7 @@ pub record EmitsBeside (r : Reading) (scope : Scope) (line : ℕ) (from : Direct
   pub leaves : Leaves r scope line from after beside others beside_after
   pub is_all : events ≡ own ++ others
 
--- the line ends: the till's side is told before the terminal's
+-- the line ends: the till's side is emitted before the terminal's
 pub record LineEnds (r : Reading) (line : ℕ) (sides : Sides) (events : List At) : Type 0 where
   pub till : List At
   pub terminal : List At
@@ -88,7 +88,7 @@ LineEmits r scope line (piece from bytes) sides events after =
 LineEmits r scope line lost sides events after =
     (ended : List At) × LineEnds r line sides ended × (events ≡ ended ++ on line trace_event.lost ∷ []) × (after ≡ new_line)
 
--- ---- lines, behind so many others
+-- ---- lines, after so many others
 
 pub record OneMore (r : Reading) (scope : Scope) (count : ℕ) (sides : Sides) (line : List ℕ) (Others : Sides → List At → Type 0) (events : List At) : Type 0 where
   pub meaning : Meaning
@@ -107,7 +107,7 @@ LinesEmit r scope count sides (line ∷ lines) events after = OneMore r scope co
 
 -- ---- the trace
 
--- a trace of which all lines can be read: what they tell, and what is cut off at its end
+-- a trace of which all lines can be read: what they emit, and what is cut off at its end
 pub record WholeTrace (r : Reading) (scope : Scope) (lines : List (List ℕ)) (events : List At) : Type 0 where
   pub body : List At
   pub after : Sides
@@ -116,7 +116,7 @@ pub record WholeTrace (r : Reading) (scope : Scope) (lines : List (List ℕ)) (e
   pub ends : LineEnds r (length lines) after last
   pub is_all : events ≡ body ++ last
 
--- lines of which one can't be read, counted from 1: what those before it tell
+-- lines of which one can't be read, counted from 1: what those before it emit
 pub record BrokenTrace (r : Reading) (scope : Scope) (lines : List (List ℕ)) (number : ℕ) (what : TraceLineError) (events : List At) : Type 0 where
   pub done : List (List ℕ)
   pub line : List ℕ
@@ -127,7 +127,7 @@ pub record BrokenTrace (r : Reading) (scope : Scope) (lines : List (List ℕ)) (
   pub wrong : meaning_of line ≡ Err what
   pub is_number : number ≡ length done + 1
 
--- ---- a front of what a trace tells
+-- ---- a prefix of what a trace emits
 
 pub record PrefixOf (Emit : List At → Type 0) (events : List At) : Type 0 where
   pub all : List At
@@ -141,7 +141,7 @@ Begins prefix comment = prefix ≡ comment
 Begins prefix (piece from bytes) = (first : List ℕ) × (more : List ℕ) × (prefix ≡ piece from first) × (bytes ≡ first ++ more)
 Begins prefix lost = prefix ≡ lost
 
--- a front of what a front of a line with this meaning tells
+-- a prefix of what a prefix of a line with this meaning emits
 pub record MeaningBegins (r : Reading) (scope : Scope) (number : ℕ) (meaning : Meaning) (sides : Sides) (events : List At) : Type 0 where
   pub prefix : Meaning
   pub after : Sides
@@ -151,17 +151,17 @@ pub record MeaningBegins (r : Reading) (scope : Scope) (number : ℕ) (meaning :
 abbrev pub LineBegins : Reading → Scope → ℕ → List ℕ → Sides → List At → Type 0
 LineBegins r scope number line sides events = (meaning : Meaning) × (meaning_of line ≡ Ok meaning) × MeaningBegins r scope number meaning sides events
 
--- nothing, or so much of what the line tells
+-- nothing, or so much of what the line emits
 abbrev pub LineSoFar : Reading → Scope → ℕ → List ℕ → Sides → List At → Type 0
 LineSoFar r scope number line sides events = (events ≡ []) ⊎ LineBegins r scope number line sides events
 
--- behind so many lines, what so much of the next line tells, or the end of the trace
+-- after so many lines, what so much of the next line emits, or the end of the trace
 abbrev pub NextEmits : Reading → Scope → ℕ → List (List ℕ) → Sides → List At → Type 0
 NextEmits r scope count [] sides events = LineEnds r count sides events
 NextEmits r scope count (line ∷ later) sides events =
     (events ≡ []) ⊎ ((meaning : Meaning) × (prefix : Meaning) × (after : Sides) × (meaning_of line ≡ Ok meaning) × Begins prefix meaning × LineEmits r scope (count + 1) prefix sides events after)
 
--- what so many lines tell, and then what comes next
+-- what so many lines emit, and then what comes next
 pub record Reaches (r : Reading) (scope : Scope) (lines : List (List ℕ)) (events : List At) : Type 0 where
   pub done : List (List ℕ)
   pub later : List (List ℕ)
@@ -173,6 +173,6 @@ pub record Reaches (r : Reading) (scope : Scope) (lines : List (List ℕ)) (even
   pub emits : NextEmits r scope (length done) later after next
   pub is_all : events ≡ before ++ next
 
--- a front of that
+-- a prefix of that
 abbrev pub EventsSoFar : Reading → Scope → List (List ℕ) → List At → Type 0
 EventsSoFar r scope lines events = PrefixOf (Reaches r scope lines) events

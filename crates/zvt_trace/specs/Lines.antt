@@ -11,5 +11,5 @@ direction_text FromTerminal = codes "<"
 
 -- what is wrong with a line of a trace, and what one looks like
 abbrev pub what_text : TraceLineError → List ℕ
-what_text Form = codes "a line begins with '>' or '<' and goes on in hexadecimal, or is '!' alone, or begins with '#'"
-what_text Hex = codes "after '>' or '<' stand two hexadecimal digits for each byte, and spaces"
+what_text Form = codes "expected '>' or '<' and hexadecimal digits, '!' alone, or a comment that begins with '#'"
+what_text Hex = codes "expected two hexadecimal digits for each byte after '>' or '<', with or without spaces"

@@ -1,13 +1,13 @@
--- What a listener is told, and what becomes of it.
+-- The events that a listener hears, and what becomes of it.
 use Rattle.std.specs.Prelude.{◌≡◌, ◌⊎◌, ℕ, Bool, true, false, List, [], ◌∷◌, ◌++◌, Result, Ok, Err}
-use Rattle.zvt_grammar.specs.Reading.{Reading, shortest}
+use Rattle.zvt_grammar.specs.Reading.{Reading}
 use Rattle.zvt_stream.specs.StreamState.{StreamState}
 use Rattle.zvt_trace.specs.Meanings.{Meaning, meaning_of}
 use Rattle.zvt_trace.specs.TraceEvent.{At, Tallies}
 use Rattle.zvt_trace.specs.Emitting.{BrokenTrace, PrefixOf, LineSoFar, LineEmits, MeaningBegins, PieceEmits, EmitsBeside, EventsSoFar, WholeTrace}
 use Rattle.zvt_trace.specs.Trace.{Side, Sides, running, stopped}
 use Rattle.zvt_trace.specs.Written.{Follows}
-use Rattle.zvt_trace.specs.declared.both_sides.BothSides.{BothSides}
+use Rattle.zvt_trace.specs.declared.walker.BothSides.{BothSides}
 use Rattle.zvt_trace.specs.declared.direction.Direction.{Direction}
 use Rattle.zvt_trace.specs.declared.fault.Tally.{Tally}
 use Rattle.zvt_trace.specs.declared.fault.TraceFault.{TraceFault}
@@ -47,7 +47,7 @@ abbrev pub is_stopped : Side → Bool
 is_stopped (running bytes) = false
 is_stopped stopped = true
 
--- what a piece tells was heard, and the stream goes on behind it
+-- what a piece emits was heard, and the stream goes on after it
 pub record HearsPiece {S : Type 0} (r : Reading) (hears : Hears S) (line : ℕ) (from : Direction) (side : Side) (bytes : List ℕ) (state : StreamState) (hearing : Hearing) (old new : S) : Type 0 where
   pub events : List At
   pub after : Side
@@ -57,7 +57,7 @@ pub record HearsPiece {S : Type 0} (r : Reading) (hears : Hears S) (line : ℕ) 
   pub counts : Tallies hearing.tally events
   pub ends : hearing.stopped ≡ is_stopped after
 
--- a front of what a front of the piece tells
+-- a prefix of what a prefix of the piece emits
 pub record PieceBegins (r : Reading) (line : ℕ) (from : Direction) (side : Side) (bytes : List ℕ) (events : List At) : Type 0 where
   pub first : List ℕ
   pub more : List ℕ
@@ -95,7 +95,7 @@ pub record FollowBoth (r : Reading) (state : BothSides) (sides : Sides) : Type 0
   pub till : FollowsUntil r state.rejected state.till sides.till
   pub terminal : FollowsUntil r state.rejected state.terminal sides.terminal
 
--- what a piece tells was heard, and what it leaves of the other side
+-- what a piece emits was heard, and what it leaves of the other side
 pub record HearsBeside {S : Type 0} (r : Reading) (hears : Hears S) (scope : Scope) (line : ℕ) (from : Direction) (side beside : Side) (bytes : List ℕ) (state other : StreamState) (hearing : Hearing) (old new : S) : Type 0 where
   pub events : List At
   pub after : Side
@@ -106,7 +106,7 @@ pub record HearsBeside {S : Type 0} (r : Reading) (hears : Hears S) (scope : Sco
   pub follows_beside : FollowsUntil r hearing.stopped other beside_after
   pub counts : Tallies hearing.tally events
 
--- a front of what a front of the piece tells, and of what it leaves of the other side
+-- a prefix of what a prefix of the piece emits, and of what it leaves of the other side
 pub record BesideBegins (r : Reading) (scope : Scope) (line : ℕ) (from : Direction) (side beside : Side) (bytes : List ℕ) (events : List At) : Type 0 where
   pub first : List ℕ
   pub more : List ℕ
@@ -121,7 +121,7 @@ EmitsThere r hears fails scope line from side beside bytes state other old new (
 
 -- ---- one line of the trace
 
--- what the line tells was heard, and the streams go on behind it
+-- what the line emits was heard, and the streams go on after it
 pub record HearsLine {S : Type 0} (r : Reading) (hears : Hears S) (scope : Scope) (number : ℕ) (meaning : Meaning) (sides : Sides) (state : BothSides) (tally : Tally) (old new : S) : Type 0 where
   pub events : List At
   pub after : Sides
@@ -139,7 +139,7 @@ abbrev pub fault_of : ListenerError → TraceFault
 fault_of failure.Memory = Memory
 fault_of failure.Write = Write
 
--- What telling the line of that number answers.
+-- What emitting the events of the line of that number answers.
 abbrev pub WalksLine : {S : Type 0} → Reading → Hears S → Fails S → Scope → ℕ → List ℕ → Sides → BothSides → (old new : S) → Result Tally TraceFault → Type 0
 WalksLine r hears fails scope number line sides state old new (Ok tally) =
     (meaning : Meaning) × (meaning_of line ≡ Ok meaning) × HearsLine r hears scope number meaning sides state tally old new
@@ -151,15 +151,11 @@ WalksLine r hears fails scope number line sides state old new (Err Read) = ⊥
 
 -- ---- the trace
 
--- What a walk over lines answers, by that reading of lengths. Where it fails, the events of the lines before were heard, and a front of those that came next.
-abbrev pub AnswersWalkBy : {S : Type 0} → Reading → Hears S → Fails S → Scope → List (List ℕ) → (old new : S) → Result Tally TraceFault → Type 0
-AnswersWalkBy r hears fails scope lines old new (Ok tally) = (events : List At) × WholeTrace r scope lines events × HearsAll hears old events new × Tallies tally events
-AnswersWalkBy r hears fails scope lines old new (Err (Trace number what)) = (events : List At) × BrokenTrace r scope lines number what events × HearsAll hears old events new
-AnswersWalkBy r hears fails scope lines old new (Err Memory) = FailsIn hears fails failure.Memory (EventsSoFar r scope lines) old new
-AnswersWalkBy r hears fails scope lines old new (Err Write) = FailsIn hears fails failure.Write (EventsSoFar r scope lines) old new
-AnswersWalkBy r hears fails scope lines old new (Err TooLong) = ⊥
-AnswersWalkBy r hears fails scope lines old new (Err Read) = ⊥
-
--- the same of a strict walk
-abbrev pub AnswersWalk : {S : Type 0} → Hears S → Fails S → Scope → List (List ℕ) → (old new : S) → Result Tally TraceFault → Type 0
-AnswersWalk hears fails scope lines old new answer = AnswersWalkBy shortest hears fails scope lines old new answer
+-- What a walk over lines answers, by that reading of lengths. Where it fails, the events of the lines before were heard, and a prefix of those that came next.
+abbrev pub AnswersWalk : {S : Type 0} → Reading → Hears S → Fails S → Scope → List (List ℕ) → (old new : S) → Result Tally TraceFault → Type 0
+AnswersWalk r hears fails scope lines old new (Ok tally) = (events : List At) × WholeTrace r scope lines events × HearsAll hears old events new × Tallies tally events
+AnswersWalk r hears fails scope lines old new (Err (Trace number what)) = (events : List At) × BrokenTrace r scope lines number what events × HearsAll hears old events new
+AnswersWalk r hears fails scope lines old new (Err Memory) = FailsIn hears fails failure.Memory (EventsSoFar r scope lines) old new
+AnswersWalk r hears fails scope lines old new (Err Write) = FailsIn hears fails failure.Write (EventsSoFar r scope lines) old new
+AnswersWalk r hears fails scope lines old new (Err TooLong) = ⊥
+AnswersWalk r hears fails scope lines old new (Err Read) = ⊥

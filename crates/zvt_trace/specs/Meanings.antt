@@ -7,6 +7,7 @@ use Rattle.hex.specs.declared.error.FromHexError.{FromHexError}
 use Rattle.zvt_trace.specs.Spelled.{AreHex, after_bytes, spells}
 use Rattle.zvt_trace.specs.declared.fault.TraceLineError.{TraceLineError}
 use Rattle.zvt_trace.specs.declared.fault.TraceLineError.TheVariants.{Form, Hex}
+use Rattle.zvt_trace.specs.declared.emit.Piece.{Piece}
 use Rattle.zvt_trace.specs.declared.line.TraceLine.{TraceLine}
 use Rattle.zvt_trace.specs.declared.line.Plain.{Plain}
 use Rattle.zvt_trace.specs.declared.line.TraceLine.TheVariants as code
@@ -25,7 +26,7 @@ abbrev pub piece_of : Direction → Result (List ℕ) FromHexError → Result Me
 piece_of from (Ok bytes) = Ok (piece from bytes)
 piece_of from (Err e) = Err Hex
 
--- nothing or '#' is a remark, '>' and '<' are pieces in hexadecimal, '!' alone is a loss
+-- nothing or '#' is a comment, '>' and '<' are pieces in hexadecimal, '!' alone is a loss
 abbrev pub meaning_of : List ℕ → Result Meaning TraceLineError
 meaning_of [] = Ok comment
 meaning_of (first ∷ rest) =
@@ -43,12 +44,16 @@ SpellsBytes text = IsSome (spells (without_spaces text))
 abbrev pub bytes_of : List ℕ → List ℕ
 bytes_of text = unwrap_or (spells (without_spaces text)) []
 
--- the first digits of a text are so many pairs, and the room begins with their bytes
-abbrev pub ReadsPairs : (text : List ℕ) (count : ℕ) (room : List ℕ) → Type 0
-ReadsPairs text count room =
-    AreHex (take (2 * count) text) × ((undecoded : List ℕ) → after_bytes (take count room) (spells (without_spaces undecoded)) ≡ spells (without_spaces (take (2 * count) text ++ undecoded)))
+-- all bytes of a piece: those that are read, and those that its text spells
+abbrev pub bytes_in : Piece → List ℕ
+bytes_in content = content.bytes.now ++ bytes_of content.undecoded.now
 
--- the two characters behind so many pairs spell no byte
+-- the first digits of a text are so many pairs, and the buffer begins with their bytes
+abbrev pub ReadsPairs : (text : List ℕ) (count : ℕ) (buffer : List ℕ) → Type 0
+ReadsPairs text count buffer =
+    AreHex (take (2 * count) text) × ((undecoded : List ℕ) → after_bytes (take count buffer) (spells (without_spaces undecoded)) ≡ spells (without_spaces (take (2 * count) text ++ undecoded)))
+
+-- the two characters after so many pairs spell no byte
 abbrev pub EndsPairs : (text : List ℕ) (count : ℕ) → Type 0
 EndsPairs text count = spells (slice_index text (2 * count) ∷ slice_index text (2 * count + 1) ∷ []) ≡ None
 
@@ -80,10 +85,10 @@ abbrev pub Reads : List ℕ → Result TraceLine TraceLineError → Type 0
 Reads line (Ok read) = (meaning_of line ≡ Ok (meant_by read)) × (size_of (meant_by read) ≤ length line) × GoesOn read
 Reads line (Err what) = meaning_of line ≡ Err what
 
--- text begins with a line of which that is so, and the rest stands behind it
+-- text begins with a line of which that is so, and the rest stands after it
 abbrev pub Begins : (text : List ℕ) → (List ℕ → Type 0) → (rest : List ℕ) → Type 0
 Begins text Says rest = (line : List ℕ) × (lines text ≡ line ∷ lines rest) × Says line × (length line + length rest ≤ length text) × (length rest < length text)
 
--- the text begins with a piece in the usual form, whose bytes the room begins with
-abbrev pub IsPlain : (text room : List ℕ) → Plain → Type 0
-IsPlain text room plain = Begins text (λ line. (meaning_of line ≡ Ok (piece plain.from (take plain.count room))) × (plain.count ≤ length line)) plain.after.now
+-- the text begins with a piece in the plain form, whose bytes the buffer begins with
+abbrev pub IsPlain : (text buffer : List ℕ) → Plain → Type 0
+IsPlain text buffer plain = Begins text (λ line. (meaning_of line ≡ Ok (piece plain.from (take plain.count buffer))) × (plain.count ≤ length line)) plain.after.now

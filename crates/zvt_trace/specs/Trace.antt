@@ -17,7 +17,7 @@ pub data Side : Type 0 where
   running : (bytes : List ℕ) → Side
   stopped : Side
 
--- what is left behind the whole messages: nothing or the beginning of one, or bytes after which none can follow
+-- what is left after the whole messages: nothing or the beginning of one, or bytes after which none can follow
 pub data Ending : Type 0 where
   begun : Ending
   refused : (place : ℕ) → (why : Why) → Ending

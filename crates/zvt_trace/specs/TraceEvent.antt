@@ -1,4 +1,4 @@
--- What is told of a trace, and at which of its lines.
+-- The events of a trace, and at which of its lines.
 use Rattle.std.specs.Prelude.{◌≡◌, ℕ, List}
 use Rattle.std.specs.List.{sum_by}
 use Rattle.zvt_grammar.specs.declared.why.Why.{Why}
@@ -12,7 +12,7 @@ use Rattle.zvt_trace.specs.declared.event.TraceEvent as code
 use Rattle.zvt_trace.specs.declared.event.TraceEvent.TheVariants as code_event
 
 -- a whole message; or that bytes were refused, with the byte at which no message could follow any more; or that a piece
--- behind a refusal is not read; or that a message of so many bytes is cut off where the line ends; or that the line was lost
+-- after a refusal is not read; or that a message of so many bytes is cut off where the line ends; or that the line was lost
 pub data TraceEvent : Type 0 where
   message : (from : Direction) → (message : Message) → TraceEvent
   refused : (from : Direction) → (head : Head) → (byte place : ℕ) → (why : Why) → TraceEvent
@@ -20,7 +20,7 @@ pub data TraceEvent : Type 0 where
   cut_off : (from : Direction) → (head : Head) → (have : ℕ) → TraceEvent
   lost : TraceEvent
 
--- told at a line of the trace, which is counted from 1
+-- an event at a line of the trace, which is counted from 1
 pub record At : Type 0 where
   pub line : ℕ
   pub trace_event : TraceEvent
@@ -32,15 +32,15 @@ on line trace_event = record { line = line; trace_event = trace_event }
 
 abbrev pub event_of : code.TraceEvent → TraceEvent
 event_of (code_event.Message from apdu bytes lengths) = message from apdu
-event_of (code_event.Refused from head byte place why) = refused from head byte place why
+event_of (code_event.Refused from refusal) = refused from refusal.head refusal.byte refusal.place refusal.why
 event_of (code_event.Unread from) = unread from
 event_of (code_event.CutOff from head have) = cut_off from head have
 event_of code_event.Lost = lost
 
--- the bytes of a message are a spelling of it by the reading that is told: by the shortest lengths its one spelling
+-- the bytes of a message are a spelling of it by the reading of its event: by the shortest lengths its one spelling
 abbrev pub HasItsBytes : code.TraceEvent → Type 0
 HasItsBytes (code_event.Message from apdu bytes lengths) = Spells (reading_of lengths) apdu bytes.now
-HasItsBytes (code_event.Refused from head byte place why) = Unit {0}
+HasItsBytes (code_event.Refused from refusal) = Unit {0}
 HasItsBytes (code_event.Unread from) = Unit {0}
 HasItsBytes (code_event.CutOff from head have) = Unit {0}
 HasItsBytes code_event.Lost = Unit {0}

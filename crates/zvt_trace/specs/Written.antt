@@ -14,14 +14,14 @@ use Rattle.zvt_trace.specs.declared.fault.TraceFault.TheVariants.{Memory, Read, 
 
 -- ---- what the streams of the code stand for
 
--- the stream holds what is left of the side's bytes behind their whole messages
+-- the stream holds what is left of the side's bytes after their whole messages
 abbrev pub Follows : Reading → StreamState → Side → Type 0
 Follows r state (running bytes) = (state.stopped ≡ false) × (messages : List Message) × Cut (Spells r) bytes messages state.held
 Follows r state stopped = HasRefused state
 
 -- ---- what a device has that failed
 
--- the device has besides a front of the text
+-- the device has besides a prefix of the text
 abbrev pub AppendsPrefix : (old new : Option (List ℕ)) → List ℕ → Type 0
 AppendsPrefix old new text = (prefix : List ℕ) × IsPrefix prefix text × Appends old new prefix
 
@@ -32,14 +32,14 @@ abbrev pub limit : ℕ
 limit = 16777216
 
 -- What one read of a trace answers: how many bytes came, none at the end alone.
-abbrev pub ReadsPiece : (room : ℕ) → (left rest : Option (List ℕ)) → (old new : List ℕ) → Result ℕ TraceFault → Type 0
-ReadsPiece room left rest old new (Ok count) =
-    (taken : List ℕ) × Consumes left rest taken × (new ≡ old ++ taken) × (length taken ≡ count) × (count ≤ room) × (count ≡ 0 → IsAtEnd rest)
-ReadsPiece room left rest old new (Err Read) = Keeps left rest
-ReadsPiece room left rest old new (Err Memory) = (taken : List ℕ) × Consumes left rest taken × (length taken ≤ room)
-ReadsPiece room left rest old new (Err TooLong) = ⊥
-ReadsPiece room left rest old new (Err Write) = ⊥
-ReadsPiece room left rest old new (Err (Trace line what)) = ⊥
+abbrev pub ReadsPiece : (capacity : ℕ) → (left rest : Option (List ℕ)) → (old new : List ℕ) → Result ℕ TraceFault → Type 0
+ReadsPiece capacity left rest old new (Ok count) =
+    (taken : List ℕ) × Consumes left rest taken × (new ≡ old ++ taken) × (length taken ≡ count) × (count ≤ capacity) × (count ≡ 0 → IsAtEnd rest)
+ReadsPiece capacity left rest old new (Err Read) = Keeps left rest
+ReadsPiece capacity left rest old new (Err Memory) = (taken : List ℕ) × Consumes left rest taken × (length taken ≤ capacity)
+ReadsPiece capacity left rest old new (Err TooLong) = ⊥
+ReadsPiece capacity left rest old new (Err Write) = ⊥
+ReadsPiece capacity left rest old new (Err (Trace line what)) = ⊥
 
 -- What reading a trace answers, where the bytes to come are known.
 abbrev pub ReadsTrace : (left : Option (List ℕ)) → Result (Vec ℕ Global) TraceFault → Type 0

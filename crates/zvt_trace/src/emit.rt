@@ -1,4 +1,4 @@
-//! Tells a listener what one side of the line sends.
+//! Emits to a listener what one side of the line sends.
 ghost use Rattle.std.specs.Prelude.{◌≡◌, ◌<◌, ◌≤◌, ◌+◌, ◌++◌, List, ℕ, length, slice_index, false, true, Some, IfOk, OnOk, MatchResult};
 ghost use Rattle.zvt_grammar.specs.Reading.{Reading};
 ghost use Rattle.zvt_grammar.specs.Lengths.{reading_of};
@@ -7,14 +7,14 @@ ghost use Rattle.zvt_stream.specs.Apdus.{UnfinishedIn};
 ghost use Rattle.zvt_stream.specs.Head.{head_of};
 ghost use Rattle.zvt_trace.specs.TraceEvent.{on};
 ghost use Rattle.zvt_trace.specs.TraceEvent as trace_event;
-ghost use Rattle.zvt_trace.specs.Meanings.{SpellsBytes, bytes_of};
+ghost use Rattle.zvt_trace.specs.Meanings.{SpellsBytes, bytes_in};
 ghost use Rattle.zvt_trace.specs.Trace.{Side};
 ghost use Rattle.zvt_trace.specs.Emitting.{SideEnds};
 ghost use Rattle.zvt_trace.specs.Listening.{EmitsEnd, EmitsPiece, EmitsThere};
 ghost use Rattle.zvt_trace.specs.Written.{Follows};
 
 use crate::direction::Direction;
-use crate::event::TraceEvent;
+use crate::event::{Refusal, TraceEvent};
 use crate::fault::Tally;
 use crate::line::CHUNK;
 use crate::listener::{Listener, ListenerError, Scope};
@@ -23,7 +23,23 @@ use zvt_apdu::view;
 use zvt_grammar::{Lengths, Why};
 use zvt_stream::{FedView, FeedError, Head, Stream, Truncated};
 
-/// What a piece brought: the tally, and whether nothing more is read.
+/// The line of a piece, who sent it, and how it is read.
+#[derive(Clone, Copy)]
+pub(crate) struct PieceAt {
+    pub(crate) line: u64,
+    pub(crate) from: Direction,
+    pub(crate) scope: Scope,
+    pub(crate) lengths: Lengths,
+}
+
+/// The content of a piece: its first bytes, and the text that spells the others.
+#[derive(Clone, Copy)]
+pub(crate) struct Piece<'a> {
+    pub(crate) bytes: &'a [u8],
+    pub(crate) undecoded: &'a [u8],
+}
+
+/// The result of a piece: its tally, and whether nothing more is read.
 #[derive(Clone, Copy, Debug, PartialEq, Eq)]
 pub(crate) struct Hearing {
     pub(crate) tally: Tally,
@@ -66,36 +82,34 @@ fn after_messages(messages: u64, later: Hearing) -> Hearing
     }
 }
 
-/// Tells the message that the stream lends.
+/// Emits the whole message that the stream holds.
 #[inline(always)]
 fn emit_message<D, L: Listener<D>>(
     listener: &mut L,
     device: &mut D,
-    line: u64,
-    from: Direction,
-    lengths: Lengths,
+    at: PieceAt,
     stream: &Stream,
 ) -> Result<(), ListenerError>
     requires lent { (message : Message) × (stream.now.lent ≡ Some message) }
-    requires reading { stream.now.reading ≡ reading_of lengths }
+    requires reading { stream.now.reading ≡ reading_of at.lengths }
     ensures { (message : Message) → stream.now.lent ≡ Some message → MatchResult result
-        (λ _. L.hears (listener.old, device.old) (on line (trace_event.message from message)) (listener.new, device.new))
-        (λ failure. L.fails (listener.old, device.old) (on line (trace_event.message from message)) failure (listener.new, device.new)) }
+        (λ _. L.hears (listener.old, device.old) (on at.line (trace_event.message at.from message)) (listener.new, device.new))
+        (λ failure. L.fails (listener.old, device.old) (on at.line (trace_event.message at.from message)) failure (listener.new, device.new)) }
 {
     let Some(bytes) = stream.lent_bytes() else {
-        unreachable!()
+        return Ok(());
     };
     let apdu = view(bytes);
     let trace_event = TraceEvent::Message {
-        from,
+        from: at.from,
         apdu,
         bytes,
-        lengths,
+        lengths: at.lengths,
     };
-    listener.hear(device, line, &trace_event)
+    listener.hear(device, at.line, &trace_event)
 }
 
-/// What a side has begun of a message: its control bytes, as far as they have come, and how many bytes are held.
+/// The incomplete message of a side: its control bytes, as far as they have come, and how many bytes are held.
 #[derive(Clone, Copy)]
 struct Beginning {
     head: Head,
@@ -103,7 +117,7 @@ struct Beginning {
 }
 
 impl Beginning {
-    /// What the side of that stream has begun.
+    /// The incomplete message that the stream holds.
     #[inline(always)]
     fn of(stream: &Stream) -> Beginning
         ensures head { result.head ≡ head_of stream.now.held }
@@ -115,49 +129,53 @@ impl Beginning {
             held: stream.held(),
         }
     }
+
+    /// The refusal of this message at that place, where these bytes follow what is held.
+    #[inline(always)]
+    fn refusal(self, bytes: &[u8], place: usize, why: Why) -> Refusal
+        requires begun { self.held ≤ place }
+        requires within { place < self.held + length bytes.now }
+        ensures head { (held : List ℕ) → self.head ≡ head_of held → result.head ≡ head_of (held ++ bytes.now) }
+        ensures byte { (held : List ℕ) → self.held ≡ length held → result.byte ≡ slice_index (held ++ bytes.now) place }
+        ensures place { result.place ≡ place }
+        ensures why { result.why ≡ why }
+    {
+        Refusal {
+            head: self.head.before(bytes),
+            byte: bytes[place - self.held],
+            place,
+            why,
+        }
+    }
 }
 
-/// Tells that what a side has begun is refused at that place, with these bytes behind it.
+/// Emits that the message of a side is refused.
 fn emit_refusal<D, L: Listener<D>>(
     listener: &mut L,
     device: &mut D,
-    line: u64,
-    from: Direction,
-    begun: Beginning,
-    bytes: &[u8],
-    place: usize,
-    why: Why,
+    at: PieceAt,
+    refusal: Refusal,
 ) -> Result<(), ListenerError>
-    requires begun { begun.held ≤ place }
-    requires within { place < begun.held + length bytes.now }
-    ensures { (held : List ℕ) → begun.head ≡ head_of held → begun.held ≡ length held → MatchResult result
-        (λ _. L.hears (listener.old, device.old) (on line (trace_event.refused from (head_of (held ++ bytes.now)) (slice_index (held ++ bytes.now) place) place why)) (listener.new, device.new))
-        (λ failure. L.fails (listener.old, device.old) (on line (trace_event.refused from (head_of (held ++ bytes.now)) (slice_index (held ++ bytes.now) place) place why)) failure (listener.new, device.new)) }
+    ensures { MatchResult result
+        (λ _. L.hears (listener.old, device.old) (on at.line (trace_event.refused at.from refusal.head refusal.byte refusal.place refusal.why)) (listener.new, device.new))
+        (λ failure. L.fails (listener.old, device.old) (on at.line (trace_event.refused at.from refusal.head refusal.byte refusal.place refusal.why)) failure (listener.new, device.new)) }
 {
-    let trace_event = TraceEvent::Refused {
-        from,
-        head: begun.head.before(bytes),
-        byte: bytes[place - begun.held],
-        place,
-        why,
-    };
-    listener.hear(device, line, &trace_event)
+    let from = at.from;
+    listener.hear(device, at.line, &TraceEvent::Refused { from, refusal })
 }
 
-/// Tells what a piece brings: the messages that end in it, with which most pieces end, and whether its stream is refused.
+/// Emits the messages that end in a piece, and the refusal of its stream. Most pieces end with a message.
 #[inline(always)]
 pub(crate) fn feed_piece<D, L: Listener<D>>(
     listener: &mut L,
     device: &mut D,
-    line: u64,
-    from: Direction,
-    lengths: Lengths,
+    at: PieceAt,
     stream: &mut Stream,
     bytes: &[u8],
 ) -> Result<Hearing, ListenerError>
-    requires reading { stream.old.reading ≡ reading_of lengths }
-    ensures reading { OnOk result (stream.new.reading ≡ reading_of lengths) }
-    ensures emits { (side : Side) → Follows (reading_of lengths) stream.old side → EmitsPiece (reading_of lengths) L.hears L.fails line from side bytes.now stream.new (listener.old, device.old) (listener.new, device.new) result }
+    requires reading { stream.old.reading ≡ reading_of at.lengths }
+    ensures reading { OnOk result (stream.new.reading ≡ reading_of at.lengths) }
+    ensures emits { (side : Side) → Follows (reading_of at.lengths) stream.old side → EmitsPiece (reading_of at.lengths) L.hears L.fails at.line at.from side bytes.now stream.new (listener.old, device.old) (listener.new, device.new) result }
     ensures few { IfOk result (λ hearing. (hearing.tally.messages ≤ length bytes.now) × (hearing.tally.bad ≤ 1) × (hearing.stopped ≡ false → hearing.tally.bad ≡ 0)) }
 {
     let mut messages = 0;
@@ -166,7 +184,7 @@ pub(crate) fn feed_piece<D, L: Listener<D>>(
         let begun = Beginning::of(stream);
         match stream.feed_view(rest) {
             Ok(FedView::Message { taken }) => {
-                emit_message(listener, device, line, from, lengths, stream)?;
+                emit_message(listener, device, at, stream)?;
                 messages += 1;
                 rest = rest.split_at(taken).1;
                 if rest.is_empty() {
@@ -175,11 +193,13 @@ pub(crate) fn feed_piece<D, L: Listener<D>>(
             }
             Ok(FedView::More) => return Ok(going(messages)),
             Ok(FedView::Refused { place, why }) => {
-                emit_refusal(listener, device, line, from, begun, rest, place, why)?;
+                let refusal = begun.refusal(rest, place, why);
+                emit_refusal(listener, device, at, refusal)?;
                 return Ok(stopped(messages, 1));
             }
             Err(FeedError::Stopped) => {
-                listener.hear(device, line, &TraceEvent::Unread { from })?;
+                let from = at.from;
+                listener.hear(device, at.line, &TraceEvent::Unread { from })?;
                 return Ok(stopped(messages, 0));
             }
             Err(FeedError::Memory) => return Err(ListenerError::Memory),
@@ -187,92 +207,78 @@ pub(crate) fn feed_piece<D, L: Listener<D>>(
     }
 }
 
-/// Tells what a piece brings whose bytes behind the first are text.
+/// Emits the events of a whole piece.
 #[inline(always)]
 fn feed_line<D, L: Listener<D>>(
     listener: &mut L,
     device: &mut D,
-    line: u64,
-    from: Direction,
-    lengths: Lengths,
+    at: PieceAt,
     stream: &mut Stream,
-    bytes: &[u8],
-    undecoded: &[u8],
+    piece: Piece<'_>,
 ) -> Result<Hearing, ListenerError>
-    requires reading { stream.old.reading ≡ reading_of lengths }
-    requires spelled { SpellsBytes undecoded.now }
-    ensures reading { OnOk result (stream.new.reading ≡ reading_of lengths) }
-    ensures emits { (side : Side) → Follows (reading_of lengths) stream.old side → EmitsPiece (reading_of lengths) L.hears L.fails line from side (bytes.now ++ bytes_of undecoded.now) stream.new (listener.old, device.old) (listener.new, device.new) result }
-    ensures few { IfOk result (λ hearing. (hearing.tally.messages ≤ length (bytes.now ++ bytes_of undecoded.now)) × (hearing.tally.bad ≤ 1)) }
+    requires reading { stream.old.reading ≡ reading_of at.lengths }
+    requires spelled { SpellsBytes piece.undecoded.now }
+    ensures reading { OnOk result (stream.new.reading ≡ reading_of at.lengths) }
+    ensures emits { (side : Side) → Follows (reading_of at.lengths) stream.old side → EmitsPiece (reading_of at.lengths) L.hears L.fails at.line at.from side (bytes_in piece.entry) stream.new (listener.old, device.old) (listener.new, device.new) result }
+    ensures few { IfOk result (λ hearing. (hearing.tally.messages ≤ length (bytes_in piece.entry)) × (hearing.tally.bad ≤ 1)) }
 {
-    if undecoded.is_empty() {
-        feed_piece(listener, device, line, from, lengths, stream, bytes)
+    if piece.undecoded.is_empty() {
+        feed_piece(listener, device, at, stream, piece.bytes)
     } else {
-        feed_long_piece(
-            listener, device, line, from, lengths, stream, bytes, undecoded,
-        )
+        feed_long_piece(listener, device, at, stream, piece)
     }
 }
 
-/// Tells a long piece. Its text is decoded as it is told, so it takes no memory.
+/// Emits the events of a long piece. Its text is decoded chunk by chunk, so it takes no memory.
 fn feed_long_piece<D, L: Listener<D>>(
     listener: &mut L,
     device: &mut D,
-    line: u64,
-    from: Direction,
-    lengths: Lengths,
+    at: PieceAt,
     stream: &mut Stream,
-    bytes: &[u8],
-    undecoded: &[u8],
+    piece: Piece<'_>,
 ) -> Result<Hearing, ListenerError>
-    requires reading { stream.old.reading ≡ reading_of lengths }
-    requires spelled { SpellsBytes undecoded.now }
-    ensures reading { OnOk result (stream.new.reading ≡ reading_of lengths) }
-    ensures emits { (side : Side) → Follows (reading_of lengths) stream.old side → EmitsPiece (reading_of lengths) L.hears L.fails line from side (bytes.now ++ bytes_of undecoded.now) stream.new (listener.old, device.old) (listener.new, device.new) result }
-    ensures few { IfOk result (λ hearing. (hearing.tally.messages ≤ length (bytes.now ++ bytes_of undecoded.now)) × (hearing.tally.bad ≤ 1)) }
+    requires reading { stream.old.reading ≡ reading_of at.lengths }
+    requires spelled { SpellsBytes piece.undecoded.now }
+    ensures reading { OnOk result (stream.new.reading ≡ reading_of at.lengths) }
+    ensures emits { (side : Side) → Follows (reading_of at.lengths) stream.old side → EmitsPiece (reading_of at.lengths) L.hears L.fails at.line at.from side (bytes_in piece.entry) stream.new (listener.old, device.old) (listener.new, device.new) result }
+    ensures few { IfOk result (λ hearing. (hearing.tally.messages ≤ length (bytes_in piece.entry)) × (hearing.tally.bad ≤ 1)) }
 {
-    let mut hearing = feed_piece(listener, device, line, from, lengths, stream, bytes)?;
+    let mut hearing = feed_piece(listener, device, at, stream, piece.bytes)?;
     let mut buffer = [0; CHUNK];
-    let mut rest = undecoded;
+    let mut rest = piece.undecoded;
     'chunks: while !hearing.stopped && !rest.is_empty() {
         let Some((count, after)) = spelled::read(rest, &mut buffer) else {
-            unreachable!()
+            return Ok(hearing);
         };
         let chunk = &buffer[..count];
-        let later = feed_piece(listener, device, line, from, lengths, stream, chunk)?;
+        let later = feed_piece(listener, device, at, stream, chunk)?;
         hearing = after_messages(hearing.tally.messages, later);
         rest = after;
     }
     Ok(hearing)
 }
 
-/// Tells what a piece of a side brings, and what a refusal cuts off of the other side.
+/// Emits the events of a piece of a side, and what its refusal cuts off of the other side.
 #[inline(always)]
 pub(crate) fn feed_side<D, L: Listener<D>>(
     listener: &mut L,
     device: &mut D,
-    scope: Scope,
-    line: u64,
-    from: Direction,
-    lengths: Lengths,
+    at: PieceAt,
     stream: &mut Stream,
     other: &Stream,
-    bytes: &[u8],
-    undecoded: &[u8],
+    piece: Piece<'_>,
 ) -> Result<Hearing, ListenerError>
-    requires reading { stream.old.reading ≡ reading_of lengths }
-    requires spelled { SpellsBytes undecoded.now }
-    ensures reading { OnOk result (stream.new.reading ≡ reading_of lengths) }
-    ensures emits { (side beside : Side) → Follows (reading_of lengths) stream.old side → Follows (reading_of lengths) other.now beside → EmitsThere (reading_of lengths) L.hears L.fails scope line from side beside (bytes.now ++ bytes_of undecoded.now) stream.new other.now (listener.old, device.old) (listener.new, device.new) result }
-    ensures few { IfOk result (λ hearing. hearing.tally.messages ≤ length (bytes.now ++ bytes_of undecoded.now)) }
+    requires reading { stream.old.reading ≡ reading_of at.lengths }
+    requires spelled { SpellsBytes piece.undecoded.now }
+    ensures reading { OnOk result (stream.new.reading ≡ reading_of at.lengths) }
+    ensures emits { (side beside : Side) → Follows (reading_of at.lengths) stream.old side → Follows (reading_of at.lengths) other.now beside → EmitsThere (reading_of at.lengths) L.hears L.fails at.scope at.line at.from side beside (bytes_in piece.entry) stream.new other.now (listener.old, device.old) (listener.new, device.new) result }
+    ensures few { IfOk result (λ hearing. hearing.tally.messages ≤ length (bytes_in piece.entry)) }
     ensures two { IfOk result (λ hearing. hearing.tally.bad ≤ 2) }
 {
-    let hearing = feed_line(
-        listener, device, line, from, lengths, stream, bytes, undecoded,
-    )?;
+    let hearing = feed_line(listener, device, at, stream, piece)?;
     let Tally { messages, bad } = hearing.tally;
-    if scope == Scope::WholeLine && hearing.stopped {
-        let cut_off = emit_truncation(listener, device, line, from.other(), other)?;
+    if at.scope == Scope::WholeLine && hearing.stopped {
+        let cut_off = emit_truncation(listener, device, at.line, at.from.other(), other)?;
         return Ok(Hearing {
             tally: Tally {
                 messages,
@@ -287,7 +293,7 @@ pub(crate) fn feed_side<D, L: Listener<D>>(
     })
 }
 
-/// Tells whether a message of that side is cut off, and answers how many are.
+/// Emits that the message of that side is cut off, if it holds one, and answers how many are.
 pub(crate) fn emit_truncation<D, L: Listener<D>>(
     listener: &mut L,
     device: &mut D,

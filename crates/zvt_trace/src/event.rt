@@ -1,11 +1,23 @@
-//! What a trace tells.
+//! The events of a trace.
 
 use crate::direction::Direction;
 use zvt_apdu::ApduView;
 use zvt_grammar::{Lengths, Why};
 use zvt_stream::Head;
 
-/// What a trace tells at one of its lines.
+/// Where a message can't go on, and why.
+#[derive(Clone, Copy, Debug, PartialEq, Eq)]
+pub struct Refusal {
+    /// The control bytes of the message, as far as they have come.
+    pub head: Head,
+    /// The first byte after which no message can follow.
+    pub byte: u8,
+    /// The place of that byte, counted from 0 at the first byte of the message.
+    pub place: usize,
+    pub why: Why,
+}
+
+/// What a trace says at one of its lines.
 #[derive(Drop)]
 pub enum TraceEvent<'a> {
     /// A whole message, and its bytes: with such lengths a spelling of it.
@@ -15,20 +27,16 @@ pub enum TraceEvent<'a> {
         bytes: &'a [u8],
         lengths: Lengths,
     },
-    /// No message begins with the bytes that a side sent up to and with this one, which stands at `place`, counted from 0
-    /// at the first byte of the message.
+    /// No message begins with the bytes that a side sent.
     Refused {
         from: Direction,
-        head: Head,
-        byte: u8,
-        place: usize,
-        why: Why,
+        refusal: Refusal,
     },
-    /// A piece that is not read, behind a refusal.
+    /// A piece that is not read, after a refusal.
     Unread {
         from: Direction,
     },
-    /// The line ends behind the first `have` bytes of a message.
+    /// The line ends after the first `have` bytes of a message.
     CutOff {
         from: Direction,
         head: Head,

@@ -1,4 +1,4 @@
-//! What a command on a trace answers.
+//! The answer of a command on a trace, and its faults.
 ghost use Rattle.std.specs.Prelude.{◌≡◌};
 ghost use Rattle.zvt_trace.specs.declared.fault.TraceFault.TheVariants.{Memory, Write};
 
@@ -45,9 +45,9 @@ impl fmt::Display for TraceLineError {
     fn fmt<W: fmt::Write>(&self, f: &mut fmt::Formatter<W>) -> fmt::Result {
         f.write_str(match self {
             TraceLineError::Form =>
-                "a line begins with '>' or '<' and goes on in hexadecimal, or is '!' alone, or begins with '#'",
+                "expected '>' or '<' and hexadecimal digits, '!' alone, or a comment that begins with '#'",
             TraceLineError::Hex =>
-                "after '>' or '<' stand two hexadecimal digits for each byte, and spaces",
+                "expected two hexadecimal digits for each byte after '>' or '<', with or without spaces",
         })
     }
 }
@@ -59,16 +59,16 @@ pub enum TraceFault {
     #[error("line {line} of the trace: {what}")]
     Trace { line: u64, what: TraceLineError },
     /// Nothing was written.
-    #[error("the trace has more than 16777216 bytes: cut it at a line, and give the parts one by one")]
+    #[error("the trace has more than 16777216 bytes: split it at the end of a line, and run the command on each part")]
     TooLong,
     /// Nothing was written.
-    #[error("the trace can't be read to its end: see where it comes from")]
+    #[error("the trace can't be read to its end: check the file, or the program that writes the trace")]
     Read,
-    /// Some front of the text was written.
-    #[error("the text can't be written: see where standard output goes, and whether there is room")]
+    /// Some first part of the text was written.
+    #[error("the output can't be written: check where standard output goes, and whether the device is full")]
     Write,
     /// The text of the lines before the one that was being read was written.
-    #[error("there is too little memory: cut a trace at a line, and give the parts one by one")]
+    #[error("out of memory: split the trace at the end of a line, and run the command on each part")]
     Memory,
 }
 

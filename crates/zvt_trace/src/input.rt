@@ -20,8 +20,8 @@ pub fn read_trace<R: Source>(alloc: Global, reader: &mut R) -> Result<Vec<u8>, T
     let mut trace = Vec::new(alloc);
     let mut buffer = [0u8; 16_384];
     for _turn in 0..=LIMIT {
-        let room = (LIMIT + 1 - trace.len()).min(buffer.len());
-        let taken = read_piece(reader, &mut buffer[..room], &mut trace)?;
+        let capacity = (LIMIT + 1 - trace.len()).min(buffer.len());
+        let taken = read_piece(reader, &mut buffer[..capacity], &mut trace)?;
         if taken == 0 {
             return Ok(trace);
         }

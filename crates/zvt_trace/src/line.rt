@@ -17,8 +17,7 @@ pub(crate) const CHUNK: usize = 4_096;
 pub(crate) enum TraceLine<'a, 't> {
     /// Nothing.
     Comment,
-    /// Bytes were sent: those that are read, and those that the text behind them spells, which is empty but in a long
-    /// line.
+    /// Bytes were sent: those that are read, and those that the text after them spells. Only a long line has such text.
     Piece {
         from: Direction,
         bytes: &'a [u8],
@@ -53,27 +52,27 @@ pub(crate) fn first_line<'a, 't>(
     }
 }
 
-/// A piece in the usual form: `count` bytes, and what follows its line.
+/// A piece in the plain form: `count` bytes, and what follows its line.
 struct Plain<'t> {
     from: Direction,
     count: usize,
     after: &'t [u8],
 }
 
-/// Reads the first line where it is a piece in the usual form, a sign, a space and pairs of digits, and the room is
-/// enough. So the end of the line is found as its digits are read.
+/// Reads the first line where it is a piece in the plain form and fits into the buffer. The plain form is a sign, a space
+/// and pairs of digits. So the end of the line is found as its digits are read.
 #[inline(always)]
-fn plain_piece<'t>(room: &mut [u8], rest: &'t [u8]) -> Option<Plain<'t>>
-    ensures begins { IfSome result (IsPlain rest.now room.new) }
-    ensures few { IfSome result (λ plain. plain.count ≤ length room.new) }
-    ensures size { length room.new ≡ length room.old }
+fn plain_piece<'t>(buffer: &mut [u8], rest: &'t [u8]) -> Option<Plain<'t>>
+    ensures begins { IfSome result (IsPlain rest.now buffer.new) }
+    ensures few { IfSome result (λ plain. plain.count ≤ length buffer.new) }
+    ensures size { length buffer.new ≡ length buffer.old }
 {
     let [sign, b' ', text @ ..] = rest else {
         return None;
     };
     let from = direction(*sign)?;
-    let near = &text[..text.len().min(2 * room.len())];
-    let count = spelled::read_pairs(near, room);
+    let near = &text[..text.len().min(2 * buffer.len())];
+    let count = spelled::read_pairs(near, buffer);
     match &text[2 * count..] {
         [b'\n', after @ ..] => Some(Plain { from, count, after }),
         _ => None,

@@ -1,4 +1,4 @@
-//! What listens to a trace.
+//! The listener to the events of a trace.
 ghost use Rattle.std.specs.Prelude.{◌≡◌, MatchResult};
 ghost use Rattle.zvt_trace.specs.TraceEvent.{At, HasItsBytes, on, event_of};
 ghost use Rattle.zvt_trace.specs.declared.listener.ListenerError.{ListenerError};
@@ -12,7 +12,7 @@ use zvt_io::Failed;
 pub enum Scope {
     /// The side whose bytes were refused.
     OneSide,
-    /// Both sides. What the other side had begun is cut off there, and told after the refusal.
+    /// Both sides. What the other side had begun is cut off there, and its event comes after the refusal.
     WholeLine,
 }
 
@@ -45,7 +45,7 @@ impl From<Failed> for ListenerError {
     }
 }
 
-/// What hears all that a trace tells, one thing after another, and writes of it to a device.
+/// Hears all events of a trace, one after another, and writes of them to a device.
 pub trait Listener<D> {
     /// Hearing this, a listener with its device becomes that.
     ghost hears: { (Self × D) → At → (Self × D) → Type 0 };
@@ -53,7 +53,7 @@ pub trait Listener<D> {
     /// What a failure leaves of a listener with its device that was to hear this.
     ghost fails: { (Self × D) → At → ListenerError → (Self × D) → Type 0 };
 
-    /// Hears what is told at the line of that number.
+    /// Hears the event of the line of that number.
     fn hear(
         &mut self,
         device: &mut D,

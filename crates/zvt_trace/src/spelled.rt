@@ -3,20 +3,20 @@ ghost use Rattle.std.specs.Prelude.{◌≡◌, ◌≢◌, ◌*◌, ◌+◌, ◌+
 ghost use Rattle.zvt_trace.specs.Meanings.{EndsPairs, ReadsPairs, SpellsBytes, without_spaces};
 ghost use Rattle.zvt_trace.specs.Spelled.{AreHex, IsDigit, after_bytes, spells, worth};
 
-/// Reads bytes into the front of the room, until it is full or the text ends: how many, and the text behind them. Where
-/// no bytes are spelled so far, the room ends with anything.
+/// Reads bytes into the buffer until it is full or the text ends, and answers how many, and the text after them. It answers
+/// nothing where the text spells no bytes so far.
 #[inline(always)]
-pub(crate) fn read<'t>(text: &'t [u8], room: &mut [u8]) -> Option<(usize, &'t [u8])>
-    ensures read { MatchOption result (spells (without_spaces text.now) ≡ None) (λ read. after_bytes (take read.0 room.new) (spells (without_spaces read.1.now)) ≡ spells (without_spaces text.now)) }
-    ensures few { IfSome result (λ read. (read.0 ≤ length room.new) × (2 * read.0 + length read.1.now ≤ length text.now)) }
-    ensures full { IfSome result (λ read. 0 < length read.1.now → read.0 ≡ length room.old) }
-    ensures size { length room.new ≡ length room.old }
+pub(crate) fn read<'t>(text: &'t [u8], buffer: &mut [u8]) -> Option<(usize, &'t [u8])>
+    ensures read { MatchOption result (spells (without_spaces text.now) ≡ None) (λ read. after_bytes (take read.0 buffer.new) (spells (without_spaces read.1.now)) ≡ spells (without_spaces text.now)) }
+    ensures few { IfSome result (λ read. (read.0 ≤ length buffer.new) × (2 * read.0 + length read.1.now ≤ length text.now)) }
+    ensures full { IfSome result (λ read. 0 < length read.1.now → read.0 ≡ length buffer.old) }
+    ensures size { length buffer.new ≡ length buffer.old }
 {
     let prefix = skip_spaces(text);
-    let near = &prefix[..prefix.len().min(2 * room.len())];
-    let mut count = read_pairs(near, room);
+    let near = &prefix[..prefix.len().min(2 * buffer.len())];
+    let mut count = read_pairs(near, buffer);
     let mut rest = skip_spaces(&prefix[2 * count..]);
-    'pairs: while count < room.len() {
+    'pairs: while count < buffer.len() {
         let [high, after @ ..] = rest else {
             return Some((count, rest));
         };
@@ -28,7 +28,7 @@ pub(crate) fn read<'t>(text: &'t [u8], room: &mut [u8]) -> Option<(usize, &'t [u
         if high > 15 || low > 15 {
             return None;
         }
-        room[count] = (high * 16 + low) as u8;
+        buffer[count] = (high * 16 + low) as u8;
         count += 1;
         rest = skip_spaces(after);
     }
@@ -65,14 +65,14 @@ fn are_digits(text: &[u8]) -> bool
     all
 }
 
-/// Reads all pairs of digits at the front that no space parts: so a line without spaces is read with no test for them.
+/// Reads the first pairs of digits, up to a space. So a line without spaces is read with no test for them.
 #[inline(always)]
-pub(crate) fn read_pairs(text: &[u8], room: &mut [u8]) -> usize
-    requires { length text.now ≤ 2 * length room.old + 1 }
+pub(crate) fn read_pairs(text: &[u8], buffer: &mut [u8]) -> usize
+    requires { length text.now ≤ 2 * length buffer.old + 1 }
     ensures few { 2 * result ≤ length text.now }
-    ensures read { ReadsPairs text.now result room.new }
+    ensures read { ReadsPairs text.now result buffer.new }
     ensures all { 2 * result + 1 < length text.now → EndsPairs text.now result }
-    ensures size { length room.new ≡ length room.old }
+    ensures size { length buffer.new ≡ length buffer.old }
 {
     let mut count = 0;
     'pairs: while 2 * count + 1 < text.len() {
@@ -80,7 +80,7 @@ pub(crate) fn read_pairs(text: &[u8], room: &mut [u8]) -> usize
         if byte > 255 {
             return count;
         }
-        room[count] = byte as u8;
+        buffer[count] = byte as u8;
         count += 1;
     }
     count

@@ -1,39 +1,32 @@
-//! A whole trace, told to a listener.
+//! The walk over a whole trace, and both sides of its line.
 ghost use Rattle.std.specs.Prelude.{◌≡◌, ◌≤◌, ℕ, List, length, IfOk, OnOk};
 ghost use Rattle.std.specs.Str.Lines.{lines};
+ghost use Rattle.zvt_grammar.specs.Reading.{Reading};
 ghost use Rattle.zvt_grammar.specs.Lengths.{reading_of};
-ghost use Rattle.zvt_trace.specs.Listening.{AnswersWalk, AnswersWalkBy, FollowBoth, TakeBy, WalksLine};
-ghost use Rattle.zvt_trace.specs.Meanings.{Reads};
-ghost use Rattle.zvt_trace.specs.Trace.{Sides};
+ghost use Rattle.zvt_trace.specs.Meanings.{GoesOn, Reads, SpellsBytes, bytes_in, meant_by, size_of};
+ghost use Rattle.zvt_trace.specs.Meanings as meaning;
+ghost use Rattle.zvt_trace.specs.Trace.{Sides, new_line};
+ghost use Rattle.zvt_trace.specs.Emitting.{LineEnds};
+ghost use Rattle.zvt_trace.specs.Listening.{AnswersWalk, EmitsEnd, EmitsLine, FollowBoth, TakeBy, WalksLine};
 ghost use Rattle.zvt_trace.specs.Written.{limit};
 
-use crate::both_sides::BothSides;
+use crate::direction::Direction;
+use crate::emit::{Piece, PieceAt, emit_truncation, feed_side};
+use crate::event::TraceEvent;
 use crate::fault::{Tally, TraceFault, TraceLineError};
 use crate::line::{CHUNK, TraceLine, first_line};
-use crate::listener::{Listener, Scope};
+use crate::listener::{Listener, ListenerError, Scope};
 use std::alloc::Global;
 use zvt_grammar::Lengths;
+use zvt_stream::Stream;
 
-/// Tells the listener, line by line, what the trace says, and what is cut off at its end. Nothing is told of a line that
-/// can't be read, and of the lines behind it.
+/// Emits all that the trace says to the listener, line by line, and what is cut off at its end. Its streams take such
+/// lengths.
 ///
-/// A stream that is refused or cut off counts as bad. Where the walk fails, the listener has heard all that the lines
-/// before tell, and a front of what the line says that was being read.
+/// No event comes of a line that can't be read, and none of the lines after it. A stream that is refused or cut off counts
+/// as bad. Where the walk fails, the listener has heard all events of the lines before, and some first events of the line
+/// that was being read.
 pub fn walk<D, L: Listener<D>>(
-    listener: &mut L,
-    device: &mut D,
-    alloc: Global,
-    scope: Scope,
-    trace: &[u8],
-) -> Result<Tally, TraceFault>
-    requires { length trace.now ≤ limit }
-    ensures { AnswersWalk L.hears L.fails scope (lines trace.now) (listener.old, device.old) (listener.new, device.new) result }
-{
-    walk_by(listener, device, alloc, scope, Lengths::Shortest, trace)
-}
-
-/// Walks over a trace as [`walk`] does, by streams that take such lengths.
-pub fn walk_by<D, L: Listener<D>>(
     listener: &mut L,
     device: &mut D,
     alloc: Global,
@@ -42,7 +35,7 @@ pub fn walk_by<D, L: Listener<D>>(
     trace: &[u8],
 ) -> Result<Tally, TraceFault>
     requires { length trace.now ≤ limit }
-    ensures { AnswersWalkBy (reading_of lengths) L.hears L.fails scope (lines trace.now) (listener.old, device.old) (listener.new, device.new) result }
+    ensures { AnswersWalk (reading_of lengths) L.hears L.fails scope (lines trace.now) (listener.old, device.old) (listener.new, device.new) result }
 {
     let mut tally = Tally::none();
     let mut sides = BothSides::new(alloc, lengths);
@@ -52,9 +45,12 @@ pub fn walk_by<D, L: Listener<D>>(
     'lines: while !rest.is_empty() {
         let (read, after) = first_line(&mut buffer, rest);
         number += 1;
-        let counted = emit_line(
-            listener, device, alloc, scope, lengths, &mut sides, number, read,
-        )?;
+        let options = WalkOptions {
+            alloc,
+            scope,
+            lengths,
+        };
+        let counted = emit_line(listener, device, options, &mut sides, number, read)?;
         tally.messages += counted.messages;
         tally.bad += counted.bad;
         rest = after;
@@ -63,22 +59,20 @@ pub fn walk_by<D, L: Listener<D>>(
     Ok(tally)
 }
 
-/// Tells what the line of that number says, where it could be read.
+/// Emits the events of the line of that number, where it could be read.
 #[inline(always)]
 fn emit_line<D, L: Listener<D>>(
     listener: &mut L,
     device: &mut D,
-    alloc: Global,
-    scope: Scope,
-    lengths: Lengths,
+    options: WalkOptions,
     sides: &mut BothSides,
     number: u64,
     read: Result<TraceLine<'_, '_>, TraceLineError>,
 ) -> Result<Tally, TraceFault>
-    requires reading { TakeBy (reading_of lengths) sides.old }
+    requires reading { TakeBy (reading_of options.lengths) sides.old }
     requires read { (content : List ℕ) × Reads content read }
-    ensures reading { OnOk result (TakeBy (reading_of lengths) sides.new) }
-    ensures emits { (content : List ℕ) → Reads content read.entry → (state : Sides) → FollowBoth (reading_of lengths) sides.old state → WalksLine (reading_of lengths) L.hears L.fails scope number content state sides.new (listener.old, device.old) (listener.new, device.new) result }
+    ensures reading { OnOk result (TakeBy (reading_of options.lengths) sides.new) }
+    ensures emits { (content : List ℕ) → Reads content read.entry → (state : Sides) → FollowBoth (reading_of options.lengths) sides.old state → WalksLine (reading_of options.lengths) L.hears L.fails options.scope number content state sides.new (listener.old, device.old) (listener.new, device.new) result }
     ensures few { (content : List ℕ) → Reads content read.entry → IfOk result (λ tally. tally.messages ≤ length content) }
     ensures two { IfOk result (λ tally. tally.bad ≤ 2) }
 {
@@ -86,5 +80,135 @@ fn emit_line<D, L: Listener<D>>(
         Ok(line) => line,
         Err(what) => return Err(TraceFault::Trace { line: number, what }),
     };
-    Ok(sides.emit(listener, device, alloc, scope, lengths, number, &line)?)
+    Ok(sides.emit(listener, device, options, number, &line)?)
+}
+
+/// How a trace is walked: its memory, what a refusal leaves unread, and the lengths that its streams take.
+#[derive(Clone, Copy)]
+struct WalkOptions {
+    alloc: Global,
+    scope: Scope,
+    lengths: Lengths,
+}
+
+/// A stream for each side of the line. Once a refusal has left both sides unread, neither is fed.
+#[derive(Drop)]
+struct BothSides {
+    till: Stream,
+    terminal: Stream,
+    rejected: bool,
+}
+
+impl BothSides {
+    /// Both sides of a new line.
+    fn new(alloc: Global, lengths: Lengths) -> BothSides
+        ensures follows { FollowBoth (reading_of lengths) result new_line }
+        ensures reading { TakeBy (reading_of lengths) result }
+    {
+        BothSides {
+            till: Stream::of(alloc, lengths),
+            terminal: Stream::of(alloc, lengths),
+            rejected: false,
+        }
+    }
+
+    /// Emits the events of the line of that number.
+    #[inline(always)]
+    fn emit<D, L: Listener<D>>(
+        &mut self,
+        listener: &mut L,
+        device: &mut D,
+        options: WalkOptions,
+        number: u64,
+        line: &TraceLine<'_, '_>,
+    ) -> Result<Tally, ListenerError>
+        requires reading { TakeBy (reading_of options.lengths) self.old }
+        requires goes_on { GoesOn line.now }
+        ensures reading { OnOk result (TakeBy (reading_of options.lengths) self.new) }
+        ensures emits { (sides : Sides) → FollowBoth (reading_of options.lengths) self.old sides → EmitsLine (reading_of options.lengths) L.hears L.fails options.scope number (meant_by line.now) sides self.new (listener.old, device.old) (listener.new, device.new) result }
+        ensures few { IfOk result (λ tally. tally.messages ≤ size_of (meant_by line.now)) }
+        ensures two { IfOk result (λ tally. tally.bad ≤ 2) }
+    {
+        let WalkOptions {
+            alloc,
+            scope,
+            lengths,
+        } = options;
+        match line {
+            TraceLine::Comment => Ok(Tally::none()),
+            TraceLine::Piece {
+                from,
+                bytes,
+                undecoded,
+            } => {
+                let at = PieceAt {
+                    line: number,
+                    from: *from,
+                    scope,
+                    lengths,
+                };
+                self.feed_piece(listener, device, at, Piece { bytes, undecoded })
+            }
+            TraceLine::Lost => {
+                let bad = self.emit_end(listener, device, number)?;
+                listener.hear(device, number, &TraceEvent::Lost)?;
+                *self = BothSides::new(alloc, lengths);
+                Ok(Tally { messages: 0, bad })
+            }
+        }
+    }
+
+    /// Emits the events of a piece.
+    #[inline(always)]
+    fn feed_piece<D, L: Listener<D>>(
+        &mut self,
+        listener: &mut L,
+        device: &mut D,
+        at: PieceAt,
+        piece: Piece<'_>,
+    ) -> Result<Tally, ListenerError>
+        requires reading { TakeBy (reading_of at.lengths) self.old }
+        requires spelled { SpellsBytes piece.undecoded.now }
+        ensures reading { OnOk result (TakeBy (reading_of at.lengths) self.new) }
+        ensures emits { (sides : Sides) → FollowBoth (reading_of at.lengths) self.old sides → EmitsLine (reading_of at.lengths) L.hears L.fails at.scope at.line (meaning.piece at.from (bytes_in piece.entry)) sides self.new (listener.old, device.old) (listener.new, device.new) result }
+        ensures few { IfOk result (λ tally. tally.messages ≤ length (bytes_in piece.entry)) }
+        ensures two { IfOk result (λ tally. tally.bad ≤ 2) }
+    {
+        let from = at.from;
+        if self.rejected {
+            listener.hear(device, at.line, &TraceEvent::Unread { from })?;
+            return Ok(Tally::none());
+        }
+        let BothSides { till, terminal, .. } = self;
+        let hearing = match from {
+            Direction::FromTill => feed_side(listener, device, at, till, terminal, piece)?,
+            Direction::FromTerminal => feed_side(listener, device, at, terminal, till, piece)?,
+        };
+        self.rejected = hearing.stopped;
+        Ok(hearing.tally)
+    }
+
+    /// Emits which messages are cut off where the line ends, and answers how many are.
+    fn emit_end<D, L: Listener<D>>(
+        &self,
+        listener: &mut L,
+        device: &mut D,
+        number: u64,
+    ) -> Result<u64, ListenerError>
+        ensures emits { (r : Reading) (sides : Sides) → FollowBoth r self.now sides → EmitsEnd L.hears L.fails (LineEnds r number sides) (listener.old, device.old) (listener.new, device.new) result }
+        ensures two { IfOk result (λ bad. bad ≤ 2) }
+    {
+        if self.rejected {
+            return Ok(0);
+        }
+        let till = emit_truncation(listener, device, number, Direction::FromTill, &self.till)?;
+        let terminal = emit_truncation(
+            listener,
+            device,
+            number,
+            Direction::FromTerminal,
+            &self.terminal,
+        )?;
+        Ok(till + terminal)
+    }
 }

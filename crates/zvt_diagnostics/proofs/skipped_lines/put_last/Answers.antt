@@ -6,4 +6,4 @@ use Rattle.zvt_diagnostics.proofs.skipped_lines.put_last.Goals as goal
 
 pub returns : goal.returns
 returns c =
-    three_parts c.push.result c.args.text.now c.word.new.self c.number.new.self c.push.new.self (codes " not read trailing that, up to line ") (decimal c.args.last) (10 ∷ []) c.in_ok-word.ensures c.in_ok-number.ensures (adds_ok c.push.result c.number.new.self c.push.new.self (10 ∷ []) c.push.ensures)
+    three_parts c.push.result c.args.text.now c.word.new.self c.number.new.self c.push.new.self (codes " not read after that, up to line ") (decimal c.args.last) (10 ∷ []) c.in_ok-word.ensures c.in_ok-number.ensures (adds_ok c.push.result c.number.new.self c.push.new.self (10 ∷ []) c.push.ensures)

@@ -1,5 +1,5 @@
 use Rattle.std.proofs.Common.{◌∙◌, sym, ap, length, take, arith, inl, inr, rules, length-append}
-use Rattle.std.proofs.lemmas.Bool.{not-false, not-true}
+use Rattle.std.proofs.lemmas.Bool.{false≢true, not-false, not-true}
 use Rattle.std.proofs.lemmas.Result.{err_from_is_err_and}
 use Rattle.zvt_trace.specs.Meanings.{bytes_of}
 use Rattle.zvt_trace.proofs.AfterLemmas.{fails_first, first_heard, heard_all, heard_fails, heard_more}
@@ -9,17 +9,20 @@ use Rattle.zvt_trace.proofs.emit.feed_long_piece.Goals as goal
 pub returns-in_err-hearing-clause-emits : goal.returns-in_err-hearing-clause-emits
 returns-in_err-hearing-clause-emits g c = λ side follows.
     let p = err_from_is_err_and c.from_residual.result c.from_residual.ensures.1 in
-    rw (p.1, p.2) (fails_first g.L.Listener.hears g.L.Listener.fails _ _ _ side c.args.bytes.now (bytes_of c.args.undecoded.now) _ _ (c.in_err-hearing.ensures.emits side follows))
+    rw (p.1, p.2) (fails_first g.L.Listener.hears g.L.Listener.fails _ _ _ side c.args.piece.bytes.now (bytes_of c.args.piece.undecoded.now) _ _ (c.in_err-hearing.ensures.emits side follows))
 
 pub chunks-init : goal.chunks-init
 chunks-init g c = record {
-  so_far = first_heard g.L.Listener.hears _ _ c.args.bytes.now c.args.undecoded.now _ _ _ _ _ c.in_ok-hearing.ensures.emits;
+  so_far = first_heard g.L.Listener.hears _ _ c.args.piece.bytes.now c.args.piece.undecoded.now _ _ _ _ _ c.in_ok-hearing.ensures.emits;
   spelled = c.requires.spelled;
   reading = c.in_ok-hearing.ensures.reading;
-  few = omega (arith, c.in_ok-hearing.ensures.few.0, length-append c.args.bytes.now (bytes_of c.args.undecoded.now));
+  few = omega (arith, c.in_ok-hearing.ensures.few.0, length-append c.args.piece.bytes.now (bytes_of c.args.piece.undecoded.now));
   one = c.in_ok-hearing.ensures.few.1;
   none = c.in_ok-hearing.ensures.few.2;
 }
+
+pub returns-in_default-clause-emits : goal.returns-in_default-clause-emits
+returns-in_default-clause-emits g c = λ side follows. absurd (false≢true (rw c.in_default.ensures.read at c.chunks.invariant.spelled))
 
 pub returns-in_err-later-clause-emits : goal.returns-in_err-later-clause-emits
 returns-in_err-later-clause-emits g c = λ side follows.
@@ -30,15 +33,15 @@ returns-in_err-later-clause-emits g c = λ side follows.
 pub after_messages-hearing-requires : goal.after_messages-hearing-requires
 after_messages-hearing-requires g c =
     let on = goes_on _ c.chunks.rest.now c.in-Some.after.now c.in-Some.ensures.read c.chunks.invariant.spelled in
-    let size = bytes_few c.args.undecoded.now in
-    let chunk = take c.in-Some.count c.read.new.room in
-    omega (arith, c.chunks.invariant.few, c.in_ok-later.ensures.few.0, length-append c.args.bytes.now (bytes_of c.args.undecoded.now), size, ap length on.0, length-append chunk (bytes_of c.in-Some.after.now))
+    let size = bytes_few c.args.piece.undecoded.now in
+    let chunk = take c.in-Some.count c.read.new.buffer in
+    omega (arith, c.chunks.invariant.few, c.in_ok-later.ensures.few.0, length-append c.args.piece.bytes.now (bytes_of c.args.piece.undecoded.now), size, ap length on.0, length-append chunk (bytes_of c.in-Some.after.now))
 
 pub chunks-preserved : goal.chunks-preserved
 chunks-preserved g c =
     let on = goes_on _ c.chunks.rest.now c.in-Some.after.now c.in-Some.ensures.read c.chunks.invariant.spelled in
     let hearing = c.chunks.hearing in
-    let chunk = take c.in-Some.count c.read.new.room in
+    let chunk = take c.in-Some.count c.read.new.buffer in
     let going = not-true _ c.chunks-test.true in
     let sum = c.after_messages-hearing.ensures in
     record {

@@ -1,7 +1,7 @@
 use Rattle.std.proofs.Common.{◌∙◌, Err, ap, arith, refl, rules}
 use Rattle.std.proofs.lemmas.Result.{err_from_is_err_and}
 use Rattle.zvt_trace.specs.Trace.{begun, refused}
-use Rattle.zvt_trace.proofs.EventLemmas.{hears_event}
+use Rattle.zvt_trace.proofs.EventLemmas.{fails_refusal, hears_event, hears_refusal}
 use Rattle.zvt_trace.proofs.PieceLemmas.{fed_as, going, refused_by, spells_by, unfinished_by}
 use Rattle.zvt_trace.proofs.EmitLemmas.{ends, ends_whole, fails_memory, fails_message, fails_refused, fails_unread, none_yet, not_stopped, one_more, stays}
 use Rattle.zvt_stream.specs.declared.stream.FedView.TheVariants as fed
@@ -51,8 +51,8 @@ returns-in-Ok-More-clause-emits g c = λ side follows.
     ends g.L.Listener.hears _ _ side _ c.messages.rest.now _ c.messages.stream c.feed_view.new.self _ _ _ _ begun c.going-in-Ok-More.result c.messages.invariant.so_far
     (going _ _ _ c.in-Ok-More.is c.feed_view.ensures.stopped) unfinished.none_whole unfinished.alive feeds.1 refl trace_event.0 trace_event.1 trace_event.2 follows
 
-pub emit_refusal-requires-clause-begun : goal.emit_refusal-requires-clause-begun
-emit_refusal-requires-clause-begun g c =
+pub refusal-refusal-requires-clause-begun : goal.refusal-refusal-requires-clause-begun
+refusal-refusal-requires-clause-begun g c =
     let has_message = fed_as c.messages.stream c.feed_view.new.self c.messages.rest.now c.in-Ok-Refused.field-0 (fed.Refused c.in-Ok-Refused.place c.in-Ok-Refused.why) c.in-Ok-Refused.field-0-is c.in-Ok-Refused.ensures.fed in
     omega (arith, has_message.0.1, c.of-begun.ensures.held)
 
@@ -62,9 +62,10 @@ returns-in_err-emit_refusal-in-Ok-Refused-clause-emits g c = λ side follows.
     let p = err_from_is_err_and c.from_residual-in_err-emit_refusal-in-Ok-Refused.result c.from_residual-in_err-emit_refusal-in-Ok-Refused.ensures.1 in
     let has_message = fed_as c.messages.stream c.feed_view.new.self c.messages.rest.now c.in-Ok-Refused.field-0 (fed.Refused c.in-Ok-Refused.place c.in-Ok-Refused.why) c.in-Ok-Refused.field-0-is c.in-Ok-Refused.ensures.fed in
     let fatal = refused_by _ _ _ _ _ c.messages.invariant.reading has_message.0.0 in
+    let is = c.refusal-refusal.ensures in
     rw (p.1, p.2) (fails_refused g.L.Listener.hears g.L.Listener.fails _ _ _ side _ c.messages.rest.now _ c.messages.stream _ _ _ _ (refused c.in-Ok-Refused.place c.in-Ok-Refused.why) _ c.messages.invariant.so_far
     (going _ _ _ c.in-Ok-Refused.is c.feed_view.ensures.stopped) fatal.0 (fatal.1, fatal.2) refl
-    (c.in_err-emit_refusal-in-Ok-Refused.ensures c.messages.stream.held c.of-begun.ensures.head c.of-begun.ensures.held) follows)
+    (fails_refusal g.L.Listener.fails _ _ _ c.messages.stream.held c.messages.rest.now _ _ c.refusal-refusal.result _ _ (is.head c.messages.stream.held c.of-begun.ensures.head) (is.byte c.messages.stream.held c.of-begun.ensures.held) is.place is.why c.in_err-emit_refusal-in-Ok-Refused.ensures) follows)
 
 pub returns-in-Ok-Refused-clause-emits : goal.returns-in-Ok-Refused-clause-emits
 returns-in-Ok-Refused-clause-emits g c = λ side follows.
@@ -72,7 +73,8 @@ returns-in-Ok-Refused-clause-emits g c = λ side follows.
     let feeds = has_message.0 in
     let ended = c.stopped.ensures in
     let fatal = refused_by _ _ _ _ _ c.messages.invariant.reading feeds.0 in
-    let heard = c.in_ok-emit_refusal-in-Ok-Refused.ensures c.messages.stream.held c.of-begun.ensures.head c.of-begun.ensures.held in
+    let is = c.refusal-refusal.ensures in
+    let heard = hears_refusal g.L.Listener.hears _ _ c.messages.stream.held c.messages.rest.now _ _ c.refusal-refusal.result _ _ (is.head c.messages.stream.held c.of-begun.ensures.head) (is.byte c.messages.stream.held c.of-begun.ensures.held) is.place is.why c.in_ok-emit_refusal-in-Ok-Refused.ensures in
     ends g.L.Listener.hears _ _ side _ c.messages.rest.now _ c.messages.stream c.feed_view.new.self _ _ _ _ (refused c.in-Ok-Refused.place c.in-Ok-Refused.why) _ c.messages.invariant.so_far
     (going _ _ _ c.in-Ok-Refused.is c.feed_view.ensures.stopped) fatal.0 (fatal.1, fatal.2) feeds.2 (hears_event g.L.Listener.hears _ _ _ _ refl heard) ended.0 ended.1 ended.2 follows
 

@@ -5,8 +5,8 @@ use Rattle.zvt_trace.proofs.emit.feed_piece.Given as goal
 
 abbrev pub invariant-messages : goal.invariant-messages
 invariant-messages g l = record {
-  so_far : SoFar (reading_of l.lengths) g.L.Listener.hears l.line l.from l.bytes l.rest l.initial.stream l.stream (l.initial.listener, l.initial.device) (l.listener, l.device) l.messages;
-  reading : l.stream.reading ≡ reading_of l.lengths;
+  so_far : SoFar (reading_of l.at.lengths) g.L.Listener.hears l.at.line l.at.from l.bytes l.rest l.initial.stream l.stream (l.initial.listener, l.initial.device) (l.listener, l.device) l.messages;
+  reading : l.stream.reading ≡ reading_of l.at.lengths;
   few : l.messages + length l.rest ≤ length l.bytes;
 }
 

@@ -4,7 +4,7 @@ use Rattle.zvt_trace.proofs.input.read_trace.Goals as goal
 
 pub returns-in_err-taken-clause-taken : goal.returns-in_err-taken-clause-taken
 returns-in_err-taken-clause-taken g c =
-    broken _ 16777217 c.in_err-taken.field-0.0 _ _ _ c.loop-turn.trace.items c.read_piece.new.trace.items c.loop-turn.invariant.taken c.in_err-taken.ensures.piece (omega (arith, length-take c.min-room.result c.loop-turn.buffer))
+    broken _ 16777217 c.in_err-taken.field-0.0 _ _ _ c.loop-turn.trace.items c.read_piece.new.trace.items c.loop-turn.invariant.taken c.in_err-taken.ensures.piece (omega (arith, length-take c.min-capacity.result c.loop-turn.buffer))
 
 pub returns-then-taken-eq0-clause-taken : goal.returns-then-taken-eq0-clause-taken
 returns-then-taken-eq0-clause-taken g c =
@@ -20,7 +20,7 @@ pub returns-then-len-gt-LIMIT-clause-taken : goal.returns-then-len-gt-LIMIT-clau
 returns-then-len-gt-LIMIT-clause-taken g c =
     let piece = c.in_ok-taken.ensures.piece in
     let grown = one_more _ _ _ _ _ c.loop-turn.trace.items _ c.loop-turn.invariant.taken piece in
-    (c.read_piece.new.trace.items, omega (arith, grown.longer, piece.4, length-take c.min-room.result c.loop-turn.buffer), grown.consumed)
+    (c.read_piece.new.trace.items, omega (arith, grown.longer, piece.4, length-take c.min-capacity.result c.loop-turn.buffer), grown.consumed)
 
 pub loop-turn-preserved : goal.loop-turn-preserved
 loop-turn-preserved g c =

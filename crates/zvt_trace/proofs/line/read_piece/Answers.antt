@@ -17,4 +17,4 @@ pub returns-clause-ok : goal.returns-clause-ok
 returns-clause-ok c = piece_read c.args.from _ c.args.text.now c.in-Some.undecoded.now c.in-Some.ensures.read (c.is_spelled.ensures.yes c.if-not-is_spelled.false)
 
 pub returns-clause-few : goal.returns-clause-few
-returns-clause-few c = piece_few c.args.text.now c.in-Some.undecoded.now c.read.new.room c.in-Some.count c.in-Some.ensures.few.1
+returns-clause-few c = piece_few c.args.text.now c.in-Some.undecoded.now c.read.new.buffer c.in-Some.count c.in-Some.ensures.few.1

@@ -19,11 +19,11 @@ pairs-preserved c =
     let first = ap length (tail_is c.pairs.rest.now) ∙ length-drop 1 c.pairs.rest.now in
     let second = ap length (tail_is c.skip_spaces.result.now) ∙ length-drop 1 c.skip_spaces.result.now in
     record {
-      so_far = read_pair c.args.text.now c.pairs.rest.now c.skip_spaces.result.now c.skip_spaces-rest-in-pairs.result.now c.pairs.room c.pairs.count c.value-high.result c.value-low.result (omega arith)
+      so_far = read_pair c.args.text.now c.pairs.rest.now c.skip_spaces.result.now c.skip_spaces-rest-in-pairs.result.now c.pairs.buffer c.pairs.count c.value-high.result c.value-low.result (omega arith)
           c.in-len1-up.len_at_least c.pairs.invariant.none (c.skip_spaces.ensures.same ∙ ap without_spaces (tail_is c.pairs.rest.now)) c.in-len1-up-skip_spaces.len_at_least c.skip_spaces.ensures.none (next.same ∙ ap without_spaces (tail_is c.skip_spaces.result.now))
           c.value-high.ensures c.value-low.ensures c.if-high-gt15.false c.if-low-gt15.false c.pairs.invariant.so_far;
       none = next.none;
-      within = omega (arith, c.pairs-test.true, length-set c.pairs.room c.pairs.count (c.value-high.result * 16 + c.value-low.result));
-      size = length-set c.pairs.room c.pairs.count (c.value-high.result * 16 + c.value-low.result) ∙ c.pairs.invariant.size;
+      within = omega (arith, c.pairs-test.true, length-set c.pairs.buffer c.pairs.count (c.value-high.result * 16 + c.value-low.result));
+      size = length-set c.pairs.buffer c.pairs.count (c.value-high.result * 16 + c.value-low.result) ∙ c.pairs.invariant.size;
       few = omega (arith, next.shorter, c.skip_spaces.ensures.shorter, first, second);
     }

@@ -5,10 +5,10 @@ use Rattle.zvt_trace.proofs.spelled.read.Given as goal
 
 abbrev pub invariant-pairs : goal.invariant-pairs
 invariant-pairs l = record {
-  so_far : after_bytes (take l.count l.room) (spells (without_spaces l.rest)) ≡ spells (without_spaces l.text);
+  so_far : after_bytes (take l.count l.buffer) (spells (without_spaces l.rest)) ≡ spells (without_spaces l.text);
   none : slice_index l.rest 0 ≢ 32;
-  within : l.count ≤ length l.room;
-  size : length l.room ≡ length l.initial.room;
+  within : l.count ≤ length l.buffer;
+  size : length l.buffer ≡ length l.initial.buffer;
   few : 2 * l.count + length l.rest ≤ length l.text;
 }
 

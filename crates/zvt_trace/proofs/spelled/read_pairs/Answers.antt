@@ -7,15 +7,15 @@ pub pairs-init : goal.pairs-init
 pairs-init c = record {
   few = omega arith;
   size = refl;
-  so_far = none_read c.args.text.now c.args.room.now;
+  so_far = none_read c.args.text.now c.args.buffer.now;
 }
 
 pub pairs-preserved : goal.pairs-preserved
 pairs-preserved c =
     let so = c.pairs.invariant in record {
       few = omega (arith, c.pairs-test.true);
-      size = length-set c.pairs.room c.pairs.count c.pair-byte.result ∙ so.size;
-      so_far = one_more c.args.text.now c.pairs.room c.pairs.count c.pair-byte.result (omega arith) c.pairs-test.true c.pair-byte.ensures (omega (arith, c.if-byte-gt255.false)) so.so_far;
+      size = length-set c.pairs.buffer c.pairs.count c.pair-byte.result ∙ so.size;
+      so_far = one_more c.args.text.now c.pairs.buffer c.pairs.count c.pair-byte.result (omega arith) c.pairs-test.true c.pair-byte.ensures (omega (arith, c.if-byte-gt255.false)) so.so_far;
     }
 
 pub returns-then-byte-gt255-clause-all : goal.returns-then-byte-gt255-clause-all

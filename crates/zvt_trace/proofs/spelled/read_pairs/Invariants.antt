@@ -5,8 +5,8 @@ use Rattle.zvt_trace.proofs.spelled.read_pairs.Given as goal
 abbrev pub invariant-pairs : goal.invariant-pairs
 invariant-pairs l = record {
   few : 2 * l.count ≤ length l.text;
-  size : length l.room ≡ length l.initial.room;
-  so_far : ReadsPairs l.text l.count l.room;
+  size : length l.buffer ≡ length l.initial.buffer;
+  so_far : ReadsPairs l.text l.count l.buffer;
 }
 
 abbrev pub decreases-pairs : goal.decreases-pairs

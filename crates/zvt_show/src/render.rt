@@ -1,0 +1,227 @@
+//! The text of an event.
+ghost use Rattle.std.specs.Prelude.{◌≡◌, ◌++◌, ◌∷◌, [], IfOk, OnErr, OnOk};
+ghost use Rattle.zvt_grammar.specs.Lengths.{reading_of};
+ghost use Rattle.zvt_apdu.specs.Grammar.{Spells};
+ghost use Rattle.zvt_text.specs.Writing.{Adds};
+ghost use Rattle.zvt_trace.specs.Lines.{direction_text};
+ghost use Rattle.zvt_trace.specs.TraceEvent.{HasItsBytes, event_of};
+ghost use Rattle.zvt_show.specs.Lines.{lost_text, refused_text, stopped_text, truncated_text};
+ghost use Rattle.zvt_show.specs.Text.{joined, receipt, shown};
+ghost use Rattle.zvt_show.specs.Written.{AddsEvent, AddsMessage};
+ghost use Rattle.zvt_show.specs.declared.render.Style.TheVariants.{Join};
+
+use std::alloc::{AllocError, Global};
+use zvt_apdu::{ApduView, encode, owned};
+use zvt_grammar::{Lengths, Why};
+use zvt_text::Text;
+use zvt_trace::{Direction, Refusal, TraceEvent};
+
+/// How the events of a trace are written.
+#[derive(Clone, Copy, Debug, PartialEq, Eq)]
+pub enum Style {
+    /// Each message with its fields, and each event of a side or of the line.
+    Show,
+    /// Each message as a line of a trace, and each event of a side as a comment.
+    Join,
+    /// The text of the terminal's print lines, and nothing else.
+    Receipts,
+}
+
+impl Style {
+    ghost use Rattle.std.specs.Prelude.{option_map};
+    ghost use Rattle.zvt_show.specs.Lines.{mark_of};
+
+    /// What stands before a line that is no part of a trace, where such lines are written at all.
+    fn mark(self) -> Option<&'static str>
+        ensures { option_map (λ mark. mark.now) result ≡ mark_of self }
+    {
+        match self {
+            Style::Show => Some(""),
+            Style::Join => Some("# "),
+            Style::Receipts => None,
+        }
+    }
+}
+
+/// Adds the text of an event. Where memory is refused the text stays as it is.
+#[inline(always)]
+pub(crate) fn render_event(
+    text: &mut Text,
+    alloc: Global,
+    style: Style,
+    trace_event: &TraceEvent<'_>,
+) -> Result<(), AllocError>
+    requires { HasItsBytes trace_event.now }
+    ensures adds { OnOk result (AddsEvent style (event_of trace_event.now) text.old text.new) }
+    ensures keeps { OnErr result (text.new ≡ text.old) }
+{
+    match trace_event {
+        TraceEvent::Message {
+            from,
+            apdu,
+            bytes,
+            lengths,
+        } => match style {
+            Style::Show => show(text, *from, apdu),
+            Style::Join => join(text, alloc, *from, apdu, bytes, *lengths),
+            Style::Receipts => receipt(text, *from, apdu),
+        },
+        TraceEvent::Refused { from, refusal } => {
+            let Refusal { place, why, .. } = *refusal;
+            refused(text, alloc, style, *from, place, why)
+        }
+        TraceEvent::Unread { from } => stopped(text, alloc, style, *from),
+        TraceEvent::CutOff { from, have, .. } => truncated(text, alloc, style, *from, *have),
+        TraceEvent::Lost => lost(text, style),
+    }
+}
+
+/// Adds a message with its direction and its fields.
+#[inline(always)]
+fn show(text: &mut Text, from: Direction, apdu: &ApduView<'_>) -> Result<(), AllocError>
+    ensures { Adds result text.old text.new (shown from apdu.now) }
+{
+    zvt_text::message(text, prefix(from), apdu)
+}
+
+/// The direction of a line, and a space.
+#[inline(always)]
+fn prefix(from: Direction) -> &'static [u8]
+    ensures { result.now ≡ direction_text from ++ 32 ∷ [] }
+{
+    match from {
+        Direction::FromTill => b"> ",
+        Direction::FromTerminal => b"< ",
+    }
+}
+
+/// Adds a message as a line of a trace: its direction, and its one strict spelling.
+#[inline(always)]
+fn join(
+    text: &mut Text,
+    alloc: Global,
+    from: Direction,
+    apdu: &ApduView<'_>,
+    bytes: &[u8],
+    lengths: Lengths,
+) -> Result<(), AllocError>
+    requires { Spells (reading_of lengths) apdu.now bytes.now }
+    ensures adds { OnOk result (AddsMessage Join from apdu.now text.old text.new) }
+    ensures keeps { OnErr result (text.new ≡ text.old) }
+{
+    match lengths {
+        Lengths::Shortest => line(text, from, bytes),
+        Lengths::Padded => normal_line(text, alloc, from, apdu),
+    }
+}
+
+/// Adds a message as a line of a trace, and encodes it for that.
+#[inline(never)]
+fn normal_line(
+    text: &mut Text,
+    alloc: Global,
+    from: Direction,
+    apdu: &ApduView<'_>,
+) -> Result<(), AllocError>
+    ensures adds { OnOk result (AddsMessage Join from apdu.now text.old text.new) }
+    ensures keeps { OnErr result (text.new ≡ text.old) }
+{
+    let message = owned(alloc, apdu)?;
+    let bytes = encode(alloc, &message)?;
+    line(text, from, bytes.as_slice())
+}
+
+/// Adds a line of a trace with these bytes.
+#[inline(always)]
+fn line(text: &mut Text, from: Direction, bytes: &[u8]) -> Result<(), AllocError>
+    ensures { Adds result text.old text.new (joined from bytes.now) }
+{
+    zvt_text::line(text, prefix(from), bytes)
+}
+
+/// Adds the text of a print line of the terminal.
+fn receipt(text: &mut Text, from: Direction, apdu: &ApduView<'_>) -> Result<(), AllocError>
+    ensures { Adds result text.old text.new (receipt from apdu.now) }
+{
+    if from == Direction::FromTill {
+        return Ok(());
+    }
+    match apdu.text() {
+        Some(line) => zvt_text::escaped_line(text, line),
+        None => Ok(()),
+    }
+}
+
+/// The first words of a line that is no part of a trace. They are not in the text yet, so that it takes the line whole.
+fn begun(alloc: Global, mark: &str, from: Direction, words: &[u8]) -> Result<Text, AllocError>
+    ensures { IfOk result (λ line. line ≡ mark.now ++ direction_text from ++ words.now) }
+{
+    let mut line = Text::new(alloc);
+    line.word(mark.as_bytes())?;
+    line.word(from.sign().as_bytes())?;
+    line.word(words)?;
+    Ok(line)
+}
+
+/// Adds the line of a refused stream.
+fn refused(
+    text: &mut Text,
+    alloc: Global,
+    style: Style,
+    from: Direction,
+    place: usize,
+    why: Why,
+) -> Result<(), AllocError>
+    ensures { Adds result text.old text.new (refused_text style from place why) }
+{
+    let Some(mark) = style.mark() else {
+        return Ok(());
+    };
+    let mut line = begun(alloc, mark, from, b" refused at ")?;
+    line.number(place as u64)?;
+    line.word(b": ")?;
+    line.word(why.name().as_bytes())?;
+    line.push(b'\n')?;
+    text.word(line.bytes())
+}
+
+/// Adds the line of a stream that ends within a message.
+fn truncated(
+    text: &mut Text,
+    alloc: Global,
+    style: Style,
+    from: Direction,
+    have: usize,
+) -> Result<(), AllocError>
+    ensures { Adds result text.old text.new (truncated_text style from have) }
+{
+    let Some(mark) = style.mark() else {
+        return Ok(());
+    };
+    let mut line = begun(alloc, mark, from, b" truncated after ")?;
+    line.number(have as u64)?;
+    line.push(b'\n')?;
+    text.word(line.bytes())
+}
+
+/// Adds the line of a loss.
+fn lost(text: &mut Text, style: Style) -> Result<(), AllocError>
+    ensures { Adds result text.old text.new (lost_text style) }
+{
+    match style {
+        Style::Show => text.word(b"! line lost\n"),
+        Style::Join => text.word(b"!\n"),
+        Style::Receipts => Ok(()),
+    }
+}
+
+/// Adds the line of a piece after a refusal.
+fn stopped(text: &mut Text, alloc: Global, style: Style, from: Direction) -> Result<(), AllocError>
+    ensures { Adds result text.old text.new (stopped_text style from) }
+{
+    let Some(mark) = style.mark() else {
+        return Ok(());
+    };
+    let line = begun(alloc, mark, from, b" stopped\n")?;
+    text.word(line.bytes())
+}

@@ -1,0 +1,153 @@
+//! The commands on the trace that a reader brings.
+ghost use Rattle.std.specs.Prelude.{◌≡◌, ◌<◌, Err, IfSome};
+ghost use Rattle.zvt_grammar.specs.Lengths.{reading_of};
+ghost use Rattle.zvt_grammar.specs.Reading.{padded};
+ghost use Rattle.zvt_audit.specs.Audited.{AnswersAudit, AnswersAuditBy};
+ghost use Rattle.zvt_show.specs.Written.{AnswersTrace, AnswersTraceBy};
+ghost use Rattle.zvt_show.specs.declared.render.Style.TheVariants.{Join, Receipts, Show};
+
+use std::alloc::Global;
+use zvt_audit::audit_trace;
+use zvt_grammar::Lengths;
+use zvt_io::{Sink, Source};
+use zvt_show::{Style, render_trace};
+use zvt_trace::{Tally, TraceFault, read_trace};
+
+/// Writes each whole message of the trace as text: its direction and name, and a line for each field. A stream that is
+/// refused or cut off has a line, and counts as bad.
+pub fn show<R: Source, W: Sink>(
+    alloc: Global,
+    reader: &mut R,
+    writer: &mut W,
+) -> Result<Tally, TraceFault>
+    ensures writes { IfSome (R.remaining reader.old) (λ trace. AnswersTrace Show trace (W.written writer.old) (W.written writer.new) result) }
+    ensures read { result ≡ Err TraceFault.Read → R.failures reader.old < R.failures reader.new }
+    ensures write { result ≡ Err TraceFault.Write → W.failures writer.old < W.failures writer.new }
+{
+    read_and_render(alloc, Style::Show, Lengths::Shortest, reader, writer)
+}
+
+/// Writes each whole message of the trace as one line of a trace, and all other events as comments.
+pub fn join<R: Source, W: Sink>(
+    alloc: Global,
+    reader: &mut R,
+    writer: &mut W,
+) -> Result<Tally, TraceFault>
+    ensures writes { IfSome (R.remaining reader.old) (λ trace. AnswersTrace Join trace (W.written writer.old) (W.written writer.new) result) }
+    ensures read { result ≡ Err TraceFault.Read → R.failures reader.old < R.failures reader.new }
+    ensures write { result ≡ Err TraceFault.Write → W.failures writer.old < W.failures writer.new }
+{
+    read_and_render(alloc, Style::Join, Lengths::Shortest, reader, writer)
+}
+
+/// Writes the text of each print line of the terminal as one line, with escapes (`\xHH`) for what is no printing
+/// character, and nothing else. A stream that is refused or cut off counts as bad all the same.
+pub fn receipts<R: Source, W: Sink>(
+    alloc: Global,
+    reader: &mut R,
+    writer: &mut W,
+) -> Result<Tally, TraceFault>
+    ensures writes { IfSome (R.remaining reader.old) (λ trace. AnswersTrace Receipts trace (W.written writer.old) (W.written writer.new) result) }
+    ensures read { result ≡ Err TraceFault.Read → R.failures reader.old < R.failures reader.new }
+    ensures write { result ≡ Err TraceFault.Write → W.failures writer.old < W.failures writer.new }
+{
+    read_and_render(alloc, Style::Receipts, Lengths::Shortest, reader, writer)
+}
+
+/// Writes what [`show`] writes, of a trace whose lengths may stand in any form that holds them.
+pub fn show_loose<R: Source, W: Sink>(
+    alloc: Global,
+    reader: &mut R,
+    writer: &mut W,
+) -> Result<Tally, TraceFault>
+    ensures writes { IfSome (R.remaining reader.old) (λ trace. AnswersTraceBy padded Show trace (W.written writer.old) (W.written writer.new) result) }
+    ensures read { result ≡ Err TraceFault.Read → R.failures reader.old < R.failures reader.new }
+    ensures write { result ≡ Err TraceFault.Write → W.failures writer.old < W.failures writer.new }
+{
+    read_and_render(alloc, Style::Show, Lengths::Padded, reader, writer)
+}
+
+/// Writes what [`join`] writes, of a trace whose lengths may stand in any form that holds them. Each whole message is
+/// written in its one strict spelling, so that a strict reader reads it.
+pub fn normalise_trace<R: Source, W: Sink>(
+    alloc: Global,
+    reader: &mut R,
+    writer: &mut W,
+) -> Result<Tally, TraceFault>
+    ensures writes { IfSome (R.remaining reader.old) (λ trace. AnswersTraceBy padded Join trace (W.written writer.old) (W.written writer.new) result) }
+    ensures read { result ≡ Err TraceFault.Read → R.failures reader.old < R.failures reader.new }
+    ensures write { result ≡ Err TraceFault.Write → W.failures writer.old < W.failures writer.new }
+{
+    read_and_render(alloc, Style::Join, Lengths::Padded, reader, writer)
+}
+
+/// Writes what [`receipts`] writes, of a trace whose lengths may stand in any form that holds them.
+pub fn receipts_loose<R: Source, W: Sink>(
+    alloc: Global,
+    reader: &mut R,
+    writer: &mut W,
+) -> Result<Tally, TraceFault>
+    ensures writes { IfSome (R.remaining reader.old) (λ trace. AnswersTraceBy padded Receipts trace (W.written writer.old) (W.written writer.new) result) }
+    ensures read { result ≡ Err TraceFault.Read → R.failures reader.old < R.failures reader.new }
+    ensures write { result ≡ Err TraceFault.Write → W.failures writer.old < W.failures writer.new }
+{
+    read_and_render(alloc, Style::Receipts, Lengths::Padded, reader, writer)
+}
+
+/// Writes the books of the trace, as [`audit_trace`] does.
+pub fn audit<R: Source, W: Sink>(
+    alloc: Global,
+    reader: &mut R,
+    writer: &mut W,
+) -> Result<Tally, TraceFault>
+    ensures writes { IfSome (R.remaining reader.old) (λ trace. AnswersAudit trace (W.written writer.old) (W.written writer.new) result) }
+    ensures read { result ≡ Err TraceFault.Read → R.failures reader.old < R.failures reader.new }
+    ensures write { result ≡ Err TraceFault.Write → W.failures writer.old < W.failures writer.new }
+{
+    read_and_audit(alloc, Lengths::Shortest, reader, writer)
+}
+
+/// Writes what [`audit`] writes, of a trace whose lengths may stand in any form that holds them.
+pub fn audit_loose<R: Source, W: Sink>(
+    alloc: Global,
+    reader: &mut R,
+    writer: &mut W,
+) -> Result<Tally, TraceFault>
+    ensures writes { IfSome (R.remaining reader.old) (λ trace. AnswersAuditBy padded trace (W.written writer.old) (W.written writer.new) result) }
+    ensures read { result ≡ Err TraceFault.Read → R.failures reader.old < R.failures reader.new }
+    ensures write { result ≡ Err TraceFault.Write → W.failures writer.old < W.failures writer.new }
+{
+    read_and_audit(alloc, Lengths::Padded, reader, writer)
+}
+
+/// Reads a trace, and writes its text in this style.
+fn read_and_render<R: Source, W: Sink>(
+    alloc: Global,
+    style: Style,
+    lengths: Lengths,
+    reader: &mut R,
+    writer: &mut W,
+) -> Result<Tally, TraceFault>
+    ensures writes { IfSome (R.remaining reader.old) (λ trace. AnswersTraceBy (reading_of lengths) style trace (W.written writer.old) (W.written writer.new) result) }
+    ensures read { result ≡ Err TraceFault.Read → R.failures reader.old < R.failures reader.new }
+    ensures write { result ≡ Err TraceFault.Write → W.failures writer.old < W.failures writer.new }
+{
+    let trace = read_trace(alloc, reader)?;
+    render_trace(alloc, style, lengths, trace.as_slice(), writer)
+}
+
+/// Reads a trace, and writes its books.
+fn read_and_audit<R: Source, W: Sink>(
+    alloc: Global,
+    lengths: Lengths,
+    reader: &mut R,
+    writer: &mut W,
+) -> Result<Tally, TraceFault>
+    ensures writes { IfSome (R.remaining reader.old) (λ trace. AnswersAuditBy (reading_of lengths) trace (W.written writer.old) (W.written writer.new) result) }
+    ensures read { result ≡ Err TraceFault.Read → R.failures reader.old < R.failures reader.new }
+    ensures write { result ≡ Err TraceFault.Write → W.failures writer.old < W.failures writer.new }
+{
+    let trace = read_trace(alloc, reader)?;
+    let audited = audit_trace(alloc, lengths, trace.as_slice(), writer)?;
+    Ok(audited.tally)
+}
