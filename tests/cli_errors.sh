@@ -50,14 +50,14 @@ listening() { # ARGUMENT..
 
 # Files that traces are read from.
 for command in show join normalise audit receipts; do
-    refuses "$command of a directory" 4 "zvt: '$work': the trace can't be opened: " "$command" "$work"
-    refuses "$command of no file" 4 "zvt: '$work/none.trace': the trace can't be opened: " "$command" "$work/none.trace"
+    refuses "$command of a directory" 4 "zvt: '$work': cannot open the trace: " "$command" "$work"
+    refuses "$command of no file" 4 "zvt: '$work/none.trace': cannot open the trace: " "$command" "$work/none.trace"
     refuses "$command of a file that can't be read" 4 "zvt: '/proc/self/mem': the trace can't be read to its end" "$command" /proc/self/mem
 done
 echo '> 8' > "$work/half.trace"
 refuses "a line that is none" 3 "zvt: '$work/half.trace': line 1 of the trace: " audit "$work/half.trace"
 refuses "two files" 2 "'two'" show one two
-refuses "a word that is no text" 2 "zvt: a word of the command line is no text in UTF-8" show "$(printf '\377')"
+refuses "a word that is no text" 2 "zvt: an argument is not valid UTF-8" show "$(printf '\377')"
 "$zvt" show < "$work" > "$work/out" 2> "$work/err"
 check "standard input that is a directory" "$?" 4 "" "zvt: the trace can't be read to its end"
 "$zvt" audit "$here/examples/payment.trace" > "$work/named" 2> "$work/err"
@@ -95,11 +95,11 @@ notes "bad streams that are audited" 1 "total 0" "zvt: line 1 of the trace: > Au
 zvt: 3 lines not read after that, up to line 4
 zvt: line 6 of the trace: < a message of 06 cut off after 1
 zvt: 0 messages, 1 stream refused, 1 cut off" "$bad" audit
-notes "directions that are swapped" 0 "total 0" "zvt: '<' sent orders, and '>' none: the directions of the trace may be swapped" '< 06 50 03 00 00 00\n> 80 00 00\n' audit
+notes "directions that are swapped" 0 "total 0" "zvt: only '<' sent orders: the directions of the trace may be swapped" '< 06 50 03 00 00 00\n> 80 00 00\n' audit
 for command in show join receipts; do
-    notes "a trace without a message under $command" 0 "" "zvt: the trace has no message" '# nothing\n' "$command"
+    notes "a trace without a message under $command" 0 "" "zvt: the trace contains no message" '# nothing\n' "$command"
 done
-notes "a trace without a message under audit" 0 "total 0" "zvt: the trace has no message" '' audit
+notes "a trace without a message under audit" 0 "total 0" "zvt: the trace contains no message" '' audit
 form="expected '>' or '<' and hexadecimal digits, '!' alone, or a comment that begins with '#'"
 digits="expected two hexadecimal digits for each byte after '>' or '<', with or without spaces"
 notes "a line that can't be read behind a bad stream" 3 "> refused at 3: UnknownField" "zvt: line 1 of the trace: > Authorisation refused at 3, byte D0: UnknownField
@@ -164,32 +164,32 @@ long "a long line that is refused at its end" 1 "$shown
 < refused at 3: UnknownField" "zvt: line 1 of the trace: < Completion refused at 3, byte D0: UnknownField" "< ${acks}060F02D0"
 
 # Words that are none.
-refuses "a password" 2 "zvt: '12345' is no password: six decimal digits" till --port 1 --password 12345
-refuses "a configuration byte" 2 "zvt: 'G1' is no configuration byte: two hexadecimal digits" till --port 1 --config G1
-refuses "a currency" 2 "zvt: '10000' is no currency: four decimal digits" till --port 1 --currency 10000
-refuses "a port that no terminal has" 2 "zvt: no terminal listens at port 0" till --port 0
+refuses "a password" 2 "zvt: invalid password '12345': expected six decimal digits" till --port 1 --password 12345
+refuses "a configuration byte" 2 "zvt: invalid configuration byte 'G1': expected two hexadecimal digits" till --port 1 --config G1
+refuses "a currency" 2 "zvt: invalid currency '10000': expected four decimal digits" till --port 1 --currency 10000
+refuses "a port that no terminal has" 2 "zvt: invalid port '0'" till --port 0
 refuses "a port that is none" 2 "'65536'" till --port 65536
-refuses "a step" 2 "zvt: 'pay:0': word 2 is no step: the steps are 'register'" till --port 1 register pay:0
-refuses "a step of a loop" 2 "zvt: 'pay': word 1 is no step" loop pay
-refuses "no connections" 2 "zvt: '0' is no number of connections: one from 1 to 65535" terminal --port 0 --connections 0
+refuses "a step" 2 "zvt: 'pay:0': invalid step 2: expected 'register'" till --port 1 register pay:0
+refuses "a step of a loop" 2 "zvt: 'pay': invalid step 1" loop pay
+refuses "no connections" 2 "zvt: invalid number of connections '0': expected 1 to 65535" terminal --port 0 --connections 0
 refuses "too many connections" 2 "'65536'" terminal --port 0 --connections 65536
-refuses "a code to decline with" 2 "zvt: '00' is no code to decline with" terminal --port 0 --decline 00
+refuses "a code to decline with" 2 "zvt: invalid result code '00'" terminal --port 0 --decline 00
 refuses "a terminal's number" 2 "'100000000'" terminal --port 0 --tid 100000000
 
 # Traces that can't be written. One that stands is left as it was by a wrong word.
-refuses "a trace that is a directory" 4 "zvt: '$work': the trace can't be written: " loop --trace "$work"
-refuses "a trace in no directory" 4 "zvt: '$work/none/till.trace': the trace can't be written: " till --port 1 --trace "$work/none/till.trace"
+refuses "a trace that is a directory" 4 "zvt: '$work': cannot create the trace file: " loop --trace "$work"
+refuses "a trace in no directory" 4 "zvt: '$work/none/till.trace': cannot create the trace file: " till --port 1 --trace "$work/none/till.trace"
 echo '# mine' > "$work/mine.trace"
-refuses "a wrong word beside a trace" 2 "'0' is no number of connections" terminal --port 0 --connections 0 --trace "$work/mine.trace"
+refuses "a wrong word beside a trace" 2 "invalid number of connections '0'" terminal --port 0 --connections 0 --trace "$work/mine.trace"
 refuses "a wrong step beside a trace" 2 "'pay:0'" loop --trace "$work/mine.trace" pay:0
 [ "$(cat "$work/mine.trace")" = "# mine" ] || echo "a trace that was to stay" >> "$work/failed"
 "$zvt" loop --trace /dev/full register > "$work/out" 2> "$work/err"
 check "a trace that is full" "$?" 4 "register -> unclear Line
-total 0" "zvt: the trace of the line can't be written"
+total 0" "zvt: cannot write the trace file"
 listening
 "$zvt" till --port "$port" --trace /dev/full register > "$work/out" 2> "$work/err"
 check "a till's trace that is full" "$?" 4 "register -> unclear Line
-total 0" "zvt: the trace of the line can't be written"
+total 0" "zvt: cannot write the trace file"
 wait "$terminal"
 listening --trace /dev/full
 "$zvt" till --port "$port" register > "$work/till" 2> /dev/null
@@ -198,16 +198,16 @@ status=$?
 cp "$work/till" "$work/out"
 cp "$work/says" "$work/err"
 check "a terminal's trace that is full" "$status" 4 "register -> unclear Line
-total 0" "zvt: the trace of the line can't be written"
+total 0" "zvt: cannot write the trace file"
 
 # Connections that can't be had.
-refuses "a host that is none" 4 "zvt: there is no connection: the host has no address that can be found" till --port 1 --host no.such.host.invalid
-refuses "an address that is elsewhere" 4 "zvt: there is no connection: the address to listen at is none of this machine's" terminal --port 0 --host 192.0.2.1
+refuses "a host that is none" 4 "zvt: no connection: the host name has no address" till --port 1 --host no.such.host.invalid
+refuses "an address that is elsewhere" 4 "zvt: no connection: the address to listen at does not belong to this machine" terminal --port 0 --host 192.0.2.1
 listening
-refuses "a port that is in use" 4 "zvt: there is no connection: the port is in use" terminal --port "$port"
+refuses "a port that is in use" 4 "zvt: no connection: the port is in use" terminal --port "$port"
 kill "$terminal"
 wait "$terminal" 2> /dev/null
-refuses "a port that nothing listens on" 4 "zvt: there is no connection: nothing listens at that host and port" till --port "$port"
+refuses "a port that nothing listens on" 4 "zvt: no connection: nothing listens at that host and port" till --port "$port"
 
 # A reader that goes away: no message.
 { yes '> 80 00 00' | head -n 200000 | "$zvt" show 2> "$work/err"; echo "$?" > "$work/status"; } | head -n 1 > "$work/out"
@@ -225,6 +225,6 @@ sys.stdout.buffer.write(out)
 sys.stderr.buffer.write(err)
 sys.exit(program.returncode)
 ' "$zvt" > "$work/out" 2> "$work/err"
-check "a trace that is typed" "$?" 0 "> Ack" "zvt: a trace is read from this terminal: end it with Ctrl-D"
+check "a trace that is typed" "$?" 0 "> Ack" "zvt: reading a trace from the keyboard: end it with Ctrl-D"
 
 [ ! -s "$work/failed" ]

@@ -36,10 +36,10 @@ NO_STEPS = """Register pay pay: pay:0 pay:0000 pay:1234567890123 pay:+1 pay:1a r
 decline:1:6G decline:1:6C0 decline:0:6C decline::6C decline:6C closed""".split() + ["", "register ", "pay: 1", "decline:1 6C"]
 # Settings that are none, behind the words of their command, and what is said.
 NO_SETTINGS = [
-    ([*TILL, "--password"], ["", "00000", "0000000", "00000a", "+00000"], "is no password: six decimal digits, as 000000"),
-    ([*TILL, "--config"], ["", "B", "0BE", "BG", "+1"], "is no configuration byte: two hexadecimal digits, as BE"),
-    ([*TILL, "--currency"], ["", "978", "09780", "097a", "+978"], "is no currency: four decimal digits, as 0978"),
-    ([*TERMINAL, "--decline"], ["", "00", "6", "06C", "6G"], "is no code to decline with: two hexadecimal digits, not 00, as 6C"),
+    ([*TILL, "--password"], ["", "00000", "0000000", "00000a", "+00000"], "invalid password '{}': expected six decimal digits, e.g. 000000"),
+    ([*TILL, "--config"], ["", "B", "0BE", "BG", "+1"], "invalid configuration byte '{}': expected two hexadecimal digits, e.g. BE"),
+    ([*TILL, "--currency"], ["", "978", "09780", "097a", "+978"], "invalid currency '{}': expected four decimal digits, e.g. 0978"),
+    ([*TERMINAL, "--decline"], ["", "00", "6", "06C", "6G"], "invalid result code '{}': expected two hexadecimal digits other than 00, e.g. 6C"),
 ]
 STEPS = """register -> registered
 pay:1 -> paid trace 000001 receipt 0001
@@ -87,11 +87,11 @@ def main():
     for line, said in REFUSED:
         is_refused(line.split(), said)
     for word in NO_STEPS:
-        is_refused(["loop", word], f"zvt: '{word}': word 1 is no step: ")
-    is_refused([*TILL, "decline:1:6C"], "zvt: 'decline:1:6C': word 1 is no step: ")
+        is_refused(["loop", word], f"zvt: '{word}': invalid step 1: ")
+    is_refused([*TILL, "decline:1:6C"], "zvt: 'decline:1:6C': invalid step 1: ")
     for words, settings, said in NO_SETTINGS:
         for setting in settings:
-            is_refused([*words, setting], f"zvt: '{setting}' {said}\n")
+            is_refused([*words, setting], f"zvt: {said.format(setting)}\n")
     steps = [line.split(" ")[0] for line in STEPS.splitlines()[:-1]]
     found = run("loop", *steps)
     check(steps, found == (0, STEPS, ""), found)

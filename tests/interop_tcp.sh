@@ -151,7 +151,7 @@ check "a till of other settings" "$?" "$text" 0 "register -> registered
 pay:1000 -> paid trace 000001 receipt 0001
 total 1000"
 wait "$served"
-check "what the terminal says of its ledger" "$?" "$(tail -n 1 "$work/says")" 0 "zvt: till 1 has gone; approvals in the ledger: 1"
+check "what the terminal says of its ledger" "$?" "$(tail -n 1 "$work/says")" 0 "zvt: till 1 disconnected; approvals in the ledger: 1"
 check "the till's trace begins" 0 "$(head -n 1 "$work/till.trace")" 0 "> 0600061234568A0752"
 check "and ends" 0 "$(tail -n 1 "$work/till.trace")" 0 "!"
 for end in till terminal; do
@@ -186,11 +186,11 @@ line.sendall(bytes.fromhex(sys.argv[2]))         # a payment without a registrat
 print(line.recv(4096).hex())
 ' "$port" "$payment" > "$work/unregistered"
 wait "$served"
-check "what the terminal says of its tills" "$?" "$(sed 1d "$work/says")" 4 "zvt: till 1 has gone; approvals in the ledger: 1
-zvt: the line of till 2 broke: the other end closed it, 4 bytes into a message; approvals in the ledger: 1
-zvt: till 3 has gone; approvals in the ledger: 3
-zvt: till 4 has gone; approvals in the ledger: 3
-zvt: the line broke: the other end closed it, 4 bytes into a message"
+check "what the terminal says of its tills" "$?" "$(sed 1d "$work/says")" 4 "zvt: till 1 disconnected; approvals in the ledger: 1
+zvt: connection of till 2 failed: the other end closed the connection after 4 bytes of a message; approvals in the ledger: 1
+zvt: till 3 disconnected; approvals in the ledger: 3
+zvt: till 4 disconnected; approvals in the ledger: 3
+zvt: connection failed: the other end closed the connection after 4 bytes of a message"
 check "a till that does not register" 0 "$(cat "$work/unregistered")" 0 "848300"
 text=$("$zvt" audit "$work/four.trace")
 check "the books of all four" "$?" "$text" 1 "booked 1000 trace 000001 receipt 0001
@@ -230,7 +230,7 @@ check "a terminal that closes in a reversal" "$status" "$text" 4 "register -> re
 pay:1234 -> paid trace 000017 receipt 0005
 reverse:1 -> unclear Line
 total 1234"
-check "is told" 0 "$(grep 'reverse:1' "$work/till.$port")" 0 "zvt: reverse:1 is unclear (Line): the terminal took the payment back or not: look it up there before you give the money back"
+check "is told" 0 "$(grep 'reverse:1' "$work/till.$port")" 0 "zvt: reverse:1 is unclear (Line): the terminal may have reversed the payment or not: check its journal before you refund the amount"
 
 # A terminal that pads its lengths: a strict till does not know whether it was paid, a loose one does.
 padded="80 00 FF 00 00 04 0F FF 10 00 27 00 04 00 00 00 00 12 34 0B 00 00 17 87 00 05 06 0F FF 00 00"

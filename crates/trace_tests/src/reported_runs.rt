@@ -105,7 +105,7 @@ total 1234
 "#;
 
 const REPORTED: &str =
-    "zvt: reverse:1 is unclear (Line): the terminal took the payment back or not: look it up there before you give the money back\n";
+    "zvt: reverse:1 is unclear (Line): the terminal may have reversed the payment or not: check its journal before you refund the amount\n";
 
 #[test]
 fn a_reversal_whose_line_breaks_is_reported(rt: HostRuntime) -> Result<(), Fail> {

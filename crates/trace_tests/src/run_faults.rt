@@ -18,17 +18,17 @@ fn runs_say_why_they_ended(rt: HostRuntime) -> Result<(), Fail> {
     let rows = [
         (
             &EndFault::BadStep { at: 3 },
-            "word 4 is no step: the steps are 'register', 'pay:N', 'reverse:N', 'close' and, where both ends run, 'decline:N:XX'",
+            "invalid step 4: expected 'register', 'pay:N', 'reverse:N', 'close' or, in 'zvt loop', 'decline:N:XX'",
         ),
         (
             &EndFault::Trace,
-            "the trace of the line can't be written: see whether there is room where it goes; the run ended there",
+            "cannot write the trace file, so the run stopped: check its permissions and the free space",
         ),
         (
             &EndFault::Write,
-            "the text can't be written: see where standard output goes, and whether there is room",
+            "cannot write to standard output: check where it goes and the free space there",
         ),
-        (&EndFault::Memory, "there is too little memory"),
+        (&EndFault::Memory, "out of memory"),
     ];
     for (fault, wanted) in rows {
         says(&rt, rt.alloc(), fault, wanted)?;
@@ -41,35 +41,35 @@ fn each_want_of_a_connection_is_said(rt: HostRuntime) -> Result<(), Fail> {
     let rows = [
         (
             NetFault::UnknownHost,
-            "there is no connection: the host has no address that can be found: see whether its name is right",
+            "no connection: the host name has no address: check its spelling",
         ),
         (
             NetFault::Refused,
-            "there is no connection: nothing listens at that host and port: see whether the terminal runs there, and at which port",
+            "no connection: nothing listens at that host and port: check that the terminal runs, and which port it uses",
         ),
         (
             NetFault::Unreachable,
-            "there is no connection: the host can't be reached from here",
+            "no connection: the host is unreachable: check the network and the address",
         ),
         (
             NetFault::Silent,
-            "there is no connection: the host does not answer: see whether its name or address is right",
+            "no connection: the host does not answer: check its name or address",
         ),
         (
             NetFault::InUse,
-            "there is no connection: the port is in use: end the program that listens there, or give another port, or 0 for a free one",
+            "no connection: the port is in use: stop the program that listens there, or give another port, or 0 for a free one",
         ),
         (
             NetFault::Elsewhere,
-            "there is no connection: the address to listen at is none of this machine's",
+            "no connection: the address to listen at does not belong to this machine: give another host",
         ),
         (
             NetFault::NotAllowed,
-            "there is no connection: the system does not allow that port: one from 1024 on needs no rights of its own",
+            "no connection: permission denied for that port: give a port from 1024 on",
         ),
         (
             NetFault::Other,
-            "there is no connection: see whether the other end listens at that host and port, and whether the port is free where one is to be opened",
+            "no connection: check that the other end listens at that host and port, or that the port to listen at is free",
         ),
     ];
     for (fault, wanted) in rows {
@@ -87,28 +87,25 @@ fn broken_lines_say_how_they_broke(rt: HostRuntime) -> Result<(), Fail> {
     let rows = [
         (
             LineFault::Read,
-            "the line broke: a read failed, or nothing came in time",
+            "connection failed: a read failed or timed out",
         ),
-        (LineFault::Write, "the line broke: a write failed"),
+        (LineFault::Write, "connection failed: a write failed"),
         (
             LineFault::Ended { have: 4 },
-            "the line broke: the other end closed it, 4 bytes into a message",
+            "connection failed: the other end closed the connection after 4 bytes of a message",
         ),
         (
             LineFault::Turns,
-            "the line broke: the other end goes on without an end",
+            "connection failed: no response completed within the read limit",
         ),
         (
             malformed,
-            "the line broke: the other end sent bytes that begin no message, refused at 3: DoesNotFit",
+            "connection failed: the other end sent an invalid message, refused at 3: DoesNotFit",
         ),
-        (
-            LineFault::Memory,
-            "the line broke: there was too little memory",
-        ),
+        (LineFault::Memory, "connection failed: out of memory"),
         (
             LineFault::Stopped,
-            "the line broke: it had brought bytes before that begin no message",
+            "connection failed: the other end sent an invalid message before",
         ),
     ];
     for (fault, wanted) in rows {

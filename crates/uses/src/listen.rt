@@ -1,6 +1,7 @@
 //! Walks over a trace with a listener of its own, which counts the messages of each side.
 
 use std::io;
+use zvt_grammar::Lengths;
 use zvt_io::Counted;
 use zvt_trace::{Direction, Listener, ListenerError, Scope, TraceEvent, read_trace, walk};
 
@@ -53,6 +54,7 @@ pub fn print_counts(rt: &HostRuntime, text: &[u8]) -> io::Result<()> {
         &mut (),
         rt.alloc(),
         Scope::OneSide,
+        Lengths::Shortest,
         trace.as_slice(),
     ) {
         Ok(_) => println!(rt;

@@ -27,8 +27,8 @@ chosen_on_trace (choice.Audit file loose) = working Audit (lengths_by loose)
 chosen_on_trace (choice.Receipts file loose) = working (Render Receipts) (lengths_by loose)
 chosen_on_trace (choice.Vectors file) = working Vectors Shortest
 chosen_on_trace (choice.Loop trace steps) = None
-chosen_on_trace (choice.Till port host password config currency trace loose steps) = None
-chosen_on_trace (choice.Terminal port host tid connections decline trace loose) = None
+chosen_on_trace (choice.Till options) = None
+chosen_on_trace (choice.Terminal options) = None
 
 abbrev pub on_trace : Command → Option TraceCommand
 on_trace (OnTrace command file) = Some command
@@ -41,4 +41,4 @@ abbrev pub HasTerminalNumber : Command → Type 0
 HasTerminalNumber (OnTrace command file) = Unit {0}
 HasTerminalNumber (Loop trace steps) = Unit {0}
 HasTerminalNumber (Till options) = Unit {0}
-HasTerminalNumber (Terminal options) = options.tid ≤ 99999999
+HasTerminalNumber (Terminal options) = options.now.tid ≤ 99999999

@@ -1,4 +1,4 @@
--- Of which commands notes and hints are said.
+-- The commands that report notes and hints.
 use Rattle.std.specs.Prelude.{ℕ, cond, is_some, Option, Some, None, Result, Ok, Err}
 use Rattle.zvt_audit.specs.declared.summary.AuditSummary.{AuditSummary}
 use Rattle.zvt_trace.specs.declared.fault.TraceFault.{TraceFault}
@@ -14,15 +14,15 @@ scope_by (Render style) = Some OneSide
 scope_by Audit = Some WholeLine
 scope_by Vectors = None
 
--- what a refusal leaves unread: its side, or for the books the whole line
+-- what is not read after a refusal: its side, or for the books the whole line
 abbrev pub scope_of : TraceCommand → Option Scope
 scope_of command = scope_by command.work
 
 -- the line that can't be read, where a command on a line's messages ended for that
-abbrev pub unread_line : TraceCommand → Result AuditSummary TraceFault → Option ℕ
-unread_line command (Ok found) = None
-unread_line command (Err (fault.Trace line what)) = cond (is_some (scope_of command)) (Some line) None
-unread_line command (Err fault.TooLong) = None
-unread_line command (Err fault.Read) = None
-unread_line command (Err fault.Write) = None
-unread_line command (Err fault.Memory) = None
+abbrev pub faulty_line : TraceCommand → Result AuditSummary TraceFault → Option ℕ
+faulty_line command (Ok found) = None
+faulty_line command (Err (fault.Trace line what)) = cond (is_some (scope_of command)) (Some line) None
+faulty_line command (Err fault.TooLong) = None
+faulty_line command (Err fault.Read) = None
+faulty_line command (Err fault.Write) = None
+faulty_line command (Err fault.Memory) = None

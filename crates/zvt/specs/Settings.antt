@@ -1,4 +1,4 @@
--- What the words of the options of either end name.
+-- The settings of a till and the verdict of a terminal, from the arguments.
 use Rattle.std.specs.Prelude.{◌≡◌, ◌⊎◌, ℕ, List, Option, Some, None, option_map}
 use Rattle.std.specs.Borrow.{Bor}
 use Rattle.zvt_till.specs.Events.{run_settings}
@@ -6,27 +6,27 @@ use Rattle.zvt_term.specs.declared.turns.Verdict.{Verdict}
 use Rattle.zvt_term.specs.declared.turns.Verdict.TheVariants.{Approve, Decline}
 use Rattle.zvt_session.specs.Settings.{config_of, currency_of, password_of}
 use Rattle.zvt_session.specs.Words.{code_in}
-use Rattle.zvt_session.specs.declared.settings.TillSettings.{TillSettings}
-use Rattle.zvt.specs.declared.settings.SettingWords.{SettingWords}
+use Rattle.zvt_till.specs.declared.settings.TillSettings.{TillSettings}
+use Rattle.zvt_cli.specs.declared.choice.TillOptions.{TillOptions}
 
--- what a word names, or the usual where there is no word
-abbrev pub named : {A : Type 0} → (usual : A) → (List ℕ → Option A) → Option (Bor (List ℕ)) → Option A
-named usual names None = Some usual
-named usual names (Some word) = names word.now
+-- what a word names, or the default where there is no word
+abbrev pub named : {A : Type 0} → (default : A) → (List ℕ → Option A) → Option (Bor (List ℕ)) → Option A
+named default names None = Some default
+named default names (Some word) = names word.now
 
-abbrev pub password_named : SettingWords → Option (List ℕ)
-password_named words = named run_settings.password password_of words.password
+abbrev pub password_named : TillOptions → Option (List ℕ)
+password_named options = named run_settings.password password_of options.password
 
-abbrev pub config_named : SettingWords → Option ℕ
-config_named words = named run_settings.config config_of words.config
+abbrev pub config_named : TillOptions → Option ℕ
+config_named options = named run_settings.config config_of options.config
 
-abbrev pub currency_named : SettingWords → Option ℕ
-currency_named words = named run_settings.currency currency_of words.currency
+abbrev pub currency_named : TillOptions → Option ℕ
+currency_named options = named run_settings.currency currency_of options.currency
 
 -- the settings that the words name; or none, where one of the words names none
-abbrev pub AreSettings : SettingWords → Option TillSettings → Type 0
-AreSettings words (Some set) = (password_named words ≡ Some set.password) × (config_named words ≡ Some set.config) × (currency_named words ≡ Some set.currency)
-AreSettings words None = (password_named words ≡ None) ⊎ ((config_named words ≡ None) ⊎ (currency_named words ≡ None))
+abbrev pub AreSettings : TillOptions → Option TillSettings → Type 0
+AreSettings options (Some set) = (password_named options ≡ Some set.password) × (config_named options ≡ Some set.config) × (currency_named options ≡ Some set.currency)
+AreSettings options None = (password_named options ≡ None) ⊎ ((config_named options ≡ None) ⊎ (currency_named options ≡ None))
 
 -- what a terminal decides: with no word it approves, and with one it declines by the code that the word names
 abbrev pub verdict_named : Option (Bor (List ℕ)) → Option Verdict

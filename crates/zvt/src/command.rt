@@ -5,8 +5,7 @@ ghost use Rattle.zvt_cli.specs.Chosen.{IsChoiceOf};
 ghost use Rattle.zvt.specs.Commands.{HasTerminalNumber, chosen_on_trace, lengths_by, on_trace, working};
 ghost use Rattle.zvt.specs.declared.command.TraceWork.TheVariants.{Render};
 
-use crate::settings::SettingWords;
-use zvt_tool::{Choice, Lengths, Style};
+use zvt_tool::{Choice, Lengths, Style, TerminalOptions, TillOptions};
 
 /// What is written of a trace, or of vectors.
 #[derive(Clone, Copy, Debug, PartialEq, Eq)]
@@ -26,42 +25,18 @@ pub struct TraceCommand {
     pub lengths: Lengths,
 }
 
-/// A till's run. The words are those of the command line: their form is not checked yet.
-#[derive(Clone, Copy)]
-pub struct TillOptions<'a> {
-    pub port: u16,
-    pub host: &'a str,
-    pub words: SettingWords<'a>,
-    pub lengths: Lengths,
-    pub trace: Option<&'a str>,
-    pub steps: &'a [&'a str],
-}
-
-/// A terminal's service. The words are those of the command line: their form is not checked yet.
-#[derive(Clone, Copy)]
-pub struct TerminalOptions<'a> {
-    pub port: u16,
-    pub host: &'a str,
-    /// The terminal's number, at most 99,999,999.
-    pub tid: u32,
-    pub connections: u16,
-    pub decline: Option<&'a str>,
-    pub lengths: Lengths,
-    pub trace: Option<&'a str>,
-}
-
 /// A command of the program. A file is named, or none or `-` for standard input.
 #[derive(Clone, Copy)]
 pub enum Command<'a> {
     OnTrace(TraceCommand, Option<&'a str>),
     /// Both ends in this process, with a trace perhaps.
     Loop(Option<&'a str>, &'a [&'a str]),
-    Till(TillOptions<'a>),
-    Terminal(TerminalOptions<'a>),
+    Till(&'a TillOptions<'a>),
+    Terminal(&'a TerminalOptions<'a>),
 }
 
 /// The lengths that are read where a command is loose, or is not.
-fn lengths_by(loose: bool) -> Lengths
+pub fn lengths_by(loose: bool) -> Lengths
     ensures { result ≡ lengths_by loose }
 {
     if loose {
@@ -101,43 +76,7 @@ pub fn command_of<'a>(chosen: &'a Choice<'a>) -> Command<'a>
         Choice::Receipts { file, loose } => rendering(Style::Receipts, lengths_by(*loose), *file),
         Choice::Vectors { file } => working(TraceWork::Vectors, Lengths::Shortest, *file),
         Choice::Loop { trace, steps } => Command::Loop(*trace, steps.as_slice()),
-        Choice::Till {
-            port,
-            host,
-            password,
-            config,
-            currency,
-            trace,
-            loose,
-            steps,
-        } => Command::Till(TillOptions {
-            port: *port,
-            host,
-            words: SettingWords {
-                password: *password,
-                config: *config,
-                currency: *currency,
-            },
-            lengths: lengths_by(*loose),
-            trace: *trace,
-            steps: steps.as_slice(),
-        }),
-        Choice::Terminal {
-            port,
-            host,
-            tid,
-            connections,
-            decline,
-            trace,
-            loose,
-        } => Command::Terminal(TerminalOptions {
-            port: *port,
-            host,
-            tid: *tid,
-            connections: *connections,
-            decline: *decline,
-            lengths: lengths_by(*loose),
-            trace: *trace,
-        }),
+        Choice::Till(options) => Command::Till(options),
+        Choice::Terminal(options) => Command::Terminal(options),
     }
 }

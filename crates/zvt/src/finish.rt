@@ -1,14 +1,14 @@
-//! What is said of an answer, and its exit status.
+//! The reports of how a command or a run ended, and the exit statuses.
 ghost use Rattle.std.specs.Prelude.{◌≡◌, IfOk};
 ghost use Rattle.zvt.specs.OnTrace.{tally_of};
-ghost use Rattle.zvt.specs.Statuses.{status_of_run, status_of_tally};
+ghost use Rattle.zvt.specs.Statuses.{status_of_end_fault, status_of_run, status_of_tally};
 
 use crate::statuses;
 use std::io;
 use zvt_tool::{AuditSummary, EndFault, ToolFault, TraceFault};
 
-/// The exit status of a command on a trace, of this file perhaps. A fault is said, and the file of one that is about it;
-/// but nothing is said of text that could not be written since its reader has gone.
+/// The exit status of a command on a trace. A fault is reported, with the file if there is one. Text that was not written
+/// since its reader disconnected is no fault to report.
 pub fn finish_trace(
     rt: &HostRuntime,
     file: Option<&str>,
@@ -21,17 +21,26 @@ pub fn finish_trace(
     match answer {
         Ok(_) => {}
         Err(TraceFault::Write) if broken_pipe => {}
-        Err(TraceFault::Write) => say(rt, None, &ToolFault::from(TraceFault::Write))?,
-        Err(fault) => say(rt, file, &ToolFault::from(fault))?,
+        Err(TraceFault::Write) => report(rt, None, &ToolFault::from(TraceFault::Write))?,
+        Err(fault) => report(rt, file, &ToolFault::from(fault))?,
     }
     Ok(status)
 }
 
-/// The exit status of a run of these steps. A fault is said, with the word that is no step; but nothing is said of text
-/// that could not be written since its reader has gone.
+/// The exit status where the words of a run name no steps. The fault is reported, with the word that is no step.
+pub fn finish_plan(rt: &HostRuntime, words: &[&str], fault: EndFault) -> io::Result<u8>
+    ensures { IfOk result (λ status. status ≡ status_of_end_fault fault) }
+{
+    let status = statuses::of_end_fault(&fault);
+    let word = word_of(&fault, words);
+    report(rt, word, &ToolFault::from(fault))?;
+    Ok(status)
+}
+
+/// The exit status of a run. A fault is reported. Text that was not written since its reader disconnected is no fault to
+/// report.
 pub fn finish_run(
     rt: &HostRuntime,
-    steps: &[&str],
     broken_pipe: bool,
     answer: Result<(), EndFault>,
 ) -> io::Result<u8>
@@ -41,26 +50,23 @@ pub fn finish_run(
     match answer {
         Ok(()) => {}
         Err(EndFault::Write) if broken_pipe => {}
-        Err(fault) => {
-            let word = word_of(&fault, steps);
-            say(rt, word, &ToolFault::from(fault))?;
-        }
+        Err(fault) => report(rt, None, &ToolFault::from(fault))?,
     }
     Ok(status)
 }
 
-/// Says the fault, and the word that it is about.
-pub fn say(rt: &HostRuntime, word: Option<&str>, fault: &ToolFault) -> io::Result<()> {
+/// Reports the fault, after the file or the argument that it is about.
+pub fn report(rt: &HostRuntime, word: Option<&str>, fault: &ToolFault) -> io::Result<()> {
     match word {
         Some(word) => eprintln!(rt; "zvt: '{word}': {fault}"),
         None => eprintln!(rt; "zvt: {fault}"),
     }
 }
 
-/// The word that the fault is about, if it is about one.
-pub fn word_of<'a>(fault: &EndFault, steps: &[&'a str]) -> Option<&'a str> {
+/// The argument that the fault is about, if it is about one.
+fn word_of<'a>(fault: &EndFault, words: &[&'a str]) -> Option<&'a str> {
     match fault {
-        EndFault::BadStep { at } => steps.get(*at).copied(),
+        EndFault::BadStep { at } => words.get(*at).copied(),
         _ => None,
     }
 }

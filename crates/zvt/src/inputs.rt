@@ -1,7 +1,7 @@
 //! Where the trace of a command comes from.
 use crate::command::TraceCommand;
 use crate::finish::finish_trace;
-use crate::notes::{say_hint, say_notes, unread_line};
+use crate::notes::{faulty_line, report_hint, report_notes};
 use crate::on_trace::work_on_trace;
 use crate::output::Output;
 use crate::statuses::{DEVICE, MEMORY};
@@ -18,12 +18,12 @@ pub fn work_on(rt: &HostRuntime, command: &TraceCommand, file: Option<&str>) -> 
     }
 }
 
-/// Runs the command on the trace of standard input. A terminal device is told that a trace is expected.
+/// Runs the command on the trace of standard input. Where that is a keyboard, standard error reports that a trace is read.
 fn work_on_input(rt: &HostRuntime, command: &TraceCommand) -> io::Result<u8> {
     let input = rt.reader();
     if input.is_terminal() {
         eprintln!(rt;
-            "zvt: a trace is read from this terminal: end it with Ctrl-D at the start of a line"
+            "zvt: reading a trace from the keyboard: end it with Ctrl-D at the start of a line"
         )?;
     }
     work_with(rt, command, None, &mut Counted::new(input))
@@ -34,7 +34,7 @@ fn work_on_file(rt: &HostRuntime, command: &TraceCommand, path: &str) -> io::Res
     let file = match opened(rt, path) {
         Ok(file) => file,
         Err(error) => {
-            eprintln!(rt; "zvt: '{path}': the trace can't be opened: {error}")?;
+            eprintln!(rt; "zvt: '{path}': cannot open the trace: {error}")?;
             return Ok(DEVICE);
         }
     };
@@ -57,10 +57,10 @@ fn work_with<R: Source>(
     let trace = trace.as_slice();
     let mut writer = Counted::new(Output::new(io::writer(rt)));
     let answer = work_on_trace(rt.alloc(), command, trace, &mut writer);
-    let unread = unread_line(command, &answer);
-    let had_memory = say_notes(rt, command, trace, &answer)?;
+    let faulty = faulty_line(command, &answer);
+    let had_memory = report_notes(rt, command, trace, &answer)?;
     let status = finish_trace(rt, path, writer.inner.broken_pipe, answer)?;
-    say_hint(rt, trace, unread)?;
+    report_hint(rt, trace, faulty)?;
     Ok(if had_memory { status } else { MEMORY })
 }
 

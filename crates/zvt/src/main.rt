@@ -20,7 +20,7 @@ use crate::statuses::{DEVICE, DONE, MEMORY, WORDS};
 use std::io::ErrorKind;
 use std::process::ExitCode;
 use std::{env, io};
-use zvt_tool::words::choice;
+use zvt_tool::arguments::choice;
 use zvt_tool::{Choice, ChoiceFault};
 
 fn main(rt: HostRuntime) -> ExitCode {
@@ -34,13 +34,13 @@ fn main(rt: HostRuntime) -> ExitCode {
 fn run(rt: &HostRuntime) -> io::Result<u8> {
     let arguments = match env::args(rt) {
         Ok(arguments) => arguments,
-        Err(error) => return without_words(rt, &error),
+        Err(error) => return without_arguments(rt, &error),
     };
-    let words: Vec<String> = match arguments.collect(rt.alloc()) {
-        Ok(words) => words,
+    let arguments: Vec<String> = match arguments.collect(rt.alloc()) {
+        Ok(arguments) => arguments,
         Err(_) => return without_memory(rt),
     };
-    let texts: Vec<&str> = match words.iter().map(String::as_str).collect(rt.alloc()) {
+    let texts: Vec<&str> = match arguments.iter().map(String::as_str).collect(rt.alloc()) {
         Ok(texts) => texts,
         Err(_) => return without_memory(rt),
     };
@@ -54,30 +54,30 @@ fn run(rt: &HostRuntime) -> io::Result<u8> {
     }
 }
 
-/// The exit status where the words of the command line can't be had: for want of memory, or since one is no text.
-fn without_words(rt: &HostRuntime, error: &io::Error) -> io::Result<u8> {
+/// The exit status where the arguments can't be read: for want of memory, or since one is not valid UTF-8.
+fn without_arguments(rt: &HostRuntime, error: &io::Error) -> io::Result<u8> {
     if error.kind() == ErrorKind::OutOfMemory {
         return without_memory(rt);
     }
-    eprintln!(rt; "zvt: a word of the command line is no text in UTF-8")?;
+    eprintln!(rt; "zvt: an argument is not valid UTF-8")?;
     Ok(WORDS)
 }
 
-/// The exit status where memory is wanted for the command line.
+/// The exit status where memory is refused for the arguments.
 fn without_memory(rt: &HostRuntime) -> io::Result<u8> {
     let fault = ChoiceFault::Memory;
     eprintln!(rt; "zvt: {fault}")?;
     Ok(MEMORY)
 }
 
-/// Does what was chosen, and answers the exit status.
+/// Executes the command, and answers the exit status.
 fn execute(rt: &HostRuntime, chosen: &Choice<'_>) -> io::Result<u8>
     requires { (reading : Option (Text × List Row)) × IsChoiceOf reading chosen.now }
 {
     match command_of(chosen) {
         Command::OnTrace(work, file) => inputs::work_on(rt, &work, file),
         Command::Loop(trace, steps) => ends::both_ends(rt, trace, steps),
-        Command::Till(options) => ends::till(rt, &options),
-        Command::Terminal(options) => ends::terminal(rt, &options),
+        Command::Till(options) => ends::till(rt, options),
+        Command::Terminal(options) => ends::terminal(rt, options),
     }
 }

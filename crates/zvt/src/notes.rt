@@ -1,19 +1,19 @@
-//! What is said of a trace on standard error.
+//! The reports of what is bad in a trace, on standard error.
 ghost use Rattle.std.specs.Prelude.{◌≡◌, ◌≤◌, length};
 ghost use Rattle.zvt_trace.specs.Written.{limit};
-ghost use Rattle.zvt.specs.Notes.{scope_of, unread_line};
+ghost use Rattle.zvt.specs.Notes.{scope_of, faulty_line};
 
 use crate::command::{TraceCommand, TraceWork};
-use crate::finish::say;
+use crate::finish::report;
 use std::io::{self, ErrorKind};
 use zvt_io::Counted;
 use zvt_tool::{
     AuditSummary, Lengths, ListenerError, Scope, ToolFault, TraceFault, hint_on, write_notes,
 };
 
-/// Says which streams of the trace are bad, that it has no message, or that its directions may be swapped, and answers
-/// whether there was memory for that.
-pub fn say_notes(
+/// Reports bad streams, a trace without a message, and directions that may be swapped. It answers whether there was memory
+/// for that.
+pub fn report_notes(
     rt: &HostRuntime,
     command: &TraceCommand,
     trace: &[u8],
@@ -29,25 +29,23 @@ pub fn say_notes(
         Err(TraceFault::Trace { .. }) => true,
         Err(_) => false,
     };
-    if is_bad && !say_bad(rt, scope, command.lengths, trace)? {
+    if is_bad && !report_bad_streams(rt, scope, command.lengths, trace)? {
         return Ok(false);
     }
     if let Ok(found) = answer {
         if !is_bad && found.tally.messages == 0 {
-            eprintln!(rt; "zvt: the trace has no message")?;
+            eprintln!(rt; "zvt: the trace contains no message")?;
         }
         if found.swapped {
-            eprintln!(rt;
-                "zvt: '<' sent orders, and '>' none: the directions of the trace may be swapped"
-            )?;
+            eprintln!(rt; "zvt: only '<' sent orders: the directions of the trace may be swapped")?;
         }
     }
     Ok(true)
 }
 
 /// The line of the trace, counted from 1, that can't be read, if that is why the command ended.
-pub fn unread_line(command: &TraceCommand, answer: &Result<AuditSummary, TraceFault>) -> Option<u64>
-    ensures { result ≡ unread_line command.now answer.now }
+pub fn faulty_line(command: &TraceCommand, answer: &Result<AuditSummary, TraceFault>) -> Option<u64>
+    ensures { result ≡ faulty_line command.now answer.now }
 {
     match answer {
         Err(TraceFault::Trace { line, .. }) if scope_of(command).is_some() => Some(*line),
@@ -55,8 +53,8 @@ pub fn unread_line(command: &TraceCommand, answer: &Result<AuditSummary, TraceFa
     }
 }
 
-/// Says why that line can't be read.
-pub fn say_hint(rt: &HostRuntime, trace: &[u8], line: Option<u64>) -> io::Result<()> {
+/// Reports why that line can't be read.
+pub fn report_hint(rt: &HostRuntime, trace: &[u8], line: Option<u64>) -> io::Result<()> {
     let Some(line) = line else {
         return Ok(());
     };
@@ -66,7 +64,7 @@ pub fn say_hint(rt: &HostRuntime, trace: &[u8], line: Option<u64>) -> io::Result
     }
 }
 
-/// What a refusal leaves unread under the command, if it reads messages of a line.
+/// What the command does not read after a refusal, if it reads messages of a line.
 fn scope_of(command: &TraceCommand) -> Option<Scope>
     ensures { result ≡ scope_of command.now }
 {
@@ -77,15 +75,20 @@ fn scope_of(command: &TraceCommand) -> Option<Scope>
     }
 }
 
-/// Says which streams of the trace are bad, or that there is too little memory for it, and answers whether there was.
-fn say_bad(rt: &HostRuntime, scope: Scope, lengths: Lengths, trace: &[u8]) -> io::Result<bool>
+/// Reports the bad streams of the trace, or that memory was refused for that. It answers whether there was memory.
+fn report_bad_streams(
+    rt: &HostRuntime,
+    scope: Scope,
+    lengths: Lengths,
+    trace: &[u8],
+) -> io::Result<bool>
     requires { length trace.now ≤ limit }
 {
     let mut device = Counted::new(rt.stderr());
     match write_notes(rt.alloc(), scope, lengths, trace, &mut device) {
         Ok(()) => Ok(true),
         Err(ListenerError::Memory) => {
-            say(rt, None, &ToolFault::from(TraceFault::Memory))?;
+            report(rt, None, &ToolFault::from(TraceFault::Memory))?;
             Ok(false)
         }
         Err(ListenerError::Write) => Err(io::Error::from(ErrorKind::Other)),

@@ -1,7 +1,7 @@
-//! Standard output, whose reader may go away.
+//! Standard output, whose reader may disconnect.
 use std::io::{self, ErrorKind, Write};
 
-/// A writer that remembers whether its reader has gone, as that of a pipe may.
+/// A writer that remembers whether its reader disconnected, as the reader of a pipe may.
 #[derive(Drop)]
 pub struct Output<W> {
     inner: W,
@@ -9,7 +9,7 @@ pub struct Output<W> {
 }
 
 impl<W> Output<W> {
-    /// This writer, whose reader is there.
+    /// A writer whose reader is connected.
     pub fn new(inner: W) -> Output<W> {
         Output {
             inner,

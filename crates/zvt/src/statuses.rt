@@ -63,7 +63,7 @@ fn of_trace_fault(fault: &TraceFault) -> u8
 }
 
 /// The status of a run that ended early.
-fn of_end_fault(fault: &EndFault) -> u8
+pub fn of_end_fault(fault: &EndFault) -> u8
     ensures { result ≡ status_of_end_fault fault.now }
 {
     match fault {

@@ -21,8 +21,8 @@ till_has rows (Audit file loose) said lacks = other_first (codes "till") (codes 
 till_has rows (Receipts file loose) said lacks = other_first (codes "till") (codes "receipts") (λ e. omega (arith, e)) said.0
 till_has rows (Vectors file) said lacks = other_first (codes "till") (codes "vectors") (λ e. omega (arith, e)) said.0
 till_has rows (Loop trace steps) said lacks = other_first (codes "till") (codes "loop") (λ e. omega (arith, e)) said.0
-till_has rows (Till port host password config currency trace loose steps) said lacks = lacks port said.1
-till_has rows (Terminal port host tid connections decline trace loose) said lacks = other_second (codes "till") (codes "terminal") (λ e. omega (arith, e)) said.0
+till_has rows (Till options) said lacks = lacks options.port said.1
+till_has rows (Terminal options) said lacks = other_second (codes "till") (codes "terminal") (λ e. omega (arith, e)) said.0
 
 till_has_host : (rows : List Row) (choice : Choice) → IsCommandOf (codes "till") rows choice → first_of (codes "host") rows ≢ None
 till_has_host rows (Show file loose) said lacks = other_first (codes "till") (codes "show") (λ e. omega (arith, e)) said.0
@@ -32,8 +32,8 @@ till_has_host rows (Audit file loose) said lacks = other_first (codes "till") (c
 till_has_host rows (Receipts file loose) said lacks = other_first (codes "till") (codes "receipts") (λ e. omega (arith, e)) said.0
 till_has_host rows (Vectors file) said lacks = other_first (codes "till") (codes "vectors") (λ e. omega (arith, e)) said.0
 till_has_host rows (Loop trace steps) said lacks = other_first (codes "till") (codes "loop") (λ e. omega (arith, e)) said.0
-till_has_host rows (Till port host password config currency trace loose steps) said lacks = let bad : Some host.now ≡ None = sym said.2 ∙ lacks in cc
-till_has_host rows (Terminal port host tid connections decline trace loose) said lacks = other_second (codes "till") (codes "terminal") (λ e. omega (arith, e)) said.0
+till_has_host rows (Till options) said lacks = let bad : Some options.host.now ≡ None = sym said.2 ∙ lacks in cc
+till_has_host rows (Terminal options) said lacks = other_second (codes "till") (codes "terminal") (λ e. omega (arith, e)) said.0
 
 terminal_has_host : (rows : List Row) (choice : Choice) → IsCommandOf (codes "terminal") rows choice → first_of (codes "host") rows ≢ None
 terminal_has_host rows (Show file loose) said lacks = other_first (codes "terminal") (codes "show") (λ e. omega (arith, e)) said.0
@@ -43,8 +43,8 @@ terminal_has_host rows (Audit file loose) said lacks = other_first (codes "termi
 terminal_has_host rows (Receipts file loose) said lacks = other_first (codes "terminal") (codes "receipts") (λ e. omega (arith, e)) said.0
 terminal_has_host rows (Vectors file) said lacks = other_first (codes "terminal") (codes "vectors") (λ e. omega (arith, e)) said.0
 terminal_has_host rows (Loop trace steps) said lacks = other_first (codes "terminal") (codes "loop") (λ e. omega (arith, e)) said.0
-terminal_has_host rows (Till port host password config currency trace loose steps) said lacks = other_second (codes "terminal") (codes "till") (λ e. omega (arith, e)) said.0
-terminal_has_host rows (Terminal port host tid connections decline trace loose) said lacks = let bad : Some host.now ≡ None = sym said.2 ∙ lacks in cc
+terminal_has_host rows (Till options) said lacks = other_second (codes "terminal") (codes "till") (λ e. omega (arith, e)) said.0
+terminal_has_host rows (Terminal options) said lacks = let bad : Some options.host.now ≡ None = sym said.2 ∙ lacks in cc
 
 terminal_has : (rows : List Row) (choice : Choice) → IsCommandOf (codes "terminal") rows choice
     → ((port tid connections : ℕ) → GivesNumber (codes "port") rows 65535 port → GivesNumber (codes "tid") rows 99999999 tid → GivesNumber (codes "connections") rows 65535 connections → ⊥) → ⊥
@@ -55,8 +55,8 @@ terminal_has rows (Audit file loose) said lacks = other_first (codes "terminal")
 terminal_has rows (Receipts file loose) said lacks = other_first (codes "terminal") (codes "receipts") (λ e. omega (arith, e)) said.0
 terminal_has rows (Vectors file) said lacks = other_first (codes "terminal") (codes "vectors") (λ e. omega (arith, e)) said.0
 terminal_has rows (Loop trace steps) said lacks = other_first (codes "terminal") (codes "loop") (λ e. omega (arith, e)) said.0
-terminal_has rows (Till port host password config currency trace loose steps) said lacks = other_second (codes "terminal") (codes "till") (λ e. omega (arith, e)) said.0
-terminal_has rows (Terminal port host tid connections decline trace loose) said lacks = lacks port tid connections said.1 said.3 said.4
+terminal_has rows (Till options) said lacks = other_second (codes "terminal") (codes "till") (λ e. omega (arith, e)) said.0
+terminal_has rows (Terminal options) said lacks = lacks options.port options.tid options.connections said.1 said.3 said.4
 
 pub till_without_port : (rows : List Row) → IsNumberOf (codes "port") rows 65535 None → HasNoChoice (Some (codes "till", rows))
 till_without_port rows lacks = λ choice said. till_has rows choice said lacks
@@ -90,5 +90,5 @@ no_command name rows show join normalise audit receipts vectors loop till termin
     no (Receipts file loose) said = receipts said.0
     no (Vectors file) said = vectors said.0
     no (Loop trace steps) said = loop said.0
-    no (Till port host password config currency trace loose steps) said = till said.0
-    no (Terminal port host tid connections decline trace loose) said = terminal said.0
+    no (Till options) said = till said.0
+    no (Terminal options) said = terminal said.0

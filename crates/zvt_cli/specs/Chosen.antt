@@ -12,12 +12,12 @@ use Rattle.zvt_cli.specs.declared.choice.ChoiceFault.{ChoiceFault}
 use Rattle.zvt_cli.specs.declared.choice.ChoiceFault.TheVariants.{Memory, Words}
 
 -- the command of clap's reading of the words, with what was given to it
-unfoldable pub reading_of_words : List Text → Option (Text × List Row)
-reading_of_words words = subcommand_of zvt_app words
+unfoldable pub reading_of_arguments : List Text → Option (Text × List Row)
+reading_of_arguments words = subcommand_of zvt_app words
 
 -- what clap finds wrong with the words first, or what they ask of it in place of a command
-unfoldable pub faults_of_words : List Text → Kinds
-faults_of_words words = fault_of zvt_app words
+unfoldable pub faults_of_arguments : List Text → Kinds
+faults_of_arguments words = fault_of zvt_app words
 
 -- the option's text writes this number
 abbrev pub GivesNumber : Text → List Row → ℕ → ℕ → Type 0
@@ -54,23 +54,23 @@ IsCommandOf name rows (Vectors file) = (name ≡ codes "vectors") × IsTextOf (c
 IsCommandOf name rows (Loop trace steps) =
     (name ≡ codes "loop") × IsTextOf (codes "trace") rows trace
     × (map (λ step. step.now) steps.items ≡ steps_of rows)
-IsCommandOf name rows (Till port host password config currency trace loose steps) =
-    (name ≡ codes "till") × GivesNumber (codes "port") rows 65535 port
-    × (first_of (codes "host") rows ≡ Some host.now)
-    × IsTextOf (codes "password") rows password
-    × IsTextOf (codes "config") rows config
-    × IsTextOf (codes "currency") rows currency
-    × IsTextOf (codes "trace") rows trace
-    × IsFlagOf (codes "loose") rows loose
-    × (map (λ step. step.now) steps.items ≡ steps_of rows)
-IsCommandOf name rows (Terminal port host tid connections decline trace loose) =
-    (name ≡ codes "terminal") × GivesNumber (codes "port") rows 65535 port
-    × (first_of (codes "host") rows ≡ Some host.now)
-    × GivesNumber (codes "tid") rows 99999999 tid
-    × GivesNumber (codes "connections") rows 65535 connections
-    × IsTextOf (codes "decline") rows decline
-    × IsTextOf (codes "trace") rows trace
-    × IsFlagOf (codes "loose") rows loose
+IsCommandOf name rows (Till options) =
+    (name ≡ codes "till") × GivesNumber (codes "port") rows 65535 options.port
+    × (first_of (codes "host") rows ≡ Some options.host.now)
+    × IsTextOf (codes "password") rows options.password
+    × IsTextOf (codes "config") rows options.config
+    × IsTextOf (codes "currency") rows options.currency
+    × IsTextOf (codes "trace") rows options.trace
+    × IsFlagOf (codes "loose") rows options.loose
+    × (map (λ step. step.now) options.steps.items ≡ steps_of rows)
+IsCommandOf name rows (Terminal options) =
+    (name ≡ codes "terminal") × GivesNumber (codes "port") rows 65535 options.port
+    × (first_of (codes "host") rows ≡ Some options.host.now)
+    × GivesNumber (codes "tid") rows 99999999 options.tid
+    × GivesNumber (codes "connections") rows 65535 options.connections
+    × IsTextOf (codes "decline") rows options.decline
+    × IsTextOf (codes "trace") rows options.trace
+    × IsFlagOf (codes "loose") rows options.loose
 
 -- no command is `show`
 abbrev pub IsChoiceOf : Option (Text × List Row) → Choice → Type 0
@@ -94,8 +94,8 @@ IsTakenAs error (Words given) = (given ≡ error) × (kind_of error ≢ OutOfMem
 -- the error's kind is what clap finds, or an option is missing of a reading that says no choice
 abbrev pub IsFaultOf : List Text → ChoiceFault → Type 0
 IsFaultOf words Memory = ⊤
-IsFaultOf words (Words error) = IsAmong (kind_of error) (faults_of_words words)
-    ⊎ ((kind_of error ≡ MissingRequiredArgument) × HasNoChoice (reading_of_words words))
+IsFaultOf words (Words error) = IsAmong (kind_of error) (faults_of_arguments words)
+    ⊎ ((kind_of error ≡ MissingRequiredArgument) × HasNoChoice (reading_of_arguments words))
 
 abbrev pub IsMissing : ChoiceFault → Type 0
 IsMissing Memory = ⊤

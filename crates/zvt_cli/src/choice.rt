@@ -1,4 +1,4 @@
-//! What a command line says.
+//! The choices of a command line.
 ghost use Rattle.std.specs.Prelude.{◌≡◌};
 ghost use Rattle.zvt_cli.specs.declared.choice.ChoiceFault.TheVariants.{Memory};
 
@@ -7,8 +7,7 @@ use thiserror::Error;
 
 /// A command of the program, with what was given to it.
 ///
-/// Steps, hosts, codes, settings and files are the words as they were given: whoever uses them checks
-/// their form.
+/// Steps, hosts, codes, settings and files are the arguments as they were given. Their users check the form.
 #[derive(Debug, Drop)]
 pub enum Choice<'a> {
     /// Also where no command is given. A file is named, or none or `-` for standard input. Where it is `loose`, here and
@@ -40,39 +39,50 @@ pub enum Choice<'a> {
         trace: Option<&'a str>,
         steps: Vec<&'a str>,
     },
+    Till(TillOptions<'a>),
+    Terminal(TerminalOptions<'a>),
+}
+
+/// The options and the steps of `till`.
+#[derive(Debug, Drop)]
+pub struct TillOptions<'a> {
+    pub port: u16,
     /// The host is 127.0.0.1 unless one is given.
-    Till {
-        port: u16,
-        host: &'a str,
-        password: Option<&'a str>,
-        config: Option<&'a str>,
-        currency: Option<&'a str>,
-        trace: Option<&'a str>,
-        loose: bool,
-        steps: Vec<&'a str>,
-    },
-    /// The host is 127.0.0.1 unless one is given. The terminal's number `tid` is at most 99,999,999, and 12345678
-    /// unless one is given. Its connections are 1 unless another number is given, which may be 0.
-    Terminal {
-        port: u16,
-        host: &'a str,
-        tid: u32,
-        connections: u16,
-        decline: Option<&'a str>,
-        trace: Option<&'a str>,
-        loose: bool,
-    },
+    pub host: &'a str,
+    pub password: Option<&'a str>,
+    pub config: Option<&'a str>,
+    pub currency: Option<&'a str>,
+    pub trace: Option<&'a str>,
+    /// Whether lengths are read in any form that holds them.
+    pub loose: bool,
+    pub steps: Vec<&'a str>,
+}
+
+/// The options of `terminal`.
+#[derive(Clone, Copy, Debug)]
+pub struct TerminalOptions<'a> {
+    pub port: u16,
+    /// The host is 127.0.0.1 unless one is given.
+    pub host: &'a str,
+    /// The terminal's number is at most 99,999,999. It is 12345678 unless one is given.
+    pub tid: u32,
+    /// The number of connections is 1 unless one is given. It may be 0.
+    pub connections: u16,
+    pub decline: Option<&'a str>,
+    pub trace: Option<&'a str>,
+    /// Whether lengths are read in any form that holds them.
+    pub loose: bool,
 }
 
 /// Why a command line names no command.
 #[derive(Debug, Drop, Error)]
 pub enum ChoiceFault {
-    /// A word is wrong, or help or the version was asked for. `print` of the error shows its text
-    /// where it belongs; `use_stderr` is false for help and the version alone.
+    /// An argument is wrong, or help or the version was asked for. `print` of the error writes its text
+    /// where it belongs. `use_stderr` is false for help and the version alone.
     #[error(transparent)]
     Words(clap::Error),
-    /// There was too little memory to read the words.
-    #[error("there is too little memory for the command line")]
+    /// Memory was refused while the arguments were read.
+    #[error("out of memory while reading the arguments")]
     Memory,
 }
 

@@ -1,11 +1,11 @@
-//! The command line of the program `zvt`, read by `clap`: [`words::choice`] answers the command that
-//! the words name, with its options and steps.
+//! The command line of the program `zvt`, read by `clap`. [`arguments::choice`] answers the command that the
+//! arguments name, with its options and steps.
 #![tactic(auto)]
 
+pub mod arguments;
 mod choice;
 mod command;
 mod help;
 mod options;
-pub mod words;
 
-pub use choice::{Choice, ChoiceFault};
+pub use choice::{Choice, ChoiceFault, TerminalOptions, TillOptions};

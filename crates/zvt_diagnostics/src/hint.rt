@@ -167,10 +167,14 @@ impl fmt::Display for Hint {
     fn fmt<W: fmt::Write>(&self, f: &mut fmt::Formatter<W>) -> fmt::Result {
         match *self {
             Hint::Capture => {
-                f.write_str("the input is a capture, not a trace: see 'From a capture to a trace' in docs/FORMAT.md")
+                f.write_str(
+                    "the input is a capture, not a trace: see 'From a capture to a trace' in docs/FORMAT.md",
+                )
             }
             Hint::Mark => {
-                f.write_str("column 1 has a byte order mark: save the trace as plain text without one")
+                f.write_str(
+                    "column 1 has a byte order mark: save the trace as plain text without one",
+                )
             }
             Hint::Character {
                 column,

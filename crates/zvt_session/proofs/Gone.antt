@@ -1,4 +1,4 @@
--- What is told of a till that has gone.
+-- What is reported of a till that disconnected.
 use Rattle.std.proofs.Common.{◌≡◌, ◌∙◌, ℕ, List, [], ◌++◌, Option, Some, Result, Ok, Err, ap, subst, append_assoc}
 use Rattle.std.specs.Fmt.{decimal}
 use Rattle.std.specs.Prelude.{codes, OnOk}
@@ -16,10 +16,10 @@ three_parts r old t u new a b c first second third =
     subst (λ (said : List ℕ). OnOk r (new ≡ old ++ said)) (append_assoc a b c) (two_parts r old u new (a ++ b) c (second ∙ ap (λ l. l ++ b) first ∙ append_assoc old a b) third)
 
 -- a till whose line broke
-pub says_broke : (r : Result (Unit {0}) AllocError) (till : ℕ) (fault : LineFault) (old t u v new why : List ℕ) → t ≡ old ++ codes "zvt: the line of till " → u ≡ t ++ decimal till → v ≡ u ++ codes " broke: " → Adds r v new why
+pub says_broke : (r : Result (Unit {0}) AllocError) (till : ℕ) (fault : LineFault) (old t u v new why : List ℕ) → t ≡ old ++ codes "zvt: connection of till " → u ≡ t ++ decimal till → v ≡ u ++ codes " failed: " → Adds r v new why
     → OnOk r (SaysGone till (Some fault) old new)
 says_broke (Ok done) till fault old t u v new why first second third fourth =
-    (why, fourth ∙ ap (λ l. l ++ why) (third ∙ ap (λ l. l ++ codes " broke: ") (second ∙ ap (λ l. l ++ decimal till) first)))
+    (why, fourth ∙ ap (λ l. l ++ why) (third ∙ ap (λ l. l ++ codes " failed: ") (second ∙ ap (λ l. l ++ decimal till) first)))
 says_broke (Err refused) till fault old t u v new why first second third fourth = tt
 
 -- the whole line

@@ -18,7 +18,7 @@ use Rattle.zvt_session.specs.Service.{AnswersTill, AnswersTills, IsOffline, Serv
 lost_offline : (old new : TerminalState) → new ≡ lost_terminal old → IsOffline new
 lost_offline old new e = e ∙ sym (ap lost_terminal e)
 
--- a terminal that was told of a fault has no line
+-- a terminal to which a fault was reported has no line
 reported_offline : (fault : LineFault) (old new : Served) → Reported served_loses served_loses fault old new → IsOffline new.terminal
 reported_offline Read old new t = lost_offline old.terminal new.terminal t.0
 reported_offline Write old new t = lost_offline old.terminal new.terminal t.0
@@ -74,10 +74,10 @@ stopped r count most first (BadStep at) old middle new below so till = absurd ti
 stopped r count most first NotWritten old middle new below so till = absurd till
 stopped r count most first NoMemory old middle new below so till = (count, first, omega (arith, below), subst (λ (s : Served). ServesMany r count first old s) (sym till) so)
 
--- that a line was served could not be told, which ends the service
-pub untold : (r : Reading) (count most : ℕ) (first broke : Option LineFault) (old middle new : Served) → count < most → ServesMany r count first old middle
+-- that a line was served could not be reported, which ends the service
+pub unreported : (r : Reading) (count most : ℕ) (first broke : Option LineFault) (old middle new : Served) → count < most → ServesMany r count first old middle
     → ServesLine r middle broke new → ServesSome r most old new
-untold r count most first broke old middle new below so line = (count + 1, or_later first broke, omega (arith, below), many_more r count first broke old middle new so line)
+unreported r count most first broke old middle new below so line = (count + 1, or_later first broke, omega (arith, below), many_more r count first broke old middle new so line)
 
 -- the line that was served is one more
 pub goes_on : (r : Reading) (count : ℕ) (first kept broke : Option LineFault) (old middle new : Served) → kept ≡ or_later first broke → ServesMany r count first old middle

@@ -41,7 +41,7 @@ stops ends words at word plan there plans none = record {
   no_step = none;
 }
 
--- ---- words behind references
+-- ---- words under references
 
 abbrev texts_of : List (Bor (List ℕ)) → List (List ℕ)
 texts_of words = map (λ (word : Bor (List ℕ)). word.now) words

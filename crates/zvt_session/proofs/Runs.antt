@@ -147,7 +147,7 @@ broken_total_stops makes plan i planned broken fault before middle after old now
     stops_in_total makes plan (Some fault) (so.said ++ step.text) before after old next new stop (breaks_in makes plan i planned broken fault before middle after old now next below is some so step)
     (Appends-trans old now next so.said step.text so.appended step.appended) text
 
--- what the total behind all steps answers is what the run answers
+-- what the total after all steps answers is what the run answers
 pub ended : {L : Type 0} (makes : Law L) (plan : List Planned) (before after : Standing L) (old now new : Option (List ℕ)) (result : Result Unit EndFault)
     → SoFar makes plan before after old now → AnswersText (total_text (total after.till.state.book)) now new result → Answers makes plan before after old new result
 ended makes plan before after old now new (Ok done) so text = record {

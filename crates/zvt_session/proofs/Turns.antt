@@ -7,7 +7,6 @@ use Rattle.zvt_stream.specs.declared.line.Until.TheVariants.{Sent}
 use Rattle.zvt_till.specs.Line.{IsOver, till_hears, till_loses, till_rests}
 use Rattle.zvt_till.specs.View.{TillValue}
 use Rattle.zvt_till.specs.declared.line.RunFault.TheVariants.{Line}
-use Rattle.zvt_till.specs.declared.orders.Order.{Order}
 use Rattle.zvt_till.specs.declared.outcomes.Outcome.{Outcome}
 use Rattle.zvt_till.proofs.Accepted.{IsKnown, known-broken, known-heard, known-sent, rests-known, told-over as reported-over}
 use Rattle.zvt_session.specs.declared.arguments.Step.{Step}

@@ -1,4 +1,4 @@
--- What is told of unclear reversals, part by part and entry by entry.
+-- What is reported of unclear reversals, part by part and entry by entry.
 use Rattle.std.proofs.Common.{◌≡◌, ℕ, ◌+◌, ◌<◌, List, [], ◌∷◌, ◌++◌, length, take, drop, get_or, Option, Result, Ok, Err, refl, sym, ap, subst, ◌∙◌, append-nil, append_assoc, zero-add, arith}
 use Rattle.std.specs.Io.KnownBytes.{Appends}
 use Rattle.std.proofs.KnownBytes.{Appends-trans}
@@ -13,7 +13,7 @@ use Rattle.zvt_till.proofs.Unclear.{unclear-append}
 use Rattle.zvt_session.specs.Reporting.{reversal_text, entry_text, reversals_text}
 use Rattle.zvt_session.proofs.Runs.{taken}
 
--- a front of a text was written
+-- a prefix of a text was written
 abbrev pub WritesPrefix : List ℕ → (old new : Option (List ℕ)) → Type 0
 WritesPrefix text old new = (part : List ℕ) × IsPrefix part text × Appends old new part
 
@@ -21,7 +21,7 @@ WritesPrefix text old new = (part : List ℕ) × IsPrefix part text × Appends o
 pub prefix_of : (text rest : List ℕ) (old new : Option (List ℕ)) → WritesPrefix text old new → WritesPrefix (text ++ rest) old new
 prefix_of text rest old new (part, prefix, adds) = (part, (prefix.0 ++ rest, ap (λ t. t ++ rest) prefix.1 ∙ append_assoc part prefix.0 rest), adds)
 
--- behind what stands before it
+-- after what stands before it
 pub trailing : (before text : List ℕ) (old now new : Option (List ℕ)) → Appends old now before → WritesPrefix text now new → WritesPrefix (before ++ text) old new
 trailing before text old now new first (part, prefix, adds) =
     (before ++ part, (prefix.0, ap (λ t. before ++ t) prefix.1 ∙ sym (append_assoc before part prefix.0)), Appends-trans old now new before part first adds)
@@ -54,7 +54,7 @@ pub adds_entry : (book : List Entry) (i number : ℕ) (entry : Entry) (old now n
 adds_entry book i number entry old now new below is named so_far adds =
     subst (λ t. Appends old new t) (sym (reported_more book i number entry below is named)) (Appends-trans old now new (reversals_text (unclear_reversals (take i book))) (entry_text number entry) so_far adds)
 
--- a front of the lines of more entries is a front of those of all
+-- a prefix of the lines of more entries is a prefix of those of all
 more_follow : (book : List Entry) (k : ℕ) → (rest : List ℕ) × (reversals_text (unclear_reversals book) ≡ reversals_text (unclear_reversals (take k book)) ++ rest)
 more_follow book k =
     let first = take k book in

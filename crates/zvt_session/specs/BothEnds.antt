@@ -57,7 +57,7 @@ pub record Alternates (old new : Both) : Type 0 where
   pub terminal : TerminalTurn old new
   pub till : TillTurn old new
 
--- The terminal's turn broke, and the till was told that the line is lost; or the till's turn behind it did.
+-- The terminal's turn broke, and the till lost its line; or the till's turn after it broke.
 abbrev pub BreaksOff : LineFault → Both → Both → Type 0
 BreaksOff fault old new =
     (TurnBreaks served_hears never served_loses served_loses fault old.terminal_end old.served new.terminal_end new.served × (new.till_end ≡ old.till_end) × till_loses old.till new.till)
@@ -89,7 +89,7 @@ pub record BeginsNot (step : Step) (fault : RunFault) (old new : Both) : Type 0 
   pub decided : Decided step old new
   pub not_ordered : NotOrdered fault (order_of step) old.till_end old.till new.till_end new.till
 
--- the order was sent, and so many alternations stand behind it
+-- the order was sent, and so many alternations followed
 pub record Underway (step : Step) (count : ℕ) (old now : Both) : Type 0 where
   pub sent : Both
   pub begins : Begins step old sent
@@ -113,7 +113,7 @@ pub record Breaks (step : Step) (fault : LineFault) (old new : Both) : Type 0 wh
   pub underway : Underway step count old middle
   pub last : BreaksOff fault middle new
 
--- all alternations were made, and the till was told that the line is lost
+-- all alternations were made, and the till lost its line
 pub record GivenUp (step : Step) (fault : LineFault) (old new : Both) : Type 0 where
   pub middle : Both
   pub underway : Underway step 1000 old middle

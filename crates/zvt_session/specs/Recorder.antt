@@ -14,7 +14,7 @@ sign_of FromTerminal = codes "<"
 abbrev pub piece_text : Way → List ℕ → List ℕ
 piece_text way bytes = sign_of way ++ codes " " ++ encode_upper bytes ++ 10 ∷ []
 
--- the trace has the line besides; or it is broken, and has a front of it besides
+-- the trace has the line besides; or it is broken, and has a prefix of it besides
 abbrev pub Recorded : Way → List ℕ → (broken : Bool) → (old new : Option (List ℕ)) → Type 0
 Recorded way bytes false old new = Appends old new (piece_text way bytes)
 Recorded way bytes true old new = (part : List ℕ) × IsPrefix part (piece_text way bytes) × Appends old new part

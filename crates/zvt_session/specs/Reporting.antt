@@ -1,4 +1,4 @@
--- What is told of a terminal, and of a till's reversals.
+-- What is reported of a terminal, and of a till's reversals.
 use Rattle.std.specs.Prelude.{◌≡◌, ◌⊎◌, ◌+◌, ℕ, List, [], ◌∷◌, ◌++◌, codes, count_by, flat_map, is_none, Option, Some, None}
 use Rattle.std.specs.Fmt.{decimal}
 use Rattle.std.specs.Io.KnownBytes.{Appends, Keeps}
@@ -19,16 +19,16 @@ approvals rows = count_by (λ row. is_none row.reverses) rows
 abbrev pub ledger_text : ℕ → List ℕ
 ledger_text approved = codes "; approvals in the ledger: " ++ decimal approved ++ 10 ∷ []
 
--- It is said behind other text that a till has gone: its number, and why its line broke, if it did.
+-- After other text it is added that a till disconnected: its number, and how its connection failed, if it did.
 abbrev pub SaysGone : (till : ℕ) → Option LineFault → (old new : List ℕ) → Type 0
-SaysGone till None old new = new ≡ old ++ codes "zvt: till " ++ decimal till ++ codes " has gone"
-SaysGone till (Some fault) old new = (why : List ℕ) × (new ≡ old ++ codes "zvt: the line of till " ++ decimal till ++ codes " broke: " ++ why)
+SaysGone till None old new = new ≡ old ++ codes "zvt: till " ++ decimal till ++ codes " disconnected"
+SaysGone till (Some fault) old new = (why : List ℕ) × (new ≡ old ++ codes "zvt: connection of till " ++ decimal till ++ codes " failed: " ++ why)
 
--- The text was written, or a front of it where the device failed.
+-- The text was written, or a prefix of it where the device failed.
 abbrev pub Reports : List ℕ → (old new : Option (List ℕ)) → (failures_before failures_after : ℕ) → Type 0
 Reports text old new before after = ((after ≡ before) × Appends old new text) ⊎ ((after ≡ before + 1) × (part : List ℕ) × IsPrefix part text × Appends old new part)
 
--- The line of a till that has gone was told, with the number of approvals.
+-- The line of a till that disconnected was reported, with the number of approvals.
 pub record ReportsGone (till : ℕ) (broke : Option LineFault) (approved : ℕ) (old new : Option (List ℕ)) (failures_before failures_after : ℕ) : Type 0 where
   pub gone : List ℕ
   pub says : SaysGone till broke [] gone
@@ -38,7 +38,7 @@ pub record ReportsGone (till : ℕ) (broke : Option LineFault) (approved : ℕ) 
 abbrev pub reversal_text : ℕ → Cause → List ℕ
 reversal_text number cause =
     codes "zvt: reverse:" ++ (decimal number ++ (codes " is unclear (" ++ (cause_name cause
-    ++ codes "): the terminal took the payment back or not: look it up there before you give the money back\n")))
+    ++ codes "): the terminal may have reversed the payment or not: check its journal before you refund the amount\n")))
 
 -- of an entry of this number its line, where its last reversal is unclear
 abbrev pub entry_text : ℕ → Entry → List ℕ
@@ -48,10 +48,10 @@ entry_text number entry = elim entry.doubt [ No ↦ [] | Unclear cause ↦ rever
 abbrev pub reversals_text : List (ℕ × Cause) → List ℕ
 reversals_text rows = flat_map (λ row. reversal_text (row.0 + 1) row.1) rows
 
--- The unclear reversals of this book were told.
+-- The unclear reversals of this book were reported.
 abbrev pub ReportsReversals : (old new : Option (List ℕ)) → (failures_before failures_after : ℕ) → List Entry → Type 0
 ReportsReversals old new before after book = Reports (reversals_text (unclear_reversals book)) old new before after
 
--- nothing was told
+-- nothing was reported
 abbrev pub ReportsNothing : (old new : Option (List ℕ)) → (failures_before failures_after : ℕ) → Type 0
 ReportsNothing old new before after = Keeps old new × (after ≡ before)

@@ -61,7 +61,7 @@ MakesAll {L} makes (planned ∷ plan) before after text =
     (result : Result Outcome RunFault) × (middle : Standing L) × (first others : List ℕ)
     × Makes makes planned result before middle first × GoesOn result × MakesAll makes plan middle after others × (text ≡ first ++ others)
 
--- The line broke in a step, and none behind it was made.
+-- The line broke in a step, and none after it was made.
 pub record BreaksIn {L : Type 0} (makes : Law L) (plan : List Planned) (fault : LineFault) (before after : Standing L) (text : List ℕ) : Type 0 where
   pub done : List Planned
   pub planned : Planned
@@ -79,7 +79,7 @@ abbrev pub MakesTo : {L : Type 0} → Law L → List Planned → Option LineFaul
 MakesTo makes plan None before after text = MakesAll makes plan before after text
 MakesTo makes plan (Some fault) before after text = BreaksIn makes plan fault before after text
 
--- They were made, and the total stands behind what was said of them.
+-- They were made, and the total follows their lines.
 pub record Ran {L : Type 0} (makes : Law L) (plan : List Planned) (broken : Option LineFault) (before after : Standing L) (old new : Option (List ℕ)) : Type 0 where
   pub said : List ℕ
   pub made : MakesTo makes plan broken before after said

@@ -16,7 +16,7 @@ use Rattle.zvt_session.specs.declared.fault.EndFault.TheVariants.{BadStep, Line 
 
 -- ---- one line
 
--- the terminal heard and answered what came, until the line broke so, of which it was told
+-- the terminal heard and answered what came, until the line broke so, which was reported to it
 abbrev pub ServesUntil : LineFault → EndState → Served → EndState → Served → Type 0
 ServesUntil fault before old after new = Breaks served_hears never served_loses served_loses Rest 1000000 fault before old after new
 
@@ -67,7 +67,7 @@ abbrev pub ServesSome : Reading → ℕ → Served → Served → Type 0
 ServesSome r most old new = (count : ℕ) × (first : Option LineFault) × (count ≤ most) × ServesMany r count first old new
 
 -- What is answered of so many tills: all were served, whatever broke; or the next could not be, or a trace could not be
--- written, or there was too little memory to begin with one or to tell of it.
+-- written, or there was too little memory to begin with one or to report it.
 abbrev pub AnswersTills : Reading → ℕ → Served → Served → Result Unit EndFault → Type 0
 AnswersTills r count old new (Ok done) = ServesMany r count None old new
 AnswersTills r count old new (Err (LineBroke fault)) = ServesMany r count (Some fault) old new

@@ -13,7 +13,7 @@ order_of (Reverse entry) = ReverseOrder entry
 order_of CloseDay = CloseDayOrder
 order_of (Decline amount code) = PayOrder amount
 
--- the terminal approves what it is not told to decline
+-- the terminal approves what no step declines
 abbrev pub verdict_of : Step → Verdict
 verdict_of Register = Approve
 verdict_of (Pay amount) = Approve

@@ -9,7 +9,7 @@ use Rattle.zvt_session.specs.declared.arguments.Ends.TheVariants.{Both, Till}
 use Rattle.zvt_session.specs.declared.arguments.Step.{Step}
 use Rattle.zvt_session.specs.declared.arguments.Step.TheVariants.{Register, Pay, Reverse, CloseDay, Decline}
 
--- what stands behind these first bytes, where the word begins with them
+-- what follows this prefix, where the word begins with it
 abbrev pub trailing : List ℕ → List ℕ → Option (List ℕ)
 trailing prefix word = cond (bytes_eq (take (length prefix) word) prefix) (Some (drop (length prefix) word)) None
 
@@ -53,7 +53,7 @@ declining None code = None
 declining (Some amount) None = None
 declining (Some amount) (Some code) = Some (Decline amount code)
 
--- a colon and a code stand behind the amount
+-- a colon and a code follow the amount
 abbrev pub declined_by : List ℕ → List ℕ → Option Step
 declined_by digits [] = None
 declined_by digits (a ∷ []) = None

@@ -63,7 +63,7 @@ impl Step {
 /// The most digits of a number in a word.
 const MOST_DIGITS: usize = 12;
 
-/// What stands behind these first bytes.
+/// The bytes after this prefix.
 fn trailing<'a>(prefix: &[u8], word: &'a [u8]) -> Option<&'a [u8]>
     ensures { option_map (λ rest. rest.now) result ≡ trailing prefix.now word.now }
 {

@@ -18,7 +18,7 @@ use zvt_stream::LineFault;
 use zvt_term::Served;
 use zvt_till::{Outcome, RunFault, Till, TillSettings};
 
-/// The turns of each end after which an order is given up.
+/// The number of turns of each end after which an order is given up.
 const ALTERNATIONS: u64 = 1_000;
 
 /// Both ends of a line. They take turns, the terminal first.
@@ -63,8 +63,12 @@ impl<A: LineEnd, B: LineEnd> StepLine for BothEnds<A, B> {
     }
 }
 
-/// Makes the steps one after another, with a new till of these settings on this line, which is at its start. Else see
-/// [`run_till_end`](crate::run_till_end).
+/// Makes the steps one after another with a new till, on this line that is at its start.
+///
+/// Each step writes a line when it ends: its word and its outcome. The last line is the till's total. After a line that
+/// broke no further step is made, and the fault is `Line`. An order that is not sent is a fault only for want of memory.
+/// The other faults are `Write` and `Memory`. After these no step is made again, and no step after the one whose line is
+/// missing. However the run ends, `report` gets a line for each entry of the book whose last reversal is unclear.
 pub fn run_both_ends<A: LineEnd, B: LineEnd, T: Sink, E: Sink>(
     alloc: Global,
     line: &mut BothEnds<A, B>,

@@ -22,23 +22,23 @@ const HERE: &str = "127.0.0.1";
 #[derive(Clone, Copy, Debug, Drop, PartialEq, Eq, Error)]
 pub enum NetFault {
     /// No address was found for the host, for whatever reason.
-    #[error("the host has no address that can be found: see whether its name is right")]
+    #[error("the host name has no address: check its spelling")]
     UnknownHost,
     /// The host is there.
-    #[error("nothing listens at that host and port: see whether the terminal runs there, and at which port")]
+    #[error("nothing listens at that host and port: check that the terminal runs, and which port it uses")]
     Refused,
-    #[error("the host can't be reached from here")]
+    #[error("the host is unreachable: check the network and the address")]
     Unreachable,
     /// It was silent for as long as a till waits.
-    #[error("the host does not answer: see whether its name or address is right")]
+    #[error("the host does not answer: check its name or address")]
     Silent,
-    #[error("the port is in use: end the program that listens there, or give another port, or 0 for a free one")]
+    #[error("the port is in use: stop the program that listens there, or give another port, or 0 for a free one")]
     InUse,
-    #[error("the address to listen at is none of this machine's")]
+    #[error("the address to listen at does not belong to this machine: give another host")]
     Elsewhere,
-    #[error("the system does not allow that port: one from 1024 on needs no rights of its own")]
+    #[error("permission denied for that port: give a port from 1024 on")]
     NotAllowed,
-    #[error("see whether the other end listens at that host and port, and whether the port is free where one is to be opened")]
+    #[error("check that the other end listens at that host and port, or that the port to listen at is free")]
     Other,
 }
 

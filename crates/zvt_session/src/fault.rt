@@ -12,25 +12,25 @@ use zvt_stream::LineFault;
 /// Why the run of an end of a line, or of both, ended early.
 #[derive(Debug, Drop, Error)]
 pub enum EndFault {
-    /// The line between till and terminal broke. What became of the order that ran was written, and no further step was
-    /// made.
-    #[error("the line broke: {0}")]
+    /// The connection between till and terminal failed. The outcome of the order that ran was written, and no further step
+    /// was made.
+    #[error("connection failed: {0}")]
     Line(LineFault),
-    /// The trace of the line could not be written to its end, and the line was given up where that was found: after the
-    /// last step, or in the order that ran, which ended as where the line breaks. All of the text was written.
-    #[error("the trace of the line can't be written: see whether there is room where it goes; the run ended there")]
+    /// The trace could not be written to its end. The connection was given up there: after the last step, or in the order
+    /// that ran, which ended as after a failed connection. All of the text was written.
+    #[error("cannot write the trace file, so the run stopped: check its permissions and the free space")]
     Trace,
-    /// The word at this place, counted from 0, is no step. Nothing was sent, and nothing written.
-    #[error("word {number} is no step: the steps are 'register', 'pay:N', 'reverse:N', 'close' and, where both ends run, 'decline:N:XX'", number = from_one(.at))]
+    /// The word at this place, counted from 0, names no step. Nothing was sent or written.
+    #[error("invalid step {number}: expected 'register', 'pay:N', 'reverse:N', 'close' or, in 'zvt loop', 'decline:N:XX'", number = from_one(.at))]
     BadStep { at: usize },
     /// There was no connection. Nothing was written.
-    #[error("there is no connection: {0}")]
+    #[error("no connection: {0}")]
     Net(NetFault),
-    /// Some front of the text was written.
-    #[error("the text can't be written: see where standard output goes, and whether there is room")]
+    /// Some prefix of the text was written.
+    #[error("cannot write to standard output: check where it goes and the free space there")]
     Write,
     /// The text of the steps before the one that ran was written.
-    #[error("there is too little memory")]
+    #[error("out of memory")]
     Memory,
 }
 

@@ -6,7 +6,7 @@ use zvt_till::TillSettings;
 
 /// The run of a till: the terminal that it connects to, its settings, and how its line is read and traced.
 #[derive(Clone, Copy)]
-pub struct TillRun<'a> {
+pub struct TillRun<'a, 'f> {
     /// The name or address of the terminal's host.
     pub host: &'a str,
     /// The port that the terminal listens at.
@@ -16,12 +16,12 @@ pub struct TillRun<'a> {
     /// The length encodings that the till reads.
     pub lengths: Lengths,
     /// The file that the trace is written to.
-    pub trace: Option<&'a File>,
+    pub trace: Option<&'f File>,
 }
 
 /// The run of a simulated terminal: where it listens, what it answers, and how its lines are read and traced.
 #[derive(Clone, Copy)]
-pub struct TerminalRun<'a> {
+pub struct TerminalRun<'a, 'f> {
     /// The name or address that the terminal listens at.
     pub host: &'a str,
     /// The port that the terminal listens at. Port 0 stands for a free one.
@@ -35,5 +35,5 @@ pub struct TerminalRun<'a> {
     /// The number of tills that are served, one after another.
     pub connections: u16,
     /// The file that the trace is written to.
-    pub trace: Option<&'a File>,
+    pub trace: Option<&'f File>,
 }

@@ -1,4 +1,4 @@
-//! How the outcome of an order is said.
+//! The texts of the outcomes of orders.
 ghost use Rattle.std.specs.Prelude.{◌≡◌, ◌++◌, OnOk};
 ghost use Rattle.zvt_session.specs.Outcomes.{coded_text, outcome_text, paid_text};
 
@@ -7,8 +7,8 @@ use zvt_bcd::Trace;
 use zvt_text::Text;
 use zvt_till::Outcome;
 
-/// Writes behind the text how an order ended, as `paid trace 000001 receipt 0001` or `declined 6F wrong currency`. Fails
-/// where no memory is left, and the text then ends anywhere.
+/// Adds to the text how an order ended, as `paid trace 000001 receipt 0001` or `declined 6F wrong currency`. It fails where
+/// memory is refused, and the text then ends anywhere.
 pub(crate) fn outcome_text(text: &mut Text, outcome: &Outcome) -> Result<(), AllocError>
     ensures { OnOk result (text.new ≡ text.old ++ outcome_text outcome.now) }
 {

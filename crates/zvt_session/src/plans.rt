@@ -14,7 +14,7 @@ pub struct Planned {
     pub step: Step,
 }
 
-/// What a run of both ends makes where no words are given.
+/// The default steps of a run of both ends.
 const BOTH_ENDS: [&str; 5] = [
     "register",
     "pay:1000",
@@ -23,11 +23,11 @@ const BOTH_ENDS: [&str; 5] = [
     "close",
 ];
 
-/// What a run of a till makes where no words are given.
+/// The default steps of a run of a till.
 const TILL_ALONE: [&str; 2] = ["register", "close"];
 
-/// The steps that the words name; where there are no words, the usual ones of these ends. The first word that names no
-/// step is `BadStep`; the other fault is `Memory`.
+/// The steps that the words name. Without words they are the default steps of these ends. The first word that names no step
+/// is the fault `BadStep`. The other fault is `Memory`.
 pub fn plan(alloc: Global, ends: Ends, words: &[&str]) -> Result<Vec<Planned>, EndFault>
     ensures { PlansOrStops ends (words_of ends (map (λ word. word.now) words.now)) result }
 {

@@ -28,20 +28,20 @@ impl Way {
     }
 }
 
-/// The size of the line of a piece of 1,024 bytes: a line's devices read and write no more at once.
+/// The size of the line of a chunk of 1,024 bytes. The devices of a connection read and write no more at once.
 const LINE: usize = 2 + 2 * 1024 + 1;
 
 /// A device, and the trace of what goes through it: each read that brings bytes, and each write, is a line of its own.
-/// What the device tells of its bytes is what it told without a trace. Once the trace can't be written, for want of
-/// memory too, it is broken, and each call fails: a write before it is made, a read from the next one on. Memory is
-/// asked for at once: only a piece of more than 1,024 bytes can want it.
+/// The device counts its bytes as it does without a trace. A trace that can't be written is broken, also for want of
+/// memory. Then each call fails: a write before it is made, a read from the next one on. Memory is asked for at once. Only
+/// a chunk of more than 1,024 bytes can want it later.
 #[derive(Drop)]
 pub struct Recorded<D, T> {
     pub device: D,
     pub trace: T,
     pub way: Way,
     pub broken: bool,
-    /// Room for the line of a piece.
+    /// The buffer for the line of a chunk.
     text: Text,
     refused: GhostCount,
 }
@@ -123,7 +123,7 @@ impl<W: Sink, T: Sink> Sink for Recorded<W, T> {
     }
 }
 
-/// Writes the line of a piece to the trace, made in this room. Where it fails, some front of the line was written.
+/// Makes the line of a chunk in this buffer, and writes it to the trace. After a failure some prefix of the line is written.
 fn write_piece<T: Sink>(
     text: &mut Text,
     way: Way,
@@ -138,7 +138,7 @@ fn write_piece<T: Sink>(
     }
 }
 
-/// Makes the line of a piece in this room.
+/// Makes the line of a chunk in this buffer.
 fn spell_piece(text: &mut Text, way: Way, bytes: &[u8]) -> Result<(), AllocError>
     ensures { OnOk result (text.new ≡ piece_text way bytes.now) }
 {

@@ -1,4 +1,4 @@
-//! What is told of a terminal that listens and serves.
+//! What a terminal that listens and serves reports.
 ghost use Rattle.std.specs.Prelude.{◌≡◌, ◌++◌, OnOk};
 ghost use Rattle.zvt_session.specs.Reporting.{SaysGone, Reports, ReportsGone, approvals, ledger_text};
 
@@ -9,7 +9,7 @@ use zvt_stream::LineFault;
 use zvt_term::{Row, Terminal};
 use zvt_text::Text;
 
-/// Tells where the terminal listens. That its device fails is no fault of the service.
+/// Reports the address at which the terminal listens. A device that fails is no fault of the service.
 pub(crate) fn report_address<W: Sink>(
     alloc: Global,
     listener: &TcpListener,
@@ -23,8 +23,8 @@ pub(crate) fn report_address<W: Sink>(
     Ok(())
 }
 
-/// Tells that the till of this number has gone, how its line broke, if it did, and how many approvals the terminal's
-/// ledger has. That its device fails is no fault of the service.
+/// Reports that the till of this number disconnected, how its connection failed, if it did, and how many approvals the
+/// terminal's ledger has. A device that fails is no fault of the service.
 pub(crate) fn report_ledger<W: Sink>(
     alloc: Global,
     till: u16,
@@ -41,14 +41,14 @@ pub(crate) fn report_ledger<W: Sink>(
     Ok(())
 }
 
-/// Tells a text. That its device fails is no fault.
+/// Reports a text. A device that fails is no fault.
 fn report_text<W: Sink>(text: &Text, report: &mut W)
     ensures { Reports text.now (W.written report.old) (W.written report.new) (W.failures report.old) (W.failures report.new) }
 {
     let _ = report.write_all(text.bytes());
 }
 
-/// Says that the till of this number has gone, and how its line broke, if it did.
+/// Adds that the till of this number disconnected, and how its connection failed, if it did.
 fn say_gone(
     alloc: Global,
     text: &mut Text,
@@ -61,18 +61,18 @@ fn say_gone(
         None => {
             text.word(b"zvt: till ")?;
             text.number(till)?;
-            text.word(b" has gone")
+            text.word(b" disconnected")
         }
         Some(fault) => {
-            text.word(b"zvt: the line of till ")?;
+            text.word(b"zvt: connection of till ")?;
             text.number(till)?;
-            text.word(b" broke: ")?;
+            text.word(b" failed: ")?;
             text.word(format!(in alloc; "{fault}")?.as_bytes())
         }
     }
 }
 
-/// Says how many approvals a ledger has.
+/// Adds how many approvals a ledger has.
 fn say_ledger(text: &mut Text, approvals: usize) -> Result<(), AllocError>
     ensures { OnOk result (text.new ≡ text.old ++ ledger_text approvals) }
 {

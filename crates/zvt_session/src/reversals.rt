@@ -1,4 +1,4 @@
-//! What is told of a till's unclear reversals.
+//! Reports of a till's unclear reversals.
 ghost use Rattle.zvt_io.specs.Devices.{CountsFailure, Writes};
 ghost use Rattle.zvt_session.specs.Reporting.{ReportsReversals, entry_text, reversal_text};
 
@@ -6,8 +6,8 @@ use itoa::Buffer;
 use zvt_io::{Failed, Sink};
 use zvt_till::{Cause, Doubt, Entry};
 
-/// Tells of each entry of the book whose last reversal is unclear: a line each, without asking for memory. That the
-/// device fails is no fault, and the lines behind it are not told.
+/// Reports each entry of the book whose last reversal is unclear: a line each, without asking for memory. A device that
+/// fails is no fault, and the lines after that are not reported.
 pub(crate) fn report_reversals<E: Sink>(book: &[Entry], report: &mut E)
     ensures { ReportsReversals (E.written report.old) (E.written report.new) (E.failures report.old) (E.failures report.new) book.now }
 {
@@ -20,7 +20,7 @@ pub(crate) fn report_reversals<E: Sink>(book: &[Entry], report: &mut E)
     }
 }
 
-/// Tells of the entry of this number, counted from 1, where its last reversal is unclear.
+/// Reports the entry of this number, counted from 1, where its last reversal is unclear.
 fn report_entry<E: Sink>(number: usize, entry: &Entry, report: &mut E) -> Result<(), Failed>
     ensures bytes { Writes (E.written report.old) (E.written report.new) result (entry_text number entry.now) }
     ensures failures { CountsFailure (E.failures report.old) (E.failures report.new) result }
@@ -31,7 +31,7 @@ fn report_entry<E: Sink>(number: usize, entry: &Entry, report: &mut E) -> Result
     }
 }
 
-/// Tells that the reversal of the entry of this number, counted from 1, is unclear, and what to do.
+/// Reports that the reversal of the entry of this number, counted from 1, is unclear, and what to do.
 fn report_reversal<E: Sink>(number: usize, cause: Cause, report: &mut E) -> Result<(), Failed>
     ensures bytes { Writes (E.written report.old) (E.written report.new) result (reversal_text number cause) }
     ensures failures { CountsFailure (E.failures report.old) (E.failures report.new) result }
@@ -41,6 +41,6 @@ fn report_reversal<E: Sink>(number: usize, cause: Cause, report: &mut E) -> Resu
     report.write_all(b" is unclear (")?;
     report.write_all(cause.name().as_bytes())?;
     report.write_all(
-        b"): the terminal took the payment back or not: look it up there before you give the money back\n",
+        b"): the terminal may have reversed the payment or not: check its journal before you refund the amount\n",
     )
 }

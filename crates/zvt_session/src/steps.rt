@@ -28,19 +28,18 @@ pub(crate) trait StepLine {
     /// The step, made on the line by the till, came to this, and leads to this line and this till.
     ghost makes: { Self → TillValue → Step → Result Outcome RunFault → Self → TillValue → Type 0 };
 
-    /// Gives the till the order of the step, and goes on with the line until no order runs. It answers what became of the
-    /// order. After `RunFault::Line` the till was told of it, its last outcome is what became of the order, and the line
-    /// is given up.
+    /// Gives the till the order of the step, and goes on with the line until no order runs. It answers the order's outcome.
+    /// `RunFault::Line` was reported to the till, whose last outcome is that of the order. The line is then given up.
     fn make(&mut self, alloc: Global, till: &mut Till, step: &Step) -> Result<Outcome, RunFault>
         ensures made { makes self.old till.old step.now result self.new till.new }
         ensures over { IfErr result (λ fault. IsOver fault till.new.state) };
 }
 
-/// Makes the steps one after another, and writes a line for each when it ends: its word and what became of it. The last
-/// line is the till's total. After a broken line no further step is made, and the fault is `Line`; an order that is not
-/// sent is no fault, but where that was for want of memory. The other faults are `Write` and `Memory`: no step is made
-/// again, nor one behind that whose line is missing. The lines of all steps before it were written, after `Write` a part
-/// of its own perhaps.
+/// Makes the steps one after another. Each writes a line when it ends: its word and its outcome. The last line is the
+/// till's total. After a connection that failed no further step is made, and the fault is `Line`. An order that is not
+/// sent is a fault only for want of memory. The other faults are `Write` and `Memory`. After these no step is made again,
+/// and no step after the one whose line is missing. The lines of all steps before it were written. After `Write` a prefix
+/// of its own line may be written.
 pub(crate) fn run_steps<L: StepLine, W: Sink>(
     alloc: Global,
     line: &mut L,

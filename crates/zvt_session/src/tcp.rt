@@ -95,7 +95,7 @@ fn both_ends_of<'a, R: Source, W: Sink>(
 pub fn run_till<R, W, E>(
     rt: &R,
     alloc: Global,
-    run: &TillRun<'_>,
+    run: &TillRun<'_, '_>,
     plan: &[Planned],
     writer: &mut W,
     report: &mut E,
@@ -135,7 +135,7 @@ where
 pub fn run_terminal<R, W>(
     rt: &R,
     alloc: Global,
-    run: &TerminalRun<'_>,
+    run: &TerminalRun<'_, '_>,
     report: &mut W,
 ) -> Result<(), EndFault>
 where
@@ -159,7 +159,7 @@ where
 /// Serves the tills of a run one after another, each on a connection of its own.
 fn serve_tills<W: Sink>(
     alloc: Global,
-    run: &TerminalRun<'_>,
+    run: &TerminalRun<'_, '_>,
     door: &mut Door,
     served: &mut Served,
     report: &mut W,

@@ -1,4 +1,4 @@
-//! The till's end of a line to a terminal elsewhere.
+//! The till's end of a connection to a terminal elsewhere.
 ghost use Rattle.std.specs.Prelude.{◌≡◌, ◌<◌, Err};
 ghost use Rattle.zvt_stream.specs.StreamState.{start_in};
 ghost use Rattle.zvt_session.specs.OverTcp.{RunsPlan};
@@ -31,12 +31,12 @@ impl<R: Source, W: Sink> StepLine for Endpoint<R, W> {
     }
 }
 
-/// Makes the steps one after another, with a new till of these settings at this end of a line, which is at its start.
+/// Makes the steps one after another with a new till, at this end of a connection that is at its start.
 ///
-/// A line is written for each step when it ends: its word and what became of it. The last line is the till's total.
-/// After a broken line no further step is made, and the fault is `Line`; an order that is not sent is no fault, but for
-/// want of memory. The other faults are `Write` and `Memory`: no step is made again, and none behind the one whose line
-/// is missing. However it ends, `report` is told of each entry of the book whose last reversal is unclear, a line each.
+/// Each step writes a line when it ends: its word and its outcome. The last line is the till's total. After a connection
+/// that failed no further step is made, and the fault is `Line`. An order that is not sent is a fault only for want of
+/// memory. The other faults are `Write` and `Memory`. After these no step is made again, and no step after the one whose
+/// line is missing. However the run ends, `report` gets a line for each entry of the book whose last reversal is unclear.
 pub fn run_till_end<R: Source, W: Sink, T: Sink, E: Sink>(
     alloc: Global,
     end: &mut Endpoint<R, W>,

@@ -139,25 +139,25 @@ impl Until {
 #[derive(Clone, Copy, Debug, Drop, PartialEq, Eq, Error)]
 pub enum LineFault {
     /// A read failed, or took longer than the device waits.
-    #[error("a read failed, or nothing came in time")]
+    #[error("a read failed or timed out")]
     Read,
     /// A write failed. A prefix of the bytes may have been written.
     #[error("a write failed")]
     Write,
     /// The line ended, with `have` bytes of an unfinished message.
-    #[error("the other end closed it, {have} bytes into a message")]
+    #[error("the other end closed the connection after {have} bytes of a message")]
     Ended { have: usize },
     /// All turns were made, and the line had not come to where it was to go.
-    #[error("the other end goes on without an end")]
+    #[error("no response completed within the read limit")]
     Turns,
     /// No message begins with the bytes up to and with the one at `place`, which is counted from 0 at the first byte of
     /// the message.
-    #[error("the other end sent bytes that begin no message, refused at {place}: {why}")]
+    #[error("the other end sent an invalid message, refused at {place}: {why}")]
     Malformed { place: usize, why: Why },
     /// Memory was refused.
-    #[error("there was too little memory")]
+    #[error("out of memory")]
     Memory,
     /// The stream had refused bytes before.
-    #[error("it had brought bytes before that begin no message")]
+    #[error("the other end sent an invalid message before")]
     Stopped,
 }

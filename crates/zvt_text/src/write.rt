@@ -86,11 +86,7 @@ impl Says for MessageText<'_> {
 }
 
 /// Puts a message with its fields into the buffer.
-fn put_message(
-    buffer: &mut [u8],
-    at: usize,
-    message: &ApduView<'_>,
-) -> Result<usize, Full>
+fn put_message(buffer: &mut [u8], at: usize, message: &ApduView<'_>) -> Result<usize, Full>
     requires { at ≤ length buffer.old }
     ensures { Puts result at buffer.old buffer.new (said message.now) }
 {

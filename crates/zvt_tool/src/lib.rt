@@ -1,5 +1,11 @@
-//! What the program calls, on one page: the command line, the commands on a trace and the notes of what is bad in it, the
-//! runs over TCP, and the faults of all of them.
+//! The library of the program `zvt`: all that the program calls, by its name at this root.
+//!
+//! - The command line: [`arguments::choice`] answers a [`Choice`].
+//! - The commands on a trace: [`show`], [`join`], [`audit`], [`receipts`] and [`vectors`]. [`write_notes`] reports what is
+//!   bad in a trace, and [`hint_on`] why a line can't be read.
+//! - The runs over TCP: [`plan`] reads the steps, and [`run_loop`], [`run_till`] and [`run_terminal`] make them.
+//! - The faults: [`ChoiceFault`] of the arguments, [`TraceFault`] of a command on a trace, and [`EndFault`] of a run. A
+//!   [`ToolFault`] is one of the last two.
 #![tactic(auto)]
 
 mod fault;
@@ -10,15 +16,16 @@ pub use traces::{
     audit, audit_loose, join, normalise_trace, receipts, receipts_loose, show, show_loose,
 };
 pub use zvt_audit::{AuditSummary, audit_trace};
-pub use zvt_cli::{Choice, ChoiceFault, words};
+pub use zvt_cli::{Choice, ChoiceFault, TerminalOptions, TillOptions, arguments};
 pub use zvt_diagnostics::{hint_on, write_notes};
 pub use zvt_grammar::Lengths;
 pub use zvt_session::{
-    BothEnds, EndFault, Endpoint, Ends, LineEnd, NetFault, Planned, Recorded, Step, TillSettings,
-    Way, config_of, currency_of, end_trace, password_of, plan, result_code, run_both_ends,
+    BothEnds, EndFault, Endpoint, Ends, LineEnd, NetFault, Planned, Recorded, Step, TerminalRun,
+    TillRun, Way, config_of, currency_of, end_trace, password_of, plan, result_code, run_both_ends,
     run_loop, run_terminal, run_till, run_till_end, serve, step_of,
 };
 pub use zvt_show::{Style, render_trace};
+pub use zvt_till::TillSettings;
 pub use zvt_trace::{
     ListenerError, Scope, Tally, TraceFault, TraceLineError, next_line, read_trace,
 };

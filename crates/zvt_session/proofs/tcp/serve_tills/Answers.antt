@@ -1,7 +1,7 @@
 use Rattle.std.proofs.Common.{rules}
 use Rattle.std.proofs.lemmas.Result.{err_from_is_err_and}
 use Rattle.zvt_grammar.specs.Lengths.{reading_of}
-use Rattle.zvt_session.proofs.ManyTills.{goes_on, left_offline, stopped, untold}
+use Rattle.zvt_session.proofs.ManyTills.{goes_on, left_offline, stopped, unreported}
 use Rattle.zvt_session.proofs.tcp.serve_tills.Goals as goal
 
 pub returns-in_err-broke-clause-served : goal.returns-in_err-broke-clause-served
@@ -12,7 +12,7 @@ returns-in_err-broke-clause-served g c =
 pub returns-in_err-report_ledger-clause-served : goal.returns-in_err-report_ledger-clause-served
 returns-in_err-report_ledger-clause-served g c =
     let p = err_from_is_err_and c.from_residual-in_err-report_ledger.result c.from_residual-in_err-report_ledger.ensures.1 in
-    rw (p.1, p.2) (untold (reading_of c.args.run.now.lengths) c.tills.gone c.args.run.now.connections c.tills.first c.in_ok-broke.broke c.args.served.now c.tills.served c.serve_till.new.served c.tills-test.true c.tills.invariant.served c.in_ok-broke.ensures)
+    rw (p.1, p.2) (unreported (reading_of c.args.run.now.lengths) c.tills.gone c.args.run.now.connections c.tills.first c.in_ok-broke.broke c.args.served.now c.tills.served c.serve_till.new.served c.tills-test.true c.tills.invariant.served c.in_ok-broke.ensures)
 
 pub tills-preserved : goal.tills-preserved
 tills-preserved g c = record {

@@ -2,7 +2,7 @@ use Rattle.std.proofs.Common.{refl}
 use Rattle.std.specs.Str.Parse.{ParsesUnsigned, ExplainsUnsignedError, HasUnsignedDigitsIfOk}
 use Rattle.clap.specs.Matches.{found_of}
 use Rattle.zvt_cli.proofs.Reading.{number_read}
-use Rattle.zvt_cli.proofs.words.number.Goals as goal
+use Rattle.zvt_cli.proofs.arguments.number.Goals as goal
 
 pub returns : goal.returns
 returns c =

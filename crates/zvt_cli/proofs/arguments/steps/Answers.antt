@@ -3,7 +3,7 @@ use Rattle.std.specs.Prelude.{Some, None}
 use Rattle.std.proofs.lemmas.Result.{IfOk-weaker}
 use Rattle.clap.specs.Matches.{found_of}
 use Rattle.zvt_cli.proofs.Reading.{steps_known}
-use Rattle.zvt_cli.proofs.words.steps.Goals as goal
+use Rattle.zvt_cli.proofs.arguments.steps.Goals as goal
 
 pub returns-in-Some : goal.returns-in-Some
 returns-in-Some c =

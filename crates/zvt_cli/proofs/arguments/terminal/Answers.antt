@@ -3,7 +3,7 @@ use Rattle.clap.specs.Matches.{found_of}
 use Rattle.clap.specs.Walk.{rows_of}
 use Rattle.zvt_cli.specs.Chosen.{IsNumberOf}
 use Rattle.zvt_cli.proofs.Lacking.{terminal_without_connections, terminal_without_port, terminal_without_tid}
-use Rattle.zvt_cli.proofs.words.terminal.Goals as goal
+use Rattle.zvt_cli.proofs.arguments.terminal.Goals as goal
 
 pub returns-in_err-port : goal.returns-in_err-port
 returns-in_err-port c =

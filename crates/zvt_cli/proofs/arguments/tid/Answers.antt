@@ -5,7 +5,7 @@ use Rattle.clap.specs.Walk.{Text, rows_of}
 use Rattle.clap.specs.declared.parser.matches.Found.{Found}
 use Rattle.zvt_cli.specs.Chosen.{IsNumberOf}
 use Rattle.zvt_cli.proofs.Reading.{none_under, number_read, some_over, some_under}
-use Rattle.zvt_cli.proofs.words.tid.Goals as goal
+use Rattle.zvt_cli.proofs.arguments.tid.Goals as goal
 
 read : (f : Found) (r : Option ℕ) → (one_text f (codes "tid") ≡ None → r ≡ None)
     → ((t : Text) → one_text f (codes "tid") ≡ Some t

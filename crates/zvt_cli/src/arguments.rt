@@ -1,9 +1,9 @@
-//! The words of a command line, as a choice.
+//! The arguments of the program, as a choice.
 ghost use Rattle.std.specs.Prelude.{◌≡◌, codes, IfErr, IfOk, map, option_map, unwrap_or, Some, []};
 ghost use Rattle.clap.specs.Words.{all_of, first_of, found_of, kind_of, rows_of, subcommand_rows_of};
-ghost use Rattle.zvt_cli.specs.Chosen.{HasNoChoice, IsChoiceOf, IsFaultOf, IsFlagOf, IsMissing, IsNumberOf, IsTakenAs, MayBeChoiceOf, faults_of_words, reading_of_words};
+ghost use Rattle.zvt_cli.specs.Chosen.{HasNoChoice, IsChoiceOf, IsFaultOf, IsFlagOf, IsMissing, IsNumberOf, IsTakenAs, MayBeChoiceOf, faults_of_arguments, reading_of_arguments};
 
-use crate::choice::{Choice, ChoiceFault};
+use crate::choice::{Choice, ChoiceFault, TerminalOptions, TillOptions};
 use crate::command;
 use clap::error::ErrorKind;
 use clap::{ArgMatches, Error};
@@ -11,15 +11,15 @@ use std::alloc::{AllocError, Global};
 
 const LARGEST_TID: u32 = 99_999_999;
 
-/// What the words say, of which the first is the program's name.
+/// The choice that the arguments name. The first one is the program's name.
 ///
-/// `Words` comes for a wrong word, and for help and the version.
-pub fn choice<'a>(alloc: Global, words: &'a [&'a str]) -> Result<Choice<'a>, ChoiceFault>
-    ensures chosen { IfOk result (IsChoiceOf (reading_of_words (map (λ word. word.now) words.entry.now))) }
-    ensures faultless { IfOk result (λ _. faults_of_words (map (λ word. word.now) words.entry.now) ≡ []) }
-    ensures refused { IfErr result (IsFaultOf (map (λ word. word.now) words.entry.now)) }
+/// `Words` comes for a wrong argument, and for help and the version.
+pub fn choice<'a>(alloc: Global, arguments: &'a [&'a str]) -> Result<Choice<'a>, ChoiceFault>
+    ensures chosen { IfOk result (IsChoiceOf (reading_of_arguments (map (λ argument. argument.now) arguments.entry.now))) }
+    ensures faultless { IfOk result (λ _. faults_of_arguments (map (λ argument. argument.now) arguments.entry.now) ≡ []) }
+    ensures refused { IfErr result (IsFaultOf (map (λ argument. argument.now) arguments.entry.now)) }
 {
-    let matches = matches(alloc, words)?;
+    let matches = matches(alloc, arguments)?;
     match matches.subcommand() {
         None => Ok(Choice::Show {
             file: None,
@@ -32,14 +32,14 @@ pub fn choice<'a>(alloc: Global, words: &'a [&'a str]) -> Result<Choice<'a>, Cho
     }
 }
 
-/// The reading of the words by `clap`.
-fn matches<'a>(alloc: Global, words: &'a [&'a str]) -> Result<ArgMatches<'a>, ChoiceFault>
-    ensures read { IfOk result (λ matches. subcommand_rows_of matches ≡ reading_of_words (map (λ word. word.now) words.entry.now)) }
-    ensures faultless { IfOk result (λ _. faults_of_words (map (λ word. word.now) words.entry.now) ≡ []) }
-    ensures refused { IfErr result (IsFaultOf (map (λ word. word.now) words.entry.now)) }
+/// The reading of the arguments by `clap`.
+fn matches<'a>(alloc: Global, arguments: &'a [&'a str]) -> Result<ArgMatches<'a>, ChoiceFault>
+    ensures read { IfOk result (λ matches. subcommand_rows_of matches ≡ reading_of_arguments (map (λ argument. argument.now) arguments.entry.now)) }
+    ensures faultless { IfOk result (λ _. faults_of_arguments (map (λ argument. argument.now) arguments.entry.now) ≡ []) }
+    ensures refused { IfErr result (IsFaultOf (map (λ argument. argument.now) arguments.entry.now)) }
 {
     let command = command::zvt(alloc)?;
-    match command.try_get_matches_from(words) {
+    match command.try_get_matches_from(arguments) {
         Ok(matches) => Ok(matches),
         Err(error) => Err(refused(error)),
     }
@@ -56,7 +56,7 @@ fn refused(error: Error) -> ChoiceFault
     }
 }
 
-/// The fault of a reading that says no choice. No words are known that lead here: `clap` wants a
+/// The fault of a reading that names no choice. No arguments are known that lead here: `clap` wants a
 /// port, has a default for the host and the other numbers, and checks each number.
 fn incomplete(alloc: Global) -> ChoiceFault
     ensures { IsMissing result }
@@ -70,7 +70,10 @@ fn incomplete(alloc: Global) -> ChoiceFault
 fn missing(alloc: Global) -> Result<Error, AllocError>
     ensures { IfOk result (λ error. kind_of error ≡ ErrorKind.MissingRequiredArgument) }
 {
-    command::zvt(alloc)?.error(ErrorKind::MissingRequiredArgument, "an option is missing")
+    command::zvt(alloc)?.error(
+        ErrorKind::MissingRequiredArgument,
+        "a required option is missing",
+    )
 }
 
 /// The choice of a command's name and what was given to it.
@@ -123,7 +126,7 @@ fn till<'a>(alloc: Global, inner: &ArgMatches<'a>) -> Result<Option<Choice<'a>>,
         return Ok(None);
     };
     let steps = steps(alloc, inner)?;
-    Ok(Some(Choice::Till {
+    Ok(Some(Choice::Till(TillOptions {
         port,
         host,
         password: text(inner, "password"),
@@ -132,7 +135,7 @@ fn till<'a>(alloc: Global, inner: &ArgMatches<'a>) -> Result<Option<Choice<'a>>,
         trace: text(inner, "trace"),
         loose: flag(inner, "loose"),
         steps,
-    }))
+    })))
 }
 
 fn terminal<'a>(inner: &ArgMatches<'a>) -> Option<Choice<'a>>
@@ -142,7 +145,7 @@ fn terminal<'a>(inner: &ArgMatches<'a>) -> Option<Choice<'a>>
     let host = text(inner, "host")?;
     let tid = tid(inner)?;
     let connections = number(inner, "connections")?;
-    Some(Choice::Terminal {
+    Some(Choice::Terminal(TerminalOptions {
         port,
         host,
         tid,
@@ -150,7 +153,7 @@ fn terminal<'a>(inner: &ArgMatches<'a>) -> Option<Choice<'a>>
         decline: text(inner, "decline"),
         trace: text(inner, "trace"),
         loose: flag(inner, "loose"),
-    })
+    }))
 }
 
 /// The number of the option of this name.

@@ -1,7 +1,7 @@
 use Rattle.std.proofs.Common.{◌∙◌}
 use Rattle.clap.specs.Matches.{found_of}
 use Rattle.clap.proofs.WalkLemmas.{one_text-rows}
-use Rattle.zvt_cli.proofs.words.flag.Goals as goal
+use Rattle.zvt_cli.proofs.arguments.flag.Goals as goal
 
 pub returns : goal.returns
 returns c =

@@ -6,7 +6,7 @@ use Rattle.zvt_cli.specs.Chosen.{HasNoChoice, IsChoiceOf, MayBeChoiceOf}
 use Rattle.zvt_cli.specs.declared.choice.Choice.{Choice}
 use Rattle.zvt_cli.specs.declared.choice.Choice.TheVariants.{Show}
 use Rattle.zvt_cli.proofs.Program.{missing_taken, named_rows, no_rows}
-use Rattle.zvt_cli.proofs.words.choice.Goals as goal
+use Rattle.zvt_cli.proofs.arguments.choice.Goals as goal
 
 pub returns-in-None-clause-chosen : goal.returns-in-None-clause-chosen
 returns-in-None-clause-chosen c =
@@ -25,7 +25,7 @@ returns-in-Some-2-clause-chosen c =
 pub returns-clause-refused : goal.returns-clause-refused
 returns-clause-refused c =
     let m = c.in_ok-matches.matches in
-    let words = map (λ (w : Bor (List ℕ)). w.now) c.args.words.now in
+    let words = map (λ (w : Bor (List ℕ)). w.now) c.args.arguments.now in
     let rows = rows_of (found_of c.in-Some.inner.now) in
     let given : Option (Text × List Row) = Some (c.in-Some.name.now, rows) in
     let named = named_rows (out-ArgMatches m).subcommand c.in-Some.name.now rows (sym c.in-Some.ensures.name) (sym c.in-Some.ensures.rows) in
