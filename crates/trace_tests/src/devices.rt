@@ -7,7 +7,7 @@ use zvt_io::{Counted, Failed, GhostCount, Sink, Source};
 use zvt_tool::{audit, show};
 use zvt_trace::{ListenerError, Scope, TraceFault};
 
-/// Gives so many bytes of a remark, and then fails or ends.
+/// Gives that many bytes of a comment, and then fails or ends.
 #[derive(Drop)]
 struct Comment {
     bytes_left: usize,
@@ -38,7 +38,7 @@ impl Source for Comment {
     }
 }
 
-/// A remark of so many bytes.
+/// A comment of that many bytes.
 fn comment_of(bytes_left: usize, breaks: bool) -> Comment {
     Comment {
         bytes_left,
@@ -78,7 +78,7 @@ fn a_read_that_fails_is_reported(rt: HostRuntime) {
     assert!(rt; matches!(audited, (Some(TraceFault::Read), 0)));
 }
 
-/// Counts the writes, takes so many, and then fails.
+/// Counts the writes, takes that many, and then fails.
 #[derive(Drop)]
 struct Full {
     writes_left: usize,
@@ -104,7 +104,7 @@ impl Sink for Full {
     }
 }
 
-/// A device that takes so many writes.
+/// A device that takes that many writes.
 fn takes(writes_left: usize) -> Full {
     Full {
         writes_left,

@@ -51,7 +51,7 @@ const NOTHING: &[u8] = &[];
 const ANSWERS: usize = 14;
 
 /// What a terminal says to an order: as it should, or with something repeated, left out, refused, unknown, malformed or
-/// about another amount. A match and no table, whose rows would all stand in each step of a proof.
+/// about another amount. A match and no table, whose rows would all be in each step of a proof.
 fn answers(number: usize) -> [&'static [u8]; 4] {
     match number {
         0 => [ACK, COMPLETION, NOTHING, NOTHING],
@@ -76,7 +76,7 @@ fn answers(number: usize) -> [&'static [u8]; 4] {
 struct Chance(u64);
 
 impl Chance {
-    /// One of so many numbers, from 0 on.
+    /// One of that many numbers, from 0 on.
     fn next(&mut self, count: usize) -> usize {
         self.0 = self
             .0

@@ -13,7 +13,7 @@ abbrev pub status_of_bad : ℕ → ℕ
 status_of_bad zero = 0
 status_of_bad (suc bad) = 1
 
--- want of memory is 5 wherever it comes, and each other break of a line is 4
+-- out of memory is 5 wherever it comes, and each other break of a line is 4
 abbrev pub status_of_line : LineFault → ℕ
 status_of_line NoMemory = 5
 status_of_line ReadBroke = 4
@@ -23,7 +23,7 @@ status_of_line Turns = 4
 status_of_line (Malformed place why) = 4
 status_of_line Stopped = 4
 
--- what is no trace is 3, a device that failed 4, want of memory 5
+-- what is no trace is 3, a device that failed 4, out of memory 5
 abbrev pub status_of_trace_fault : TraceFault → ℕ
 status_of_trace_fault (on_trace.Trace line what) = 3
 status_of_trace_fault on_trace.TooLong = 3
@@ -31,7 +31,7 @@ status_of_trace_fault on_trace.Read = 4
 status_of_trace_fault on_trace.Write = 4
 status_of_trace_fault on_trace.Memory = 5
 
--- a wrong word is 2, a device, a line, its trace or a connection that failed 4, want of memory 5
+-- a wrong word is 2, a device, a line, its trace or a connection that failed 4, out of memory 5
 abbrev pub status_of_end_fault : EndFault → ℕ
 status_of_end_fault (at_end.BadStep at) = 2
 status_of_end_fault (at_end.Net why) = 4

@@ -54,7 +54,7 @@ fn run(rt: &HostRuntime) -> io::Result<u8> {
     }
 }
 
-/// The exit status where the arguments can't be read: for want of memory, or since one is not valid UTF-8.
+/// The exit status where the arguments can't be read: where memory runs out, or since one is not valid UTF-8.
 fn without_arguments(rt: &HostRuntime, error: &io::Error) -> io::Result<u8> {
     if error.kind() == ErrorKind::OutOfMemory {
         return without_memory(rt);

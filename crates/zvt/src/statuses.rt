@@ -44,7 +44,7 @@ pub fn of_run(answer: &Result<(), EndFault>) -> u8
     }
 }
 
-/// The status of so many bad streams.
+/// The status of that many bad streams.
 fn of_bad(bad: u64) -> u8
     ensures { result ≡ status_of_bad bad }
 {

@@ -16,7 +16,7 @@ use Rattle.zvt_trace.specs.declared.direction.Direction.TheVariants.{FromTill, F
 
 -- ---- one message
 
--- a payment is known by its amount, where that stands exactly once
+-- a payment is known by its amount, where that appears exactly once
 abbrev pub paid : Option ℕ → Sent
 paid None = Foreign
 paid (Some amount) = Pay amount
@@ -45,7 +45,7 @@ happened FromTerminal message = Some (HeardIn (heard_as message))
 
 -- ---- all events
 
--- Bytes that are refused make the line malformed. What is cut off by that, or where the line is lost, the till never heard,
+-- Bytes that are refused make the line malformed. What is cut off by that, or where the connection is lost, the till never heard,
 -- and no more what is not read.
 abbrev pub happenings_of : TraceEvent → List Happening
 happenings_of (trace_event.message from m) = cons_option (happened from m) []

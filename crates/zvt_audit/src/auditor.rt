@@ -97,7 +97,7 @@ fn malform(books: &mut Bookkeeping) -> Result<(), AllocError>
     books.take(&Happening::Malformed)
 }
 
-/// The line is lost, and the next one is up.
+/// The connection is lost, and the next one is up.
 #[inline(never)]
 fn lose(books: &mut Bookkeeping) -> Result<(), AllocError>
     ensures { OnOk result (Takes books.old books.new (Lost ∷ Connected ∷ [])) }

@@ -7,7 +7,7 @@ use zvt_apdu::{ApduView, Kind};
 use zvt_field::FieldsView;
 use zvt_till::Sent;
 
-/// The authorisation that these fields order: of their amount, where that stands exactly once and is not zero.
+/// The authorisation that these fields order: of their amount, where that appears exactly once and is not zero.
 fn paid(fields: &FieldsView<'_>) -> Sent
     ensures { Some result ≡ ordered (authorisation fields.now) }
 {

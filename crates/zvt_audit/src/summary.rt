@@ -28,7 +28,7 @@ pub struct AuditSummary {
 /// back count too. The trace may have such lengths.
 ///
 /// The till's orders and the terminal's messages are judged as a till's log that begins with its connection. Where bytes
-/// of either side are refused, neither is read until the line is lost. A stream that is refused or cut off counts as
+/// of either side are refused, neither is read until the connection is lost. A stream that is refused or cut off counts as
 /// bad.
 ///
 /// The text is written once, at the end. Nothing is written where a line can't be read, and where there is too little

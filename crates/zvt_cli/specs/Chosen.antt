@@ -86,7 +86,7 @@ abbrev pub MayBeChoiceOf : Option (Text × List Row) → Option Choice → Type 
 MayBeChoiceOf reading (Some choice) = IsChoiceOf reading choice
 MayBeChoiceOf reading None = HasNoChoice reading
 
--- an error of clap, where want of memory has a fault of its own
+-- an error of clap, where out of memory has a fault of its own
 abbrev pub IsTakenAs : Error → ChoiceFault → Type 0
 IsTakenAs error Memory = kind_of error ≡ OutOfMemory
 IsTakenAs error (Words given) = (given ≡ error) × (kind_of error ≢ OutOfMemory)

@@ -8,7 +8,7 @@ use Rattle.zvt_trace.specs.declared.direction.Direction.{Direction}
 use Rattle.zvt_trace.specs.declared.listener.Scope.{Scope}
 use Rattle.zvt_diagnostics.specs.Notes.{unread_note, unread_words}
 
--- where all was added it stands there
+-- where all was added it is there
 pub adds_ok : (r : Result (Unit {0}) AllocError) (old new text : List ℕ) → Adds r old new text → OnOk r (new ≡ old ++ text)
 adds_ok (Ok u) old new text adds = adds
 adds_ok (Err e) old new text adds = tt

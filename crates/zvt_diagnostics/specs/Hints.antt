@@ -72,7 +72,7 @@ line_hint (first ∷ rest) =
 abbrev pub hint_of : (trace line : List ℕ) → Option Hint
 hint_of trace line = if is_capture trace then Some Capture else if is_marked line then Some Mark else line_hint line
 
--- of the line after so many others
+-- of the line after that many others
 abbrev pub hint_on : (trace : List ℕ) → ℕ → List (List ℕ) → Option Hint
 hint_on trace n [] = None
 hint_on trace zero (line ∷ lines) = hint_of trace line
@@ -80,7 +80,7 @@ hint_on trace (suc n) (line ∷ lines) = hint_on trace n lines
 
 -- ---- its text
 
--- a printing character stands as it is, and of another its code in hexadecimal
+-- a printing character is as it is, and of another its code in hexadecimal
 abbrev pub character_text : ℕ → List ℕ
 character_text byte =
     if nat_le 0x20 byte && nat_le byte 0x7E then 39 ∷ byte ∷ 39 ∷ []

@@ -13,7 +13,7 @@ pub enum Hint {
     Capture,
     /// The line begins with a byte order mark.
     Mark,
-    /// The character can't stand in that column, counted from 1.
+    /// The character can't be in that column, counted from 1.
     Character {
         column: usize,
         byte: u8,
@@ -25,7 +25,7 @@ pub enum Hint {
     },
 }
 
-/// What a character that can't stand in a line may be there for.
+/// What a character that can't be in a line may be there for.
 #[derive(Clone, Copy, Debug, PartialEq, Eq)]
 pub enum Reason {
     /// A tab.

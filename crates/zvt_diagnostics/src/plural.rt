@@ -5,7 +5,7 @@ ghost use Rattle.zvt_diagnostics.specs.Notes.{counted};
 use std::alloc::AllocError;
 use zvt_text::Text;
 
-/// So many of what the word names, as `1 line` or `2 lines`.
+/// That many of what the word names, as `1 line` or `2 lines`.
 pub(crate) fn put_many(text: &mut Text, count: u64, word: &[u8]) -> Result<(), AllocError>
     ensures { OnOk result (text.new ≡ text.old ++ counted count word.now) }
 {

@@ -14,7 +14,7 @@ use zvt_trace::{ListenerError, Scope, Tally, TraceFault, walk};
 
 /// Writes a line for each stream that was refused or cut off. It has the line of the trace, the sender, the name of the
 /// incomplete message, and the place in it. Of a refusal it has the fatal byte and the reason. It has no other byte of the
-/// message, since a card number may stand there.
+/// message, since a card number may be there.
 ///
 /// After these a line says how many lines were not read, up to the next loss of the line or to the end. The last line has
 /// the numbers of messages and bad streams. Nothing is written where no stream is bad.

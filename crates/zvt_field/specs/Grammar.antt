@@ -17,7 +17,7 @@ pub data Field : Type 0 where
   plain : (bmp : ℕ) → (content : List ℕ) → Field
   tree : (bmp : ℕ) → (objects : Objects) → Field
 
--- What stands between a name of that shape and a content of n bytes; the flag says that digits are demanded.
+-- What is between a name of that shape and a content of n bytes; the flag says that digits are demanded.
 abbrev pub IsHead : Option Shape → (digits : Bool) → ℕ → List ℕ → Type 0
 IsHead None digits n size = ⊥
 IsHead (Some (Fixed m)) digits n size = (digits ≡ false) × (n ≡ m) × (size ≡ [])

@@ -47,7 +47,7 @@ pub field_once : (bmp : ℕ) (content : List ℕ) → (a b : FieldBytes bmp cont
 field_once bmp content a b =
     Σ_prop_path (λ v. ∥∥₁_prop) (∥∥₁_elim a.1 (Coded-set field_code _ _) (λ p. ∥∥₁_elim b.1 (Coded-set field_code _ _) (λ q. holds_once bmp content a.0 b.0 p q)))
 
--- What stands between a name of that shape and a content of n bytes or objects of n bytes.
+-- What is between a name of that shape and a content of n bytes or objects of n bytes.
 abbrev pub IsLead : Option Shape → ℕ → List ℕ → Type 0
 IsLead None n size = ⊥
 IsLead (Some (Fixed m)) n size = (n ≡ m) × (size ≡ [])

@@ -3,7 +3,7 @@ use Rattle.std.proofs.Common.{◌≡◌, ◌∙◌, ◌+◌, ◌<◌, ℕ, List,
 use Rattle.std.proofs.lemmas.List.{length-append}
 use Rattle.std.specs.Result.{result_err}
 use Rattle.zvt_grammar.specs.Reading.{Reading}
-use Rattle.zvt_stream.specs.LineRun.{Told as Reported}
+use Rattle.zvt_stream.specs.LineRun.{Reported}
 use Rattle.zvt_stream.specs.StreamState.{start_in}
 use Rattle.zvt_stream.specs.declared.line.LineFault.{LineFault}
 use Rattle.zvt_stream.specs.declared.line.LineFault.TheVariants.{Read, Write, Ended, Turns, Malformed, Memory, Stopped}

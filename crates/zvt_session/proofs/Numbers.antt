@@ -32,7 +32,7 @@ power_le n h = pow-le-pow_right (lit< tt) h
 pub value_small : (ds : List ℕ) → AllDigits 10 ds → length ds ≤ 12 → digits_value 10 ds < 10 ^ 12
 value_small ds all few = let p : digits_value 10 ds < 10 ^ length ds = digits_value-lt 10 ds all in let q : 10 ^ length ds ≤ 10 ^ 12 = power_le (length ds) few in omega arith
 
--- what stands in a number
+-- what is in a number
 pub record Known (ds : List ℕ) : Type 0 where
   pub all : AllDigits 10 ds
   pub few : length ds ≤ 12

@@ -8,7 +8,7 @@ use Rattle.zvt_till.specs.Line.{IsOver, till_hears, till_loses, till_rests}
 use Rattle.zvt_till.specs.View.{TillValue}
 use Rattle.zvt_till.specs.declared.line.RunFault.TheVariants.{Line}
 use Rattle.zvt_till.specs.declared.outcomes.Outcome.{Outcome}
-use Rattle.zvt_till.proofs.Accepted.{IsKnown, known-broken, known-heard, known-sent, rests-known, told-over as reported-over}
+use Rattle.zvt_till.proofs.Accepted.{IsKnown, known-broken, known-heard, known-sent, rests-known, reported-over}
 use Rattle.zvt_session.specs.declared.arguments.Step.{Step}
 use Rattle.zvt_session.specs.Steps.{order_of}
 use Rattle.zvt_session.specs.BothEnds.{Alternates, Begins, BreaksOff, Both, Comes, Fails, Underway, ended_of}
@@ -48,7 +48,7 @@ over_broken fault old new (inr till) k =
 
 -- ---- a step
 
--- so many alternations were made, and it is known what became of the order where none runs
+-- that many alternations were made, and it is known what became of the order where none runs
 pub record Going (step : Step) (count : ℕ) (old now : Both) : Type 0 where
   pub underway : Underway step count old now
   pub known : IsKnown now.till.state

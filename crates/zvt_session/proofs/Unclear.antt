@@ -21,7 +21,7 @@ WritesPrefix text old new = (part : List ℕ) × IsPrefix part text × Appends o
 pub prefix_of : (text rest : List ℕ) (old new : Option (List ℕ)) → WritesPrefix text old new → WritesPrefix (text ++ rest) old new
 prefix_of text rest old new (part, prefix, adds) = (part, (prefix.0 ++ rest, ap (λ t. t ++ rest) prefix.1 ∙ append_assoc part prefix.0 rest), adds)
 
--- after what stands before it
+-- after what comes before it
 pub trailing : (before text : List ℕ) (old now new : Option (List ℕ)) → Appends old now before → WritesPrefix text now new → WritesPrefix (before ++ text) old new
 trailing before text old now new first (part, prefix, adds) =
     (before ++ part, (prefix.0, ap (λ t. before ++ t) prefix.1 ∙ sym (append_assoc before part prefix.0)), Appends-trans old now new before part first adds)

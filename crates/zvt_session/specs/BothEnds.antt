@@ -63,7 +63,7 @@ BreaksOff fault old new =
     (TurnBreaks served_hears never served_loses served_loses fault old.terminal_end old.served new.terminal_end new.served × (new.till_end ≡ old.till_end) × till_loses old.till new.till)
     ⊎ (TerminalTurn old new × TurnBreaks till_hears till_rests till_loses till_malforms fault old.till_end old.till new.till_end new.till)
 
--- so many alternations, after none of which the till rested
+-- that many alternations, after none of which the till rested
 abbrev pub Alternations : ℕ → Both → Both → Type 0
 Alternations zero old new = old ≡ new
 Alternations (suc n) old new = (middle : Both) × Alternations n old middle × Alternates middle new × (till_rests new.till ≡ false)
@@ -89,7 +89,7 @@ pub record BeginsNot (step : Step) (fault : RunFault) (old new : Both) : Type 0 
   pub decided : Decided step old new
   pub not_ordered : NotOrdered fault (order_of step) old.till_end old.till new.till_end new.till
 
--- the order was sent, and so many alternations followed
+-- the order was sent, and that many alternations followed
 pub record Underway (step : Step) (count : ℕ) (old now : Both) : Type 0 where
   pub sent : Both
   pub begins : Begins step old sent

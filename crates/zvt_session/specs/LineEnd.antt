@@ -2,7 +2,7 @@
 use Rattle.std.specs.Prelude.{◌≡◌, ℕ, ◌+◌, Bool, List, Option}
 use Rattle.zvt_apdu.specs.Message.{Message}
 use Rattle.zvt_stream.specs.Answered.{Answered}
-use Rattle.zvt_stream.specs.LineRun.{Broken, Told as Reported, failed_reads, failed_writes}
+use Rattle.zvt_stream.specs.LineRun.{Broken, Reported, failed_reads, failed_writes}
 use Rattle.zvt_stream.specs.StreamState.{StreamState}
 use Rattle.zvt_stream.specs.Turns.{Ends, Falters, line_state, line_ends}
 use Rattle.zvt_stream.specs.declared.line.LineFault.{LineFault}
@@ -60,7 +60,7 @@ pub record Turn {M : Type 0} (hears : M → Message → Answered → M → Type 
   pub ends : Ends hears rests Sent 1000 before.reads after.reads (line_state before.stream old before.coming before.written) (line_ends after.stream new after.coming after.written)
   pub none_fails : NoneFails before after
 
--- A machine read, in so many turns at most, and before it had come to where it was to go the line broke, of which it was
+-- A machine read, in that many turns at most, and before it had come to where it was to go the line broke, of which it was
 -- told.
 pub record Breaks {M : Type 0} (hears : M → Message → Answered → M → Type 0) (rests : M → Bool) (loses malforms : M → M → Type 0) (until : Until) (turns : ℕ) (fault : LineFault) (before : EndState) (old : M) (after : EndState) (new : M) : Type 0 where
   pub middle : M

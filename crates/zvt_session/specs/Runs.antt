@@ -23,7 +23,7 @@ fault_of (Ok outcome) = None
 fault_of (Err (Order why)) = None
 fault_of (Err (Line fault)) = Some fault
 
--- the order was not sent for want of memory
+-- the order was not sent where memory runs out
 abbrev pub is_memory : OrderRefusal → Bool
 is_memory NoMemory = true
 is_memory _ = false

@@ -55,18 +55,18 @@ first_broken [] = None
 first_broken (None ∷ more) = first_broken more
 first_broken (Some fault ∷ more) = Some fault
 
--- so many lines were served, and this is how the first of them broke that did
+-- that many lines were served, and this is how the first of them broke that did
 pub record ServesMany (r : Reading) (count : ℕ) (first : Option LineFault) (old new : Served) : Type 0 where
   pub lines : List (Option LineFault)
   pub serves : ServesLines r lines old new
   pub counted : length lines ≡ count
   pub is_first : first_broken lines ≡ first
 
--- at most so many were
+-- at most that many were
 abbrev pub ServesSome : Reading → ℕ → Served → Served → Type 0
 ServesSome r most old new = (count : ℕ) × (first : Option LineFault) × (count ≤ most) × ServesMany r count first old new
 
--- What is answered of so many tills: all were served, whatever broke; or the next could not be, or a trace could not be
+-- What is answered of that many tills: all were served, whatever broke; or the next could not be, or a trace could not be
 -- written, or there was too little memory to begin with one or to report it.
 abbrev pub AnswersTills : Reading → ℕ → Served → Served → Result Unit EndFault → Type 0
 AnswersTills r count old new (Ok done) = ServesMany r count None old new

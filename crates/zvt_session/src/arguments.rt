@@ -113,7 +113,7 @@ fn value(digits: &[u8]) -> u64
     value
 }
 
-/// The amount of so many digits.
+/// The amount of that many digits.
 fn amount(digits: &[u8]) -> Option<Amount>
     ensures { result ≡ amount_of digits.now }
 {

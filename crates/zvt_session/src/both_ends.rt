@@ -66,7 +66,7 @@ impl<A: LineEnd, B: LineEnd> StepLine for BothEnds<A, B> {
 /// Makes the steps one after another with a new till, on this line that is at its start.
 ///
 /// Each step writes a line when it ends: its word and its outcome. The last line is the till's total. After a line that
-/// broke no further step is made, and the fault is `Line`. An order that is not sent is a fault only for want of memory.
+/// broke no further step is made, and the fault is `Line`. An order that is not sent is a fault only where memory runs out.
 /// The other faults are `Write` and `Memory`. After these no step is made again, and no step after the one whose line is
 /// missing. However the run ends, `report` gets a line for each entry of the book whose last reversal is unclear.
 pub fn run_both_ends<A: LineEnd, B: LineEnd, T: Sink, E: Sink>(

@@ -11,7 +11,7 @@ use std::time::Duration;
 use thiserror::Error;
 use zvt_io::GhostCount;
 
-/// For so many seconds a till waits: to be connected, for each read and for each write. A terminal that is silent for
+/// For that many seconds a till waits: to be connected, for each read and for each write. A terminal that is silent for
 /// longer counts as a read that failed.
 const SILENCE_SECONDS: u64 = 60;
 

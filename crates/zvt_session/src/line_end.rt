@@ -23,7 +23,7 @@ pub trait LineEnd {
             (λ _. Ordered order (state self.old) till.old (state self.new) till.new)
             (λ fault. NotOrdered fault order (state self.old) till.old (state self.new) till.new) };
 
-    /// The machine reads until it has written a message or rests. It is told of a fault.
+    /// The machine reads until it has written a message or rests. It hears of a fault.
     fn turn<M: Machine>(&mut self, alloc: Global, machine: &mut M) -> Result<(), LineFault>
         ensures { MatchResult result
             (λ _. Turn M.hears M.is_resting (state self.old) machine.old (state self.new) machine.new)

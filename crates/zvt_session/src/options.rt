@@ -24,7 +24,7 @@ pub struct TillRun<'a, 'f> {
 pub struct TerminalRun<'a, 'f> {
     /// The name or address that the terminal listens at.
     pub host: &'a str,
-    /// The port that the terminal listens at. Port 0 stands for a free one.
+    /// The port that the terminal listens at. Port 0 represents a free one.
     pub port: u16,
     /// The terminal's number, at most 99,999,999.
     pub tid: u32,

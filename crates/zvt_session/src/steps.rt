@@ -37,7 +37,7 @@ pub(crate) trait StepLine {
 
 /// Makes the steps one after another. Each writes a line when it ends: its word and its outcome. The last line is the
 /// till's total. After a connection that failed no further step is made, and the fault is `Line`. An order that is not
-/// sent is a fault only for want of memory. The other faults are `Write` and `Memory`. After these no step is made again,
+/// sent is a fault only where memory runs out. The other faults are `Write` and `Memory`. After these no step is made again,
 /// and no step after the one whose line is missing. The lines of all steps before it were written. After `Write` a prefix
 /// of its own line may be written.
 pub(crate) fn run_steps<L: StepLine, W: Sink>(
@@ -125,7 +125,7 @@ fn fault_of(made: &Result<Outcome, RunFault>) -> Option<LineFault>
     }
 }
 
-/// Whether the order was not sent for want of memory.
+/// Whether the order was not sent where memory runs out.
 fn wants_memory(made: &Result<Outcome, RunFault>) -> bool
     ensures { result ≡ wants_memory made.now }
 {

@@ -96,7 +96,7 @@ writes view old event new = WritesEvent event.trace_event (view old) (view new)
 abbrev pub fails : {S : Type 0} → (S → Page) → Fails S
 fails view old event why new = FailsEvent why (view old) (view new)
 
--- the text of the events stands after what was to be written
+-- the text of the events comes after what was to be written
 record Shows (style : Style) (events : List At) (old new : Page) : Type 0 where
   pub text : List ℕ
   pub says : EventsText style events text
@@ -124,7 +124,7 @@ shown view (event ∷ events) old new some =
 
 -- ---- what a walk answers
 
--- the text stands there that these events have, or a prefix of it; and no write failed before
+-- the text is there that these events have, or a prefix of it; and no write failed before
 record Wrote (r : Reading) (style : Style) (lines : List (List ℕ)) (old new : Page) : Type 0 where
   pub events : List At
   pub text : List ℕ
@@ -149,7 +149,7 @@ wrote_all {r = r} view lines events old new empty so_far heard =
       least = omega (arith, shows.failures);
     }
 
--- of an event that could not be written nothing stands there, and perhaps less than before
+-- of an event that could not be written nothing is there, and perhaps less than before
 wrote_less : {S : Type 0} {r : Reading} (view : S → Page) (lines : List (List ℕ)) (events : List At) (event : At) (why : ListenerError) (old middle new : S) → (view old).block ≡ [] → EventsSoFar r OneSide lines (events ++ event ∷ [])
     → HearsAll (writes view) old events middle → FailsEvent why (view middle) (view new) → Wrote r (view old).style lines (view old) (view new)
 wrote_less {r = r} view lines events event failure.Memory old middle new empty so_far heard failed =

@@ -8,7 +8,7 @@ use Rattle.zvt_trace.specs.declared.direction.Direction.{Direction}
 use Rattle.zvt_show.specs.declared.render.Style.{Style}
 use Rattle.zvt_show.specs.declared.render.Style.TheVariants.{Join, Receipts, Show}
 
--- what stands before a line that is no part of a trace, where such lines are written at all
+-- what comes before a line that is no part of a trace, where such lines are written at all
 abbrev pub mark_of : Style → Option (List ℕ)
 mark_of Show = Some []
 mark_of Join = Some (codes "# ")

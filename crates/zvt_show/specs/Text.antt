@@ -17,7 +17,7 @@ use Rattle.zvt_show.specs.declared.render.Style.TheVariants.{Join, Receipts, Sho
 
 -- ---- one message
 
--- a message is shown; or its bytes stand in one line of a trace; or it is a line of a receipt
+-- a message is shown; or its bytes are in one line of a trace; or it is a line of a receipt
 abbrev pub shown : Direction → Message → List ℕ
 shown from message = direction_text from ++ 32 ∷ said message
 

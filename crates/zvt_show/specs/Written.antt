@@ -38,7 +38,7 @@ pub record AddsEvent (style : Style) (trace_event : TraceEvent) (old new : List 
 abbrev pub Extends : (old new : Option (List ℕ)) → Type 0
 Extends old new = (more : List ℕ) × Appends old new more
 
--- the device has a prefix of what was to stand there
+-- the device has a prefix of what was to be there
 abbrev pub IsShortOf : (whole new : Option (List ℕ)) → Type 0
 IsShortOf None new = Unit {0}
 IsShortOf (Some bytes) None = ⊥
@@ -64,7 +64,7 @@ page style written block failures = record { style = style; written = written; b
 abbrev pub all_of : Page → Option (List ℕ)
 all_of page = after page.written page.block
 
--- the text of the events stands after the block, or the block's does on the device
+-- the text of the events comes after the block, or the block's does on the device
 pub record WritesEvent (trace_event : TraceEvent) (old new : Page) : Type 0 where
   pub text : List ℕ
   pub says : EventText old.style trace_event text

@@ -31,7 +31,7 @@ impl Style {
     ghost use Rattle.std.specs.Prelude.{option_map};
     ghost use Rattle.zvt_show.specs.Lines.{mark_of};
 
-    /// What stands before a line that is no part of a trace, where such lines are written at all.
+    /// What comes before a line that is no part of a trace, where such lines are written at all.
     fn mark(self) -> Option<&'static str>
         ensures { option_map (λ mark. mark.now) result ≡ mark_of self }
     {

@@ -22,7 +22,7 @@ use Rattle.zvt_stream.specs.Judge.{levels_of}
 use Rattle.zvt_stream.specs.declared.transitions.At.TheVariants as stage
 use Rattle.zvt_stream.specs.DecoderState.{Begun, layout_in, IsFull, Fields, depth_of, Level, AtField, AtObject, HoldsObjects, HasDigits, Where, role_of}
 
--- a level of objects stands in the fields
+-- a level of objects is in the fields
 record InLevel (r : Reading) (bytes : List ℕ) (at : ℕ) (role : object.Role) (left levels : ℕ) : Type 0 where
   openers : List Opener
   counted : length openers + 1 ≡ levels

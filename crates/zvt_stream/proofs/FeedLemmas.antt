@@ -1,4 +1,4 @@
--- What a scan of the held bytes and the front of a piece says of the piece.
+-- What a scan of the held bytes and the prefix of a piece says of the piece.
 use Rattle.std.proofs.Common.{◌≡◌, ℕ, suc, Bool, ◌≤◌, List, [], ◌++◌, length, take, drop, inl, inr, sym, ◌∙◌, ap, subst, arith, append_assoc}
 use Rattle.std.proofs.lemmas.Bool.{cases_lt}
 use Rattle.std.proofs.lemmas.List.{take-append-drop, take-append-le}
@@ -15,7 +15,7 @@ use Rattle.zvt_stream.proofs.Beginnings.{prefix_alive_in, nothing_in}
 pub sound_empty : (r : Reading) (held : List ℕ) (stopped : Bool) → held ≡ [] → IsSound r held stopped
 sound_empty r held stopped e = record { unfinished = subst (UnfinishedIn r) (sym e) (nothing_in r); none_held = λ h. e }
 
--- what is refused stays refused with more behind it
+-- what is refused stays refused with more after it
 refused_more : (r : Reading) (bytes more : List ℕ) (place : ℕ) (why : Why) → IsRefusedIn r bytes place why → IsRefusedIn r (bytes ++ more) place why
 refused_more r bytes more place why f =
     let same : take place bytes ≡ take place (bytes ++ more) = sym (take-append-le place bytes more (omega (arith, f.1.present))) in (
@@ -35,7 +35,7 @@ place_past r held piece place a p =
       | inr past ↦ past
     ]
 
--- bytes refused in a front of the piece
+-- bytes refused in a prefix of the piece
 pub fed_refused : (r : Reading) (held piece bytes : List ℕ) (n place : ℕ) (why : Why) → AliveIn r held → bytes ≡ held ++ take n piece → IsRefusedIn r bytes place why → IsRefusedIn r (held ++ piece) place why × (length held ≤ place)
 fed_refused r held piece bytes n place why a e f =
     let whole : bytes ++ drop n piece ≡ held ++ piece = ap (λ z. z ++ drop n piece) e ∙ append_assoc held (take n piece) (drop n piece) ∙ ap (λ z. held ++ z) (take-append-drop n piece) in

@@ -85,7 +85,7 @@ name_digits r n left depth x some f is outer b e (o, le, a) =
     let positive : 0 < n = omega (arith, (sane_shape x (Digits n) is).0) in
     (f, (o, (positive, over), field_more r left (left - 1) b x IsEmpty (FieldContent true n) a (λ s z. (x, [], [], n, one_byte x s z, head, omega arith, All-nil IsDigitPair)) (one_less left (omega (arith, some)))))
 
--- room for what is behind it
+-- room for what is after it
 pub fixed_room : (r : Reading) (n left x : ℕ) → fault r name (left - 1) x ≡ None → shape_of x ≡ Some (Fixed n) → (0 < n) × (n ≤ left - 1)
 fixed_room r n left x f is =
     let over = fits_over n (left - 1) (passed (fits n (left - 1)) DoesNotFit None (name_fits r x (left - 1) (Fixed n) f is)).0 in

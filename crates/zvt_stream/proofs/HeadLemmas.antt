@@ -1,4 +1,4 @@
--- The control bytes stay behind the second byte of a message.
+-- The control bytes stay after the second byte of a message.
 use Rattle.std.proofs.Common.{◌≡◌, ℕ, List, [], ◌∷◌, ◌++◌, refl, sym, subst}
 use Rattle.zvt_grammar.specs.Reading.{Reading}
 use Rattle.zvt_stream.specs.Head.{head_of}
@@ -19,7 +19,7 @@ of_level r (k ∷ []) b room part l = of_fields r room part b l.1
 of_level r (k ∷ j ∷ []) b room part l = of_fields r l.around l.part b l.outer.1
 of_level r (k ∷ j ∷ i ∷ ks) b room part l = of_level r (j ∷ i ∷ ks) b l.around l.part l.outer
 
--- the part of a byte behind both
+-- the part of a byte after both
 abbrev pub IsAfter : At → Type 0
 IsAfter stage.FirstControl = ⊥
 IsAfter (stage.SecondControl high) = ⊥

@@ -172,7 +172,7 @@ stepped r at left x outer b now head old new Open lt s passed settles prefix =
 stepped r at left x outer b now head old new Ended lt s passed settles prefix =
     (whole r (b ++ x ∷ []) (passes r at left x outer b lt s.unfinished.alive s.stands passed) settles.0, rw (settles.1, settles.2) refl)
 
--- a judge behind an answer stands for some bytes
+-- a judge after an answer represents some bytes
 pub still_judge : (r : Reading) (b : List ℕ) (x : ℕ) (judged : Judged) (new : JudgeState) → Stepped r b x (Ok judged) new → IsJudge new
 still_judge r b x Open new s = (b ++ x ∷ [], s.0)
 still_judge r b x Ended new s = subst IsJudge (sym s.1) ([], start_stands r [] beginning refl refl)
@@ -188,7 +188,7 @@ followed v now x b outer old new judged same lt s passed settles prefix =
     let answer : JudgeState = record { reading = v.reading; at = new.at; left = new.left; outer = outer; head = new.head } in
     subst (λ (w : JudgeState). Stepped w.reading b x (Ok judged) answer) same (stepped v.reading v.at v.left x v.outer b outer v.head old new judged lt there passed settles prefix)
 
--- behind the first control byte, and behind the second
+-- after the first control byte, and after the second
 pub first_control : (v now : JudgeState) (x : ℕ) (b : List ℕ) (goes : Goes) → v ≡ now → v.at ≡ stage.FirstControl → goes ≡ record { at = stage.SecondControl x; left = v.left; head = One x } → x < 256 → StandsFor now b
     → Stepped now.reading b x (Ok Open) (record { reading = v.reading; at = goes.at; left = goes.left; outer = v.outer; head = goes.head })
 first_control v now x b goes same is gone lt s =

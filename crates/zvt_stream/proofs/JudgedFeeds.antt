@@ -22,6 +22,6 @@ alive_few r b a = omega (arith, (bounds_in r a.value (b ++ a.rest) a.spelled).1,
 pub place_few : (r : Reading) (b : List ℕ) (place : ℕ) (why : Why) → IsRefusedIn r b place why → place ≤ 65540
 place_few r b place why f = omega (arith, alive_few r (take place b) f.1.alive, length-take-le place b (omega (arith, f.1.present)))
 
--- a refusal in a front of the piece
+-- a refusal in a prefix of the piece
 pub ran_out : (r : Reading) (judge : JudgeState) (held piece : List ℕ) (at : ℕ) (why : Why) → UnfinishedIn r held → Ran r held piece (Refused at why) judge → IsRefusedIn r (held ++ piece) (length held + at) why × (length held ≤ length held + at)
 ran_out r judge held piece at why u f = fed_refused r held piece (held ++ take (suc at) piece) (suc at) (length held + at) why u.alive refl f.1

@@ -1,4 +1,4 @@
--- What is lent is what the bytes spell.
+-- What is borrowed is what the bytes spell.
 use Rattle.std.proofs.Common.{◌≡◌, ℕ, ◌+◌, ◌≤◌, min, Bool, true, false, Option, Some, None, IfSome, List, [], ◌++◌, length, take, sym, ◌∙◌, ap, subst, refl, arith}
 use Rattle.std.proofs.Math.Logic.{∥∥₁_elim}
 use Rattle.std.specs.Coded.{Coded-set}
@@ -29,7 +29,7 @@ loosened padded m s p = p
 pub message_bytes : (r : Reading) (bytes : List ℕ) → IsMessageIn r bytes → MessageBytes bytes
 message_bytes r bytes m = (m.0, ∣ loosened r m.0 bytes m.1 ∣₁)
 
--- a view of the bytes that are lent shows the message that is
+-- a view of the bytes that are borrowed shows the message that is
 pub lent_is : (has_message : Bool) (bytes d : List ℕ) (s : LentBytes has_message bytes) (r : Message) → has_message ≡ true → d ≡ bytes → ((m : Message) → Spells padded m d → r ≡ m) → Some r ≡ lent_of has_message bytes s
 lent_is true bytes d s r is e x =
     ap Some (∥∥₁_elim (s refl).1 (Coded-set message_code _ _) (λ p. x (s refl).0 (subst (Spells padded (s refl).0) (sym e) p)))
@@ -39,7 +39,7 @@ pub none_lent : (has_message : Bool) (bytes : List ℕ) (s : LentBytes has_messa
 none_lent false bytes s is = refl
 none_lent true bytes s is = absurd (cc (is))
 
--- the bytes that are lent are a spelling of the message that is
+-- the bytes that are borrowed are a spelling of the message that is
 pub lent_spells : (r : Reading) (has_message : Bool) (bytes : List ℕ) (s : LentBytes has_message bytes) → (has_message ≡ true → IsMessageIn r bytes) → (m : Message) → lent_of has_message bytes s ≡ Some m → Spells r m bytes
 lent_spells r true bytes s whole m is =
     let w : IsMessageIn r bytes = whole refl in
@@ -115,7 +115,7 @@ feeds_refused false bytes piece after lent room judged at place why judge new ol
     rw (← i.is_held, is) (out.0, out.1, (none, refl), alike)
 feeds_refused true bytes piece after lent room judged at place why judge new old i ran is none = absurd (cc (i.idle))
 
--- and where a message ended, which is lent
+-- and where a message ended, which is borrowed
 pub lends_message : (stopped : Bool) (bytes piece after : List ℕ) (s : LentBytes true after) (room judged taken : ℕ) (judge new : JudgeState) (has_message : Bool) (old : StreamState)
     → Idle has_message bytes judge old → Ran old.reading bytes piece (run.Ended taken) new → after ≡ bytes ++ take taken piece → stopped ≡ false
     → Lends old piece (view.Message taken) (let state : StreamState = record { held = []; stopped = stopped; lent = lent_of true after s; room = room; judged = judged; reading = new.reading } in state)

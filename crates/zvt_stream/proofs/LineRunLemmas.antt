@@ -33,7 +33,7 @@ pub record Going {S : Type 0} (step : S → Message → Answered → S → Type 
 pub going_starts : {S : Type 0} (step : S → Message → Answered → S → Type 0) (before : StreamState) (piece : List ℕ) (s : S) (first : Option (List ℕ)) → Going step before piece before piece s s first first false
 going_starts step before piece s first = record { written = []; appended = appends_none first; heard = heard_none before.reading step (before.held ++ piece) s; same = refl; reads_alike = refl; still = λ e. (refl, refl) }
 
--- a piece of which the front ends a message
+-- a piece of which the prefix ends a message
 pub split : (held rest : List ℕ) (taken : ℕ) → held ++ rest ≡ (held ++ take taken rest) ++ drop taken rest
 split held rest taken = ap (λ r. held ++ r) (sym (take-append-drop taken rest)) ∙ sym (append_assoc held (take taken rest) (drop taken rest))
 

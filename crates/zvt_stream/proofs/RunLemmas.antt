@@ -1,4 +1,4 @@
--- A run of the judge over a piece: the byte behind those that were judged.
+-- A run of the judge over a piece: the byte after those that were judged.
 use Rattle.std.proofs.Common.{◌≡◌, ℕ, ◌+◌, ◌<◌, suc, List, [], ◌∷◌, ◌++◌, length, take, get_or, sym, ◌∙◌, ap, subst, append_assoc, arith}
 use Rattle.std.proofs.Math.Seq.{take-suc}
 use Rattle.zvt_grammar.specs.Reading.{Reading}

@@ -27,12 +27,12 @@ turned step before after old new coming left first last piece (Err fault) k few 
 pub said : (until : Until) (resting now sent found value : Bool) → resting ≡ now → found ≡ reached until resting sent → found ≡ value → reached until now sent ≡ value
 said until resting now sent found value r f v = ap (λ b. reached until b sent) (sym r) ∙ sym f ∙ v
 
--- what stands there before the first turn has come there
+-- what is there before the first turn has come there
 pub reached_at_once : (until : Until) (resting now : Bool) → resting ≡ now → there_at_once until resting ≡ true → reached until now false ≡ true
 reached_at_once Rest resting now e h = sym e ∙ h
 reached_at_once Sent resting now e h = sym e ∙ absurd (cc (h))
 
--- the turn behind these broke
+-- the turn after these broke
 pub falters : {S : Type 0} (step : S → Message → Answered → S → Type 0) (resting : S → Bool) (until : Until) (fault : LineFault) (turns before reads_before reads_after : ℕ) (old middle : LineState S) (new : Bool → LineState S) → (fault ≡ faults.Turns → ⊥) → Waited step resting until before old middle → Broke step fault turns before reads_before reads_after middle (new middle.sent) → Falters step resting until fault turns reads_before reads_after old new
 falters step resting until faults.Read turns before reads_before reads_after old middle new other w b = record { before = before; middle = middle; waited = w; last = b }
 falters step resting until faults.Write turns before reads_before reads_after old middle new other w b = record { before = before; middle = middle; waited = w; last = b }

@@ -12,7 +12,7 @@ use Rattle.zvt_apdu.specs.Judging.{WhyOf}
 abbrev pub AliveIn : Reading → List ℕ → Type 0
 AliveIn r = beginnings.Alive (grammar.Spells r)
 
--- No message is a front of the bytes.
+-- No message is a prefix of the bytes.
 abbrev pub NoneWholeIn : Reading → List ℕ → Type 0
 NoneWholeIn r = beginnings.NoneWhole (grammar.Spells r)
 
@@ -24,7 +24,7 @@ UnfinishedIn r = beginnings.Unfinished (grammar.Spells r)
 abbrev pub PlaceIn : Reading → List ℕ → (place : ℕ) → Type 0
 PlaceIn r = beginnings.Place (grammar.Spells r)
 
--- No message is a front of the bytes, and the first byte after which none can follow stands at the place, for that reason.
+-- No message is a prefix of the bytes, and the first byte after which none can follow is at the place, for that reason.
 abbrev pub IsRefusedIn : Reading → List ℕ → (place : ℕ) → Why → Type 0
 IsRefusedIn r bytes place why = NoneWholeIn r bytes × PlaceIn r bytes place × WhyOf r bytes place why
 
@@ -32,7 +32,7 @@ IsRefusedIn r bytes place why = NoneWholeIn r bytes × PlaceIn r bytes place × 
 abbrev pub SpelledIn : Reading → List ℕ → List Message → (rest : List ℕ) → Type 0
 SpelledIn r = cuts.Spelled (grammar.Spells r)
 
--- The messages of the bytes, and the rest, of which no message is a front.
+-- The messages of the bytes, and the rest, of which no message is a prefix.
 abbrev pub CutIn : Reading → List ℕ → List Message → (rest : List ℕ) → Type 0
 CutIn r = cuts.Cut (grammar.Spells r)
 
@@ -44,7 +44,7 @@ Spells = grammar.Spells shortest
 abbrev pub Alive : List ℕ → Type 0
 Alive = AliveIn shortest
 
--- No message is a front of the bytes.
+-- No message is a prefix of the bytes.
 abbrev pub NoneWhole : List ℕ → Type 0
 NoneWhole = NoneWholeIn shortest
 
@@ -56,7 +56,7 @@ Unfinished = UnfinishedIn shortest
 abbrev pub Place : List ℕ → (place : ℕ) → Type 0
 Place = PlaceIn shortest
 
--- The first byte after which no message can follow stands at the place, for that reason.
+-- The first byte after which no message can follow is at the place, for that reason.
 abbrev pub IsRefused : List ℕ → (place : ℕ) → Why → Type 0
 IsRefused = IsRefusedIn shortest
 
@@ -64,6 +64,6 @@ IsRefused = IsRefusedIn shortest
 abbrev pub Spelled : List ℕ → List Message → (rest : List ℕ) → Type 0
 Spelled = SpelledIn shortest
 
--- The messages of the bytes, and the rest, of which no message is a front.
+-- The messages of the bytes, and the rest, of which no message is a prefix.
 abbrev pub Cut : List ℕ → List Message → (rest : List ℕ) → Type 0
 Cut = CutIn shortest

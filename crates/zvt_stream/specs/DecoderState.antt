@@ -1,5 +1,5 @@
 -- What a judge knows of the bytes that it judged: the part that the next byte plays, how many bytes of the innermost
--- level are to come, and for each level around it how many are to come behind the level in it.
+-- level are to come, and for each level around it how many are to come after the level in it.
 use Rattle.std.specs.Prelude.{◌≡◌, ◌≢◌, ℕ, ◌+◌, ◌-◌, ◌<◌, ◌≤◌, suc, zero, Bool, true, false, Some, List, [], ◌∷◌, ◌++◌, length}
 use Rattle.zvt_grammar.specs.Reading.{Reading, AreBytes}
 use Rattle.zvt_tlv.specs.Grammar as tlv
@@ -47,7 +47,7 @@ pub record AtPayload (r : Reading) (left : ℕ) (bytes : List ℕ) : Type 0 wher
   pub no_fields : (layout_in begun).fields ≡ false
   pub filled : length inside + left ≡ n
 
--- Data with fields has begun; so many bytes and then so many of digits are to come before the fields.
+-- Data with fields has begun; that many bytes and then that many of digits are to come before the fields.
 pub record AtHead (r : Reading) (free digits left : ℕ) (bytes : List ℕ) : Type 0 where
   pub n : ℕ
   pub inside : List ℕ
@@ -67,7 +67,7 @@ pub record Fields (r : Reading) (room : ℕ) (part bytes : List ℕ) : Type 0 wh
   pub sized : length head ≡ head_size (layout_in begun)
   pub filled : length head + room ≡ n
 
--- A container of `room` bytes behind complete fields, and so many bytes behind it.
+-- A container of `room` bytes after complete fields, and that many bytes after it.
 pub record Contained (r : Reading) (trailing : ℕ) (Outer : (room : ℕ) → (part : List ℕ) → Type 0) (room : ℕ) (inside : List ℕ) : Type 0 where
   pub around : ℕ
   pub part : List ℕ
@@ -83,7 +83,7 @@ pub record Contained (r : Reading) (trailing : ℕ) (Outer : (room : ℕ) → (p
   pub filled : length done + suc (length size + (room + trailing)) ≡ around
   pub apart : trailing ≢ 1
 
--- An object of `room` bytes of objects behind complete objects, and so many bytes behind it.
+-- An object of `room` bytes of objects after complete objects, and that many bytes after it.
 pub record Nested (r : Reading) (depth trailing : ℕ) (Outer : (room : ℕ) → (part : List ℕ) → Type 0) (room : ℕ) (inside : List ℕ) : Type 0 where
   pub around : ℕ
   pub part : List ℕ
@@ -154,7 +154,7 @@ HoldsObjects [] = ⊥
 HoldsObjects (k ∷ []) = ⊥
 HoldsObjects (k ∷ j ∷ ks) = Unit {0}
 
--- A content of which so many bytes are to come fits the level.
+-- A content of which that many bytes are to come fits the level.
 abbrev pub HasRoom : (more left : ℕ) → Type 0
 HasRoom more left = (0 < more) × ((over : ℕ) × (left ≡ more + over) × (over ≢ 1))
 

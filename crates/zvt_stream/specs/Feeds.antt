@@ -15,7 +15,7 @@ Feeds old piece (Message apdu taken) new = (0 < taken) × (taken ≤ length piec
 Feeds old piece More new = UnfinishedIn old.reading (old.held ++ piece) × Holds (old.held ++ piece) new × (new.reading ≡ old.reading)
 Feeds old piece (Refused place why) new = IsRefusedIn old.reading (old.held ++ piece) place why × (length old.held ≤ place) × HasRefused new × (new.reading ≡ old.reading)
 
--- The same, where a message is lent.
+-- The same, where a message is borrowed.
 abbrev pub Lends : StreamState → List ℕ → FedView → StreamState → Type 0
 Lends old piece (view.Message taken) new = (apdu : message.Message) × Feeds old piece (Message apdu taken) new × (new.lent ≡ Some apdu)
 Lends old piece view.More new = Feeds old piece More new × (new.lent ≡ None)
@@ -27,7 +27,7 @@ taken_by old piece (Message apdu taken) = taken
 taken_by old piece More = length piece
 taken_by old piece (Refused place why) = suc place - length old.held
 
--- How many bytes of the piece are taken where a message is lent.
+-- How many bytes of the piece are taken where a message is borrowed.
 abbrev pub taken_in_view : StreamState → List ℕ → FedView → ℕ
 taken_in_view old piece (view.Message taken) = taken
 taken_in_view old piece view.More = length piece

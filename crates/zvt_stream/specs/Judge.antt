@@ -20,7 +20,7 @@ use Rattle.zvt_stream.specs.declared.head.Head.{Head}
 use Rattle.zvt_stream.specs.declared.head.Head.TheVariants.{Empty}
 use Rattle.zvt_stream.specs.Head.{head_of}
 
--- The reading of lengths, the part of the next byte, the bytes to come of the innermost level, and those to come behind
+-- The reading of lengths, the part of the next byte, the bytes to come of the innermost level, and those to come after
 -- the open item of each level around it, the innermost first, and the control bytes.
 pub record JudgeState : Type 0 where
   pub reading : Reading
@@ -38,7 +38,7 @@ pub record StandsFor (judge : JudgeState) (bytes : List ℕ) : Type 0 where
   pub stands : Where judge.reading judge.at judge.left judge.outer bytes
   pub prefix : judge.head ≡ head_of bytes
 
--- It stands for some bytes.
+-- It represents some bytes.
 abbrev pub IsJudge : JudgeState → Type 0
 IsJudge judge = (bytes : List ℕ) × StandsFor judge bytes
 
@@ -48,13 +48,13 @@ IsMessageIn r bytes = (message : Message) × Spells r message bytes
 abbrev pub IsMessage : List ℕ → Type 0
 IsMessage = IsMessageIn shortest
 
--- Behind these bytes the byte gives this answer.
+-- After these bytes the byte gives this answer.
 abbrev pub Stepped : Reading → (bytes : List ℕ) → (byte : ℕ) → Result Judged Why → (new : JudgeState) → Type 0
 Stepped r bytes byte (Ok Open) new = StandsFor new (bytes ++ byte ∷ []) × (new.reading ≡ r)
 Stepped r bytes byte (Ok Ended) new = IsMessageIn r (bytes ++ byte ∷ []) × (new ≡ start r)
 Stepped r bytes byte (Err why) new = IsRefusedIn r (bytes ++ byte ∷ []) (length bytes) why × (new ≡ start r)
 
--- Behind these bytes more bytes give this answer.
+-- After these bytes more bytes give this answer.
 abbrev pub Ran : Reading → (bytes more : List ℕ) → DecodeRun → (new : JudgeState) → Type 0
 Ran r bytes more run.Open new = StandsFor new (bytes ++ more) × (new.reading ≡ r)
 Ran r bytes more (run.Ended taken) new = (0 < taken) × (taken ≤ length more) × IsMessageIn r (bytes ++ take taken more) × (new ≡ start r)
@@ -101,12 +101,12 @@ Closes left old new (Some n) = unfilled left old ≡ Some (n, new)
 abbrev pub beginning : Goes
 beginning = record { at = at.FirstControl; left = 1; head = Empty }
 
--- Behind a complete item: the next one, or the end of the message.
+-- After a complete item: the next one, or the end of the message.
 abbrev pub Settles : Reading → (old new : Goes) → (outer : List ℕ) → (bytes : List ℕ) → Judged → Type 0
 Settles r old new outer bytes Open = Where r new.at new.left outer bytes × (new.head ≡ old.head)
 Settles r old new outer bytes Ended = IsFull r bytes × (outer ≡ []) × (new ≡ beginning)
 
--- A judge stands where the bytes that it stands for do by the grammar: at the part that their next byte plays, within as
+-- A judge stands where the bytes that it represents do by the grammar: at the part that their next byte plays, within as
 -- many levels as it counts.
 abbrev pub JudgesStand : Type 0
 JudgesStand = (judge : JudgeState) (bytes : List ℕ) → StandsFor judge bytes →

@@ -45,7 +45,7 @@ Breaks step Memory before read after old new written = (sent : Bool) × (rest : 
 Breaks step Write before read after old new written = CutOff before.reading step (before.held ++ read) old new written
 Breaks step Stopped before read after old new written = (before.stopped ≡ true) × (old ≡ new) × (written ≡ [])
 
--- How many reads and writes a fault stands for that failed.
+-- How many reads and writes a fault represents that failed.
 abbrev pub failed_reads : LineFault → ℕ
 failed_reads Read = 1
 failed_reads Write = 0

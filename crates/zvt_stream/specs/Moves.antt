@@ -11,22 +11,22 @@ use Rattle.zvt_stream.specs.declared.transitions.Transition.{Transition}
 use Rattle.zvt_stream.specs.declared.transitions.Transition.TheVariants.{Within, Ends, Opens}
 use Rattle.zvt_stream.specs.DecoderState.{Where, Between, HasDigits, depth_of, role_of}
 
--- What is known behind the byte.
+-- What is known after the byte.
 abbrev pub Leads : Reading → Transition → (outer : List ℕ) → (bytes : List ℕ) → Type 0
 Leads r (Within at left) outer bytes = Where r at left outer bytes
 Leads r (Ends left) outer bytes = Between r left outer bytes
 Leads r (Opens trailing left) outer bytes = Between r left (trailing ∷ outer) bytes
 
--- A byte behind these bytes: what it leads to where its tests pass, else the reason of the first that fails.
+-- A byte after these bytes: what it leads to where its tests pass, else the reason of the first that fails.
 abbrev pub Moves : Reading → At → (left : ℕ) → (outer : List ℕ) → (bytes : List ℕ) → (byte : ℕ) → Result Transition Why → Type 0
 Moves r at left outer bytes byte (Ok move) = (fault r (role_of at left (depth_of outer)) byte ≡ None) × Leads r move outer (bytes ++ byte ∷ [])
 Moves r at left outer bytes byte (Err why) = fault r (role_of at left (depth_of outer)) byte ≡ Some why
 
--- The same behind all bytes that lead to this part.
+-- The same after all bytes that lead to this part.
 abbrev pub Judges : Reading → At → (left depth : ℕ) → (byte : ℕ) → Result Transition Why → Type 0
 Judges r at left depth byte result = (outer bytes : List ℕ) → depth ≡ depth_of outer → Where r at left outer bytes → Moves r at left outer bytes byte result
 
--- Data of n bytes begins behind these control bytes and this length.
+-- Data of n bytes begins after these control bytes and this length.
 abbrev pub BeginsData : Reading → (high low n : ℕ) → Result Transition Why → Type 0
 BeginsData r high low n (Ok move) =
     (can_fill (layout_of high low n) n ≡ true)

@@ -7,7 +7,7 @@ use Rattle.zvt_apdu.specs.Message.{Message}
 use Rattle.zvt_apdu.specs.MessageCode.{message_code}
 use Rattle.zvt_stream.specs.Apdus.{UnfinishedIn}
 
--- The bytes of the unfinished message, whether bytes were refused, the message that is lent, how many bytes there is
+-- The bytes of the unfinished message, whether bytes were refused, the message that is borrowed, how many bytes there is
 -- room for before memory is asked for, how many bytes were judged, and the reading of lengths.
 pub record StreamState : Type 0 where
   pub held : List ℕ
@@ -57,7 +57,7 @@ Holds bytes s = (s.held ≡ bytes) × (s.stopped ≡ false)
 abbrev pub HasRefused : StreamState → Type 0
 HasRefused s = (s.held ≡ []) × (s.stopped ≡ true)
 
--- What is held and what was refused stays, and nothing is lent.
+-- What is held and what was refused stays, and nothing is borrowed.
 abbrev pub Keeps : StreamState → StreamState → Type 0
 Keeps old new = (new.held ≡ old.held) × (new.stopped ≡ old.stopped) × (new.lent ≡ None) × (new.reading ≡ old.reading)
 

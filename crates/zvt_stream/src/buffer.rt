@@ -54,7 +54,7 @@ impl Held {
         Ok(Held { room, size: 0 })
     }
 
-    /// Makes the capacity enough for so many more bytes, or for the rest of the longest message. Where memory is refused
+    /// Makes the capacity enough for that many more bytes, or for the rest of the longest message. Where memory is refused
     /// nothing changes.
     #[inline(always)]
     pub fn reserve_for(&mut self, more: usize) -> Result<(), AllocError>

@@ -150,7 +150,7 @@ fn run_turns<R: Source, W: Sink, M: Machine>(
     ensures first { OnOk result (Arrives M.hears M.is_resting until turns (R.reads end.old.reader) (R.reads end.new.reader)
         (line_state end.old.stream machine.old (R.remaining end.old.reader) (W.written end.old.writer))
         (line_ends end.new.stream machine.new (R.remaining end.new.reader) (W.written end.new.writer))) }
-    // No turn after which it had stands before a fault.
+    // No turn after which it had comes before a fault.
     ensures falters { IfErr result (λ fault. Falters M.hears M.is_resting until fault turns (R.reads end.old.reader) (R.reads end.new.reader)
         (line_state end.old.stream machine.old (R.remaining end.old.reader) (W.written end.old.writer))
         (line_ends end.new.stream machine.new (R.remaining end.new.reader) (W.written end.new.writer))) }

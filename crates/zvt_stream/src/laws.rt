@@ -13,7 +13,7 @@ pub fn any_refusal()
     ensures { AnyRefusal }
 {}
 
-/// What a judge says of the bytes that it stands for is their position by the grammar of messages: the same part of the
+/// What a judge says of the bytes that it represents is their position by the grammar of messages: the same part of the
 /// next byte, and as many open levels.
 pub fn judges_stand()
     ensures { JudgesStand }

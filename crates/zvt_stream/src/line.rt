@@ -73,7 +73,7 @@ pub trait Machine {
     /// From the first state, hearing the message gives these answers and leads to the second.
     ghost hears: { Self → Message → Answered → Self → Type 0 };
 
-    /// What a lost line makes of the machine.
+    /// What a lost connection makes of the machine.
     ghost loses: { Self → Self → Type 0 };
 
     /// What a malformed line makes of the machine.
@@ -95,7 +95,7 @@ pub trait Machine {
     fn resting(&self) -> bool
         ensures { result ≡ is_resting self.now };
 
-    /// The line was lost: it ended, a device failed, memory was refused, or all turns were made.
+    /// The connection was lost: it ended, a device failed, memory was refused, or all turns were made.
     fn lost(&mut self)
         ensures { loses self.old self.new };
 

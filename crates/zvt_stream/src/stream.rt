@@ -51,7 +51,7 @@ pub enum FedView {
 pub enum FeedError {
     /// Earlier bytes were refused.
     Stopped,
-    /// Memory was refused. Nothing changed but that no message is lent now, and the same piece may be fed again.
+    /// Memory was refused. Nothing changed but that no message is borrowed now, and the same piece may be fed again.
     Memory,
 }
 
@@ -72,7 +72,7 @@ pub struct Truncated {
 }
 
 /// One direction of a line: the bytes of its unfinished message and what they leave open, or those of a whole message
-/// that is lent.
+/// that is borrowed.
 ///
 /// Call `feed_view` where each message is read before the next feed. It lends the message and builds nothing. Call `feed`
 /// where a message is to outlive the next feed. It builds an owned `Apdu`, which takes memory.
@@ -165,7 +165,7 @@ impl Stream {
         }
     }
 
-    /// The bytes of the message that is lent.
+    /// The bytes of the message that is borrowed.
     pub fn lent_bytes(&self) -> Option<&[u8]>
         ensures some { IfSome self.now.lent (λ m. IfSome result (λ bytes. Spells self.now.reading m bytes.now) × IsSome result) }
         ensures none { self.now.lent ≡ None → IsNone result }
@@ -177,7 +177,7 @@ impl Stream {
         }
     }
 
-    // Gives up the message that is lent.
+    // Gives up the message that is borrowed.
     pub(crate) fn give_up(&mut self)
         ensures keeps { Keeps self.old self.new }
         ensures room { self.new.room ≡ self.old.room }
@@ -276,7 +276,7 @@ impl Stream {
     }
 
     /// How many bytes of the unfinished message are held: fewer than the 65,540 of the longest message, none after a
-    /// refusal, and none where a message is lent.
+    /// refusal, and none where a message is borrowed.
     pub fn held(&self) -> usize
         ensures count { result ≡ length self.now.held }
         ensures unfinished { UnfinishedIn self.now.reading self.now.held }
@@ -309,7 +309,7 @@ impl Stream {
     }
 }
 
-/// The message that what is held and these bytes behind it are: nothing is held then. Where memory is refused nothing changes.
+/// The message that what is held and these bytes after it are: nothing is held then. Where memory is refused nothing changes.
 fn message(
     alloc: Global,
     held: &mut Held,

@@ -24,13 +24,13 @@ pub(crate) enum At {
     HighSize { high: u8, low: u8, size_low: u8 },
     /// A byte of data in which no fields stand.
     Payload,
-    /// A byte before the fields: so many bytes of any value and then so many of digits are to come.
+    /// A byte before the fields: that many bytes of any value and then that many of digits are to come.
     Head { free: usize, digits: usize },
     /// The name of a field.
     Name,
-    /// A digit of a field's length, with so many digits after it and that number before it.
+    /// A digit of a field's length, with that many digits after it and that number before it.
     Digit { more: usize, before: usize },
-    /// A byte of a field's content, of which so many are to come.
+    /// A byte of a field's content, of which that many are to come.
     Content { digits: bool, more: usize },
     /// A byte of a container's length.
     Container(LengthAt),
@@ -38,7 +38,7 @@ pub(crate) enum At {
     Tag(TagAt),
     /// A byte of an object's length.
     Length { nests: bool, at: LengthAt },
-    /// A byte of an object's content, of which so many are to come.
+    /// A byte of an object's content, of which that many are to come.
     Object { more: usize },
 }
 
@@ -49,7 +49,7 @@ pub(crate) enum Transition {
     Within { at: At, left: usize },
     /// The end of an item.
     Ends { left: usize },
-    /// A level inside of the item, and so many bytes of the item's own level after it.
+    /// A level inside of the item, and that many bytes of the item's own level after it.
     Opens { trailing: usize, left: usize },
 }
 

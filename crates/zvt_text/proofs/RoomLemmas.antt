@@ -20,7 +20,7 @@ puts_more result at middle old between new one two first = puts_same result new 
 pub prefix_full : (buffer : ℕ) (prefix rest text : List ℕ) → prefix ++ rest ≡ text → buffer < length prefix → buffer < length text
 prefix_full buffer prefix rest text e full = subst (λ (t : List ℕ). buffer < length t) e (omega (arith, full, length-append prefix rest))
 
--- what was put into the buffer after a text stands after it
+-- what was put into the buffer after a text comes after it
 pub put_after : (size end : ℕ) (items put more said : List ℕ) → size ≤ length items → end ≤ length put → take end put ≡ said
     → (size + end ≤ length (take size items ++ (put ++ more))) × (take (size + end) (take size items ++ (put ++ more)) ≡ take size items ++ said)
 put_after size end items put more said inside most is =

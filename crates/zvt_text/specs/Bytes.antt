@@ -10,7 +10,7 @@ abbrev pub hex_or_dash : List ℕ → List ℕ
 hex_or_dash [] = codes "-"
 hex_or_dash (byte ∷ bytes) = encode_upper (byte ∷ bytes)
 
--- a byte that stands as it is: a printing one, but for the quotation mark and the backslash
+-- a byte that is as it is: a printing one, but for the quotation mark and the backslash
 abbrev pub is_plain : ℕ → Bool
 is_plain byte = nat_le 0x20 byte && (nat_le byte 0x7E && (not (byte == 0x22) && not (byte == 0x5C)))
 

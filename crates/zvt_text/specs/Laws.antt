@@ -13,7 +13,7 @@ PasswordsStayHidden =
     × (said (reversal one fields) ≡ said (reversal other fields))
     × (said (end_of_day one fields) ≡ said (end_of_day other fields))
 
--- Two contents of one size have one line, wherever they stand among other fields.
+-- Two contents of one size have one line, wherever they are among other fields.
 abbrev pub StaysHidden : (bmp : ℕ) → Type 0
 StaysHidden bmp =
     (before after : List Field) (one other : List ℕ) → length one ≡ length other → field_lines (before ++ plain bmp one ∷ after) ≡ field_lines (before ++ plain bmp other ∷ after)

@@ -31,7 +31,7 @@ value_text bmp content =
     else if is_hidden bmp then codes "hidden " ++ decimal (length content)
     else hex_or_dash content
 
--- what stands before an object's content
+-- what comes before an object's content
 abbrev pub object_head : ℕ → List ℕ → List ℕ
 object_head depth tag = replicate (2 + 2 * depth) 32 ++ encode_upper tag ++ 32 ∷ []
 

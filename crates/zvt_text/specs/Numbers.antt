@@ -1,9 +1,9 @@
--- The numbers under which a payment is kept.
+-- The numbers under which a payment is stored.
 use Rattle.std.specs.Prelude.{ℕ, ◌-◌, List, ◌++◌, codes, length, replicate, Option, Some, None}
 use Rattle.std.specs.Fmt.{decimal}
 use Rattle.zvt_text.specs.Bytes.{hex_or_dash}
 
--- a number in so many digits, zeros before it where it has fewer
+-- a number in that many digits, zeros before it where it has fewer
 abbrev pub zero_padded : (width number : ℕ) → List ℕ
 zero_padded width number = replicate (width - length (decimal number)) 48 ++ decimal number
 

@@ -36,7 +36,7 @@ pub(crate) fn quote(buffer: &mut [u8], at: usize, bytes: &[u8]) -> Result<usize,
     push(buffer, at, b'"')
 }
 
-/// Bytes with escapes, those that stand as they are in one word with their neighbours.
+/// Bytes with escapes, those that are as they are in one word with their neighbours.
 pub(crate) fn escape_all(buffer: &mut [u8], at: usize, bytes: &[u8]) -> Result<usize, Full>
     requires { at ≤ length buffer.old }
     ensures { Puts result at buffer.old buffer.new (escaped_text bytes.now) }
@@ -54,7 +54,7 @@ pub(crate) fn escape_all(buffer: &mut [u8], at: usize, bytes: &[u8]) -> Result<u
     }
 }
 
-/// How many of the first bytes stand as they are.
+/// How many of the first bytes are as they are.
 #[inline(always)]
 fn plain_first(bytes: &[u8]) -> usize
     ensures few { result ≤ length bytes.now }
@@ -78,7 +78,7 @@ fn escape(buffer: &mut [u8], at: usize, character: u8) -> Result<usize, Full>
     byte(buffer, at, character)
 }
 
-/// Whether the byte stands as it is.
+/// Whether the byte is as it is.
 fn is_plain(character: u8) -> bool
     ensures { result ≡ is_plain character }
 {

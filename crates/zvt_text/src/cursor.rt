@@ -73,7 +73,7 @@ pub(crate) fn decimal<I: Integer>(buffer: &mut [u8], at: usize, number: I) -> Re
     word(buffer, at, Buffer::new().format(number).as_bytes())
 }
 
-/// Writes a character so many times.
+/// Writes a character that many times.
 pub(crate) fn repeat(
     buffer: &mut [u8],
     at: usize,

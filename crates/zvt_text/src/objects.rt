@@ -8,7 +8,7 @@ use crate::bytes::bytes_or_dash;
 use crate::cursor::{Full, fixed, hexadecimal, push, repeat};
 use zvt_tlv::ForestView;
 
-/// A line for each object that stands at a depth; those of the objects in a constructed one follow its own.
+/// A line for each object that is at a depth; those of the objects in a constructed one follow its own.
 pub(crate) fn object_lines(
     buffer: &mut [u8],
     at: usize,
@@ -37,7 +37,7 @@ pub(crate) fn object_lines(
     Ok(end)
 }
 
-/// What stands before an object's content.
+/// What comes before an object's content.
 fn head(buffer: &mut [u8], at: usize, tag: &[u8], depth: usize) -> Result<usize, Full>
     requires most { depth ≤ 6 }
     requires inside { at ≤ length buffer.old }

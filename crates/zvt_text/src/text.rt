@@ -10,7 +10,7 @@ use std::marker::Model;
 /// The capacity for the first text that is written.
 const FIRST_CAPACITY: usize = 128;
 
-/// Text that grows. Where memory is refused nothing of what was to be written stands in it.
+/// Text that grows. Where memory is refused nothing of what was to be written is in it.
 #[derive(Drop)]
 pub struct Text {
     /// The text, and spare capacity after it.
@@ -42,7 +42,7 @@ impl Text {
         }
     }
 
-    /// An empty text with room for so many bytes, which ask for no memory.
+    /// An empty text with room for that many bytes, which ask for no memory.
     pub fn with_capacity(alloc: Global, size: usize) -> Result<Text, AllocError>
         ensures { IfOk result (λ text. text ≡ []) }
     {

@@ -45,7 +45,7 @@ pub fn numbers(text: &mut Text, trace: Trace, receipt: Option<[u8; 2]>) -> Resul
     text.add(&PaymentNumbers { trace, receipt })
 }
 
-/// Writes bytes and the end of the line. From 20 to 7E they stand as they are, but for the quotation mark and the
+/// Writes bytes and the end of the line. From 20 to 7E they are as they are, but for the quotation mark and the
 /// backslash; every other byte is `\x` and two digits in hexadecimal.
 pub fn escaped_line(text: &mut Text, bytes: &[u8]) -> Result<(), AllocError>
     ensures { Adds result text.old text.new (escaped_text bytes.now ++ 10 ∷ []) }
@@ -145,7 +145,7 @@ fn meaning(code: u8) -> Option<&'static str>
     })
 }
 
-/// The numbers under which a payment is kept.
+/// The numbers under which a payment is stored.
 #[derive(Drop)]
 struct PaymentNumbers {
     trace: Trace,

@@ -1,4 +1,4 @@
--- What fields say of a currency that does not stand among them.
+-- What fields say of a currency that is not among them.
 use Rattle.std.proofs.Common.{◌≡◌, ◌∙◌, ℕ, ◌==◌, cond, Some, None, List, [], filter, option_and_then, refl}
 use Rattle.std.specs.Option.{option_map}
 use Rattle.std.proofs.lemmas.List.{nil_from_length}

@@ -1,4 +1,4 @@
--- No trace number stands twice in a book that takes one more payment, or in which an entry changes but for its number.
+-- No trace number appears twice in a book that takes one more payment, or in which an entry changes but for its number.
 use Rattle.std.proofs.Common.{◌≡◌, ℕ, zero, suc, ◌<◌, ◌≤◌, Bool, true, false, cond, ◌||◌, nat_eq, IfSome, List, [], ◌∷◌, ◌++◌, length, length-append, Option, Some, None, take, set, get_or, slice_get, option_map, arith, refl, sym, ap, subst, ◌∙◌, inl, inr}
 use Rattle.std.proofs.lemmas.Bool.{cases_lt}
 use Rattle.std.proofs.lemmas.List.{length-set}

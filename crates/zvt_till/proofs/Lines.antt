@@ -22,7 +22,7 @@ use Rattle.zvt_till.specs.Log.{line_after, line_up, facts_in}
 use Rattle.zvt_till.specs.Events.{run_settings, EndsLine, hears, HearsPiece, FollowsPiece, Follows, Leads, HoldsLine, ReadsPiece, log_after_order}
 use Rattle.zvt_till.proofs.Segments.{fold-snoc}
 
--- Some messages of the piece were heard, and the rest of it stands behind what the stream holds.
+-- Some messages of the piece were heard, and the rest of it comes after what the stream holds.
 pub record Reads (log : List Happening) (held piece : List ℕ) (now : List Happening) (stream : StreamState) (rest : List ℕ) : Type 0 where
   pub messages : List Message
   pub spelled : Spelled (held ++ piece) messages (stream.held ++ rest)

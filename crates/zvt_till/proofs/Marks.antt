@@ -150,7 +150,7 @@ pub mark-length : (ss : List Segment) (place : ℕ) (rows : List Booked) → len
 mark-length ss place [] = refl
 mark-length ss place (row ∷ rows) = ap suc (mark-length ss (place + 1) rows)
 
--- the row behind an entry
+-- the row after an entry
 pub row_at : (rows : List Booked) (i : ℕ) → i < length rows → (row : Booked) × (slice_get rows i ≡ Some row)
 row_at [] i lt = absurd (omega arith)
 row_at (row ∷ rows) zero lt = (row, refl)

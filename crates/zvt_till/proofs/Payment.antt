@@ -112,7 +112,7 @@ earned-class charge used f fs =
     ∙ earned-bits charge used f.receipt cs f.result (is_absent f.original) (is_in_currency charge.currency f.currency) (is_value f.amount charge.amount) f.trace
     ∙ ap (λ c. entry_by c charge f.receipt used cs) (sym (class-parts charge f f.result))
 
--- the verdict that an outcome of a payment stands for
+-- the verdict that an outcome of a payment represents
 abbrev pub verdict_of : ℕ → Outcome → Verdict
 verdict_of amount Registered = Refused
 verdict_of amount (Paid t r) = Entered (booked_as amount t r)

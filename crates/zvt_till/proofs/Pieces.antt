@@ -57,7 +57,7 @@ one-leads (event ∷ events) log bytes last other x y f g =
 pub logs_are_one : LogsAreOne
 logs_are_one events log other p q = one-leads events [] [] log other p.0 q.0 p.1 q.1
 
--- of two fronts of one list one is a front of the other
+-- of two prefixes of one list one is a prefix of the other
 prefixes : (a b x y : List ℕ) → a ++ x ≡ b ++ y → ((z : List ℕ) × (a ≡ b ++ z)) ⊎ ((z : List ℕ) × (b ≡ a ++ z))
 prefixes [] b x y e = inr (b, refl)
 prefixes (c ∷ a) [] x y e = inl (c ∷ a, refl)

@@ -195,7 +195,7 @@ reversing : List Happening → List Happening
 unfolding start approval paid_twice_over
 reversing ends = paid_twice_over ++ (SentOut (Reverse 0) ∷ ends)
 
--- its line is lost, and a second one ends so
+-- its connection is lost, and a second one ends so
 second_try : List Happening → List Happening
 unfolding start approval paid_twice_over reversing
 second_try ends = reversing (HeardIn Positive ∷ Lost ∷ start ++ (SentOut (Reverse 0) ∷ ends))
@@ -215,7 +215,7 @@ running_reversal : reversals_left (reversing (HeardIn Positive ∷ taken ∷ [])
 unfolding start approval paid_twice_over reversing taken
 running_reversal = refl
 
--- a decline, a refusal and an abort without an approval leave nothing; an abort behind one, and a completion without a status, do
+-- a decline, a refusal and an abort without an approval leave nothing; an abort after one, and a completion without a status, do
 declined_reversal : entries (reversing (HeardIn Positive ∷ HeardIn (Abort 108) ∷ [])) ≡ entry 17 5 ∷ []
 unfolding start approval paid_twice_over entry reversing
 declined_reversal = refl

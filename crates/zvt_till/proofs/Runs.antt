@@ -113,7 +113,7 @@ pub log-refused : (log : List Happening) (s : TillState) (sent : List ℕ) (o : 
     → log ≡ log_after_order log o (refusal (facts_in log) o)
 log-refused log s sent o why t e = ap (log_after_order log o) (sym (no-refusal log s sent o (Some why) t e))
 
--- a refusal other than want of memory
+-- a refusal other than out of memory
 pub refused-plainly : (f : Facts) (spare : ℕ) (o : Order) (why : OrderRefusal) → IsRefusedAs f spare o why → (why ≡ Memory → ⊥) → refusal f o ≡ Some why
 refused-plainly f spare Register why r n = r
 refused-plainly f spare (Pay a) Offline r n = r

@@ -20,7 +20,7 @@ count-from place [] = refl
 count-from place (entry ∷ book) =
     one place (count_by is_unclear book) entry.doubt entry book refl (count-from (place + 1) book) ∙ sym (sum_by-cons (λ x. cond (is_unclear x) 1 0) entry book)
 
--- entries behind others
+-- entries after others
 
 by-doubt : (place : ℕ) (more all last : List (ℕ × Cause)) (d : Doubt) → all ≡ more ++ last
     → elim d [ No ↦ all | Unclear cause ↦ (place, cause) ∷ all | TakenBack ↦ all ] ≡ elim d [ No ↦ more | Unclear cause ↦ (place, cause) ∷ more | TakenBack ↦ more ] ++ last

@@ -25,11 +25,11 @@ has-bit used trace number word same is =
     ∙ ap₂ (λ w n. nat_eq (bit_at w (n % 64)) 1) is same
     ∙ ap (λ n. nat_eq (bit_at (get_or used (n / 64) 0) (trace % 64)) 1) same
 
--- behind the last word
+-- after the last word
 pub has-after : (used : List ℕ) (trace number : ℕ) → number ≡ trace → 0 ≡ get_or used (number / 64) 0 → false ≡ has used trace
 has-after used trace number same is = sym (unset used trace (ap (λ n. get_or used (n / 64) 0) (sym same) ∙ sym is))
 
--- zeros behind the last word
+-- zeros after the last word
 zeros : (words : List ℕ) (more k : ℕ) → get_or (words ++ replicate more 0) k 0 ≡ get_or words k 0
 zeros [] zero k = refl
 zeros [] (suc more) zero = refl

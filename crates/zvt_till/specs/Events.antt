@@ -97,7 +97,7 @@ pub record IsTied (log : List Happening) (state : TillState) (sent : List ℕ) :
 abbrev pub HoldsLine : List Happening → List ℕ → StreamState → Type 0
 HoldsLine log bytes stream = line_up log ≡ true → (stream.stopped ≡ false) × ((messages : List Message) × Cut bytes messages stream.held) × (stream.reading ≡ shortest)
 
--- A piece behind what the stream of a line holds: its messages, and how the line ends. Where the line goes on the stream holds the rest.
+-- A piece after what the stream of a line holds: its messages, and how the line ends. Where the line goes on the stream holds the rest.
 pub record ReadsPiece (log : List Happening) (held piece : List ℕ) (next : List Happening) (stream : StreamState) : Type 0 where
   pub messages : List Message
   pub rest : List ℕ

@@ -11,15 +11,15 @@ use Rattle.zvt_till.specs.declared.messages.CurrencyFact.{CurrencyFact}
 use Rattle.zvt_till.specs.declared.messages.CurrencyFact.TheVariants.{Absent as NoCurrency, Once as OneCurrency, Many as ManyCurrencies}
 use Rattle.zvt_till.specs.declared.messages.StatusFacts.{StatusFacts}
 
--- BMP 37 where it stands once; else whether it stands at all
+-- BMP 37 where it appears once; else whether it appears at all
 abbrev pub original_in : List Field → Original
 original_in fields = elim (original_of fields) [ None ↦ cond (count_of 0x37 fields == 0) Absent Many | Some bytes ↦ Once bytes ]
 
--- BMP 49 where it stands once; else whether it stands at all
+-- BMP 49 where it appears once; else whether it appears at all
 abbrev pub currency_in : List Field → CurrencyFact
 currency_in fields = elim (currency_of fields) [ None ↦ cond (count_of 0x49 fields == 0) NoCurrency ManyCurrencies | Some currency ↦ OneCurrency currency ]
 
--- what the fields of a status information say, each where it stands exactly once
+-- what the fields of a status information say, each where it appears exactly once
 abbrev pub facts_in_fields : List Field → StatusFacts
 facts_in_fields fields =
     record {

@@ -51,7 +51,7 @@ DoubtsStay =
 abbrev pub trace_of : Entry → ℕ
 trace_of entry = entry.trace
 
--- whatever happens, no trace number stands twice in the book
+-- whatever happens, no trace number appears twice in the book
 abbrev pub TracesStayDistinct : Type 0
 TracesStayDistinct = (settings : Settings) (log : List Happening) → IsDistinct nat_eq (map trace_of (state_after settings log).book)
 

@@ -85,6 +85,6 @@ abbrev pub or_else : Option OrderRefusal → Option OrderRefusal → Option Orde
 or_else None next = next
 or_else (Some why) next = Some why
 
--- the first refusal that holds, want of memory left aside
+-- the first refusal that holds, out of memory left aside
 abbrev pub refusal : Facts → Order → Option OrderRefusal
 refusal f order = or_else (line_refusal f order) (asked_refusal f order)

@@ -14,7 +14,7 @@ use Rattle.zvt_till.specs.Till.{TillState}
 abbrev pub OnceBelow : ℕ → List Entry → Type 0
 OnceBelow n book = (i : ℕ) → i < n → IfSome (slice_get book i) (λ row. trace_used row.trace (take i book) ≡ false)
 
--- no trace number stands twice, and neither list is too long
+-- no trace number appears twice, and neither list is too long
 pub record CanStand (book : List Entry) (unclear : List (ℕ × Cause)) : Type 0 where
   pub few_booked : length book ≤ most_rows
   pub few_unclear : length unclear ≤ most_rows

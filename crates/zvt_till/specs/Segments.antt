@@ -37,7 +37,7 @@ force_after force (HeardIn m) = force
 force_after force Malformed = force
 force_after force Lost = force
 
--- the currency in force behind a log: that of its last registration
+-- the currency in force after a log: that of its last registration
 abbrev pub in_force : List Happening → Option ℕ
 in_force log = fold force_after None log
 

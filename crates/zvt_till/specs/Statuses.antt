@@ -15,7 +15,7 @@ pub use Rattle.zvt_till.specs.declared.statuses.Demand.TheVariants.{Payment, Rev
 pub use Rattle.zvt_till.specs.declared.statuses.Class.{Class}
 pub use Rattle.zvt_till.specs.declared.statuses.Class.TheVariants.{Good, Declining, Doubtful}
 
--- the field stands once, with this value
+-- the field appears once, with this value
 abbrev pub is_value : Option ℕ → ℕ → Bool
 is_value None x = false
 is_value (Some y) x = y == x

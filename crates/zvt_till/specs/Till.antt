@@ -57,7 +57,7 @@ book_after book (PayOrder a) (Paid t receipt) = book ++ record { amount = a; tra
 book_after book (ReverseOrder e) outcome = reversal_ended book e outcome
 book_after book _ _ = book
 
--- the list of unclear payments: of other orders nothing is kept
+-- the list of unclear payments: of other orders nothing is stored
 abbrev pub unclear_after : List (ℕ × Cause) → Order → Outcome → List (ℕ × Cause)
 unclear_after rows (PayOrder a) (Unclear cause) = rows ++ (a, cause) ∷ []
 unclear_after rows _ _ = rows

@@ -51,7 +51,7 @@ FaultsAreLogged =
     → (messages : List Message) × (rest : List ℕ) × SpelledIn before.reading (before.held ++ breaks.broken.read) messages rest
     × Stands settings (log ++ SentOut (sent_as settings.currency order) ∷ (map hears messages ++ reported_as fault ∷ [])) new.state
 
--- an accepted order whose message could not be written stands in the log as sent, and then the line was lost
+-- an accepted order whose message could not be written is in the log as sent, and then the connection was lost
 abbrev pub UnsentAreLogged : Type 0
 UnsentAreLogged =
     (settings : Settings) (log : List Happening) (fault : LineFault) (order : Order) (old new : TillValue) (first last : Option (List ℕ))

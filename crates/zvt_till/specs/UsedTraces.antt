@@ -8,7 +8,7 @@ use Rattle.zvt_till.specs.Outcomes.{trace_used}
 abbrev pub has_capacity : List ℕ → Bool
 has_capacity words = nat_le 15625 (length words)
 
--- the number is used; 64 numbers stand in a word
+-- the number is used; 64 numbers are in a word
 unfoldable pub has : List ℕ → ℕ → Bool
 has words number = nat_eq (bit_at (slice_index words (number / 64)) (number % 64)) 1
 

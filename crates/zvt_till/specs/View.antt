@@ -17,7 +17,7 @@ pub record TillValue : Type 0 where
   pub state : TillState
   pub spare : ℕ
 
--- an order is refused for the first reason that holds; want of memory comes last, for a payment without a spare place
+-- an order is refused for the first reason that holds; out of memory comes last, for a payment without a spare place
 abbrev pub IsRefusedAs : Facts → ℕ → Order → OrderRefusal → Type 0
 IsRefusedAs f spare (Pay a) Memory = (refusal f (Pay a) ≡ None) × (spare ≡ 0)
 IsRefusedAs f spare Register why = refusal f Register ≡ Some why

@@ -20,7 +20,7 @@ use zvt_apdu::{ApduView, Kind};
 use zvt_bcd::{Currency, Trace};
 use zvt_field::FieldsView;
 
-/// The books of a log that goes on: each happening is judged as it comes, and none is kept.
+/// The books of a log that goes on: each happening is judged as it comes, and none is stored.
 #[derive(Drop)]
 pub struct Bookkeeping {
     found: Books,
@@ -129,7 +129,7 @@ impl Bookkeeping {
 }
 
 /// The payments of a log, each judged by all that was heard up to the next order. Any log will do, also one that no
-/// till of this crate can have. The error is want of memory.
+/// till of this crate can have. The error is that memory runs out.
 pub fn books(alloc: Global, log: &[Happening]) -> Result<Books, AllocError>
     ensures { IfOk result (λ found. books_value found ≡ books log.now) }
 {

@@ -32,7 +32,7 @@ pub enum Event {
     Order(Order),
     /// These bytes came on the line: any part of it, cut anywhere.
     Piece(Vec<u8>),
-    /// The line was lost.
+    /// The connection was lost.
     Lost,
 }
 
@@ -125,7 +125,7 @@ impl Run {
         Ok(())
     }
 
-    /// The line was lost.
+    /// The connection was lost.
     fn lost(&mut self) -> Result<(), AllocError>
         requires { IsTied self.old.log.items self.old.till.state self.old.sent.items }
         ensures tied { OnOk result (IsTied self.new.log.items self.new.till.state self.new.sent.items) }
@@ -225,7 +225,7 @@ pub fn replay(alloc: Global, events: &[Event]) -> Result<Run, AllocError>
     // The log is that of the events, however the line's bytes are cut into pieces.
     ensures log { IfOk result (λ run. IsLogOf events.now run.log.items) }
     ensures allowed { IfOk result (λ run. IsLog run_settings run.log.items) }
-    // The till stands as the log says,
+    // The till is as the log says,
     ensures state { IfOk result (λ run. run.till.state ≡ state_after run_settings run.log.items) }
     ensures facts { IfOk result (λ run. facts_of run.till.state ≡ facts_in run.log.items) }
     // with the book, its marks and the unclear payments that whole orders of the log are worth.

@@ -95,7 +95,7 @@ pub fn heard(apdu: &Apdu) -> Heard
     }
 }
 
-/// The payment that is taken back, where BMP 37 stands once.
+/// The payment that is taken back, where BMP 37 appears once.
 #[inline(always)]
 fn original_shown(single: &Single) -> Original
     ensures { (fields : List Field) → Says fields single.now → result ≡ original_in fields }
@@ -107,7 +107,7 @@ fn original_shown(single: &Single) -> Original
     }
 }
 
-/// The currency that is named, where BMP 49 stands once.
+/// The currency that is named, where BMP 49 appears once.
 #[inline(always)]
 fn currency_named(single: &Single) -> CurrencyFact
     ensures { (fields : List Field) → Says fields single.now → result ≡ currency_in fields }

@@ -56,7 +56,7 @@ pub fn faults_are_logged()
     ensures { FaultsAreLogged }
 {}
 
-/// An accepted order whose message could not be written stands in the log as sent, and then the line was lost.
+/// An accepted order whose message could not be written is in the log as sent, and then the connection was lost.
 pub fn unsent_are_logged()
     ensures { UnsentAreLogged }
 {}

@@ -29,7 +29,7 @@ pub enum Cause {
     TraceUsed,
     /// It was broken off after a status that was no decline.
     AbortAfterApproval,
-    /// The line was lost.
+    /// The connection was lost.
     Line,
     /// What came on the line was no message.
     Malformed,
@@ -87,7 +87,7 @@ pub enum Outcome {
     Refused(u8),
     /// Broken off with this code, after no status but declines.
     Aborted(u8),
-    /// It may have happened or not. A payment stands in the unclear list.
+    /// It may have happened or not. A payment is in the unclear list.
     Unclear(Cause),
     Reversed,
     DayClosed,

@@ -275,7 +275,7 @@ impl Till {
         self.registered = false;
     }
 
-    /// The line was lost, and with it a running order.
+    /// The connection was lost, and with it a running order.
     pub fn lost(&mut self) -> Option<Outcome>
         ensures state { self.new.state ≡ step self.old.state Happening.Lost }
         ensures room { KeepsRoom self.old self.new }

@@ -54,7 +54,7 @@ pub fn receipts<R: Source, W: Sink>(
     read_and_render(alloc, Style::Receipts, Lengths::Shortest, reader, writer)
 }
 
-/// Writes what [`show`] writes, of a trace whose lengths may stand in any form that holds them.
+/// Writes what [`show`] writes, of a trace whose lengths may have any form that holds them.
 pub fn show_loose<R: Source, W: Sink>(
     alloc: Global,
     reader: &mut R,
@@ -67,7 +67,7 @@ pub fn show_loose<R: Source, W: Sink>(
     read_and_render(alloc, Style::Show, Lengths::Padded, reader, writer)
 }
 
-/// Writes what [`join`] writes, of a trace whose lengths may stand in any form that holds them. Each whole message is
+/// Writes what [`join`] writes, of a trace whose lengths may have any form that holds them. Each whole message is
 /// written in its one strict spelling, so that a strict reader reads it.
 pub fn normalise_trace<R: Source, W: Sink>(
     alloc: Global,
@@ -81,7 +81,7 @@ pub fn normalise_trace<R: Source, W: Sink>(
     read_and_render(alloc, Style::Join, Lengths::Padded, reader, writer)
 }
 
-/// Writes what [`receipts`] writes, of a trace whose lengths may stand in any form that holds them.
+/// Writes what [`receipts`] writes, of a trace whose lengths may have any form that holds them.
 pub fn receipts_loose<R: Source, W: Sink>(
     alloc: Global,
     reader: &mut R,
@@ -107,7 +107,7 @@ pub fn audit<R: Source, W: Sink>(
     read_and_audit(alloc, Lengths::Shortest, reader, writer)
 }
 
-/// Writes what [`audit`] writes, of a trace whose lengths may stand in any form that holds them.
+/// Writes what [`audit`] writes, of a trace whose lengths may have any form that holds them.
 pub fn audit_loose<R: Source, W: Sink>(
     alloc: Global,
     reader: &mut R,

@@ -113,7 +113,7 @@ stays_refused {r = r} line from before first second rest a (refused place why) e
       is_after = is_after;
     }
 
--- a piece after which nothing more is read, whatever stands after it
+-- a piece after which nothing more is read, whatever comes after it
 pub emits_no_more : (r : Reading) (line : ℕ) (from : Direction) (side after : Side) (first second : List ℕ) (e : List At) → PieceEmits r line from side first e after → is_stopped after ≡ true → PieceEmits r line from side (first ++ second) e after
 emits_no_more r line from stopped after first second e one over = one
 emits_no_more r line from (running before) after first second e one over = stays_refused line from before first second one.rest one.messages one.ending e after one.arrives one.is_all one.is_after over
@@ -214,7 +214,7 @@ heard_all {r = r} hears line from bytes [] start state hearing old now so (inr n
     subst (λ (b : List ℕ). HearsPiece r hears line from side b state hearing old now) all (so.heard side follows)
 heard_all hears line from bytes (byte ∷ rest) start state hearing old now so (inr none) side follows = absurd (omega (arith, none))
 
--- no text stands after the bytes
+-- no text comes after the bytes
 pub all_read : (bytes undecoded : List ℕ) → length undecoded ≡ 0 → bytes ++ bytes_of undecoded ≡ bytes
 all_read bytes [] none = ap (λ (b : List ℕ). bytes ++ b) no_bytes_of ∙ append-nil bytes
 all_read bytes (first ∷ undecoded) none = absurd (omega (arith, none))

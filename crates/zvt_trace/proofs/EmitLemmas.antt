@@ -33,7 +33,7 @@ use Rattle.zvt_trace.proofs.PieceLemmas.{EndsAs, arrived, undecoded, nothing_lef
 
 -- ---- the messages so far
 
--- so many whole messages came with the prefix of the piece
+-- that many whole messages came with the prefix of the piece
 pub record Fed (r : Reading) (bytes rest : List ℕ) (start state : StreamState) (count : ℕ) : Type 0 where
   pub messages : List Message
   pub done : List ℕ

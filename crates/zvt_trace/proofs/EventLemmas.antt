@@ -66,7 +66,7 @@ tallies_both s t all a b first second messages bad = record {
   bad = omega (arith, bad, first.bad, second.bad, bad_append a b);
 }
 
--- ---- fronts
+-- ---- prefixes
 
 pub prefix_whole : {Emit : List At → Type 0} (all : List At) → Emit all → PrefixOf Emit all
 prefix_whole all emit = record { all = all; later = []; emit = emit; is_prefix = sym (append-nil all) }
@@ -81,7 +81,7 @@ prefix_before events prefix more =
       is_prefix = ap (λ (a : List At). a ++ longer.0) prefix.is_prefix ∙ append_assoc events prefix.later longer.0;
     }
 
--- what stands before is emitted too
+-- what comes before is emitted too
 pub prefix_after : {Emit More : List At → Type 0} (before events : List At) → PrefixOf Emit events → ((all : List At) → Emit all → More (before ++ all)) → PrefixOf More (before ++ events)
 prefix_after before events prefix more = record {
   all = before ++ prefix.all;

@@ -29,7 +29,7 @@ one_more capacity count start before after old new so r = record {
   longer = omega (arith, ap length r.2, length-append old r.0, r.3);
 }
 
--- a read that failed, after so many bytes
+-- a read that failed, after that many bytes
 pub broken : (capacity most : ℕ) (fault : TraceFault) (start before after : Option (List ℕ)) (old new : List ℕ) → Consumes start before old
     → ReadsPiece capacity before after old new (Err fault) → length old + capacity ≤ most → (taken : List ℕ) × (length taken ≤ most) × Consumes start after taken
 broken capacity most Read start before after old new so k h =

@@ -24,7 +24,7 @@ pub nothing_left : (held rest : List ℕ) → held ≡ [] → length rest ≡ 0 
 nothing_left held [] none empty = append-nil held ∙ none
 nothing_left held (byte ∷ rest) none empty = absurd (omega (arith, empty))
 
--- the stream stands after such an ending
+-- the stream comes after such an ending
 abbrev pub EndsAs : StreamState → List ℕ → Ending → Type 0
 EndsAs next rest begun = Holds rest next
 EndsAs next rest (refused place why) = HasRefused next

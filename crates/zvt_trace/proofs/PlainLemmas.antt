@@ -14,7 +14,7 @@ use Rattle.zvt_trace.specs.declared.direction.Direction.TheVariants.{FromTill, F
 use Rattle.zvt_trace.proofs.LineLemmas.{lines-first, newline}
 use Rattle.zvt_trace.proofs.SpelledLemmas.{no_bytes_of, no_text, reads_all}
 
--- what stands after so many
+-- what comes after that many
 abbrev pub after_first : ℕ → List ℕ → List ℕ
 after_first n text = take (length text - n) (drop n text)
 

@@ -201,7 +201,7 @@ pair_more text count some =
     let end : 2 * (count + 1) ≡ 2 * count + 1 + 1 = omega arith in
     ap (λ (k : ℕ). take k text) end ∙ two_more text (2 * count) some
 
--- a pair was read that no space stands in
+-- a pair was read that no space is in
 pub read_plain : (text buffer undecoded : List ℕ) (count h l : ℕ) → count < length buffer → 2 * count + 1 < length text
     → IsDigit (slice_index text (2 * count)) h → IsDigit (slice_index text (2 * count + 1)) l → h ≤ 15 → l ≤ 15
     → ((more : List ℕ) → after_bytes (take count buffer) (spells (without_spaces more)) ≡ spells (without_spaces (take (2 * count) text ++ more)))
@@ -271,7 +271,7 @@ no_bytes : (text : List ℕ) → length text < 1 → length (without_spaces text
 no_bytes [] none = omega arith
 no_bytes (x ∷ xs) none = absurd (omega arith)
 
--- a digit stands alone
+-- a digit is alone
 pub refuses_one : (done text rest low : List ℕ) → 1 ≤ length rest → slice_index rest 0 ≢ 32 → without_spaces low ≡ without_spaces (drop 1 rest) → length low < 1
     → after_bytes done (spells (without_spaces rest)) ≡ spells (without_spaces text) → spells (without_spaces text) ≡ None
 refuses_one done text rest low some other same none so =
@@ -304,7 +304,7 @@ no_piece from text none = by (decode_of (without_spaces text)) (none_in _ (spell
     by (Ok b) e = cc e
     by (Err x) e = refl
 
--- what stands after the bytes of a text that spells some
+-- what comes after the bytes of a text that spells some
 pub goes_on : (done text rest : List ℕ) → after_bytes done (spells (without_spaces rest)) ≡ spells (without_spaces text) → SpellsBytes text → (bytes_of text ≡ done ++ bytes_of rest) × SpellsBytes rest
 goes_on done text rest so spelled = by (spells (without_spaces rest)) (spells (without_spaces text)) so spelled
   where

@@ -88,7 +88,7 @@ LineEmits r scope line (piece from bytes) sides events after =
 LineEmits r scope line lost sides events after =
     (ended : List At) × LineEnds r line sides ended × (events ≡ ended ++ on line trace_event.lost ∷ []) × (after ≡ new_line)
 
--- ---- lines, after so many others
+-- ---- lines, after that many others
 
 pub record OneMore (r : Reading) (scope : Scope) (count : ℕ) (sides : Sides) (line : List ℕ) (Others : Sides → List At → Type 0) (events : List At) : Type 0 where
   pub meaning : Meaning
@@ -135,7 +135,7 @@ pub record PrefixOf (Emit : List At → Type 0) (events : List At) : Type 0 wher
   pub emit : Emit all
   pub is_prefix : all ≡ events ++ later
 
--- so many bytes of a piece, or a line of another kind
+-- that many bytes of a piece, or a line of another kind
 abbrev pub Begins : Meaning → Meaning → Type 0
 Begins prefix comment = prefix ≡ comment
 Begins prefix (piece from bytes) = (first : List ℕ) × (more : List ℕ) × (prefix ≡ piece from first) × (bytes ≡ first ++ more)
@@ -155,13 +155,13 @@ LineBegins r scope number line sides events = (meaning : Meaning) × (meaning_of
 abbrev pub LineSoFar : Reading → Scope → ℕ → List ℕ → Sides → List At → Type 0
 LineSoFar r scope number line sides events = (events ≡ []) ⊎ LineBegins r scope number line sides events
 
--- after so many lines, what so much of the next line emits, or the end of the trace
+-- after that many lines, what so much of the next line emits, or the end of the trace
 abbrev pub NextEmits : Reading → Scope → ℕ → List (List ℕ) → Sides → List At → Type 0
 NextEmits r scope count [] sides events = LineEnds r count sides events
 NextEmits r scope count (line ∷ later) sides events =
     (events ≡ []) ⊎ ((meaning : Meaning) × (prefix : Meaning) × (after : Sides) × (meaning_of line ≡ Ok meaning) × Begins prefix meaning × LineEmits r scope (count + 1) prefix sides events after)
 
--- what so many lines emit, and then what comes next
+-- what that many lines emit, and then what comes next
 pub record Reaches (r : Reading) (scope : Scope) (lines : List (List ℕ)) (events : List At) : Type 0 where
   pub done : List (List ℕ)
   pub later : List (List ℕ)

@@ -48,16 +48,16 @@ bytes_of text = unwrap_or (spells (without_spaces text)) []
 abbrev pub bytes_in : Piece → List ℕ
 bytes_in content = content.bytes.now ++ bytes_of content.undecoded.now
 
--- the first digits of a text are so many pairs, and the buffer begins with their bytes
+-- the first digits of a text are that many pairs, and the buffer begins with their bytes
 abbrev pub ReadsPairs : (text : List ℕ) (count : ℕ) (buffer : List ℕ) → Type 0
 ReadsPairs text count buffer =
     AreHex (take (2 * count) text) × ((undecoded : List ℕ) → after_bytes (take count buffer) (spells (without_spaces undecoded)) ≡ spells (without_spaces (take (2 * count) text ++ undecoded)))
 
--- the two characters after so many pairs spell no byte
+-- the two characters after that many pairs spell no byte
 abbrev pub EndsPairs : (text : List ℕ) (count : ℕ) → Type 0
 EndsPairs text count = spells (slice_index text (2 * count) ∷ slice_index text (2 * count + 1) ∷ []) ≡ None
 
--- the meaning that a line of the code stands for
+-- the meaning that a line of the code represents
 abbrev pub meant_by : TraceLine → Meaning
 meant_by code.Comment = comment
 meant_by (code.Piece from bytes undecoded) = piece from (bytes.now ++ bytes_of undecoded.now)
@@ -85,7 +85,7 @@ abbrev pub Reads : List ℕ → Result TraceLine TraceLineError → Type 0
 Reads line (Ok read) = (meaning_of line ≡ Ok (meant_by read)) × (size_of (meant_by read) ≤ length line) × GoesOn read
 Reads line (Err what) = meaning_of line ≡ Err what
 
--- text begins with a line of which that is so, and the rest stands after it
+-- text begins with a line of which that is so, and the rest comes after it
 abbrev pub Begins : (text : List ℕ) → (List ℕ → Type 0) → (rest : List ℕ) → Type 0
 Begins text Says rest = (line : List ℕ) × (lines text ≡ line ∷ lines rest) × Says line × (length line + length rest ≤ length text) × (length rest < length text)
 

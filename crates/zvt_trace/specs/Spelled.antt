@@ -28,7 +28,7 @@ spells [] = Some []
 spells (digit ∷ []) = None
 spells (high ∷ low ∷ rest) = pair_before (hex_digit_value high) (hex_digit_value low) (spells rest)
 
--- bytes that stand before others
+-- bytes that come before others
 abbrev pub after_bytes : List ℕ → Option (List ℕ) → Option (List ℕ)
 after_bytes done None = None
 after_bytes done (Some bytes) = Some (done ++ bytes)

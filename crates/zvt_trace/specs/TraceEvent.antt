@@ -12,7 +12,7 @@ use Rattle.zvt_trace.specs.declared.event.TraceEvent as code
 use Rattle.zvt_trace.specs.declared.event.TraceEvent.TheVariants as code_event
 
 -- a whole message; or that bytes were refused, with the byte at which no message could follow any more; or that a piece
--- after a refusal is not read; or that a message of so many bytes is cut off where the line ends; or that the line was lost
+-- after a refusal is not read; or that a message of that many bytes is cut off where the line ends; or that the connection was lost
 pub data TraceEvent : Type 0 where
   message : (from : Direction) → (message : Message) → TraceEvent
   refused : (from : Direction) → (head : Head) → (byte place : ℕ) → (why : Why) → TraceEvent

@@ -1,4 +1,4 @@
--- What the streams stand for, what a device has that failed, and what reading a trace answers.
+-- What the streams represent, what a device has that failed, and what reading a trace answers.
 use Rattle.std.specs.Prelude.{◌≡◌, ℕ, ◌<◌, ◌≤◌, ◌++◌, false, List, length, Option, IfSome, Result, Ok, Err, Vec}
 use Rattle.std.specs.Global.{Global}
 use Rattle.std.specs.Io.KnownBytes.{Appends, Consumes, IsAtEnd, Keeps}
@@ -12,7 +12,7 @@ use Rattle.zvt_trace.specs.Trace.{Side, running, stopped}
 use Rattle.zvt_trace.specs.declared.fault.TraceFault.{TraceFault}
 use Rattle.zvt_trace.specs.declared.fault.TraceFault.TheVariants.{Memory, Read, TooLong, Trace, Write}
 
--- ---- what the streams of the code stand for
+-- ---- what the streams of the code represent
 
 -- the stream holds what is left of the side's bytes after their whole messages
 abbrev pub Follows : Reading → StreamState → Side → Type 0

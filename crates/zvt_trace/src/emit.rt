@@ -46,7 +46,7 @@ pub(crate) struct Hearing {
     pub(crate) stopped: bool,
 }
 
-/// So many messages came, and what follows is read.
+/// That many messages came, and what follows is read.
 #[inline(always)]
 fn going(messages: u64) -> Hearing
     ensures { (result.tally.messages ≡ messages) × (result.tally.bad ≡ 0) × (result.stopped ≡ false) }
@@ -57,7 +57,7 @@ fn going(messages: u64) -> Hearing
     }
 }
 
-/// So many messages came, and nothing more is read.
+/// That many messages came, and nothing more is read.
 #[inline(always)]
 fn stopped(messages: u64, bad: u64) -> Hearing
     ensures { (result.tally.messages ≡ messages) × (result.tally.bad ≡ bad) × (result.stopped ≡ true) }

@@ -7,7 +7,7 @@ use crate::event::TraceEvent;
 use std::alloc::AllocError;
 use zvt_io::Failed;
 
-/// What a refusal leaves unread until the line is lost.
+/// What a refusal leaves unread until the connection is lost.
 #[derive(Clone, Copy, Debug, PartialEq, Eq)]
 pub enum Scope {
     /// The side whose bytes were refused.

@@ -19,7 +19,7 @@ impl Till {
         }
     }
 
-    /// Makes the capacity enough for so many payments to be taken and written down: `spare` is then at least `pays`.
+    /// Makes the capacity enough for that many payments to be taken and written down: `spare` is then at least `pays`.
     /// Where memory is refused it is less, though it may have risen. Nothing else changes.
     pub fn reserve(&mut self, pays: usize) -> Result<(), AllocError>
         requires { pays ≤ MAX_BOOK_ENTRIES }

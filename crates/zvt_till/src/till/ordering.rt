@@ -69,7 +69,7 @@ impl Till {
         None
     }
 
-    /// The message that the order sends, or why it is not sent, want of memory left aside.
+    /// The message that the order sends, or why it is not sent, out of memory left aside.
     fn message_of(&self, order: &Order) -> Result<Outgoing, OrderRefusal>
         ensures ok { IfOk result (λ message. (refusal (facts_of self.now.state) order.now ≡ None) × (message_of self.now.state.settings self.now.state.book order.now ≡ Some message)) }
         ensures err { IfErr result (λ why. refusal (facts_of self.now.state) order.now ≡ Some why) }

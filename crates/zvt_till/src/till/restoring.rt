@@ -14,13 +14,13 @@ use zvt_bcd::Amount;
 /// Why no till has rows.
 #[derive(Clone, Copy, Debug, PartialEq, Eq)]
 pub enum RestoreError {
-    /// There are more than `MAX_BOOK_ENTRIES` of a kind, or a trace number stands twice in the book.
+    /// There are more than `MAX_BOOK_ENTRIES` of a kind, or a trace number appears twice in the book.
     Impossible,
     /// Memory was refused.
     Memory,
 }
 
-/// The trace numbers of a book in which none stands twice.
+/// The trace numbers of a book in which none appears twice.
 fn traces_of(alloc: Global, book: &[Entry]) -> Result<UsedTraces, RestoreError>
     ensures traces { IfOk result (λ used. AreTracesOf used book.now) }
     ensures once { OnOk result (OnceBelow (length book.now) book.now) }

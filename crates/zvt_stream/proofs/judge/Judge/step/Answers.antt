@@ -20,13 +20,13 @@ moves v now here depth byte b moved same is deep judged s =
     let moved_there : Moves v.reading v.at v.left v.outer b byte moved = subst (λ (a : At). Moves v.reading a v.left v.outer b byte moved) (sym is) (judged v.outer b deep (subst (λ (a : At). Where v.reading a v.left v.outer b) is there.stands)) in
     subst (λ (w : JudgeState). Moves w.reading w.at w.left w.outer b byte moved) same moved_there
 
--- the control bytes of a judge behind both stay
+-- the control bytes of a judge after both stay
 heads : (v now : JudgeState) (here : At) (byte : ℕ) (b : List ℕ) → v ≡ now → v.at ≡ here → IsAfter here → StandsFor now b → now.head ≡ head_of (b ++ byte ∷ [])
 heads v now here byte b same is trailing s =
     let there : StandsFor v b = subst (λ (w : JudgeState). StandsFor w b) (sym same) s in
     s.prefix ∙ head_stays v.reading v.at v.left byte v.outer b (subst IsAfter (sym is) trailing) there.stands
 
--- a judge stands for some bytes
+-- a judge represents some bytes
 stands : (v now : JudgeState) → v ≡ now → (s : (b : List ℕ) × StandsFor v b) → StandsFor now s.0
 stands v now same s = subst (λ (w : JudgeState). StandsFor w s.0) same s.1
 
