@@ -1,0 +1,97 @@
+use Rattle.std.proofs.Common.{◌+◌, [], ◌∷◌, ◌++◌, length, get_or, inl, ◌∙◌, ap, subst}
+use Rattle.zvt_journal.specs.Device.{Over, Torn, Swapped}
+use Rattle.zvt_journal.specs.Text.{recovered, IsWithOrWithout}
+use Rattle.zvt_journal.proofs.Moments.{started, and_then}
+use Rattle.zvt_journal.proofs.Lines.{recovered_whole}
+use Rattle.zvt_journal.proofs.Append.{torn_after, written_after, opened, swapped_gate, settled, stands_for_more}
+use Rattle.zvt_journal.proofs.journal.Journal.append.Goals as goal
+
+-- the first write leaves the text as it was
+pub returns-in_err-write_synced-clause-any_moment : goal.returns-in_err-write_synced-clause-any_moment
+returns-in_err-write_synced-clause-any_moment g c =
+    let s = c.requires.settled in
+    let device = c.args.self.now.device in
+    let entry = c.args.entry.now in
+    let gate = c.args.self.now.gate in
+    let bytes = c.deref.result.now in
+    let text = recovered (g.D.Device.seen device) in
+    let is = recovered_whole (g.D.Device.seen device) in
+    let P = IsWithOrWithout text entry in
+    let start = started g.D.Device.moment g.D.Device.left_since device P (λ file left. inl (ap recovered (s.durable file (g.met.D.Device.only_now device file left)))) in
+    let written = and_then g.D.Device.moment g.D.Device.left_since device device c.write_synced.new.device P (Torn (gate + 1) (length bytes) (g.D.Device.seen device)) start c.write_synced.ensures.any_moment
+    (λ file torn. inl (torn_after text is gate s.at_gate (length bytes) file (subst (λ was. Torn (gate + 1) (length bytes) was file) s.rest torn))) in
+    written
+
+-- the second leaves it with the record or without
+pub returns-in_err-set_synced-clause-any_moment : goal.returns-in_err-set_synced-clause-any_moment
+returns-in_err-set_synced-clause-any_moment g c =
+    let s = c.requires.settled in
+    let device = c.args.self.now.device in
+    let entry = c.args.entry.now in
+    let gate = c.args.self.now.gate in
+    let bytes = c.deref.result.now in
+    let text = recovered (g.D.Device.seen device) in
+    let is = recovered_whole (g.D.Device.seen device) in
+    let P = IsWithOrWithout text entry in
+    let start = started g.D.Device.moment g.D.Device.left_since device P (λ file left. inl (ap recovered (s.durable file (g.met.D.Device.only_now device file left)))) in
+    let written = and_then g.D.Device.moment g.D.Device.left_since device device c.write_synced.new.device P (Torn (gate + 1) (length bytes) (g.D.Device.seen device)) start c.write_synced.ensures.any_moment
+    (λ file torn. inl (torn_after text is gate s.at_gate (length bytes) file (subst (λ was. Torn (gate + 1) (length bytes) was file) s.rest torn))) in
+    let following_is = c.deref.ensures.value ∙ c.in_ok-following.ensures in
+    let over = subst (λ was. Over (gate + 1) bytes was (g.D.Device.seen c.write_synced.new.device)) s.rest c.in_ok-write_synced.ensures.written in
+    let is_staged = written_after text is gate s.at_gate bytes _ over ∙ ap (λ l. text ++ 10 ∷ l) following_is in
+    let gone_on = and_then g.D.Device.moment g.D.Device.left_since device c.write_synced.new.device c.set_synced.new.device P (Swapped gate (get_or entry 0 0) (g.D.Device.seen c.write_synced.new.device)) written c.set_synced.ensures.any_moment
+    (λ file swapped. swapped_gate text is gate s.at_gate entry c.requires.entry file (subst (λ was. Swapped gate (get_or entry 0 0) was file) is_staged swapped)) in
+    gone_on
+
+pub returns-clause-any_moment : goal.returns-clause-any_moment
+returns-clause-any_moment g c =
+    let s = c.requires.settled in
+    let device = c.args.self.now.device in
+    let entry = c.args.entry.now in
+    let gate = c.args.self.now.gate in
+    let bytes = c.deref.result.now in
+    let text = recovered (g.D.Device.seen device) in
+    let is = recovered_whole (g.D.Device.seen device) in
+    let P = IsWithOrWithout text entry in
+    let start = started g.D.Device.moment g.D.Device.left_since device P (λ file left. inl (ap recovered (s.durable file (g.met.D.Device.only_now device file left)))) in
+    let written = and_then g.D.Device.moment g.D.Device.left_since device device c.write_synced.new.device P (Torn (gate + 1) (length bytes) (g.D.Device.seen device)) start c.write_synced.ensures.any_moment
+    (λ file torn. inl (torn_after text is gate s.at_gate (length bytes) file (subst (λ was. Torn (gate + 1) (length bytes) was file) s.rest torn))) in
+    let following_is = c.deref.ensures.value ∙ c.in_ok-following.ensures in
+    let over = subst (λ was. Over (gate + 1) bytes was (g.D.Device.seen c.write_synced.new.device)) s.rest c.in_ok-write_synced.ensures.written in
+    let is_staged = written_after text is gate s.at_gate bytes _ over ∙ ap (λ l. text ++ 10 ∷ l) following_is in
+    let gone_on = and_then g.D.Device.moment g.D.Device.left_since device c.write_synced.new.device c.set_synced.new.device P (Swapped gate (get_or entry 0 0) (g.D.Device.seen c.write_synced.new.device)) written c.set_synced.ensures.any_moment
+    (λ file swapped. swapped_gate text is gate s.at_gate entry c.requires.entry file (subst (λ was. Swapped gate (get_or entry 0 0) was file) is_staged swapped)) in
+    gone_on
+
+-- and then the record is on the disk
+pub returns-clause-settled : goal.returns-clause-settled
+returns-clause-settled g c =
+    let s = c.requires.settled in
+    let device = c.args.self.now.device in
+    let entry = c.args.entry.now in
+    let gate = c.args.self.now.gate in
+    let bytes = c.deref.result.now in
+    let text = recovered (g.D.Device.seen device) in
+    let is = recovered_whole (g.D.Device.seen device) in
+    let following_is = c.deref.ensures.value ∙ c.in_ok-following.ensures in
+    let over = subst (λ was. Over (gate + 1) bytes was (g.D.Device.seen c.write_synced.new.device)) s.rest c.in_ok-write_synced.ensures.written in
+    let is_staged = written_after text is gate s.at_gate bytes _ over ∙ ap (λ l. text ++ 10 ∷ l) following_is in
+    let over_gate = subst (λ was. Over gate (get_or entry 0 0 ∷ []) was (g.D.Device.seen c.set_synced.new.device)) is_staged c.in_ok-set_synced.ensures.written in
+    let is_open = opened text is gate s.at_gate entry c.requires.entry _ over_gate in
+    settled text is gate s.at_gate entry c.requires.entry _ _ is_open c.in_ok-set_synced.ensures.durable
+
+pub returns-clause-acknowledged : goal.returns-clause-acknowledged
+returns-clause-acknowledged g c =
+    let s = c.requires.settled in
+    let device = c.args.self.now.device in
+    let entry = c.args.entry.now in
+    let gate = c.args.self.now.gate in
+    let bytes = c.deref.result.now in
+    let text = recovered (g.D.Device.seen device) in
+    let is = recovered_whole (g.D.Device.seen device) in
+    let following_is = c.deref.ensures.value ∙ c.in_ok-following.ensures in
+    let over = subst (λ was. Over (gate + 1) bytes was (g.D.Device.seen c.write_synced.new.device)) s.rest c.in_ok-write_synced.ensures.written in
+    let is_staged = written_after text is gate s.at_gate bytes _ over ∙ ap (λ l. text ++ 10 ∷ l) following_is in
+    let over_gate = subst (λ was. Over gate (get_or entry 0 0 ∷ []) was (g.D.Device.seen c.set_synced.new.device)) is_staged c.in_ok-set_synced.ensures.written in
+    let is_open = opened text is gate s.at_gate entry c.requires.entry _ over_gate in
+    stands_for_more text is gate s.at_gate entry c.requires.entry _ is_open

@@ -1,0 +1,52 @@
+-- What the calls of a device do to its file, and which files a crash may leave.
+use Rattle.std.specs.Prelude.{◌<◌, ◌≡◌, ◌⊎◌, ℕ, ◌+◌, ◌≤◌, max, List, [], ◌∷◌, ◌++◌, length, take, drop, Result, IsErrOf}
+use Rattle.zvt_journal.specs.declared.device.DeviceError.{DeviceError}
+use Rattle.zvt_journal.specs.declared.device.DeviceError.TheVariants.{Failed, Full}
+
+-- new is old with these bytes over it from `at` on
+abbrev pub Over : ℕ → List ℕ → List ℕ → List ℕ → Type 0
+Over at bytes old new = new ≡ take at old ++ bytes ++ drop (at + length bytes) old
+
+-- A write of n bytes from `at` on that a crash cuts short: any bytes there and past the old end, what was there elsewhere.
+pub record Torn (at n : ℕ) (old new : List ℕ) : Type 0 where
+  pub before : take at new ≡ take at old
+  pub after : drop (at + n) new ≡ drop (at + n) old
+  pub no_shorter : length old ≤ length new
+  pub no_longer : length new ≤ max (length old) (at + n)
+
+-- One byte over another that a crash cuts short: the one or the other.
+abbrev pub Swapped : ℕ → ℕ → List ℕ → List ℕ → Type 0
+Swapped at byte old new = (new ≡ old) ⊎ Over at (byte ∷ []) old new
+
+-- A cut to n bytes that a crash cuts short: a prefix of the file, and no less than n bytes of it.
+pub record Cut (n : ℕ) (old new : List ℕ) : Type 0 where
+  pub no_shorter : n ≤ length new
+  pub prefix : take (length new) old ≡ new
+
+-- what may be left after a step is what may have been left before it, and then the step
+abbrev pub Follows : (List ℕ → List ℕ → Type 0) → (List ℕ → Type 0) → (List ℕ → Type 0) → Type 0
+Follows step before after = (file : List ℕ) → after file → (was : List ℕ) × before was × step was file
+
+-- a crash leaves this file alone
+abbrev pub Only : List ℕ → (List ℕ → Type 0) → Type 0
+Only this may_leave = (file : List ℕ) → may_leave file → file ≡ this
+
+-- Time goes on: what a crash since t might have left is what it might have left before, or may leave now.
+pub record Elapses (then now : ℕ) (left_then left_now : ℕ → List ℕ → Type 0) (may_leave : List ℕ → Type 0) : Type 0 where
+  pub later : then ≤ now
+  pub nothing_else : (t : ℕ) (file : List ℕ) → t ≤ then → left_now t file → left_then t file ⊎ may_leave file
+  pub keeps : (t : ℕ) (file : List ℕ) → t ≤ then → left_then t file → left_now t file
+
+-- a crash at any moment from old to new leaves a file that has P
+pub record LeavesOnly {D : Type 0} (moment : D → ℕ) (left_since : D → ℕ → List ℕ → Type 0) (old new : D) (P : List ℕ → Type 0) : Type 0 where
+  pub later : moment old ≤ moment new
+  -- also for one who counts from an earlier moment on
+  pub each : (t : ℕ) (file : List ℕ) → t ≤ moment old → left_since new t file → left_since old t file ⊎ P file
+  -- and at the first moment too
+  pub here : (file : List ℕ) → left_since new (moment old) file → P file
+
+-- the device tells a failure only where the disk has failed, and it doesn't tell that it is full
+pub record HasCause {T : Type 0} (before after : ℕ) (result : Result T DeviceError) : Type 0 where
+  pub later : before ≤ after
+  pub failed : IsErrOf result Failed → before < after
+  pub not_full : IsErrOf result Full → ⊥

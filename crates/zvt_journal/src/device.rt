@@ -1,0 +1,100 @@
+//! A file as the journal uses it: what a read returns, and what a crash may leave.
+ghost use Rattle.std.specs.Prelude.{◌≡◌, ◌≤◌, ◌<◌, List, [], ◌∷◌, ℕ, length, take, IfOk, OnOk};
+ghost use Rattle.zvt_journal.specs.declared.device.DeviceError.TheVariants.{Memory};
+ghost use Rattle.zvt_journal.specs.Device.{Only, Follows, Torn, Swapped, Cut, Over, Elapses, HasCause};
+
+use std::alloc::{AllocError, AllocFailed, Global};
+
+/// Why a journal can't go on.
+#[derive(Clone, Copy, Debug, PartialEq, Eq)]
+pub enum DeviceError {
+    /// Memory ran out. Nothing was written.
+    Memory,
+    /// A call on the file failed. What a read returns now is not known: the file is opened anew, by another process.
+    Failed,
+    /// The file has 2^60 bytes or more. Nothing was written.
+    Full,
+}
+
+impl From<AllocError> for DeviceError {
+    ghost from_gives = { λ _ e. e ≡ Memory };
+
+    fn from(_: AllocError) -> Self {
+        DeviceError::Memory
+    }
+}
+
+impl<T: Drop> From<AllocFailed<T>> for DeviceError {
+    ghost from_gives = { λ _ e. e ≡ Memory };
+
+    fn from(_: AllocFailed<T>) -> Self {
+        DeviceError::Memory
+    }
+}
+
+/// A file on a disk that may lose power at any moment. Nothing is durable before a `sync`.
+///
+/// The crash model: a write of one byte over another leaves the old byte or the new one. A write of several bytes leaves
+/// any bytes in its range. Bytes outside of a write stay as they are.
+pub trait Device {
+    /// The bytes that a read returns.
+    ghost seen: { Self → List ℕ };
+
+    /// The files that a crash at this moment may leave.
+    ghost may_leave: { Self → List ℕ → Type 0 };
+
+    /// The moment: a number that doesn't fall.
+    ghost moment: { Self → ℕ };
+
+    /// The files that a crash at some moment from that one on might have left, during a call or between two.
+    ghost left_since: { Self → ℕ → List ℕ → Type 0 };
+
+    /// How often the disk has failed.
+    ghost faults: { Self → ℕ };
+
+    /// Reads the whole file.
+    fn read(&mut self, alloc: Global) -> Result<Vec<u8>, DeviceError>
+        ensures bytes { IfOk result (λ bytes. bytes.items ≡ seen self.old) }
+        ensures seen { seen self.new ≡ seen self.old }
+        ensures crash { (file : List ℕ) → may_leave self.new file → may_leave self.old file }
+        ensures time { Elapses (moment self.old) (moment self.new) (left_since self.old) (left_since self.new) (may_leave self.new) }
+        ensures cause { HasCause (faults self.old) (faults self.new) result };
+
+    /// Writes over the file, and past its end. Until the next `sync` a crash may leave any bytes there.
+    fn write_at(&mut self, at: usize, bytes: &[u8]) -> Result<(), DeviceError>
+        requires { at ≤ length (seen self.old) }
+        ensures written { OnOk result (Over at bytes.now (seen self.old) (seen self.new)) }
+        ensures crash { Follows (Torn at (length bytes.now)) (may_leave self.old) (may_leave self.new) }
+        ensures time { Elapses (moment self.old) (moment self.new) (left_since self.old) (left_since self.new) (may_leave self.new) }
+        ensures cause { HasCause (faults self.old) (faults self.new) result };
+
+    /// Writes one byte over another. Until the next `sync` a crash may leave the one or the other.
+    fn set_byte(&mut self, at: usize, byte: u8) -> Result<(), DeviceError>
+        requires { at < length (seen self.old) }
+        ensures written { OnOk result (Over at (byte ∷ []) (seen self.old) (seen self.new)) }
+        ensures crash { Follows (Swapped at byte) (may_leave self.old) (may_leave self.new) }
+        ensures time { Elapses (moment self.old) (moment self.new) (left_since self.old) (left_since self.new) (may_leave self.new) }
+        ensures cause { HasCause (faults self.old) (faults self.new) result };
+
+    /// Cuts the file to its first `len` bytes.
+    fn cut(&mut self, len: usize) -> Result<(), DeviceError>
+        requires { len ≤ length (seen self.old) }
+        ensures cut { OnOk result (seen self.new ≡ take len (seen self.old)) }
+        ensures crash { Follows (Cut len) (may_leave self.old) (may_leave self.new) }
+        ensures time { Elapses (moment self.old) (moment self.new) (left_since self.old) (left_since self.new) (may_leave self.new) }
+        ensures cause { HasCause (faults self.old) (faults self.new) result };
+
+    /// Makes all that was written durable: a crash then leaves what a read returns.
+    fn sync(&mut self) -> Result<(), DeviceError>
+        ensures durable { OnOk result (Only (seen self.old) (may_leave self.new)) }
+        ensures seen { seen self.new ≡ seen self.old }
+        ensures crash { (file : List ℕ) → may_leave self.new file → may_leave self.old file }
+        ensures time { Elapses (moment self.old) (moment self.new) (left_since self.old) (left_since self.new) (may_leave self.new) }
+        ensures cause { HasCause (faults self.old) (faults self.new) result };
+
+    /// This moment is one of those since an earlier one.
+    ghost counts_now: { (device : Self) (t : ℕ) (file : List ℕ) → t ≤ moment device → may_leave device file → left_since device t file };
+
+    /// Since this moment there is no other.
+    ghost only_now: { (device : Self) (file : List ℕ) → left_since device (moment device) file → may_leave device file };
+}

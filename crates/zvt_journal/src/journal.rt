@@ -1,0 +1,137 @@
+//! Records of text lines, and the gate that makes each of them count at once.
+ghost use Rattle.std.specs.Prelude.{◌≡◌, All, ◌↔◌, ◌⊎◌, ◌+◌, ◌<◌, ◌≤◌, ◌^◌, ◌++◌, [], ◌∷◌, List, ℕ, length, drop, IfOk, OnOk, IsErrOf, IsTrue};
+ghost use Rattle.zvt_journal.specs.Device.{Only, LeavesOnly};
+ghost use Rattle.zvt_journal.specs.Text.{whole, recovered, IsRecord, IsSettled, IsWithOrWithout, IsAsBefore, joined, HasFirst, LinesAreRecovered, RecoveredIsLines};
+
+use crate::durable::{cut_synced, set_synced, write_synced};
+use crate::{Device, DeviceError};
+use std::alloc::{AllocError, Global};
+
+const LINE_FEED: u8 = b'\n';
+
+/// The length from which on a journal takes no record.
+const MAX_JOURNAL_LEN: usize = 1 << 60;
+
+/// A journal that is open, over its device. [`open`] says where its gate is.
+#[derive(Drop)]
+pub struct Journal<D: Device> {
+    pub alloc: Global,
+    pub device: D,
+    /// The place of the closed gate: how many bytes the records have.
+    pub gate: usize,
+}
+
+impl<D: Device> Journal<D> {
+    /// Adds a record of whole lines. After `Ok` each crash leaves a file that has it.
+    ///
+    /// After `Err` the file stands for the records from before, with the new one or without it. `Full` and `Memory` write
+    /// nothing. After `Failed` this journal is not used again.
+    pub fn append(&mut self, entry: &[u8]) -> Result<(), DeviceError>
+        requires settled { IsSettled (D.seen self.old.device) (D.may_leave self.old.device) self.old.gate }
+        requires entry { IsRecord entry.now }
+
+        ensures settled { OnOk result (IsSettled (D.seen self.new.device) (D.may_leave self.new.device) self.new.gate) }
+        ensures acknowledged { OnOk result (recovered (D.seen self.new.device) ≡ recovered (D.seen self.old.device) ++ entry.now) }
+
+        // A crash at any moment of the call leaves the text from before it, with the record or without.
+        ensures any_moment { LeavesOnly D.moment D.left_since self.old.device self.new.device
+            (IsWithOrWithout (recovered (D.seen self.old.device)) entry.now) }
+
+        // It doesn't give up by itself.
+        ensures failed { IsErrOf result DeviceError.Failed → D.faults self.old.device < D.faults self.new.device }
+        ensures full { IsErrOf result DeviceError.Full → 2 ^ 60 ≤ self.old.gate }
+    {
+        if self.gate >= MAX_JOURNAL_LEN {
+            return Err(DeviceError::Full);
+        }
+        let following = after_gate(self.alloc, entry)?;
+        write_synced(&mut self.device, self.gate + 1, &following)?;
+        set_synced(&mut self.device, self.gate, entry[0])?;
+        self.gate += entry.len();
+        Ok(())
+    }
+
+    /// Adds records one after another, in the order given. After `Err` the file has some first ones of them.
+    pub fn append_all(&mut self, entries: &[Vec<u8>]) -> Result<(), DeviceError>
+        requires settled { IsSettled (D.seen self.old.device) (D.may_leave self.old.device) self.old.gate }
+        requires entries { All (λ entry. IsRecord entry.items) entries.now }
+
+        ensures settled { OnOk result (IsSettled (D.seen self.new.device) (D.may_leave self.new.device) self.new.gate) }
+        ensures acknowledged { OnOk result (recovered (D.seen self.new.device) ≡ recovered (D.seen self.old.device) ++ joined entries.now) }
+
+        // A crash at any moment leaves the text from before the call and some first ones of the records, whole.
+        ensures any_moment { LeavesOnly D.moment D.left_since self.old.device self.new.device
+            (HasFirst (recovered (D.seen self.old.device)) entries.now) }
+    {
+        for entry in entries {
+            self.append(entry)?;
+        }
+        Ok(())
+    }
+}
+
+/// What is written after the closed gate: a record without its first byte, and the next closed gate.
+fn after_gate(alloc: Global, entry: &[u8]) -> Result<Vec<u8>, AllocError>
+    requires { 0 < length entry.now }
+    ensures { IfOk result (λ following. following.items ≡ drop 1 entry.now ++ 10 ∷ []) }
+{
+    let mut following = entry[1..].to_vec(alloc)?;
+    following.push(LINE_FEED)?;
+    Ok(following)
+}
+
+/// Recovers the records of a file that a crash may have left, and makes the file one at rest.
+///
+/// It syncs before it reads: after a process was killed, what a read returns need not be durable. An empty file is a journal
+/// without records.
+pub fn open<D: Device>(alloc: Global, device: &mut D) -> Result<Vec<u8>, DeviceError>
+    ensures text { IfOk result (λ text. text.items ≡ recovered (D.seen device.old)) }
+    ensures settled { IfOk result (λ text. IsSettled (D.seen device.new) (D.may_leave device.new) (length text.items)) }
+
+    // A crash at any moment leaves the same text, or what it might have left before.
+    ensures any_moment { LeavesOnly D.moment D.left_since device.old device.new
+        (IsAsBefore (D.may_leave device.old) (recovered (D.seen device.old))) }
+
+    ensures failed { IsErrOf result DeviceError.Failed → D.faults device.old < D.faults device.new }
+    ensures full { IsErrOf result DeviceError.Full → ⊥ }
+{
+    device.sync()?;
+    let mut bytes = device.read(alloc)?;
+    let end = whole_lines(&bytes);
+    // The cut is on the disk before a gate is written: after a torn gate what was there would count.
+    cut_synced(device, end)?;
+    write_synced(device, end, &[LINE_FEED])?;
+    bytes.truncate(end);
+    Ok(bytes)
+}
+
+/// Whether these are whole lines, none of them empty, and at least one: what a journal takes as a record.
+#[tactic(auto, using(crate::proofs::Meaning::record_if, crate::proofs::Meaning::record_whole))]
+pub fn is_record(text: &[u8]) -> bool
+    ensures { IsTrue result ↔ IsRecord text.now }
+{
+    !text.is_empty() && whole_lines(text) == text.len()
+}
+
+/// Lines before a closed gate are what is recovered, whatever comes after it; and each file stands for such lines.
+pub fn lines_are_recovered()
+    ensures lines { LinesAreRecovered }
+    ensures converse { RecoveredIsLines }
+{}
+
+/// How many bytes of whole lines come before the first empty line.
+fn whole_lines(bytes: &[u8]) -> usize
+    ensures whole { result ≡ whole 0 bytes.now }
+    ensures within { result ≤ length bytes.now }
+{
+    let mut end = 0;
+    for (at, byte) in bytes.iter().enumerate() {
+        if *byte == LINE_FEED {
+            if at == end {
+                return end;
+            }
+            end = at + 1;
+        }
+    }
+    end
+}

@@ -1,0 +1,18 @@
+//! A journal: text records in a file, each of which is there whole or not at all, whenever the process ends.
+//!
+//! A record is one or more lines, none of them empty. At rest the file is its records and one line feed, the closed gate,
+//! which reads as an empty line. What a file stands for is its whole lines up to the first empty one. [`open`] recovers
+//! them, and [`Journal::append`] adds a record in two steps: the record without its first byte after the gate, and then the
+//! first byte over the gate, each of them durable before what comes next.
+#![tactic(auto)]
+
+mod device;
+mod durable;
+mod journal;
+mod memory;
+#[cfg(test)]
+mod tests;
+
+pub use device::{Device, DeviceError};
+pub use journal::{Journal, is_record, lines_are_recovered, open};
+pub use memory::Memory;
