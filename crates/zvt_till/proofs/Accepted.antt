@@ -40,7 +40,7 @@ cancelled : (s : TillState) (run : Option Running) → s.running ≡ run → or_
 cancelled s None e r = absurd (no-cancel s.line_up r)
 cancelled s (Some run) e r = runs s run e
 
-known-accepted : (s : TillState) (o : Order) → refusal (facts_of s) o ≡ None → IsKnown (accept s o)
+pub known-accepted : (s : TillState) (o : Order) → refusal (facts_of s) o ≡ None → IsKnown (accept s o)
 known-accepted s Register r = λ e. absurd cc
 known-accepted s (Pay a) r = λ e. absurd cc
 known-accepted s (Reverse k) r = λ e. absurd cc

@@ -23,7 +23,7 @@ pub use events::{Event, Run, replay};
 pub use happenings::{Happening, Sent};
 pub use line::{RunFault, run_order, send_order};
 pub use log_books::{Booked, Books};
-pub use messages::{CurrencyFact, Heard, Original, StatusFacts};
+pub use messages::{CurrencyFact, Heard, Original, StatusFacts, reply_to};
 pub use orders::{Order, OrderRefusal, Outgoing, Reply};
 pub use outcomes::{Cause, Outcome};
 pub use settings::TillSettings;

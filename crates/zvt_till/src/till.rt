@@ -94,7 +94,7 @@ impl Till {
     }
 
     /// Whether the line is up.
-    pub(crate) fn line_up(&self) -> bool
+    pub fn line_up(&self) -> bool
         ensures { result ≡ self.now.state.line_up }
     {
         self.line_up

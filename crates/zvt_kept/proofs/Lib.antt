@@ -1,0 +1,12 @@
+mod Bytes
+mod Kept
+mod Known
+mod LineLemmas
+mod Logged
+mod Made
+mod Numbers
+mod ReadLines
+mod Rows
+mod Sent
+mod Steps
+mod WordLemmas

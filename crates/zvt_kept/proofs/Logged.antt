@@ -1,0 +1,140 @@
+-- What a till and its journal keep, one record further.
+use Rattle.std.proofs.Common.{◌≡◌, ⊎_elim, inl, inr, ℕ, ◌+◌, ◌<◌, Bool, true, false, cond, List, [], ◌∷◌, ◌++◌, Option, Some, None, refl, sym, ap, subst, ◌∙◌, append_assoc, arith, take}
+use Rattle.std.proofs.lemmas.List.{append-nil, take_all}
+use Rattle.zvt_till.specs.declared.happenings.Happening.{Happening}
+use Rattle.zvt_till.specs.declared.happenings.Happening.TheVariants.{Connected, Sent as SentOut, Heard as HeardIn, Lost}
+use Rattle.zvt_till.specs.declared.statuses.Running.{Running}
+use Rattle.zvt_till.specs.Log.{CanFollow, facts_in, line_after, line_up}
+use Rattle.zvt_till.specs.Sending.{Settings}
+use Rattle.zvt_till.specs.Till.{TillState, facts_of, finish, meet, meet_running, line_down, new_till, state_after, step}
+use Rattle.zvt_till.specs.TillHistory.{Stands}
+use Rattle.zvt_till.proofs.BookStepLemmas.{settings-kept}
+use Rattle.zvt_till.proofs.Segments.{fold-snoc}
+use Rattle.zvt_till.proofs.Steps.{steps_meet_log}
+use Rattle.zvt_till.proofs.TillHistoryLemmas.{stands-more}
+use Rattle.zvt_journal.specs.Text.{recovered, whole, IsSettled, IsWithOrWithout}
+use Rattle.zvt_journal.specs.Device.{LeavesOnly}
+use Rattle.zvt_journal.proofs.Lines.{recovered_whole}
+use Rattle.zvt_kept.specs.Records.{Kept, IsRecordOf, RecordsAreKept, kept_in}
+use Rattle.zvt_kept.specs.Logs.{Happens, HappenAll, StandsFor}
+use Rattle.zvt_kept.specs.KeptTill.{IsKept, Keeps, KeepsSome, LeavesLogs, Outlives, Standing, unless_up}
+
+-- ---- records
+
+happen_more : (currency : ℕ) (kept : List Kept) (one : Kept) (log happened : List Happening) → HappenAll currency kept log → Happens currency one happened → HappenAll currency (kept ++ one ∷ []) (log ++ happened)
+happen_more currency [] one log happened none h = (happened, [], h, refl, ap (λ l. l ++ happened) none ∙ sym (append-nil happened))
+happen_more currency (first ∷ kept) one log happened all h =
+    (all.0, all.1 ++ happened, all.2, happen_more currency kept one all.1 happened all.3 h, ap (λ l. l ++ happened) all.4 ∙ append_assoc all.0 all.1 happened)
+
+whole_text : (file : List ℕ) → recovered (recovered file) ≡ recovered file
+whole_text file = take_all (whole 0 (recovered file)) (recovered file) (omega (arith, recovered_whole file))
+
+module _ (records_are_kept : RecordsAreKept) where
+  pub stands_more : (currency : ℕ) (file : List ℕ) (log : List Happening) (one : Kept) (added : List ℕ) (happened : List Happening)
+      → StandsFor currency (recovered file) log → IsRecordOf one added → Happens currency one happened → StandsFor currency (recovered file ++ added) (log ++ happened)
+  stands_more currency file log one added happened s is h = record {
+    kept = s.kept ++ one ∷ [];
+    happened = s.happened ++ happened;
+    read = records_are_kept (recovered file) s.kept one added (whole_text file) s.read is;
+    happens = happen_more currency s.kept one s.happened happened s.happens h;
+    begins = ap (λ l. l ++ happened) s.begins;
+  }
+
+  -- with the record or without it
+  pub leaves_logs : (settings : Settings) (file : List ℕ) (log : List Happening) (one : Kept) (added : List ℕ) (happened : List Happening)
+      → StandsFor settings.currency (recovered file) log → IsRecordOf one added → Happens settings.currency one happened
+      → (left : List ℕ) → IsWithOrWithout (recovered file) added left → LeavesLogs settings log happened left
+  leaves_logs settings file log one added happened s is h left with_or_without = ⊎_elim
+      (λ without. inl (subst (λ text. StandsFor settings.currency text log) (sym without) s))
+      (λ with_it. inr (subst (λ text. StandsFor settings.currency text (log ++ happened)) (sym with_it) (stands_more settings.currency file log one added happened s is h)))
+      with_or_without
+
+  -- ---- a crash at any moment
+
+  module _ {D : Type 0} (seen : D → List ℕ) (may_leave : D → List ℕ → Type 0) (moment : D → ℕ) (left_since : D → ℕ → List ℕ → Type 0) where
+    pub weaker : (old new : D) (P Q : List ℕ → Type 0) → LeavesOnly moment left_since old new P → ((file : List ℕ) → P file → Q file) → LeavesOnly moment left_since old new Q
+    weaker old new P Q leaves so = record {
+      later = leaves.later;
+      each = λ t file le left. ⊎_elim inl (λ p. inr (so file p)) (leaves.each t file le left);
+      here = λ file left. so file (leaves.here file left);
+    }
+
+    pub outlives : (old new : Standing D) (one : Kept) (added : List ℕ) (happened : Settings → List Happening)
+        → IsRecordOf one added → ((settings : Settings) → Happens settings.currency one (happened settings))
+        → LeavesOnly moment left_since old.device new.device (IsWithOrWithout (recovered (seen old.device)) added)
+        → Outlives seen may_leave moment left_since happened old new
+    outlives old new one added happened is h leaves settings log has =
+        weaker old.device new.device (IsWithOrWithout (recovered (seen old.device)) added) (LeavesLogs settings log (happened settings)) leaves
+        (λ file. leaves_logs settings (seen old.device) log one added (happened settings) has.recorded is (h settings) file)
+
+-- ---- the till
+
+-- a till of a log has the line that the log says
+pub line_is : (settings : Settings) (log : List Happening) (state : TillState) → Stands settings log state → state.line_up ≡ line_up log
+line_is settings log state t = ap (λ f. f.line_up) (ap facts_of t.1 ∙ steps_meet_log settings log t.0)
+
+pub up_stands : (settings : Settings) (log : List Happening) (state : TillState) → state.line_up ≡ true → Stands settings (log ++ unless_up state.line_up) state → Stands settings log state
+up_stands settings log state up t = subst (λ l. Stands settings l state) (ap (λ b. log ++ unless_up b) up ∙ append-nil log) t
+
+stands_up : (settings : Settings) (log : List Happening) (state : TillState) → state.line_up ≡ true → Stands settings log state → Stands settings (log ++ unless_up state.line_up) state
+stands_up settings log state up t = subst (λ l. Stands settings l state) (sym (ap (λ b. log ++ unless_up b) up ∙ append-nil log)) t
+
+-- what happens on a line that is up, and doesn't end it
+pub stays_up : (settings : Settings) (log : List Happening) (state next : TillState) (h : Happening)
+    → state.line_up ≡ true → (line_after true h ≡ true) → CanFollow settings (facts_in log) h → next ≡ step state h
+    → Stands settings (log ++ unless_up state.line_up) state → Stands settings ((log ++ h ∷ []) ++ unless_up next.line_up) next
+stays_up settings log state next h up stays can is t =
+    let now : Stands settings log state = up_stands settings log state up t in
+    let then : Stands settings (log ++ h ∷ []) next = subst (λ s. Stands settings (log ++ h ∷ []) s) (sym is) (stands-more settings log state h now can) in
+    let line : next.line_up ≡ true = line_is settings (log ++ h ∷ []) next then ∙ fold-snoc line_after false log h ∙ ap (λ b. line_after b h) (sym (line_is settings log state now) ∙ up) ∙ stays in
+    stands_up settings (log ++ h ∷ []) next line then
+
+-- ---- the line
+
+abbrev lost_by : TillState → Option Running → TillState
+lost_by s None = s
+lost_by s (Some r) = meet_running s r Lost
+
+running_lost : (s : TillState) (r : Option Running) → s.running ≡ r → (lost_by s r).running ≡ None
+running_lost s None none = none
+running_lost s (Some r) is = refl
+
+quiet : (s : TillState) → s.running ≡ None → meet s Lost ≡ s
+quiet s none = rw none refl
+
+-- a line that is lost twice is lost once
+pub lost_twice : (s : TillState) → step (step s Lost) Lost ≡ step s Lost
+lost_twice s = ap line_down (quiet (step s Lost) (running_lost s s.running refl))
+
+pub lost_stands : (settings : Settings) (log : List Happening) (state : TillState) (up : Bool) → Stands settings (log ++ unless_up up) state → Stands settings (log ++ Lost ∷ []) (step state Lost)
+lost_stands settings log state true t = stands-more settings log state Lost (subst (λ l. Stands settings l state) (append-nil log) t) tt
+lost_stands settings log state false t =
+    let before = state_after settings log in
+    let is : state ≡ step before Lost = t.1 ∙ fold-snoc step (new_till settings) log Lost in
+    subst (λ s. Stands settings (log ++ Lost ∷ []) s) (is ∙ sym (lost_twice before) ∙ ap (λ s. step s Lost) (sym is)) t
+
+pub keeps_lost : (settings : Settings) (log : List Happening) (seen : List ℕ) (may_leave : List ℕ → Type 0) (gate : ℕ) (state : TillState)
+    → Keeps settings log seen may_leave gate state → Keeps settings log seen may_leave gate (step state Lost)
+keeps_lost settings log seen may_leave gate state k = record { settled = k.settled; recorded = k.recorded; stands = lost_stands settings log state state.line_up k.stands }
+
+pub connected_stands : (settings : Settings) (log : List Happening) (state next : TillState) → state.line_up ≡ false → next ≡ step state Connected
+    → Stands settings (log ++ unless_up state.line_up) state → Stands settings ((log ++ Lost ∷ Connected ∷ []) ++ unless_up next.line_up) next
+connected_stands settings log state next down is t =
+    let lost : Stands settings (log ++ Lost ∷ []) state = subst (λ l. Stands settings l state) (ap (λ b. log ++ unless_up b) down) t in
+    let more : Stands settings ((log ++ Lost ∷ []) ++ Connected ∷ []) (step state Connected) = stands-more settings (log ++ Lost ∷ []) state Connected lost tt in
+    let here : Stands settings (log ++ Lost ∷ Connected ∷ []) next = subst (λ s. Stands settings (log ++ Lost ∷ Connected ∷ []) s) (sym is) (subst (λ l. Stands settings l (step state Connected)) (append_assoc log (Lost ∷ []) (Connected ∷ [])) more) in
+    stands_up settings (log ++ Lost ∷ Connected ∷ []) next (ap (λ s. s.line_up) is) here
+
+-- ---- the settings
+
+pub keeps_some : (settings : Settings) (log : List Happening) (seen : List ℕ) (may_leave : List ℕ → Type 0) (gate : ℕ) (state : TillState)
+    → Keeps settings log seen may_leave gate state → KeepsSome seen may_leave gate state
+keeps_some settings log seen may_leave gate state k =
+    let own : state.settings ≡ settings = ap (λ s. s.settings) k.stands.1 ∙ settings-kept settings (log ++ unless_up state.line_up) in
+    (log, subst (λ x. Keeps x log seen may_leave gate state) (sym own) k)
+
+pub kept_lost : (failed : Bool) (seen : List ℕ) (may_leave : List ℕ → Type 0) (gate : ℕ) (state next : TillState) → next ≡ step state Lost
+    → IsKept failed seen may_leave gate state → IsKept failed seen may_leave gate next
+kept_lost true seen may_leave gate state next is k = ap (λ s. s.line_up) is
+kept_lost false seen may_leave gate state next is k =
+    keeps_some state.settings k.0 seen may_leave gate next (subst (λ s. Keeps state.settings k.0 seen may_leave gate s) (sym is) (keeps_lost state.settings k.0 seen may_leave gate state k.1))

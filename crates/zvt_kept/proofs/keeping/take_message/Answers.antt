@@ -1,0 +1,41 @@
+use Rattle.std.proofs.Common.{◌≡◌, None, cond, refl, sym, ap, subst, ◌∙◌}
+use Rattle.zvt_till.specs.declared.happenings.Happening.TheVariants.{Heard as HeardIn}
+use Rattle.zvt_till.specs.Events.{hears}
+use Rattle.zvt_till.specs.Hearing.{heard_as}
+use Rattle.zvt_till.specs.Line.{Answers}
+use Rattle.zvt_till.specs.Sending.{reply_to}
+use Rattle.zvt_till.specs.Till.{step}
+use Rattle.zvt_kept.specs.Records.{heard}
+use Rattle.zvt_kept.specs.KeptTill.{Standing, message_heard}
+use Rattle.zvt_kept.proofs.Logged.{outlives}
+use Rattle.zvt_kept.proofs.Made.{records_are_kept}
+use Rattle.zvt_kept.proofs.Steps.{heard_follows, logs_one}
+use Rattle.zvt_kept.proofs.keeping.take_message.Goals as goal
+
+pub returns-in-Ok : goal.returns-in-Ok
+returns-in-Ok g c =
+    let V = g.D.Device in
+    let m = c.args.apdu.now in
+    let state = c.args.till.now.state in
+    let old : Standing g.row.D.Denot = record { till = c.args.till.now; device = c.args.journal.now.device; gate = c.args.journal.now.gate } in
+    let new : Standing g.row.D.Denot = record { till = c.hear.new.self; device = c.keep_heard.new.journal.device; gate = c.keep_heard.new.journal.gate } in
+    let kept = c.in-Ok.ensures in
+    let goes = c.hear.ensures.state ∙ ap (λ h. step state (HeardIn h)) c.heard_view-heard.ensures in
+    let replied = ap reply_to c.heard_view-heard.ensures ∙ sym (ap (λ b. cond b (reply_to (heard_as m)) None) c.requires.up) in
+    record {
+      heard = (goes, subst (λ o. Answers o c.answers_to-answers.result) replied c.answers_to-answers.ensures, c.hear.ensures.room);
+      logs = logs_one V.seen V.may_leave V.moment V.left_since old new (heard kept.0) kept.2.added (λ settings. hears m) c.requires.up (λ settings. refl) (heard_follows state c.requires.up) (λ settings. goes) kept.2.is (λ settings. (m, kept.1, refl)) kept.2.durable.0 kept.2.durable.1;
+      outlives = outlives records_are_kept V.seen V.may_leave V.moment V.left_since old new (heard kept.0) kept.2.added (message_heard V.seen V.may_leave V.moment V.left_since m) kept.2.is (λ settings. (m, kept.1, refl)) kept.2.leaves;
+    }
+
+pub returns-in-Err : goal.returns-in-Err
+returns-in-Err g c =
+    let V = g.D.Device in
+    let m = c.args.apdu.now in
+    let old : Standing g.row.D.Denot = record { till = c.args.till.now; device = c.args.journal.now.device; gate = c.args.journal.now.gate } in
+    let new : Standing g.row.D.Denot = record { till = c.lost.new.self; device = c.keep_heard.new.journal.device; gate = c.keep_heard.new.journal.gate } in
+    let kept = c.keep_heard.ensures in
+    record {
+      lost = (c.lost.ensures.state, c.lost.ensures.room);
+      outlives = outlives records_are_kept V.seen V.may_leave V.moment V.left_since old new (heard kept.0) kept.2.added (message_heard V.seen V.may_leave V.moment V.left_since m) kept.2.is (λ settings. (m, kept.1, refl)) kept.2.leaves;
+    }

@@ -1,0 +1,13 @@
+use Rattle.zvt_kept.specs.KeptTill.{Standing, order_sent}
+use Rattle.zvt_kept.proofs.Steps.{kept_on, taken_up, up_whole}
+use Rattle.zvt_kept.proofs.kept_till.KeptTill.order.Goals as goal
+
+pub invariant_of-self : goal.invariant_of-self
+invariant_of-self g c =
+    let V = g.D.Device in
+    let k = c.self.inside in
+    let old : Standing g.row.D.Denot = record { till = k.till; device = k.journal.device; gate = k.journal.gate } in
+    let new : Standing g.row.D.Denot = record { till = c.take_order.new.till; device = c.take_order.new.journal.device; gate = c.take_order.new.journal.gate } in
+    let took = c.in-Ok.ensures in
+    kept_on V.seen V.may_leave V.moment V.left_since k.failed (order_sent V.seen V.may_leave V.moment V.left_since c.args.order) old new
+    (up_whole V.seen V.may_leave V.moment V.left_since k.failed old (taken_up k.till.state c.args.order took.taken) c.self.invariant) took.logs c.self.invariant

@@ -1,0 +1,151 @@
+-- A till and its journal, and what each of their steps makes durable.
+use Rattle.std.specs.Prelude.{◌≡◌, ◌⊎◌, ℕ, Bool, true, false, cond, List, [], ◌∷◌, ◌++◌, Option, Some, None, Result, Ok, Err, IfOk}
+use Rattle.zvt_apdu.specs.Message.{Message}
+use Rattle.zvt_stream.specs.Answered.{Answered}
+use Rattle.zvt_till.specs.declared.happenings.Happening.{Happening}
+use Rattle.zvt_till.specs.declared.happenings.Happening.TheVariants.{Connected, Sent as SentOut, Lost}
+use Rattle.zvt_till.specs.declared.orders.Order.{Order}
+use Rattle.zvt_till.specs.declared.orders.Outgoing.{Outgoing}
+use Rattle.zvt_till.specs.Events.{hears}
+use Rattle.zvt_till.specs.Line.{till_hears, till_loses}
+use Rattle.zvt_till.specs.Refusals.{refusal, sent_as}
+use Rattle.zvt_till.specs.Sending.{Settings, message_of}
+use Rattle.zvt_till.specs.Till.{TillState, accept, facts_of, step}
+use Rattle.zvt_till.specs.TillHistory.{Stands}
+use Rattle.zvt_till.specs.View.{TillValue, IsRefusedAs, KeepsRoom}
+use Rattle.zvt_journal.specs.Text.{recovered, IsSettled, IsWithOrWithout}
+use Rattle.zvt_journal.specs.Device.{LeavesOnly}
+use Rattle.zvt_journal.specs.declared.device.DeviceError.{DeviceError}
+use Rattle.zvt_kept.specs.Records.{Kept, IsRecordOf}
+use Rattle.zvt_kept.specs.Logs.{StandsFor}
+use Rattle.zvt_kept.specs.declared.refusal.KeptRefusal.{KeptRefusal}
+use Rattle.zvt_kept.specs.declared.refusal.KeptRefusal.TheVariants.{Order as OrderRefused, Journal as JournalFailed}
+
+-- a till, and the device and the gate of its journal
+pub record Standing (D : Type 0) : Type 0 where
+  pub till : TillValue
+  pub device : D
+  pub gate : ℕ
+
+-- what contracts see of a till with its journal
+pub record KeptValue (D : Type 0) : Type 0 where
+  pub standing : Standing D
+  pub failed : Bool
+
+-- what a till has lived through beside its journal's log: the loss of its line, while that is down
+abbrev pub unless_up : Bool → List Happening
+unless_up up = cond up [] (Lost ∷ [])
+
+-- The file is all on the disk and stands for this log. The till is that of the log, after its line was lost where it is down.
+pub record Keeps (settings : Settings) (log : List Happening) (seen : List ℕ) (may_leave : List ℕ → Type 0) (gate : ℕ) (state : TillState) : Type 0 where
+  pub settled : IsSettled seen may_leave gate
+  pub recorded : StandsFor settings.currency (recovered seen) log
+  pub stands : Stands settings (log ++ unless_up state.line_up) state
+
+-- the journal keeps some log of the till
+abbrev pub KeepsSome : (seen : List ℕ) → (may_leave : List ℕ → Type 0) → (gate : ℕ) → TillState → Type 0
+KeepsSome seen may_leave gate state = (log : List Happening) × Keeps state.settings log seen may_leave gate state
+
+-- The journal keeps what happened to the till. Once it failed the line is down, and stays so.
+abbrev pub IsKept : (failed : Bool) → (seen : List ℕ) → (may_leave : List ℕ → Type 0) → (gate : ℕ) → TillState → Type 0
+IsKept false seen may_leave gate state = KeepsSome seen may_leave gate state
+IsKept true seen may_leave gate state = state.line_up ≡ false
+
+-- a crash leaves a file that stands for the log before, or for the log with what happened after it
+abbrev pub LeavesLogs : Settings → (before happened : List Happening) → List ℕ → Type 0
+LeavesLogs settings before happened file =
+    StandsFor settings.currency (recovered file) before ⊎ StandsFor settings.currency (recovered file) (before ++ happened)
+
+-- whether the journal has failed after an order was answered so
+abbrev pub failed_after : {A : Type 0} → Bool → Result A KeptRefusal → Bool
+failed_after before (Ok a) = before
+failed_after before (Err (OrderRefused why)) = before
+failed_after before (Err (JournalFailed why)) = true
+
+module _ {D : Type 0} (seen : D → List ℕ) (may_leave : D → List ℕ → Type 0) (moment : D → ℕ) (left_since : D → ℕ → List ℕ → Type 0) where
+  -- A record was to be made durable. A crash at any moment leaves the text before, with the record or without.
+  pub record Recorded (one : Kept) (old new : D) (gate : ℕ) (result : Result Unit DeviceError) : Type 0 where
+    pub added : List ℕ
+    pub is : IsRecordOf one added
+    pub durable : IfOk result (λ _. (recovered (seen new) ≡ recovered (seen old) ++ added) × IsSettled (seen new) (may_leave new) gate)
+    pub leaves : LeavesOnly moment left_since old new (IsWithOrWithout (recovered (seen old)) added)
+
+  -- the journal keeps this log of the till
+  abbrev pub HasLog : Settings → List Happening → Standing D → Type 0
+  HasLog settings log k = Keeps settings log (seen k.device) (may_leave k.device) k.gate k.till.state
+
+  -- A crash at any moment from old to new left the log, or the log and what happened.
+  abbrev pub Outlives : (Settings → List Happening) → (old new : Standing D) → Type 0
+  Outlives happened old new =
+      (settings : Settings) (log : List Happening) → HasLog settings log old → LeavesOnly moment left_since old.device new.device (LeavesLogs settings log (happened settings))
+
+  -- what happened is in the journal's log
+  abbrev pub Logs : (Settings → List Happening) → (old new : Standing D) → Type 0
+  Logs happened old new = (settings : Settings) (log : List Happening) → HasLog settings log old → HasLog settings (log ++ happened settings) new
+
+  abbrev pub order_sent : Order → Settings → List Happening
+  order_sent order settings = SentOut (sent_as settings.currency order) ∷ []
+
+  abbrev pub message_heard : Message → Settings → List Happening
+  message_heard message settings = hears message ∷ []
+
+  abbrev pub line_changed : Settings → List Happening
+  line_changed settings = Lost ∷ Connected ∷ []
+
+  -- An order was taken, and its record is durable.
+  pub record Ordered (order : Order) (outgoing : Outgoing) (old new : Standing D) : Type 0 where
+    pub taken : refusal (facts_of old.till.state) order ≡ None
+    pub message : message_of old.till.state.settings old.till.state.book order ≡ Some outgoing
+    pub runs : new.till.state ≡ accept old.till.state order
+    pub logs : Logs (order_sent order) old new
+    pub outlives : Outlives (order_sent order) old new
+
+  -- An order was taken, and the journal failed. The till is told as of a lost line.
+  pub record OrderLost (order : Order) (old new : Standing D) : Type 0 where
+    pub taken : refusal (facts_of old.till.state) order ≡ None
+    pub lost : new.till.state ≡ step (accept old.till.state order) Lost
+    pub outlives : Outlives (order_sent order) old new
+
+  abbrev pub Orders : Order → (old new : Standing D) → Result Outgoing KeptRefusal → Type 0
+  Orders order old new (Ok outgoing) = Ordered order outgoing old new
+  Orders order old new (Err (OrderRefused why)) = IsRefusedAs (facts_of old.till.state) old.till.spare order why × (new ≡ old)
+  Orders order old new (Err (JournalFailed why)) = OrderLost order old new
+
+  -- A message was heard by a till whose line is up, and its record is durable.
+  pub record HeardKept (message : Message) (answered : Answered) (old new : Standing D) : Type 0 where
+    pub heard : till_hears old.till message answered new.till
+    pub logs : Logs (message_heard message) old new
+    pub outlives : Outlives (message_heard message) old new
+
+  -- The journal failed as a message came. The till is told as of a lost line.
+  pub record MessageLost (message : Message) (old new : Standing D) : Type 0 where
+    pub lost : till_loses old.till new.till
+    pub outlives : Outlives (message_heard message) old new
+
+  abbrev pub Takes : Message → (old new : Standing D) → Result Answered DeviceError → Type 0
+  Takes message old new (Ok answered) = HeardKept message answered old new
+  Takes message old new (Err why) = MessageLost message old new
+
+  abbrev pub no_answer : Answered
+  no_answer = record { bytes = []; count = 0 }
+
+  -- A till with its journal hears a message while its line is up, or the journal fails.
+  abbrev pub Hears : KeptValue D → Message → Answered → KeptValue D → Type 0
+  Hears old message answered new =
+      ((old.standing.till.state.line_up ≡ false) × (new ≡ old) × (answered ≡ no_answer))
+      ⊎ ((new.failed ≡ old.failed) × HeardKept message answered old.standing new.standing)
+      ⊎ ((new.failed ≡ true) × (answered ≡ no_answer) × MessageLost message old.standing new.standing)
+
+  -- A line was lost. The journal says so when the next one is up.
+  abbrev pub LosesLine : (old new : KeptValue D) → Type 0
+  LosesLine old new = till_loses old.standing.till new.standing.till × (new.standing.device ≡ old.standing.device) × (new.standing.gate ≡ old.standing.gate) × (new.failed ≡ old.failed)
+
+  -- A line is up, and that an earlier one was lost is durable.
+  pub record NewLine (old new : Standing D) : Type 0 where
+    pub state : new.till.state ≡ step old.till.state Connected
+    pub logs : Logs line_changed old new
+    pub outlives : Outlives line_changed old new
+
+  abbrev pub Connects : (old new : KeptValue D) → Result Unit DeviceError → Type 0
+  Connects old new (Ok done) = ((old.standing.till.state.line_up ≡ true) × (new ≡ old)) ⊎ ((new.failed ≡ false) × NewLine old.standing new.standing)
+  Connects old new (Err why) = (new.failed ≡ true) × (new.standing.till ≡ old.standing.till) × Outlives line_changed old.standing new.standing

@@ -1,0 +1,30 @@
+-- The log that the records of a journal stand for.
+use Rattle.std.specs.Prelude.{◌≡◌, ℕ, List, [], ◌∷◌, ◌++◌, Option, Some}
+use Rattle.zvt_grammar.specs.Reading.{padded}
+use Rattle.zvt_apdu.specs.Message.{Message}
+use Rattle.zvt_apdu.specs.Grammar.{Spells}
+use Rattle.zvt_till.specs.declared.happenings.Happening.{Happening}
+use Rattle.zvt_till.specs.declared.happenings.Happening.TheVariants.{Connected, Sent as SentOut, Heard as HeardIn, Lost}
+use Rattle.zvt_till.specs.Hearing.{heard_as}
+use Rattle.zvt_till.specs.Refusals.{sent_as}
+use Rattle.zvt_kept.specs.Records.{Kept, ordered, heard, lost, kept_in}
+
+-- What happened by one record. After a lost line a new one is up.
+abbrev pub Happens : (currency : ℕ) → Kept → List Happening → Type 0
+Happens currency (ordered order) happened = happened ≡ SentOut (sent_as currency order) ∷ []
+Happens currency (heard bytes) happened = (message : Message) × ∥ Spells padded message bytes ∥₁ × (happened ≡ HeardIn (heard_as message) ∷ [])
+Happens currency lost happened = happened ≡ Lost ∷ Connected ∷ []
+
+-- what happened by records one after another
+abbrev pub HappenAll : (currency : ℕ) → List Kept → List Happening → Type 0
+HappenAll currency [] log = log ≡ []
+HappenAll currency (one ∷ more) log =
+    (first : List Happening) × (rest : List Happening) × Happens currency one first × HappenAll currency more rest × (log ≡ first ++ rest)
+
+-- A text of records stands for this log. A line is up before the first record.
+pub record StandsFor (currency : ℕ) (text : List ℕ) (log : List Happening) : Type 0 where
+  pub kept : List Kept
+  pub happened : List Happening
+  pub read : kept_in text ≡ Some kept
+  pub happens : HappenAll currency kept happened
+  pub begins : log ≡ Connected ∷ happened

@@ -1,0 +1,173 @@
+//! The steps of a till, each of them in its journal first.
+ghost use Rattle.std.specs.Prelude.{◌≡◌, List, ℕ, true};
+ghost use Rattle.zvt_apdu.specs.Grammar.{Spells};
+ghost use Rattle.zvt_grammar.specs.Reading.{padded};
+ghost use Rattle.zvt_journal.specs.Text.{IsSettled};
+ghost use Rattle.zvt_kept.specs.KeptTill.{KeepsSome, Orders, Recorded, Takes};
+ghost use Rattle.zvt_kept.specs.Masking.{masked};
+ghost use Rattle.zvt_kept.specs.Records.{IsSpelledOrder, heard, lost, ordered};
+ghost use Rattle.zvt_till.specs.Hearing.{heard_as};
+ghost use Rattle.zvt_till.specs.Line.{Answers as IsAnswer};
+ghost use Rattle.zvt_till.specs.Refusals.{refusal};
+ghost use Rattle.zvt_till.specs.Sending.{reply_to};
+ghost use Rattle.zvt_till.specs.Till.{facts_of};
+
+use crate::records::{put_heard, put_lost, put_order};
+use crate::refusal::KeptRefusal;
+use std::alloc::Global;
+use zvt_apdu::{ApduView, MAX_TILL_MESSAGE_LEN, TillMessage};
+use zvt_journal::{Device, DeviceError, Journal};
+use zvt_stream::Answers;
+use zvt_text::Text;
+use zvt_till::heard::heard_view;
+use zvt_till::{Heard, Order, Outgoing, Till, reply_to};
+
+/// Gives the till an order once its journal has it, and answers the message to send.
+pub(crate) fn take_order<D: Device>(
+    alloc: Global,
+    till: &mut Till,
+    journal: &mut Journal<D>,
+    order: Order,
+) -> Result<Outgoing, KeptRefusal>
+    requires { till.old.state.line_up ≡ true → KeepsSome (D.seen journal.old.device) (D.may_leave journal.old.device) journal.old.gate till.old.state }
+    ensures { Orders D.seen D.may_leave D.moment D.left_since order
+        (record { till = till.old; device = journal.old.device; gate = journal.old.gate })
+        (record { till = till.new; device = journal.new.device; gate = journal.new.gate }) result }
+{
+    has_words(till, &order);
+    let outgoing = match till.order(order) {
+        Err(why) => return Err(KeptRefusal::Order(why)),
+        Ok(outgoing) => outgoing,
+    };
+    match keep_order(alloc, journal, &order, &outgoing) {
+        Ok(()) => Ok(outgoing),
+        Err(why) => {
+            let _ = till.lost();
+            Err(KeptRefusal::Journal(why))
+        }
+    }
+}
+
+/// Lets the till hear a message once its journal has it, and answers what is to be sent.
+pub(crate) fn take_message<D: Device>(
+    alloc: Global,
+    till: &mut Till,
+    journal: &mut Journal<D>,
+    apdu: &ApduView<'_>,
+) -> Result<Answers, DeviceError>
+    requires up { till.old.state.line_up ≡ true }
+    requires kept { KeepsSome (D.seen journal.old.device) (D.may_leave journal.old.device) journal.old.gate till.old.state }
+    ensures { Takes D.seen D.may_leave D.moment D.left_since apdu.now
+        (record { till = till.old; device = journal.old.device; gate = journal.old.gate })
+        (record { till = till.new; device = journal.new.device; gate = journal.new.gate }) result }
+{
+    let heard = heard_view(apdu);
+    let answers = answers_to(&heard);
+    match keep_heard(alloc, journal, apdu, answers.bytes()) {
+        Ok(()) => {
+            let _ = till.hear(heard);
+            Ok(answers)
+        }
+        Err(why) => {
+            let _ = till.lost();
+            Err(why)
+        }
+    }
+}
+
+/// What the till takes has words in a record: an amount and an entry's number have at most twelve digits. The calls do
+/// nothing but make the bounds of an amount and of a book known to the proof.
+fn has_words(till: &Till, order: &Order)
+    ensures { refusal (facts_of till.now.state) order.now ≡ None → IsSpelledOrder order.now }
+{
+    match order {
+        Order::Pay(amount) => {
+            let _ = amount.get();
+        }
+        Order::Reverse(_) => {
+            let _ = till.book();
+        }
+        _ => {}
+    }
+}
+
+/// Makes the record of an order durable.
+fn keep_order<D: Device>(
+    alloc: Global,
+    journal: &mut Journal<D>,
+    order: &Order,
+    outgoing: &Outgoing,
+) -> Result<(), DeviceError>
+    requires settled { IsSettled (D.seen journal.old.device) (D.may_leave journal.old.device) journal.old.gate }
+    requires spelled { IsSpelledOrder order.now }
+    ensures { Recorded D.seen D.may_leave D.moment D.left_since (ordered order.now) journal.old.device journal.new.device journal.new.gate result }
+{
+    let mut buffer = [0; MAX_TILL_MESSAGE_LEN];
+    let size = masked(outgoing).put(&mut buffer);
+    let mut text = Text::new(alloc);
+    put_order(&mut text, order, &buffer[..size])?;
+    journal.append(text.bytes())
+}
+
+/// Makes the record of a message, and of what answers it, durable.
+fn keep_heard<D: Device>(
+    alloc: Global,
+    journal: &mut Journal<D>,
+    message: &ApduView<'_>,
+    answers: &[u8],
+) -> Result<(), DeviceError>
+    requires settled { IsSettled (D.seen journal.old.device) (D.may_leave journal.old.device) journal.old.gate }
+    ensures { (bytes : List ℕ) × ∥ Spells padded message.now bytes ∥₁ × Recorded D.seen D.may_leave D.moment D.left_since (heard bytes) journal.old.device journal.new.device journal.new.gate result }
+{
+    let mut text = Text::new(alloc);
+    put_heard(&mut text, message.bytes(), answers)?;
+    journal.append(text.bytes())
+}
+
+/// Makes it durable that the line was lost and a new one is up.
+pub(crate) fn keep_lost<D: Device>(
+    alloc: Global,
+    journal: &mut Journal<D>,
+) -> Result<(), DeviceError>
+    requires { IsSettled (D.seen journal.old.device) (D.may_leave journal.old.device) journal.old.gate }
+    ensures { Recorded D.seen D.may_leave D.moment D.left_since lost journal.old.device journal.new.device journal.new.gate result }
+{
+    let mut text = Text::new(alloc);
+    put_lost(&mut text)?;
+    journal.append(text.bytes())
+}
+
+/// The message without its password, as a journal has it.
+fn masked(outgoing: &Outgoing) -> Outgoing
+    ensures { result ≡ masked outgoing.now }
+{
+    let till_message = match outgoing.till_message {
+        TillMessage::Register {
+            config, currency, ..
+        } => TillMessage::Register {
+            password: [0; 3],
+            config,
+            currency,
+        },
+        TillMessage::Reverse { receipt, .. } => TillMessage::Reverse {
+            password: [0; 3],
+            receipt,
+        },
+        TillMessage::CloseDay { .. } => TillMessage::CloseDay { password: [0; 3] },
+        other => other,
+    };
+    Outgoing { till_message }
+}
+
+/// The bytes of what answers this at once.
+fn answers_to(heard: &Heard) -> Answers
+    ensures { IsAnswer (reply_to heard.now) result }
+{
+    let mut answers = Answers::new();
+    if let Some(outgoing) = reply_to(heard) {
+        let mut buffer = [0; MAX_TILL_MESSAGE_LEN];
+        let size = outgoing.put(&mut buffer);
+        answers.add(&buffer[..size]);
+    }
+    answers
+}

@@ -1,0 +1,136 @@
+//! A till whose orders and messages are in its journal before anything that follows from them leaves it.
+ghost use Rattle.std.specs.Prelude.{◌≡◌};
+
+use crate::keeping::{keep_lost, take_message, take_order};
+use crate::refusal::KeptRefusal;
+use std::alloc::{AllocError, Global};
+use std::marker::Model;
+use zvt_apdu::ApduView;
+use zvt_journal::{Device, DeviceError, Journal};
+use zvt_stream::{Answers, Machine};
+use zvt_till::{Order, Outgoing, Till};
+
+/// A till and its journal.
+///
+/// An order is durable before its message is handed out to be sent. A message of the terminal is durable before the till
+/// hears it. Once the journal failed the till's line is down, and it sends nothing more.
+#[derive(Drop)]
+pub struct KeptTill<D: Device> {
+    till: Till,
+    journal: Journal<D>,
+    /// Whether the journal failed.
+    failed: bool,
+}
+
+impl<D: Device> Model for KeptTill<D> {
+    ghost use Rattle.std.specs.Prelude.{◌≡◌};
+    ghost use Rattle.zvt_kept.specs.KeptTill.{KeptValue, IsKept};
+
+    ghost Value = { KeptValue D };
+
+    ghost view = { λ k. record { standing = record { till = k.till; device = k.journal.device; gate = k.journal.gate }; failed = k.failed } };
+
+    ghost invariant = { λ k. IsKept k.failed (D.seen k.journal.device) (D.may_leave k.journal.device) k.journal.gate k.till.state };
+}
+
+impl<D: Device> KeptTill<D> {
+    ghost use Rattle.zvt_kept.specs.KeptTill.{IsKept, Orders, Connects, LosesLine, failed_after};
+
+    /// The till, to look at.
+    pub fn till(&self) -> &Till
+        ensures till { result.now ≡ self.now.standing.till }
+        ensures kept { IsKept self.now.failed (D.seen self.now.standing.device) (D.may_leave self.now.standing.device) self.now.standing.gate self.now.standing.till.state }
+    {
+        &self.till
+    }
+
+    /// Whether the journal failed. The till's line is down then, and stays so.
+    pub fn has_failed(&self) -> bool
+        ensures { result ≡ self.now.failed }
+    {
+        self.failed
+    }
+
+    /// Gives the till an order, and answers the message to send. The order's record is durable then.
+    pub fn order(&mut self, alloc: Global, order: Order) -> Result<Outgoing, KeptRefusal>
+        ensures orders { Orders D.seen D.may_leave D.moment D.left_since order self.old.standing self.new.standing result }
+        ensures failed { self.new.failed ≡ failed_after self.old.failed result }
+    {
+        match take_order(alloc, &mut self.till, &mut self.journal, order) {
+            Ok(outgoing) => Ok(outgoing),
+            Err(KeptRefusal::Order(why)) => Err(KeptRefusal::Order(why)),
+            Err(KeptRefusal::Journal(why)) => {
+                self.failed = true;
+                Err(KeptRefusal::Journal(why))
+            }
+        }
+    }
+
+    /// The line is up. A record says that an earlier line was lost. Nothing changes where the line is up.
+    pub fn connected(&mut self, alloc: Global) -> Result<(), DeviceError>
+        ensures { Connects D.seen D.may_leave D.moment D.left_since self.old self.new result }
+    {
+        if self.failed {
+            return Err(DeviceError::Failed);
+        }
+        if self.till.line_up() {
+            return Ok(());
+        }
+        if let Err(why) = keep_lost(alloc, &mut self.journal) {
+            self.failed = true;
+            return Err(why);
+        }
+        self.till.connected();
+        Ok(())
+    }
+
+    /// The line was lost. The journal is written when the next line is up.
+    fn line_lost(&mut self)
+        ensures { LosesLine D.seen D.may_leave D.moment D.left_since self.old self.new }
+    {
+        let _ = self.till.lost();
+    }
+}
+
+/// A till with its journal hears a message once the journal has it. Where the journal fails it hears nothing, and its line
+/// is down. It never wants memory: a record without memory is a journal that fails.
+impl<D: Device> Machine for KeptTill<D> {
+    ghost use Rattle.std.specs.Prelude.{false};
+    ghost use Rattle.zvt_kept.specs.KeptTill.{Hears, LosesLine};
+    ghost use Rattle.zvt_till.specs.Line.{till_rests};
+
+    ghost hears = { λ old message answered new. Hears D.seen D.may_leave D.moment D.left_since old message answered new };
+
+    ghost loses = { λ old new. LosesLine D.seen D.may_leave D.moment D.left_since old new };
+
+    ghost malforms = { λ old new. LosesLine D.seen D.may_leave D.moment D.left_since old new };
+
+    ghost is_resting = { λ k. till_rests k.standing.till };
+
+    ghost wants_memory = { false };
+
+    fn hear(&mut self, alloc: Global, apdu: &ApduView<'_>) -> Result<Answers, AllocError> {
+        if !self.till.line_up() {
+            return Ok(Answers::new());
+        }
+        match take_message(alloc, &mut self.till, &mut self.journal, apdu) {
+            Ok(answers) => Ok(answers),
+            Err(_) => {
+                self.failed = true;
+                Ok(Answers::new())
+            }
+        }
+    }
+
+    fn resting(&self) -> bool {
+        self.till.running().is_none()
+    }
+
+    fn lost(&mut self) {
+        self.line_lost();
+    }
+
+    fn malformed(&mut self) {
+        self.line_lost();
+    }
+}

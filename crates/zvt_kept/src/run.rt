@@ -1,0 +1,62 @@
+//! One order of a till with its journal, from end to end.
+ghost use Rattle.std.specs.Prelude.{◌≡◌, ◌≤◌, ◌+◌, IfOk, IfErr, OnOk};
+ghost use Rattle.zvt_kept.specs.Runs.{RanKept};
+
+use crate::kept_till::KeptTill;
+use crate::refusal::KeptRefusal;
+use std::alloc::Global;
+use zvt_apdu::MAX_TILL_MESSAGE_LEN;
+use zvt_io::{Sink, Source};
+use zvt_journal::Device;
+use zvt_stream::{Endpoint, LineFault, Machine, Until, pump, send};
+use zvt_till::{Order, OrderRefusal, Outcome};
+
+/// Why an order of a till with a journal did not come to its end.
+#[derive(Clone, Copy, Debug, PartialEq, Eq)]
+pub enum KeptFault {
+    /// It was refused. Nothing was sent or read, and the till is as it was.
+    Order(OrderRefusal),
+    /// The journal failed. Nothing was sent from then on. The till's last outcome is what became of the order.
+    Journal,
+    /// The line broke, which was reported to the till. The till's last outcome is what became of the order. The line is
+    /// given up: a new one has a new endpoint.
+    Line(LineFault),
+}
+
+/// Gives the till an order, and pumps the line until no order runs, for at most `turns` turns of one read each.
+///
+/// The order is in the journal before its first byte is sent. Each message is in the journal before the till hears it, so
+/// before its answer is sent, and before its outcome is returned. It returns what became of the order.
+pub fn run_order_kept<R: Source, W: Sink, D: Device>(
+    alloc: Global,
+    end: &mut Endpoint<R, W>,
+    kept: &mut KeptTill<D>,
+    order: Order,
+    turns: u64,
+) -> Result<Outcome, KeptFault>
+    ensures ran { RanKept D.seen D.may_leave D.moment D.left_since order end.old.stream end.new.stream kept.old kept.new
+        (R.remaining end.old.reader) (R.remaining end.new.reader) (W.written end.old.writer) (W.written end.new.writer) result }
+    ensures reads { R.reads end.new.reader ≤ R.reads end.old.reader + turns }
+{
+    let outgoing = match kept.order(alloc, order) {
+        Ok(outgoing) => outgoing,
+        Err(KeptRefusal::Order(why)) => return Err(KeptFault::Order(why)),
+        Err(KeptRefusal::Journal(_)) => return Err(KeptFault::Journal),
+    };
+    let mut buffer = [0; MAX_TILL_MESSAGE_LEN];
+    let size = outgoing.put(&mut buffer);
+    if let Err(fault) = send(&mut end.writer, &buffer[..size]) {
+        kept.lost();
+        return Err(KeptFault::Line(fault));
+    }
+    if let Err(fault) = pump(alloc, end, kept, Until::Rest, turns) {
+        return Err(KeptFault::Line(fault));
+    }
+    if kept.has_failed() {
+        return Err(KeptFault::Journal);
+    }
+    match kept.till().last_outcome() {
+        Some(outcome) => Ok(outcome),
+        None => Err(KeptFault::Line(LineFault::Turns)),
+    }
+}
