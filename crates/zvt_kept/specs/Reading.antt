@@ -1,0 +1,44 @@
+-- What the code reads and writes of records, in the words of their definitions.
+use Rattle.std.specs.Prelude.{◌≡◌, ◌+◌, ℕ, List, [], ◌∷◌, ◌++◌, map, length, Option, Some, None, IsSome, Result, Ok, Err, MatchResult, Vec}
+use Rattle.std.specs.Str.Lines.{lines}
+use Rattle.std.specs.declared.alloc.Global.{Global}
+use Rattle.zvt_io.specs.Devices.{IsPrefix}
+use Rattle.zvt_kept.specs.Records.{Kept, ordered, heard, lost, kept_in, meaning, meanings}
+use Rattle.zvt_kept.specs.declared.records.Entry.{Entry}
+use Rattle.zvt_kept.specs.declared.records.Entry.TheVariants as entry
+use Rattle.zvt_kept.specs.declared.lines.Meaning.{Meaning}
+use Rattle.zvt_kept.specs.declared.lines.Meaning.TheVariants.{Nothing, Kept as KeptEntry, Unknown}
+use Rattle.zvt_kept.specs.declared.lines.RecordError.{RecordError}
+use Rattle.zvt_kept.specs.declared.lines.RecordError.TheVariants.{Line, Memory}
+
+-- what an entry of the code stands for
+abbrev pub kept_of : Entry → Kept
+kept_of (entry.Order order) = ordered order
+kept_of (entry.Heard message) = heard message.items
+kept_of entry.Lost = lost
+
+-- what a line of the code means
+abbrev pub meant_by : Meaning → Option (List Kept)
+meant_by Nothing = Some []
+meant_by (KeptEntry one) = Some (kept_of one ∷ [])
+meant_by Unknown = None
+
+-- the line of this number, counted from 1, is the first that has no meaning
+pub record IsFirstWrong (text : List ℕ) (number : ℕ) : Type 0 where
+  pub before : List (List ℕ)
+  pub line : List ℕ
+  pub after : List (List ℕ)
+  pub is : lines text ≡ before ++ line ∷ after
+  pub good : IsSome (meanings before)
+  pub wrong : meaning line ≡ None
+  pub number_is : number ≡ length before + 1
+
+-- the entries are what the text means; or it has no meaning, from that line on
+abbrev pub ReadsRecords : (text : List ℕ) → Result (Vec Entry Global) RecordError → Type 0
+ReadsRecords text (Ok entries) = kept_in text ≡ Some (map kept_of entries.items)
+ReadsRecords text (Err (Line number)) = (kept_in text ≡ None) × IsFirstWrong text number
+ReadsRecords text (Err Memory) = Unit {0}
+
+-- A text grew by all that was to be written; or by a prefix of that, where memory was refused.
+abbrev pub Extends : {E : Type 0} → Result Unit E → (old new : List ℕ) → (written : List ℕ) → Type 0
+Extends result old new written = MatchResult result (λ _. new ≡ old ++ written) (λ _. (part : List ℕ) × IsPrefix part written × (new ≡ old ++ part))

@@ -1,0 +1,86 @@
+//! The text of records.
+ghost use Rattle.zvt_kept.specs.Reading.{Extends};
+ghost use Rattle.zvt_kept.specs.Records.{heard_record, lost_record, one_or_none, opening, order_record, order_words, sent_lines};
+
+use std::alloc::AllocError;
+use zvt_bcd::Currency;
+use zvt_text::{Text, hexadecimal};
+use zvt_till::Order;
+
+/// What a journal records.
+#[derive(Drop)]
+pub enum Entry {
+    /// An order of the till.
+    Order(Order),
+    /// The bytes of one message of the terminal.
+    Heard(Vec<u8>),
+    /// The connection was lost.
+    Lost,
+}
+
+/// Writes the first line of a journal, with the currency of its till. After `Err` a prefix of it is written.
+pub fn put_opening(text: &mut Text, currency: Currency) -> Result<(), AllocError>
+    ensures { Extends result text.old text.new (opening currency) }
+{
+    text.word(b"# zvt journal 1, currency ")?;
+    text.number(currency.get())?;
+    text.push(b'\n')
+}
+
+/// Writes an order, and the bytes that are sent for it. After `Err` a prefix of the record is written.
+pub fn put_order(text: &mut Text, order: &Order, sent: &[u8]) -> Result<(), AllocError>
+    ensures { Extends result text.old text.new (order_record order.now sent.now) }
+{
+    text.word(b"# ")?;
+    put_words(text, order)?;
+    text.push(b'\n')?;
+    put_sent(text, sent)
+}
+
+/// Writes a message of the terminal, and the bytes of all answers to it. After `Err` a prefix of the record is written.
+pub fn put_heard(text: &mut Text, message: &[u8], answers: &[u8]) -> Result<(), AllocError>
+    ensures { Extends result text.old text.new (heard_record message.now answers.now) }
+{
+    text.word(b"< ")?;
+    hexadecimal(text, message)?;
+    text.push(b'\n')?;
+    put_sent(text, answers)
+}
+
+/// Writes that the connection was lost. After `Err` nothing is written.
+pub fn put_lost(text: &mut Text) -> Result<(), AllocError>
+    ensures { Extends result text.old text.new lost_record }
+{
+    text.word(b"!\n")
+}
+
+/// Writes the words of an order. After `Err` a prefix of them is written.
+fn put_words(text: &mut Text, order: &Order) -> Result<(), AllocError>
+    ensures { Extends result text.old text.new (order_words order.now) }
+{
+    match order {
+        Order::Register => text.word(b"register"),
+        Order::Pay(amount) => {
+            text.word(b"pay ")?;
+            text.number(amount.get())
+        }
+        Order::Reverse(entry) => {
+            text.word(b"reverse ")?;
+            text.number(*entry as u128 + 1)
+        }
+        Order::CloseDay => text.word(b"close"),
+        Order::Cancel => text.word(b"cancel"),
+    }
+}
+
+/// Writes a line of bytes that the till sends, if there are any. After `Err` a prefix of it is written.
+fn put_sent(text: &mut Text, bytes: &[u8]) -> Result<(), AllocError>
+    ensures { Extends result text.old text.new (sent_lines (one_or_none bytes.now)) }
+{
+    if bytes.is_empty() {
+        return Ok(());
+    }
+    text.word(b"> ")?;
+    hexadecimal(text, bytes)?;
+    text.push(b'\n')
+}
