@@ -1,5 +1,5 @@
 -- What the code reads and writes of records, in the words of their definitions.
-use Rattle.std.specs.Prelude.{◌≡◌, ◌+◌, ℕ, List, [], ◌∷◌, ◌++◌, map, length, Option, Some, None, IsSome, Result, Ok, Err, MatchResult, Vec}
+use Rattle.std.specs.Prelude.{◌≡◌, ◌+◌, ◌≤◌, ℕ, List, [], ◌∷◌, ◌++◌, map, length, Option, Some, None, IsSome, Result, Ok, Err, MatchResult, Vec}
 use Rattle.std.specs.Str.Lines.{lines}
 use Rattle.std.specs.declared.alloc.Global.{Global}
 use Rattle.zvt_io.specs.Devices.{IsPrefix}
@@ -38,6 +38,14 @@ abbrev pub ReadsRecords : (text : List ℕ) → Result (Vec Entry Global) Record
 ReadsRecords text (Ok entries) = kept_in text ≡ Some (map kept_of entries.items)
 ReadsRecords text (Err (Line number)) = (kept_in text ≡ None) × IsFirstWrong text number
 ReadsRecords text (Err Memory) = Unit {0}
+
+-- the lines of the text before the rest: what they mean, and how many they are
+pub record HasRead (text rest : List ℕ) (number : ℕ) (entries : List Entry) : Type 0 where
+  pub before : List (List ℕ)
+  pub is : lines text ≡ before ++ lines rest
+  pub good : meanings before ≡ Some (map kept_of entries)
+  pub number_is : number ≡ length before
+  pub fits : number + length rest ≤ length text
 
 -- A text grew by all that was to be written; or by a prefix of that, where memory was refused.
 abbrev pub Extends : {E : Type 0} → Result Unit E → (old new : List ℕ) → (written : List ℕ) → Type 0

@@ -70,6 +70,11 @@ IsSpelledOrder (Reverse entry) = entry < 10000
 IsSpelledOrder CloseDay = ⊤
 IsSpelledOrder Cancel = ⊤
 
+-- bytes that a line can have
+pub record IsPiece (piece : List ℕ) : Type 0 where
+  pub some : 0 < length piece
+  pub bytes : IsBytes piece
+
 -- a text is the record of an order
 pub record IsOrderRecord (order : Order) (text : List ℕ) : Type 0 where
   pub sent : List ℕ
@@ -80,9 +85,8 @@ pub record IsOrderRecord (order : Order) (text : List ℕ) : Type 0 where
 -- a text is the record of a message, and of any lines of answers to it
 pub record IsHeardRecord (message text : List ℕ) : Type 0 where
   pub answers : List (List ℕ)
-  pub some : 0 < length message
-  pub bytes : IsBytes message
-  pub answer_bytes : All IsBytes answers
+  pub piece : IsPiece message
+  pub answer_pieces : All IsPiece answers
   pub is : text ≡ heard_line message ++ sent_lines answers
 
 -- a text is what is written for this

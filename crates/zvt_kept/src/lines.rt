@@ -1,5 +1,7 @@
 //! What records mean.
 ghost use Rattle.std.specs.Prelude.{◌≡◌, ◌∷◌, [], Some, option_map, is_some, ◌++◌, IfOk, OnOk};
+ghost use Rattle.std.specs.Char.{is_ascii_hexdigit};
+ghost use Rattle.std.specs.List.{list_all};
 ghost use Rattle.hex.specs.Hex.{decode_of};
 ghost use Rattle.zvt_kept.specs.Reading.{ReadsRecords, meant_by};
 ghost use Rattle.zvt_kept.specs.Records.{bytes_in, comment, heard, meaning, some_bytes};
@@ -127,6 +129,15 @@ fn heard(alloc: Global, text: &[u8]) -> Result<Meaning, AllocError>
 fn spells_bytes(digits: &[u8]) -> bool
     ensures { result ≡ is_some (some_bytes (decode_of digits.now)) }
 {
-    let count = digits.len();
-    count > 0 && count % 2 == 0 && digits.iter().all(|digit| digit.is_ascii_hexdigit())
+    if digits.is_empty() || digits.len() % 2 == 1 {
+        return false;
+    }
+    all_digits(digits)
+}
+
+/// Whether each of these is a hexadecimal digit.
+fn all_digits(digits: &[u8]) -> bool
+    ensures { result ≡ list_all is_ascii_hexdigit digits.now }
+{
+    digits.iter().all(|digit| digit.is_ascii_hexdigit())
 }

@@ -1,6 +1,7 @@
 //! The text of records.
+ghost use Rattle.std.specs.Prelude.{◌++◌, ◌<◌, [], ◌∷◌, decimal, length};
 ghost use Rattle.zvt_kept.specs.Reading.{Extends};
-ghost use Rattle.zvt_kept.specs.Records.{heard_record, lost_record, one_or_none, opening, order_record, order_words, sent_lines};
+ghost use Rattle.zvt_kept.specs.Records.{IsRecordOf, IsSpelledOrder, heard, heard_record, ordered, lost_record, one_or_none, opening, order_record, order_words, sent_lines};
 
 use std::alloc::AllocError;
 use zvt_bcd::Currency;
@@ -22,14 +23,13 @@ pub enum Entry {
 pub fn put_opening(text: &mut Text, currency: Currency) -> Result<(), AllocError>
     ensures { Extends result text.old text.new (opening currency) }
 {
-    text.word(b"# zvt journal 1, currency ")?;
-    text.number(currency.get())?;
-    text.push(b'\n')
+    put_numbered(text, b"# zvt journal 1, currency ", currency.get())
 }
 
 /// Writes an order, and the bytes that are sent for it. After `Err` a prefix of the record is written.
 pub fn put_order(text: &mut Text, order: &Order, sent: &[u8]) -> Result<(), AllocError>
-    ensures { Extends result text.old text.new (order_record order.now sent.now) }
+    ensures written { Extends result text.old text.new (order_record order.now sent.now) }
+    ensures kept { IsSpelledOrder order.now → IsRecordOf (ordered order.now) (order_record order.now sent.now) }
 {
     text.word(b"# ")?;
     put_words(text, order)?;
@@ -39,7 +39,8 @@ pub fn put_order(text: &mut Text, order: &Order, sent: &[u8]) -> Result<(), Allo
 
 /// Writes a message of the terminal, and the bytes of all answers to it. After `Err` a prefix of the record is written.
 pub fn put_heard(text: &mut Text, message: &[u8], answers: &[u8]) -> Result<(), AllocError>
-    ensures { Extends result text.old text.new (heard_record message.now answers.now) }
+    ensures written { Extends result text.old text.new (heard_record message.now answers.now) }
+    ensures kept { 0 < length message.now → IsRecordOf (heard message.now) (heard_record message.now answers.now) }
 {
     text.word(b"< ")?;
     hexadecimal(text, message)?;
@@ -52,6 +53,15 @@ pub fn put_lost(text: &mut Text) -> Result<(), AllocError>
     ensures { Extends result text.old text.new lost_record }
 {
     text.word(b"!\n")
+}
+
+/// Writes a line of words and a number. After `Err` a prefix of it is written.
+fn put_numbered(text: &mut Text, words: &[u8], number: u16) -> Result<(), AllocError>
+    ensures { Extends result text.old text.new (words.now ++ decimal number ++ 10 ∷ []) }
+{
+    text.word(words)?;
+    text.number(number)?;
+    text.push(b'\n')
 }
 
 /// Writes the words of an order. After `Err` a prefix of them is written.

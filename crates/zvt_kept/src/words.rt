@@ -2,6 +2,7 @@
 ghost use Rattle.std.specs.Prelude.{◌≡◌, ◌≤◌, true, option_map, IfSome};
 ghost use Rattle.std.specs.Char.{is_ascii_digit};
 ghost use Rattle.std.specs.List.{list_all};
+ghost use Rattle.std.specs.Str.{bytes_eq};
 ghost use Rattle.std.specs.Str.Parse.{digits_value};
 ghost use Rattle.zvt_kept.specs.Records.{is_number, number_of, numbered, order_of, trailing};
 
@@ -15,12 +16,23 @@ const MOST_DIGITS: usize = 12;
 pub(crate) fn order_of(words: &[u8]) -> Option<Order>
     ensures { result ≡ order_of words.now }
 {
-    match words {
-        b"register" => Some(Order::Register),
-        b"close" => Some(Order::CloseDay),
-        b"cancel" => Some(Order::Cancel),
-        _ => numbered(words),
+    if is_word(words, b"register") {
+        return Some(Order::Register);
     }
+    if is_word(words, b"close") {
+        return Some(Order::CloseDay);
+    }
+    if is_word(words, b"cancel") {
+        return Some(Order::Cancel);
+    }
+    numbered(words)
+}
+
+/// Whether the words are this word.
+fn is_word(words: &[u8], word: &[u8]) -> bool
+    ensures { result ≡ bytes_eq words.now word.now }
+{
+    words == word
 }
 
 /// An order that has a number.

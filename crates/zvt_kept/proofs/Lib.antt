@@ -1,0 +1,6 @@
+mod Bytes
+mod LineLemmas
+mod Made
+mod Numbers
+mod ReadLines
+mod WordLemmas
