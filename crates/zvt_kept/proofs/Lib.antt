@@ -3,4 +3,5 @@ mod LineLemmas
 mod Made
 mod Numbers
 mod ReadLines
+mod Rows
 mod WordLemmas

@@ -7,6 +7,8 @@
 mod laws;
 mod lines;
 mod records;
+#[cfg(test)]
+mod tests;
 mod words;
 
 pub use laws::{opening_is_taken, records_are_kept};

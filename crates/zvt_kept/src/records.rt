@@ -27,6 +27,8 @@ pub fn put_opening(text: &mut Text, currency: Currency) -> Result<(), AllocError
 }
 
 /// Writes an order, and the bytes that are sent for it. After `Err` a prefix of the record is written.
+///
+/// The bytes are written as they are given. So the caller puts 00 00 00 in the place of a password.
 pub fn put_order(text: &mut Text, order: &Order, sent: &[u8]) -> Result<(), AllocError>
     ensures written { Extends result text.old text.new (order_record order.now sent.now) }
     ensures kept { IsSpelledOrder order.now → IsRecordOf (ordered order.now) (order_record order.now sent.now) }

@@ -1,0 +1,94 @@
+-- What some records are, and what some texts mean, worked out.
+use Rattle.std.proofs.Common.{◌≡◌, ℕ, List, [], ◌∷◌, ◌++◌, Some, None, refl}
+use Rattle.std.specs.Prelude.{codes}
+use Rattle.std.specs.Fmt.{digits}
+use Rattle.hex.proofs.OnLiterals.{hex_on_literals}
+use Rattle.zvt_till.specs.declared.orders.Order.TheVariants.{Register, Pay, Reverse, CloseDay, Cancel}
+use Rattle.zvt_kept.specs.Records.{ordered, heard, lost, heard_record, kept_in, lost_record, opening, order_record}
+
+-- ---- texts
+
+opening_text : opening 978 ≡ codes "# zvt journal 1, currency 978\n"
+unfolding digits
+opening_text = refl
+
+payment_text : order_record (Pay 1234) (6 ∷ 1 ∷ 0 ∷ []) ≡ codes "# pay 1234\n> 060100\n"
+unfolding hex_on_literals digits
+payment_text = refl
+
+-- an entry is counted from 1
+reversal_text : order_record (Reverse 2) (6 ∷ 48 ∷ 0 ∷ []) ≡ codes "# reverse 3\n> 063000\n"
+unfolding hex_on_literals digits
+reversal_text = refl
+
+order_alone_text : order_record CloseDay [] ≡ codes "# close\n"
+order_alone_text = refl
+
+heard_text : heard_record (6 ∷ 15 ∷ 0 ∷ []) (128 ∷ 0 ∷ 0 ∷ []) ≡ codes "< 060F00\n> 800000\n"
+unfolding hex_on_literals
+heard_text = refl
+
+heard_alone_text : heard_record (128 ∷ 0 ∷ 0 ∷ []) [] ≡ codes "< 800000\n"
+unfolding hex_on_literals
+heard_alone_text = refl
+
+-- ---- what texts mean
+
+empty : kept_in [] ≡ Some []
+empty = refl
+
+payment : kept_in (codes "# pay 1234\n> 060100\n< 800000\n< 060F00\n> 800000\n") ≡ Some (ordered (Pay 1234) ∷ heard (128 ∷ 0 ∷ 0 ∷ []) ∷ heard (6 ∷ 15 ∷ 0 ∷ []) ∷ [])
+unfolding hex_on_literals
+payment = refl
+
+reversal : kept_in (codes "# reverse 3\n> 063000\n< 800000\n") ≡ Some (ordered (Reverse 2) ∷ heard (128 ∷ 0 ∷ 0 ∷ []) ∷ [])
+unfolding hex_on_literals
+reversal = refl
+
+-- the connection is lost while an order runs, and the till registers again
+restart : kept_in (codes "# zvt journal 1, currency 978\n# register\n> 060000\n!\n# register\n> 060000\n# cancel\n# close\n") ≡ Some (ordered Register ∷ lost ∷ ordered Register ∷ ordered Cancel ∷ ordered CloseDay ∷ [])
+unfolding hex_on_literals
+restart = refl
+
+-- a comment that names no order means nothing
+comments : kept_in (codes "#\n#register\n# pay 0\n# pay -1\n# reverse 0\n# pay 1000000000000\n# closed\n") ≡ Some []
+comments = refl
+
+-- one carriage return before a line feed is no part of the line
+carriage_return : kept_in (codes "# pay 1234\r\n!\r\n") ≡ Some (ordered (Pay 1234) ∷ lost ∷ [])
+carriage_return = refl
+
+-- ---- texts that have no meaning
+
+no_digit : kept_in (codes "!\n< 8G\n") ≡ None
+unfolding hex_on_literals
+no_digit = refl
+
+half_a_byte : kept_in (codes "< 80000\n") ≡ None
+unfolding hex_on_literals
+half_a_byte = refl
+
+no_space : kept_in (codes "<800000\n") ≡ None
+unfolding hex_on_literals
+no_space = refl
+
+no_bytes : kept_in (codes "< \n") ≡ None
+unfolding hex_on_literals
+no_bytes = refl
+
+wrong_sent : kept_in (codes "# pay 1234\n> 06010\n") ≡ None
+unfolding hex_on_literals
+wrong_sent = refl
+
+no_bytes_sent : kept_in (codes "> \n") ≡ None
+unfolding hex_on_literals
+no_bytes_sent = refl
+
+more_than_a_loss : kept_in (codes "!!\n") ≡ None
+more_than_a_loss = refl
+
+other : kept_in (codes "!\nregister\n") ≡ None
+other = refl
+
+empty_line : kept_in (codes "!\n\n!\n") ≡ None
+empty_line = refl
