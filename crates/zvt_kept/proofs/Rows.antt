@@ -1,10 +1,10 @@
 -- What some records are, and what some texts mean, worked out.
-use Rattle.std.proofs.Common.{◌≡◌, ℕ, List, [], ◌∷◌, ◌++◌, Some, None, refl}
+use Rattle.std.proofs.Common.{◌≡◌, [], ◌∷◌, Some, None, refl}
 use Rattle.std.specs.Prelude.{codes}
 use Rattle.std.specs.Fmt.{digits}
 use Rattle.hex.proofs.OnLiterals.{hex_on_literals}
 use Rattle.zvt_till.specs.declared.orders.Order.TheVariants.{Register, Pay, Reverse, CloseDay, Cancel}
-use Rattle.zvt_kept.specs.Records.{ordered, heard, lost, heard_record, kept_in, lost_record, opening, order_record}
+use Rattle.zvt_kept.specs.Records.{ordered, heard, lost, heard_record, kept_in, opening, order_record}
 
 -- ---- texts
 
