@@ -1,19 +1,19 @@
 -- The lines of records, and what they mean.
-use Rattle.std.proofs.Common.{◌≡◌, ℕ, ◌+◌, ◌<◌, ◌≤◌, List, [], ◌∷◌, ◌++◌, All, length, map, Option, Some, None, option_map, refl, ap, sym, ◌∙◌, subst, arith, append_assoc, length-append}
+use Rattle.std.proofs.Common.{◌≡◌, ℕ, ◌<◌, ◌≤◌, List, [], ◌∷◌, ◌++◌, All, length, map, Option, Some, option_map, refl, ap, sym, ◌∙◌, subst, arith, append_assoc, length-append}
 use Rattle.std.specs.Prelude.{codes, decimal}
 use Rattle.std.proofs.lemmas.List.{append-nil}
 use Rattle.std.proofs.lemmas.List.Elements.{All-nil, All-cons, All-head, All-tail, All-weaker}
 use Rattle.std.specs.Str.Lines.{lines, strip_carriage_return}
 use Rattle.hex.specs.Hex.{IsBytes, encode_upper}
 use Rattle.zvt_till.specs.declared.orders.Order.{Order}
-use Rattle.zvt_journal.specs.Text.{IsLine, IsRecord, LinesAreRecovered, RecoveredIsLines, recovered, text_of, whole}
+use Rattle.zvt_journal.specs.Text.{IsLine, IsRecord, recovered, text_of, whole}
 use Rattle.zvt_journal.proofs.Lines.{itself_whole, recovered_then, recovered_whole}
 use Rattle.zvt_journal.proofs.Meaning.{lines_are_recovered, record_if, recovered_is_lines}
-use Rattle.zvt_kept.specs.Records.{Kept, ordered, heard, lost, IsPiece, IsOrderRecord, IsHeardRecord, IsRecordOf, OpeningIsTaken, RecordsAreKept, RecordsAreTaken, RecordsAreWhole, heard_record, kept_in, lost_record, meaning, meanings, one_or_none, opening, order_record, order_words, ordered_by, sent_lines, then_kept}
+use Rattle.zvt_kept.specs.Records.{Kept, ordered, heard, lost, IsPiece, IsOrderRecord, IsHeardRecord, IsRecordOf, OpeningIsTaken, RecordsAreKept, RecordsAreTaken, RecordsAreWhole, kept_in, lost_record, meaning, meanings, one_or_none, opening, order_words, ordered_by, sent_lines}
 use Rattle.zvt_kept.proofs.Bytes.{encode_plain, piece_back}
 use Rattle.zvt_kept.proofs.LineLemmas.{IsPlain, lines_append, lines_plain, plain_line}
 use Rattle.zvt_kept.proofs.Numbers.{decimal_plain}
-use Rattle.zvt_kept.proofs.ReadLines.{meanings_append, meanings_one}
+use Rattle.zvt_kept.proofs.ReadLines.{meanings_append}
 use Rattle.zvt_kept.proofs.WordLemmas.{both_plain, order_back, word_plain, words_plain}
 
 -- a text is plain lines, and means this

@@ -1,5 +1,5 @@
 -- Decimal digits, as words and as what they are read as.
-use Rattle.std.proofs.Common.{◌≡◌, ℕ, ◌+◌, ◌-◌, ◌*◌, ◌^◌, ◌<◌, ◌≤◌, ◌&&◌, Bool, true, false, cond, nat_eq, nat_le, nat_lt, suc, zero, Option, Some, None, IsSome, IfSome, ◌↔◌, List, [], ◌∷◌, All, length, take, get_or, refl, ap, sym, ◌∙◌, arith, lit<, lit≤}
+use Rattle.std.proofs.Common.{◌≡◌, ℕ, ◌+◌, ◌-◌, ◌*◌, ◌^◌, ◌<◌, ◌≤◌, ◌&&◌, Bool, true, false, nat_le, nat_lt, Option, Some, None, IsSome, IfSome, ◌↔◌, List, [], ◌∷◌, All, length, take, get_or, refl, ap, arith, lit<, lit≤}
 use Rattle.std.specs.Prelude.{decimal}
 use Rattle.std.proofs.lemmas.Bool.Decides.{nat_tests}
 use Rattle.std.proofs.lemmas.Bool.{leb-true, lt-ltb, le-leb}

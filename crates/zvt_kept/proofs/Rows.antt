@@ -1,22 +1,24 @@
 -- What some records are, and what some texts mean, worked out.
-use Rattle.std.proofs.Common.{◌≡◌, ℕ, List, [], ◌∷◌, ◌++◌, Some, None, refl}
+use Rattle.std.proofs.Common.{◌≡◌, [], ◌∷◌, Some, None, refl}
 use Rattle.std.specs.Prelude.{codes}
+use Rattle.std.specs.Fmt.{digits}
 use Rattle.hex.proofs.OnLiterals.{hex_on_literals}
 use Rattle.zvt_till.specs.declared.orders.Order.TheVariants.{Register, Pay, Reverse, CloseDay, Cancel}
-use Rattle.zvt_kept.specs.Records.{ordered, heard, lost, heard_record, kept_in, lost_record, opening, order_record}
+use Rattle.zvt_kept.specs.Records.{ordered, heard, lost, heard_record, kept_in, opening, order_record}
 
 -- ---- texts
 
 opening_text : opening 978 ≡ codes "# zvt journal 1, currency 978\n"
+unfolding digits
 opening_text = refl
 
 payment_text : order_record (Pay 1234) (6 ∷ 1 ∷ 0 ∷ []) ≡ codes "# pay 1234\n> 060100\n"
-unfolding hex_on_literals
+unfolding hex_on_literals digits
 payment_text = refl
 
 -- an entry is counted from 1
 reversal_text : order_record (Reverse 2) (6 ∷ 48 ∷ 0 ∷ []) ≡ codes "# reverse 3\n> 063000\n"
-unfolding hex_on_literals
+unfolding hex_on_literals digits
 reversal_text = refl
 
 order_alone_text : order_record CloseDay [] ≡ codes "# close\n"

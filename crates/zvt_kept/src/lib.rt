@@ -1,6 +1,7 @@
-//! The records of a till's journal: what is written of what happens, and what is read of it.
+//! A till that keeps its book in a journal.
 //!
-//! A record is whole lines of text. An order is a comment line and a line of the bytes that are sent for it. A message of the
+//! Each order is in the journal before its message is sent, and each message before the till hears it. A record of the
+//! journal is whole lines of text. An order is a comment line and a line of the bytes that are sent for it. A message of the
 //! terminal is a line of its bytes, and a line of the answers to it. A line that was lost is `!`.
 #![tactic(auto)]
 
@@ -11,11 +12,13 @@ mod lines;
 mod records;
 mod refusal;
 mod run;
+#[cfg(test)]
+mod tests;
 mod words;
 
 pub use kept_till::KeptTill;
 pub use laws::{opening_is_taken, records_are_kept};
 pub use lines::{RecordError, read_records};
+pub use records::{Entry, put_heard, put_lost, put_opening, put_order};
 pub use refusal::KeptRefusal;
 pub use run::{KeptFault, run_order_kept};
-pub use records::{Entry, put_heard, put_lost, put_opening, put_order};

@@ -1,7 +1,6 @@
-use Rattle.std.proofs.Common.{◌≡◌, ◌∙◌, ap, rules, subst, sym, ◌++◌, [], ◌∷◌, List, Some, None}
-use Rattle.zvt_kept.specs.Reading.{HasRead, meant_by}
+use Rattle.std.proofs.Common.{◌≡◌, ◌∙◌, ap, [], Some, None}
+use Rattle.zvt_kept.specs.Reading.{meant_by}
 use Rattle.zvt_kept.specs.Records.{meaning}
-use Rattle.zvt_kept.specs.declared.records.Entry.{Entry}
 use Rattle.zvt_kept.proofs.ReadLines.{read_nothing, read_one, read_wrong}
 use Rattle.zvt_kept.proofs.lines.read_records.Goals as goal
 

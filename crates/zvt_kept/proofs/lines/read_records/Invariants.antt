@@ -1,5 +1,4 @@
 use Rattle.std.proofs.Common.{length}
-use Rattle.std.specs.Prelude.{◌+◌, ◌≤◌}
 use Rattle.zvt_kept.specs.Reading.{HasRead}
 use Rattle.zvt_kept.proofs.lines.read_records.Given as goal
 
