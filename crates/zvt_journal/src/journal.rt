@@ -12,6 +12,9 @@ const LINE_FEED: u8 = b'\n';
 /// The length from which on a journal takes no record.
 const MAX_JOURNAL_LEN: usize = 1 << 60;
 
+/// The length of the longest record. A crash leaves no more bytes than these, and one, after the whole lines of a file.
+pub const MAX_RECORD_LEN: usize = 1 << 18;
+
 /// A journal that is open, over its device. [`open`] says where its gate is.
 #[derive(Drop)]
 pub struct Journal<D: Device> {
@@ -39,9 +42,9 @@ impl<D: Device> Journal<D> {
 
         // It doesn't give up by itself.
         ensures failed { IsErrOf result DeviceError.Failed → D.faults self.old.device < D.faults self.new.device }
-        ensures full { IsErrOf result DeviceError.Full → 2 ^ 60 ≤ self.old.gate }
+        ensures full { IsErrOf result DeviceError.Full → (2 ^ 60 ≤ self.old.gate) ⊎ (2 ^ 18 < length entry.now) }
     {
-        if self.gate >= MAX_JOURNAL_LEN {
+        if self.gate >= MAX_JOURNAL_LEN || entry.len() > MAX_RECORD_LEN {
             return Err(DeviceError::Full);
         }
         let following = after_gate(self.alloc, entry)?;
@@ -82,9 +85,11 @@ fn after_gate(alloc: Global, entry: &[u8]) -> Result<Vec<u8>, AllocError>
 
 /// Recovers the records of a file that a crash may have left, and makes the file one at rest.
 ///
-/// It syncs before it reads: after a process was killed, what a read returns need not be durable. An empty file is a journal
-/// without records.
-pub fn open<D: Device>(alloc: Global, device: &mut D) -> Result<Vec<u8>, DeviceError>
+/// `bytes` are what a read of the file returned. It syncs first: after a process was killed, what a read returns need not be
+/// durable. An empty file is a journal without records.
+pub fn open<D: Device>(device: &mut D, mut bytes: Vec<u8>) -> Result<Vec<u8>, DeviceError>
+    requires bytes { bytes.items ≡ D.seen device.old }
+
     ensures text { IfOk result (λ text. text.items ≡ recovered (D.seen device.old)) }
     ensures settled { IfOk result (λ text. IsSettled (D.seen device.new) (D.may_leave device.new) (length text.items)) }
 
@@ -96,7 +101,6 @@ pub fn open<D: Device>(alloc: Global, device: &mut D) -> Result<Vec<u8>, DeviceE
     ensures full { IsErrOf result DeviceError.Full → ⊥ }
 {
     device.sync()?;
-    let mut bytes = device.read(alloc)?;
     let end = whole_lines(&bytes);
     // The cut is on the disk before a gate is written: after a torn gate what was there would count.
     cut_synced(device, end)?;

@@ -6,13 +6,17 @@
 //! first byte over the gate, each of them durable before what comes next.
 #![tactic(auto)]
 
+mod call;
+mod calls;
 mod device;
 mod durable;
+mod file;
 mod journal;
 mod memory;
 #[cfg(test)]
 mod tests;
 
 pub use device::{Device, DeviceError};
-pub use journal::{Journal, is_record, lines_are_recovered, open};
+pub use file::FileDevice;
+pub use journal::{Journal, MAX_RECORD_LEN, is_record, lines_are_recovered, open};
 pub use memory::Memory;
