@@ -7,7 +7,7 @@ use crate::durable::{cut_synced, set_synced, write_synced};
 use crate::{Device, DeviceError};
 use std::alloc::{AllocError, Global};
 
-const LINE_FEED: u8 = b'\n';
+pub(crate) const LINE_FEED: u8 = b'\n';
 
 /// The length from which on a journal takes no record.
 const MAX_JOURNAL_LEN: usize = 1 << 60;
@@ -92,6 +92,7 @@ pub fn open<D: Device>(device: &mut D, mut bytes: Vec<u8>) -> Result<Vec<u8>, De
 
     ensures text { IfOk result (λ text. text.items ≡ recovered (D.seen device.old)) }
     ensures settled { IfOk result (λ text. IsSettled (D.seen device.new) (D.may_leave device.new) (length text.items)) }
+    ensures kept { OnOk result (recovered (D.seen device.new) ≡ recovered (D.seen device.old)) }
 
     // A crash at any moment leaves the same text, or what it might have left before.
     ensures any_moment { LeavesOnly D.moment D.left_since device.old device.new
@@ -124,7 +125,7 @@ pub fn lines_are_recovered()
 {}
 
 /// How many bytes of whole lines come before the first empty line.
-fn whole_lines(bytes: &[u8]) -> usize
+pub(crate) fn whole_lines(bytes: &[u8]) -> usize
     ensures whole { result ≡ whole 0 bytes.now }
     ensures within { result ≤ length bytes.now }
 {

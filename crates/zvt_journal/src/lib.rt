@@ -8,15 +8,21 @@
 
 mod call;
 mod calls;
+mod content;
+mod create;
 mod device;
 mod durable;
+mod error;
 mod file;
 mod journal;
 mod memory;
 #[cfg(test)]
 mod tests;
 
+pub use content::MAX_OPENING_LEN;
+pub use create::{Opened, open_file, read_book};
 pub use device::{Device, DeviceError};
+pub use error::JournalFileError;
 pub use file::FileDevice;
 pub use journal::{Journal, MAX_RECORD_LEN, is_record, lines_are_recovered, open};
 pub use memory::Memory;

@@ -39,11 +39,16 @@ use Rattle.zvt_journal.specs.contracts.calls.GhostCalls as calls
 use Rattle.zvt_journal.specs.contracts.call.Call as call
 
 abbrev stayed : Stays (f.ended).signature.params (f.ended).kept
-stayed =
-    (stay_none_ref (0 ∷ []) tt (plain (λ _. calls.the_row)) yes,
-    (stay_none_ref (1 ∷ []) tt (plain (λ _. call.the_row)) yes,
-    (stay_none_slice (2 ∷ []) tt (plain (λ _. u8)) yes,
-    (stay_none (λ _. bool) yes, tt))))
+stayed = (
+  stay_none_ref (0 ∷ []) tt (plain (λ _. calls.the_row)) yes,
+  (
+    stay_none_ref (1 ∷ []) tt (plain (λ _. call.the_row)) yes,
+    (
+      stay_none_slice (2 ∷ []) tt (plain (λ _. u8)) yes,
+      (stay_none (λ _. bool) yes, tt),
+    ),
+  ),
+)
 
 module _ {M : Type 1} {𝓤 : Ura M} (𝓛 : Logic 𝓤) (mem : Memory → SProp 𝓤) (run : Routine → Fun 𝓤) (C : Calls 𝓤 𝓛.H) (Λ : Loops 𝓤 𝓛.H) where
   open 𝓛 use {H}
@@ -87,11 +92,16 @@ module _ {M : Type 1} {𝓤 : Ura M} (𝓛 : Logic 𝓤) (mem : Memory → SProp
       (λ κs qs bounds a g are. via 𝓤 _ (fst∗ 𝓤 _ (emp 𝓤)) (walk κs qs a are.1.1.0.0.1.0))
 
   goes : AllGo 𝓛 3 (f.signature).params (f.ended).kept stayed
-  goes =
-      (Goes-none_ref 𝓛 3 (0 ∷ []) tt (plain (λ _. calls.the_row)) yes,
-      (Goes-none_ref 𝓛 3 (1 ∷ []) tt (plain (λ _. call.the_row)) yes,
-      (Goes-none_slice 𝓛 3 (2 ∷ []) tt (plain (λ _. u8)) yes,
-      (Goes-none 𝓛 3 (λ _. bool) yes (λ κs x f. refl), tt))))
+  goes = (
+    Goes-none_ref 𝓛 3 (0 ∷ []) tt (plain (λ _. calls.the_row)) yes,
+    (
+      Goes-none_ref 𝓛 3 (1 ∷ []) tt (plain (λ _. call.the_row)) yes,
+      (
+        Goes-none_slice 𝓛 3 (2 ∷ []) tt (plain (λ _. u8)) yes,
+        (Goes-none 𝓛 3 (λ _. bool) yes (λ κs x f. refl), tt),
+      ),
+    ),
+  )
 
 meets : {M : Type 1} {𝓤 : Ura M} (𝓛 : Logic 𝓤) (mem : Memory → SProp 𝓤) (run : Routine → Fun 𝓤) (𝓣 : Tables 𝓤 𝓛.H)
     → Meets 𝓛 f.signature (WpFn 𝓤 𝓛.H 𝓣.C 𝓣.Λ code.function) (f.spec 𝓛 mem run)
