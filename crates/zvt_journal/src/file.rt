@@ -3,7 +3,7 @@
 //! No contract of std says what a file holds. So the device notes each call and its answer in a record that contracts alone
 //! see, and what a read returns and what a crash may leave are read off that record. It is trusted that each method here makes
 //! the call that it notes, that a file is as the crash model of `Device` says, and that nobody else writes it.
-ghost use Rattle.std.specs.Prelude.{◌≡◌, [], ◌∷◌, length, is_ok, IfErr};
+ghost use Rattle.std.specs.Prelude.{◌≡◌, ◌↔◌, [], ◌∷◌, length, is_ok, IfErr, IsOk, IsErr, IsNone, IsSome, OnOk, OnErr};
 ghost use Rattle.zvt_journal.specs.Calls.{seen_after, may_leave_after, left_since_after, failed_among, counts_now, only_now};
 
 use crate::call::Call;
@@ -42,7 +42,9 @@ impl FileDevice {
     }
 
     /// The file, if no call failed so far.
-    fn usable(&self) -> io::Result<&File> {
+    fn usable(&self) -> io::Result<&File>
+        ensures { IsOk result ↔ IsNone self.now.failure }
+    {
         match self.failure {
             Some(error) => Err(error),
             None => Ok(&self.file),
@@ -53,7 +55,10 @@ impl FileDevice {
     fn note(&mut self, call: Call, bytes: &[u8], answer: io::Result<()>) -> Result<(), DeviceError>
         ensures start { self.new.calls.start ≡ self.old.calls.start }
         ensures made { self.new.calls.made ≡ (call, bytes.now, is_ok result) ∷ self.old.calls.made }
-        ensures failed { IfErr result (λ error. error ≡ DeviceError.Failed) }
+        ensures answer { is_ok result ≡ is_ok answer }
+        ensures error { IfErr result (λ error. error ≡ DeviceError.Failed) }
+        ensures going_on { OnOk result (self.new.failure ≡ self.old.failure) }
+        ensures stopped { OnErr result (IsSome self.new.failure) }
     {
         self.calls = self.calls.with(&call, bytes, answer.is_ok());
         match answer {
@@ -66,15 +71,24 @@ impl FileDevice {
     }
 }
 
-fn write(file: io::Result<&File>, at: usize, bytes: &[u8]) -> io::Result<()> {
+/// Writes all of these bytes from this place on.
+fn write(file: io::Result<&File>, at: usize, bytes: &[u8]) -> io::Result<()>
+    ensures { IsErr file.entry → IsErr result }
+{
     file?.write_all_at(bytes, at as u64)
 }
 
-fn cut(file: io::Result<&File>, len: usize) -> io::Result<()> {
+/// Cuts the file to this length.
+fn cut(file: io::Result<&File>, len: usize) -> io::Result<()>
+    ensures { IsErr file.entry → IsErr result }
+{
     file?.set_len(len as u64)
 }
 
-fn sync(file: io::Result<&File>) -> io::Result<()> {
+/// Makes what was written durable.
+fn sync(file: io::Result<&File>) -> io::Result<()>
+    ensures { IsErr file.entry → IsErr result }
+{
     file?.sync_data()
 }
 

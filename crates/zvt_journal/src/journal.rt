@@ -35,6 +35,7 @@ impl<D: Device> Journal<D> {
 
         ensures settled { OnOk result (IsSettled (D.seen self.new.device) (D.may_leave self.new.device) self.new.gate) }
         ensures acknowledged { OnOk result (recovered (D.seen self.new.device) ≡ recovered (D.seen self.old.device) ++ entry.now) }
+        ensures longest { OnOk result (length entry.now ≤ 2 ^ 18) }
 
         // A crash at any moment of the call leaves the text from before it, with the record or without.
         ensures any_moment { LeavesOnly D.moment D.left_since self.old.device self.new.device

@@ -16,6 +16,7 @@ mod error;
 mod file;
 mod journal;
 mod memory;
+mod tears;
 #[cfg(test)]
 mod tests;
 
@@ -26,3 +27,4 @@ pub use error::JournalFileError;
 pub use file::FileDevice;
 pub use journal::{Journal, MAX_RECORD_LEN, is_record, lines_are_recovered, open};
 pub use memory::Memory;
+pub use tears::{Tear, torn};
