@@ -14,6 +14,8 @@ mod device;
 mod durable;
 mod error;
 mod file;
+#[cfg(test)]
+mod file_tests;
 mod journal;
 mod memory;
 mod tears;
