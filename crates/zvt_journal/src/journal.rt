@@ -1,6 +1,7 @@
 //! Records of text lines, and the gate that makes each of them count at once.
 ghost use Rattle.std.specs.Prelude.{◌≡◌, All, ◌↔◌, ◌⊎◌, ◌+◌, ◌<◌, ◌≤◌, ◌^◌, ◌++◌, [], ◌∷◌, List, ℕ, length, drop, IfOk, OnOk, IsErrOf, IsTrue};
 ghost use Rattle.zvt_journal.specs.Device.{Only, LeavesOnly};
+ghost use Rattle.zvt_journal.specs.Files.{HasFewAfter};
 ghost use Rattle.zvt_journal.specs.Text.{whole, recovered, IsRecord, IsSettled, IsWithOrWithout, IsAsBefore, joined, HasFirst, LinesAreRecovered, RecoveredIsLines};
 
 use crate::durable::{cut_synced, set_synced, write_synced};
@@ -40,6 +41,9 @@ impl<D: Device> Journal<D> {
         // A crash at any moment of the call leaves the text from before it, with the record or without.
         ensures any_moment { LeavesOnly D.moment D.left_since self.old.device self.new.device
             (IsWithOrWithout (recovered (D.seen self.old.device)) entry.now) }
+
+        // And no more after its whole lines than a record and one byte.
+        ensures few_after { LeavesOnly D.moment D.left_since self.old.device self.new.device HasFewAfter }
 
         // It doesn't give up by itself.
         ensures failed { IsErrOf result DeviceError.Failed → D.faults self.old.device < D.faults self.new.device }
