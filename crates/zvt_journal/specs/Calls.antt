@@ -1,5 +1,5 @@
 -- What a file holds, and what a crash may leave, after these calls on it, the newest first.
-use Rattle.std.specs.Prelude.{◌≡◌, ◌⊎◌, ℕ, ◌+◌, ◌≤◌, Bool, true, false, List, [], ◌∷◌, ◌++◌, length, take, drop}
+use Rattle.std.specs.Prelude.{◌≡◌, ◌⊎◌, ℕ, ◌+◌, ◌≤◌, ◌<◌, Bool, true, false, List, [], ◌∷◌, ◌++◌, length, take, drop}
 use mathlib.Core.Logic.{inl, inr}
 use Rattle.std.proofs.Math.Nat.{le_trans, le-suc, not-suc-le_self}
 use Rattle.zvt_journal.specs.declared.call.Call.{Call}
@@ -60,3 +60,19 @@ pub only_now : (start : List ℕ) (made : List Event) (file : List ℕ) → left
 only_now start [] file left = left.1
 only_now start (event ∷ made) file (inl now) = now.1
 only_now start (event ∷ made) file (inr left) = absurd (not-suc-le_self (length made) (not_later start made (length (event ∷ made)) file left))
+
+-- the call stays within the file
+abbrev pub IsCallWithin : Call → List ℕ → Type 0
+IsCallWithin (Wrote at) seen = at ≤ length seen
+IsCallWithin (SetByte at byte) seen = at < length seen
+IsCallWithin (CutTo len) seen = len ≤ length seen
+IsCallWithin Synced seen = Unit {0}
+
+-- each of them did, in the file as it was then
+abbrev pub AreWithin : List ℕ → List Event → Type 0
+AreWithin start [] = Unit {0}
+AreWithin start ((call, bytes, done) ∷ made) = IsCallWithin call (seen_after start made) × AreWithin start made
+
+-- what a read returns is one of the files that a crash may leave
+abbrev pub SeenMayBeLeft : Type 0
+SeenMayBeLeft = (start : List ℕ) (made : List Event) → AreWithin start made → may_leave_after start made (seen_after start made)

@@ -4,7 +4,7 @@
 //! see, and what a read returns and what a crash may leave are read off that record. It is trusted that each method here makes
 //! the call that it notes, that a file is as the crash model of `Device` says, and that nobody else writes it.
 ghost use Rattle.std.specs.Prelude.{◌≡◌, ◌↔◌, [], ◌∷◌, length, is_ok, IfErr, IsOk, IsErr, IsNone, IsSome, OnOk, OnErr};
-ghost use Rattle.zvt_journal.specs.Calls.{seen_after, may_leave_after, left_since_after, failed_among, counts_now, only_now};
+ghost use Rattle.zvt_journal.specs.Calls.{seen_after, may_leave_after, left_since_after, failed_among, counts_now, only_now, SeenMayBeLeft};
 
 use crate::call::Call;
 use crate::calls::GhostCalls;
@@ -127,3 +127,8 @@ impl Device for FileDevice {
         self.note(Call::Synced, &[], answer)
     }
 }
+
+/// What a read returns is one of the files that a crash may leave, whatever calls were made within the file.
+pub fn a_read_may_be_left()
+    ensures { SeenMayBeLeft }
+{}

@@ -1,6 +1,7 @@
 //! Journals in files: made, opened again, cut, refused.
 use crate::{
-    Journal, JournalFileError, MAX_OPENING_LEN, MAX_RECORD_LEN, Opened, open_file, read_book,
+    Journal, JournalFileError, MAX_OPENING_LEN, MAX_RECORD_LEN, Opened, a_read_may_be_left,
+    open_file, read_book,
 };
 use std::fs;
 use std::os::unix::fs::{MetadataExt, PermissionsExt};
@@ -13,6 +14,7 @@ const LEFT: &[u8] = b"# zvt journal 1, currency 978\n!\n\n pay 12";
 
 #[test]
 fn a_file_is_made_and_opened_again(rt: HostRuntime) -> Result<(), Fail> {
+    a_read_may_be_left();
     let path = "zvt_journal_made.trace";
     let alloc = rt.alloc();
     let _ = fs::remove_file(&rt, path);

@@ -26,7 +26,7 @@ pub use content::MAX_OPENING_LEN;
 pub use create::{Opened, open_file, read_book};
 pub use device::{Device, DeviceError};
 pub use error::JournalFileError;
-pub use file::FileDevice;
+pub use file::{FileDevice, a_read_may_be_left};
 pub use journal::{Journal, MAX_RECORD_LEN, is_record, lines_are_recovered, open};
 pub use memory::Memory;
 pub use tears::{Tear, torn};
