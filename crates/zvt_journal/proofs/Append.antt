@@ -45,6 +45,9 @@ module _ (text : List ℕ) (is : whole 0 text ≡ length text) (gate : ℕ) (at_
       ∙ ap (λ (l : List ℕ). text ++ (byte ∷ []) ++ l) (ap (λ (l : List ℕ). drop (gate + 1) l) (sym (append_assoc text (10 ∷ []) bytes)) ∙ drop_at (at_rest text) bytes (gate + 1) length-at_rest)
       ∙ append_assoc text (byte ∷ []) bytes
 
+  pub staged_whole : (entry : List ℕ) → recovered (staged text entry) ≡ text
+  staged_whole entry = recovered_closed text (following entry) is
+
   module _ (entry : List ℕ) (good : IsRecord entry) where
     pub opened : (file : List ℕ) → Over gate (get_or entry 0 0 ∷ []) (staged text entry) file → file ≡ at_rest (text ++ entry)
     opened file over =

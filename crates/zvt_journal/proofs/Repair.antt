@@ -3,11 +3,12 @@ use Rattle.std.proofs.Common.{◌≡◌, ℕ, ◌+◌, List, [], ◌∷◌, ◌+
 use Rattle.std.proofs.lemmas.List.{take_all, drop_all, append-nil}
 use Rattle.zvt_journal.specs.Device.{Over, Torn, Cut, Only}
 use Rattle.zvt_journal.specs.Text.{whole, recovered, at_rest, IsSettled}
-use Rattle.zvt_journal.proofs.Lines.{recovered_closed, recovered_short, recovered_prefix}
+use Rattle.zvt_journal.proofs.Lines.{whole_within, recovered_closed, recovered_short, recovered_prefix}
 
 -- any cut after the whole lines keeps them
 pub cut_keeps : (file left : List ℕ) → Cut (whole 0 file) file left → recovered left ≡ recovered file
-cut_keeps file left cut = ap recovered (sym cut.prefix) ∙ recovered_prefix file (length left) cut.no_shorter
+cut_keeps file left cut =
+    ap recovered (sym cut.prefix) ∙ recovered_prefix file (length left) (omega (arith, cut.no_shorter, whole_within 0 file))
 
 module _ (text : List ℕ) (is : whole 0 text ≡ length text) where
   -- one byte after them is no line

@@ -1,5 +1,5 @@
 -- What the calls of a device do to its file, and which files a crash may leave.
-use Rattle.std.specs.Prelude.{◌<◌, ◌≡◌, ◌⊎◌, ℕ, ◌+◌, ◌≤◌, max, List, [], ◌∷◌, ◌++◌, length, take, drop, Result, IsErrOf}
+use Rattle.std.specs.Prelude.{◌<◌, ◌≡◌, ◌⊎◌, ℕ, ◌+◌, ◌≤◌, min, max, List, [], ◌∷◌, ◌++◌, length, take, drop, Result, IsErrOf}
 use Rattle.zvt_journal.specs.declared.device.DeviceError.{DeviceError}
 use Rattle.zvt_journal.specs.declared.device.DeviceError.TheVariants.{Failed, Full}
 
@@ -18,9 +18,9 @@ pub record Torn (at n : ℕ) (old new : List ℕ) : Type 0 where
 abbrev pub Swapped : ℕ → ℕ → List ℕ → List ℕ → Type 0
 Swapped at byte old new = (new ≡ old) ⊎ Over at (byte ∷ []) old new
 
--- A cut to n bytes that a crash cuts short: a prefix of the file, and no less than n bytes of it.
+-- A cut to n bytes that a crash cuts short: a prefix of the file, and no less than n bytes of it where it had so many.
 pub record Cut (n : ℕ) (old new : List ℕ) : Type 0 where
-  pub no_shorter : n ≤ length new
+  pub no_shorter : min n (length old) ≤ length new
   pub prefix : take (length new) old ≡ new
 
 -- what may be left after a step is what may have been left before it, and then the step

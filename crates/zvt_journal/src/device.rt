@@ -1,18 +1,18 @@
 //! A file as the journal uses it: what a read returns, and what a crash may leave.
-ghost use Rattle.std.specs.Prelude.{◌≡◌, ◌≤◌, ◌<◌, List, [], ◌∷◌, ℕ, length, take, IfOk, OnOk};
+ghost use Rattle.std.specs.Prelude.{◌≡◌, ◌≤◌, ◌<◌, List, [], ◌∷◌, ℕ, length, take, OnOk};
 ghost use Rattle.zvt_journal.specs.declared.device.DeviceError.TheVariants.{Memory};
 ghost use Rattle.zvt_journal.specs.Device.{Only, Follows, Torn, Swapped, Cut, Over, Elapses, HasCause};
 
-use std::alloc::{AllocError, AllocFailed, Global};
+use std::alloc::{AllocError, AllocFailed};
 
 /// Why a journal can't go on.
 #[derive(Clone, Copy, Debug, PartialEq, Eq)]
 pub enum DeviceError {
     /// Memory ran out. Nothing was written.
     Memory,
-    /// A call on the file failed. What a read returns now is not known: the file is opened anew, by another process.
+    /// A call on the file failed. What a read returns now is not known: another process opens the file anew.
     Failed,
-    /// The file has 2^60 bytes or more. Nothing was written.
+    /// The file has 2^60 bytes or more, or the record more than [`MAX_RECORD_LEN`](crate::MAX_RECORD_LEN). Nothing was written.
     Full,
 }
 
@@ -36,6 +36,8 @@ impl<T: Drop> From<AllocFailed<T>> for DeviceError {
 ///
 /// The crash model: a write of one byte over another leaves the old byte or the new one. A write of several bytes leaves
 /// any bytes in its range. Bytes outside of a write stay as they are.
+///
+/// No call reads. Whoever makes a device reads the file first, since no contract of std says what a file holds.
 pub trait Device {
     /// The bytes that a read returns.
     ghost seen: { Self → List ℕ };
@@ -51,14 +53,6 @@ pub trait Device {
 
     /// How often the disk has failed.
     ghost faults: { Self → ℕ };
-
-    /// Reads the whole file.
-    fn read(&mut self, alloc: Global) -> Result<Vec<u8>, DeviceError>
-        ensures bytes { IfOk result (λ bytes. bytes.items ≡ seen self.old) }
-        ensures seen { seen self.new ≡ seen self.old }
-        ensures crash { (file : List ℕ) → may_leave self.new file → may_leave self.old file }
-        ensures time { Elapses (moment self.old) (moment self.new) (left_since self.old) (left_since self.new) (may_leave self.new) }
-        ensures cause { HasCause (faults self.old) (faults self.new) result };
 
     /// Writes over the file, and past its end. Until the next `sync` a crash may leave any bytes there.
     fn write_at(&mut self, at: usize, bytes: &[u8]) -> Result<(), DeviceError>

@@ -1,16 +1,20 @@
 //! Records of text lines, and the gate that makes each of them count at once.
 ghost use Rattle.std.specs.Prelude.{◌≡◌, All, ◌↔◌, ◌⊎◌, ◌+◌, ◌<◌, ◌≤◌, ◌^◌, ◌++◌, [], ◌∷◌, List, ℕ, length, drop, IfOk, OnOk, IsErrOf, IsTrue};
 ghost use Rattle.zvt_journal.specs.Device.{Only, LeavesOnly};
+ghost use Rattle.zvt_journal.specs.Files.{HasFewAfter};
 ghost use Rattle.zvt_journal.specs.Text.{whole, recovered, IsRecord, IsSettled, IsWithOrWithout, IsAsBefore, joined, HasFirst, LinesAreRecovered, RecoveredIsLines};
 
 use crate::durable::{cut_synced, set_synced, write_synced};
 use crate::{Device, DeviceError};
 use std::alloc::{AllocError, Global};
 
-const LINE_FEED: u8 = b'\n';
+pub(crate) const LINE_FEED: u8 = b'\n';
 
 /// The length from which on a journal takes no record.
 const MAX_JOURNAL_LEN: usize = 1 << 60;
+
+/// The length of the longest record. A crash leaves no more bytes than these, and one, after the whole lines of a file.
+pub const MAX_RECORD_LEN: usize = 1 << 18;
 
 /// A journal that is open, over its device. [`open`] says where its gate is.
 #[derive(Drop)]
@@ -32,16 +36,20 @@ impl<D: Device> Journal<D> {
 
         ensures settled { OnOk result (IsSettled (D.seen self.new.device) (D.may_leave self.new.device) self.new.gate) }
         ensures acknowledged { OnOk result (recovered (D.seen self.new.device) ≡ recovered (D.seen self.old.device) ++ entry.now) }
+        ensures longest { OnOk result (length entry.now ≤ 2 ^ 18) }
 
         // A crash at any moment of the call leaves the text from before it, with the record or without.
         ensures any_moment { LeavesOnly D.moment D.left_since self.old.device self.new.device
             (IsWithOrWithout (recovered (D.seen self.old.device)) entry.now) }
 
+        // And no more after its whole lines than a record and one byte.
+        ensures few_after { LeavesOnly D.moment D.left_since self.old.device self.new.device HasFewAfter }
+
         // It doesn't give up by itself.
         ensures failed { IsErrOf result DeviceError.Failed → D.faults self.old.device < D.faults self.new.device }
-        ensures full { IsErrOf result DeviceError.Full → 2 ^ 60 ≤ self.old.gate }
+        ensures full { IsErrOf result DeviceError.Full → (2 ^ 60 ≤ self.old.gate) ⊎ (2 ^ 18 < length entry.now) }
     {
-        if self.gate >= MAX_JOURNAL_LEN {
+        if self.gate >= MAX_JOURNAL_LEN || entry.len() > MAX_RECORD_LEN {
             return Err(DeviceError::Full);
         }
         let following = after_gate(self.alloc, entry)?;
@@ -82,11 +90,14 @@ fn after_gate(alloc: Global, entry: &[u8]) -> Result<Vec<u8>, AllocError>
 
 /// Recovers the records of a file that a crash may have left, and makes the file one at rest.
 ///
-/// It syncs before it reads: after a process was killed, what a read returns need not be durable. An empty file is a journal
-/// without records.
-pub fn open<D: Device>(alloc: Global, device: &mut D) -> Result<Vec<u8>, DeviceError>
+/// `bytes` are what a read of the file returned. It syncs first: after a process was killed, what a read returns need not be
+/// durable. An empty file is a journal without records.
+pub fn open<D: Device>(device: &mut D, mut bytes: Vec<u8>) -> Result<Vec<u8>, DeviceError>
+    requires bytes { bytes.items ≡ D.seen device.old }
+
     ensures text { IfOk result (λ text. text.items ≡ recovered (D.seen device.old)) }
     ensures settled { IfOk result (λ text. IsSettled (D.seen device.new) (D.may_leave device.new) (length text.items)) }
+    ensures kept { OnOk result (recovered (D.seen device.new) ≡ recovered (D.seen device.old)) }
 
     // A crash at any moment leaves the same text, or what it might have left before.
     ensures any_moment { LeavesOnly D.moment D.left_since device.old device.new
@@ -96,7 +107,6 @@ pub fn open<D: Device>(alloc: Global, device: &mut D) -> Result<Vec<u8>, DeviceE
     ensures full { IsErrOf result DeviceError.Full → ⊥ }
 {
     device.sync()?;
-    let mut bytes = device.read(alloc)?;
     let end = whole_lines(&bytes);
     // The cut is on the disk before a gate is written: after a torn gate what was there would count.
     cut_synced(device, end)?;
@@ -120,7 +130,7 @@ pub fn lines_are_recovered()
 {}
 
 /// How many bytes of whole lines come before the first empty line.
-fn whole_lines(bytes: &[u8]) -> usize
+pub(crate) fn whole_lines(bytes: &[u8]) -> usize
     ensures whole { result ≡ whole 0 bytes.now }
     ensures within { result ≤ length bytes.now }
 {

@@ -6,13 +6,27 @@
 //! first byte over the gate, each of them durable before what comes next.
 #![tactic(auto)]
 
+mod call;
+mod calls;
+mod content;
+mod create;
 mod device;
 mod durable;
+mod error;
+mod file;
+#[cfg(test)]
+mod file_tests;
 mod journal;
 mod memory;
+mod tears;
 #[cfg(test)]
 mod tests;
 
+pub use content::MAX_OPENING_LEN;
+pub use create::{Opened, open_file, read_book};
 pub use device::{Device, DeviceError};
-pub use journal::{Journal, is_record, lines_are_recovered, open};
+pub use error::JournalFileError;
+pub use file::{FileDevice, a_read_may_be_left};
+pub use journal::{Journal, MAX_RECORD_LEN, is_record, lines_are_recovered, open};
 pub use memory::Memory;
+pub use tears::{Tear, torn};

@@ -87,10 +87,6 @@ impl Device for Memory {
 
     ghost only_now = { λ m file left. only_last m.past.items m.bytes.items file left };
 
-    fn read(&mut self, alloc: Global) -> Result<Vec<u8>, DeviceError> {
-        Ok(self.bytes.to_vec(alloc)?)
-    }
-
     fn write_at(&mut self, at: usize, bytes: &[u8]) -> Result<(), DeviceError> {
         let next = over(self.alloc, &self.bytes, at, bytes)?;
         Ok(replace(self.alloc, &mut self.bytes, &mut self.past, next)?)

@@ -3,7 +3,7 @@ ghost use Rattle.std.specs.Prelude.{◌≡◌, length, IfOk};
 ghost use Rattle.zvt_journal.specs.Memory.{memory_bytes};
 ghost use Rattle.zvt_journal.specs.Text.{IsSettled};
 
-use crate::{Journal, Memory, is_record, lines_are_recovered, open};
+use crate::{Journal, Memory, Tear, is_record, lines_are_recovered, open, torn};
 use std::alloc::Global;
 use std::test::Fail;
 
@@ -15,7 +15,7 @@ fn opened(alloc: Global, bytes: &[u8]) -> Result<(Vec<u8>, Memory), Fail>
     ensures { IfOk result (λ pair. IsSettled (memory_bytes pair.1) (λ file. file ≡ memory_bytes pair.1) (length pair.0.items)) }
 {
     let mut file = Memory::new(alloc, bytes.to_vec(alloc)?);
-    let text = open(alloc, &mut file)?;
+    let text = open(&mut file, bytes.to_vec(alloc)?)?;
     Ok((text, file))
 }
 
@@ -77,6 +77,43 @@ fn each_moment_leaves_whole_records(rt: HostRuntime) -> Result<(), Fail> {
         journal.device.bytes(),
         b"!\n# pay 1234\n> 0601\n!\n\n".as_slice()
     );
+    Ok(())
+}
+
+/// Whether each file that a crash leaves between these contents recovers as one of the two texts.
+fn recovers(alloc: Global, old: &[u8], new: &[u8], texts: [&[u8]; 2]) -> Result<bool, Fail> {
+    for at in 0..=old.len().max(new.len()) {
+        for tear in [Tear::First, Tear::Last, Tear::Padded] {
+            let left = torn(alloc, old, new, at, tear)?;
+            let (text, _) = opened(alloc, &left)?;
+            if !texts.contains(&text.as_slice()) {
+                return Ok(false);
+            }
+        }
+    }
+    Ok(true)
+}
+
+#[test]
+fn each_tear_leaves_whole_records(rt: HostRuntime) -> Result<(), Fail> {
+    let alloc = rt.alloc();
+    let (text, device) = opened(alloc, b"!\n\n pay")?;
+    let gate = text.len();
+    let mut journal = Journal {
+        alloc,
+        device,
+        gate,
+    };
+    journal.append(b"# pay 1\n")?;
+    let mut old: &[u8] = b"!\n\n pay";
+    let before = b"!\n".as_slice();
+    for new in journal.device.past() {
+        assert!(rt; recovers(alloc, old, new, [before, before])?);
+        old = new;
+    }
+    let new = journal.device.bytes();
+    assert!(rt; recovers(alloc, old, new, [before, b"!\n# pay 1\n"])?);
+    assert!(rt; !recovers(alloc, old, new, [before, before])?);
     Ok(())
 }
 

@@ -2,13 +2,15 @@
 ghost use Rattle.std.specs.Prelude.{◌≡◌};
 
 use crate::keeping::{keep_lost, take_message, take_order};
+use crate::records::put_opening;
 use crate::refusal::KeptRefusal;
 use std::alloc::{AllocError, Global};
 use std::marker::Model;
 use zvt_apdu::ApduView;
 use zvt_journal::{Device, DeviceError, Journal};
 use zvt_stream::{Answers, Machine};
-use zvt_till::{Order, Outgoing, Till};
+use zvt_text::Text;
+use zvt_till::{Order, Outgoing, Till, TillSettings};
 
 /// A till and its journal.
 ///
@@ -34,7 +36,40 @@ impl<D: Device> Model for KeptTill<D> {
 }
 
 impl<D: Device> KeptTill<D> {
-    ghost use Rattle.zvt_kept.specs.KeptTill.{IsKept, Orders, Connects, LosesLine, failed_after};
+    ghost use Rattle.std.specs.Prelude.{◌∷◌, [], false, IfOk};
+    ghost use Rattle.zvt_journal.specs.Text.{IsSettled};
+    ghost use Rattle.zvt_kept.specs.KeptTill.{IsKept, Keeps, Orders, Connects, LosesLine, failed_after};
+    ghost use Rattle.zvt_till.specs.Settings.{settings_of};
+    ghost use Rattle.zvt_till.specs.Till.{new_till};
+    ghost use Rattle.zvt_till.specs.declared.happenings.Happening.TheVariants.{Connected};
+
+    /// Begins a journal on a device without records, which `zvt_journal::open` left at rest: its opening is durable then. The
+    /// till is new, and its line is down.
+    pub fn create(
+        alloc: Global,
+        settings: &TillSettings,
+        device: D,
+    ) -> Result<KeptTill<D>, DeviceError>
+        requires { IsSettled (D.seen device) (D.may_leave device) 0 }
+        ensures till { IfOk result (λ kept. kept.standing.till.state ≡ new_till (settings_of settings.now)) }
+        ensures whole { IfOk result (λ kept. kept.failed ≡ false) }
+        ensures log { IfOk result (λ kept. Keeps (settings_of settings.now) (Connected ∷ []) (D.seen kept.standing.device) (D.may_leave kept.standing.device) kept.standing.gate kept.standing.till.state) }
+    {
+        let mut text = Text::new(alloc);
+        put_opening(&mut text, settings.currency)?;
+        let mut journal = Journal {
+            alloc,
+            device,
+            gate: 0,
+        };
+        journal.append(text.bytes())?;
+        let till = Till::new(alloc, settings.password, settings.config, settings.currency);
+        Ok(KeptTill {
+            till,
+            journal,
+            failed: false,
+        })
+    }
 
     /// The till, to look at.
     pub fn till(&self) -> &Till

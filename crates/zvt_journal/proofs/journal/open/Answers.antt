@@ -3,7 +3,7 @@ use Rattle.zvt_journal.specs.Device.{Over, Torn, Cut}
 use Rattle.zvt_journal.specs.Text.{whole, recovered, IsSettled, IsAsBefore}
 use Rattle.zvt_journal.proofs.Moments.{started, goes_on, and_then}
 use Rattle.zvt_journal.proofs.Lines.{recovered_whole, length-recovered}
-use Rattle.zvt_journal.proofs.Repair.{cut_keeps, torn_end, closed_again, settled_again}
+use Rattle.zvt_journal.proofs.Repair.{cut_keeps, torn_end, closed_again, stands_for_same, settled_again}
 use Rattle.zvt_journal.proofs.journal.open.Goals as goal
 
 pub returns-in_err-sync-clause-any_moment : goal.returns-in_err-sync-clause-any_moment
@@ -16,21 +16,10 @@ returns-in_err-sync-clause-any_moment g c =
     let synced = goes_on g.D.Device.moment g.D.Device.left_since device device c.sync.new.self P _ start c.sync.ensures.time (λ f now. inl (c.sync.ensures.crash f now)) in
     synced
 
-pub returns-in_err-bytes-clause-any_moment : goal.returns-in_err-bytes-clause-any_moment
-returns-in_err-bytes-clause-any_moment g c =
-    let device = c.args.device.now in
-    let file = g.D.Device.seen device in
-    let text = recovered file in
-    let P = IsAsBefore (g.D.Device.may_leave device) text in
-    let start = started g.D.Device.moment g.D.Device.left_since device P (λ f left. inl (g.met.D.Device.only_now device f left)) in
-    let synced = goes_on g.D.Device.moment g.D.Device.left_since device device c.sync.new.self P _ start c.sync.ensures.time (λ f now. inl (c.sync.ensures.crash f now)) in
-    let read = goes_on g.D.Device.moment g.D.Device.left_since device c.sync.new.self c.read.new.self P _ synced c.read.ensures.time (λ f now. inl (c.sync.ensures.crash f (c.read.ensures.crash f now))) in
-    read
-
 -- what was read is on the disk
 pub cut_synced-requires-clause-durable : goal.cut_synced-requires-clause-durable
 cut_synced-requires-clause-durable g c =
-    λ f now. c.in_ok-sync.ensures.durable f (c.read.ensures.crash f now) ∙ sym (c.read.ensures.seen ∙ c.sync.ensures.seen)
+    λ f now. c.in_ok-sync.ensures.durable f now ∙ sym c.sync.ensures.seen
 
 -- no cut takes a whole line
 pub returns-in_err-cut_synced-clause-any_moment : goal.returns-in_err-cut_synced-clause-any_moment
@@ -40,14 +29,13 @@ returns-in_err-cut_synced-clause-any_moment g c =
     let text = recovered file in
     let is = recovered_whole file in
     let end = c.whole_lines-end.result in
-    let read_is = c.in_ok-bytes.ensures.bytes ∙ c.sync.ensures.seen in
+    let read_is = c.requires.bytes in
     let end_is : end ≡ whole 0 file = c.whole_lines-end.ensures.whole ∙ ap (λ (l : List ℕ). whole 0 l) (c.deref.ensures.value ∙ read_is) in
-    let same_file = c.read.ensures.seen ∙ c.sync.ensures.seen in
+    let same_file = c.sync.ensures.seen in
     let P = IsAsBefore (g.D.Device.may_leave device) text in
     let start = started g.D.Device.moment g.D.Device.left_since device P (λ f left. inl (g.met.D.Device.only_now device f left)) in
     let synced = goes_on g.D.Device.moment g.D.Device.left_since device device c.sync.new.self P _ start c.sync.ensures.time (λ f now. inl (c.sync.ensures.crash f now)) in
-    let read = goes_on g.D.Device.moment g.D.Device.left_since device c.sync.new.self c.read.new.self P _ synced c.read.ensures.time (λ f now. inl (c.sync.ensures.crash f (c.read.ensures.crash f now))) in
-    let cut = and_then g.D.Device.moment g.D.Device.left_since device c.read.new.self c.cut_synced.new.device P (Cut end (g.D.Device.seen c.read.new.self)) read c.cut_synced.ensures.any_moment
+    let cut = and_then g.D.Device.moment g.D.Device.left_since device c.sync.new.self c.cut_synced.new.device P (Cut end (g.D.Device.seen c.sync.new.self)) synced c.cut_synced.ensures.any_moment
     (λ f left. inr (cut_keeps file f (subst (λ n. Cut n file f) end_is (subst (λ was. Cut end was f) same_file left)))) in
     cut
 
@@ -59,14 +47,13 @@ returns-in_err-write_synced-clause-any_moment g c =
     let text = recovered file in
     let is = recovered_whole file in
     let end = c.whole_lines-end.result in
-    let read_is = c.in_ok-bytes.ensures.bytes ∙ c.sync.ensures.seen in
+    let read_is = c.requires.bytes in
     let end_is : end ≡ whole 0 file = c.whole_lines-end.ensures.whole ∙ ap (λ (l : List ℕ). whole 0 l) (c.deref.ensures.value ∙ read_is) in
-    let same_file = c.read.ensures.seen ∙ c.sync.ensures.seen in
+    let same_file = c.sync.ensures.seen in
     let P = IsAsBefore (g.D.Device.may_leave device) text in
     let start = started g.D.Device.moment g.D.Device.left_since device P (λ f left. inl (g.met.D.Device.only_now device f left)) in
     let synced = goes_on g.D.Device.moment g.D.Device.left_since device device c.sync.new.self P _ start c.sync.ensures.time (λ f now. inl (c.sync.ensures.crash f now)) in
-    let read = goes_on g.D.Device.moment g.D.Device.left_since device c.sync.new.self c.read.new.self P _ synced c.read.ensures.time (λ f now. inl (c.sync.ensures.crash f (c.read.ensures.crash f now))) in
-    let cut = and_then g.D.Device.moment g.D.Device.left_since device c.read.new.self c.cut_synced.new.device P (Cut end (g.D.Device.seen c.read.new.self)) read c.cut_synced.ensures.any_moment
+    let cut = and_then g.D.Device.moment g.D.Device.left_since device c.sync.new.self c.cut_synced.new.device P (Cut end (g.D.Device.seen c.sync.new.self)) synced c.cut_synced.ensures.any_moment
     (λ f left. inr (cut_keeps file f (subst (λ n. Cut n file f) end_is (subst (λ was. Cut end was f) same_file left)))) in
     let cut_is : g.D.Device.seen c.cut_synced.new.device ≡ text = c.in_ok-cut_synced.ensures.cut ∙ ap (λ (l : List ℕ). take end l) same_file ∙ ap (λ (n : ℕ). take n file) end_is in
     let at_end : end ≡ length text = end_is ∙ sym (length-recovered file) in
@@ -81,14 +68,13 @@ returns-clause-any_moment g c =
     let text = recovered file in
     let is = recovered_whole file in
     let end = c.whole_lines-end.result in
-    let read_is = c.in_ok-bytes.ensures.bytes ∙ c.sync.ensures.seen in
+    let read_is = c.requires.bytes in
     let end_is : end ≡ whole 0 file = c.whole_lines-end.ensures.whole ∙ ap (λ (l : List ℕ). whole 0 l) (c.deref.ensures.value ∙ read_is) in
-    let same_file = c.read.ensures.seen ∙ c.sync.ensures.seen in
+    let same_file = c.sync.ensures.seen in
     let P = IsAsBefore (g.D.Device.may_leave device) text in
     let start = started g.D.Device.moment g.D.Device.left_since device P (λ f left. inl (g.met.D.Device.only_now device f left)) in
     let synced = goes_on g.D.Device.moment g.D.Device.left_since device device c.sync.new.self P _ start c.sync.ensures.time (λ f now. inl (c.sync.ensures.crash f now)) in
-    let read = goes_on g.D.Device.moment g.D.Device.left_since device c.sync.new.self c.read.new.self P _ synced c.read.ensures.time (λ f now. inl (c.sync.ensures.crash f (c.read.ensures.crash f now))) in
-    let cut = and_then g.D.Device.moment g.D.Device.left_since device c.read.new.self c.cut_synced.new.device P (Cut end (g.D.Device.seen c.read.new.self)) read c.cut_synced.ensures.any_moment
+    let cut = and_then g.D.Device.moment g.D.Device.left_since device c.sync.new.self c.cut_synced.new.device P (Cut end (g.D.Device.seen c.sync.new.self)) synced c.cut_synced.ensures.any_moment
     (λ f left. inr (cut_keeps file f (subst (λ n. Cut n file f) end_is (subst (λ was. Cut end was f) same_file left)))) in
     let cut_is : g.D.Device.seen c.cut_synced.new.device ≡ text = c.in_ok-cut_synced.ensures.cut ∙ ap (λ (l : List ℕ). take end l) same_file ∙ ap (λ (n : ℕ). take n file) end_is in
     let at_end : end ≡ length text = end_is ∙ sym (length-recovered file) in
@@ -104,9 +90,9 @@ returns-clause-settled g c =
     let text = recovered file in
     let is = recovered_whole file in
     let end = c.whole_lines-end.result in
-    let read_is = c.in_ok-bytes.ensures.bytes ∙ c.sync.ensures.seen in
+    let read_is = c.requires.bytes in
     let end_is : end ≡ whole 0 file = c.whole_lines-end.ensures.whole ∙ ap (λ (l : List ℕ). whole 0 l) (c.deref.ensures.value ∙ read_is) in
-    let same_file = c.read.ensures.seen ∙ c.sync.ensures.seen in
+    let same_file = c.sync.ensures.seen in
     let cut_is : g.D.Device.seen c.cut_synced.new.device ≡ text = c.in_ok-cut_synced.ensures.cut ∙ ap (λ (l : List ℕ). take end l) same_file ∙ ap (λ (n : ℕ). take n file) end_is in
     let at_end : end ≡ length text = end_is ∙ sym (length-recovered file) in
     let new = g.D.Device.seen c.write_synced.new.device in
@@ -114,3 +100,19 @@ returns-clause-settled g c =
     let settled = settled_again text is new (g.D.Device.may_leave c.write_synced.new.device) rests c.in_ok-write_synced.ensures.durable in
     let told : c.truncate.new.self.items ≡ text = c.truncate.ensures.items ∙ ap (λ (l : List ℕ). take end l) read_is ∙ ap (λ (n : ℕ). take n file) end_is in
     subst (λ n. IsSettled new (g.D.Device.may_leave c.write_synced.new.device) n) (ap length (sym told)) settled
+
+pub returns-clause-kept : goal.returns-clause-kept
+returns-clause-kept g c =
+    let device = c.args.device.now in
+    let file = g.D.Device.seen device in
+    let text = recovered file in
+    let is = recovered_whole file in
+    let end = c.whole_lines-end.result in
+    let read_is = c.requires.bytes in
+    let end_is : end ≡ whole 0 file = c.whole_lines-end.ensures.whole ∙ ap (λ (l : List ℕ). whole 0 l) (c.deref.ensures.value ∙ read_is) in
+    let same_file = c.sync.ensures.seen in
+    let cut_is : g.D.Device.seen c.cut_synced.new.device ≡ text = c.in_ok-cut_synced.ensures.cut ∙ ap (λ (l : List ℕ). take end l) same_file ∙ ap (λ (n : ℕ). take n file) end_is in
+    let at_end : end ≡ length text = end_is ∙ sym (length-recovered file) in
+    let new = g.D.Device.seen c.write_synced.new.device in
+    let rests = closed_again text is new (subst (λ n. Over n (10 ∷ []) text new) at_end (subst (λ was. Over end (10 ∷ []) was new) cut_is c.in_ok-write_synced.ensures.written)) in
+    stands_for_same text is new rests

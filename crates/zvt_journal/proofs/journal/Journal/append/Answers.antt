@@ -1,8 +1,10 @@
-use Rattle.std.proofs.Common.{◌+◌, [], ◌∷◌, ◌++◌, length, get_or, inl, ◌∙◌, ap, subst}
+use Rattle.std.proofs.Common.{◌≤◌, ◌^◌, rules, ◌+◌, [], ◌∷◌, ◌++◌, length, get_or, inl, ◌∙◌, ap, subst}
 use Rattle.zvt_journal.specs.Device.{Over, Torn, Swapped}
+use Rattle.zvt_journal.specs.Files.{HasFewAfter}
 use Rattle.zvt_journal.specs.Text.{recovered, IsWithOrWithout}
 use Rattle.zvt_journal.proofs.Moments.{started, and_then}
 use Rattle.zvt_journal.proofs.Lines.{recovered_whole}
+use Rattle.zvt_journal.proofs.Few.{short_following, few_at_rest, few_torn, few_swapped}
 use Rattle.zvt_journal.proofs.Append.{torn_after, written_after, opened, swapped_gate, settled, stands_for_more}
 use Rattle.zvt_journal.proofs.journal.Journal.append.Goals as goal
 
@@ -95,3 +97,62 @@ returns-clause-acknowledged g c =
     let over_gate = subst (λ was. Over gate (get_or entry 0 0 ∷ []) was (g.D.Device.seen c.set_synced.new.device)) is_staged c.in_ok-set_synced.ensures.written in
     let is_open = opened text is gate s.at_gate entry c.requires.entry _ over_gate in
     stands_for_more text is gate s.at_gate entry c.requires.entry _ is_open
+
+-- and no more than the record and one byte after the whole lines
+pub returns-in_err-write_synced-clause-few_after : goal.returns-in_err-write_synced-clause-few_after
+returns-in_err-write_synced-clause-few_after g c =
+    let s = c.requires.settled in
+    let device = c.args.self.now.device in
+    let entry = c.args.entry.now in
+    let gate = c.args.self.now.gate in
+    let bytes = c.deref.result.now in
+    let text = recovered (g.D.Device.seen device) in
+    let is = recovered_whole (g.D.Device.seen device) in
+    let short : length entry ≤ 2 ^ 18 = search rules in
+    let bound = short_following entry bytes c.requires.entry.some short (c.deref.ensures.value ∙ c.in_ok-following.ensures) in
+    let start = started g.D.Device.moment g.D.Device.left_since device HasFewAfter (λ file left. let at = s.durable file (g.met.D.Device.only_now device file left) in few_at_rest text is gate s.at_gate file (at ∙ s.rest) (ap recovered at)) in
+    let written = and_then g.D.Device.moment g.D.Device.left_since device device c.write_synced.new.device HasFewAfter (Torn (gate + 1) (length bytes) (g.D.Device.seen device)) start c.write_synced.ensures.any_moment
+    (λ file torn. few_torn text is gate s.at_gate (length bytes) file bound (subst (λ was. Torn (gate + 1) (length bytes) was file) s.rest torn)) in
+    written
+
+pub returns-in_err-set_synced-clause-few_after : goal.returns-in_err-set_synced-clause-few_after
+returns-in_err-set_synced-clause-few_after g c =
+    let s = c.requires.settled in
+    let device = c.args.self.now.device in
+    let entry = c.args.entry.now in
+    let gate = c.args.self.now.gate in
+    let bytes = c.deref.result.now in
+    let text = recovered (g.D.Device.seen device) in
+    let is = recovered_whole (g.D.Device.seen device) in
+    let short : length entry ≤ 2 ^ 18 = search rules in
+    let bound = short_following entry bytes c.requires.entry.some short (c.deref.ensures.value ∙ c.in_ok-following.ensures) in
+    let start = started g.D.Device.moment g.D.Device.left_since device HasFewAfter (λ file left. let at = s.durable file (g.met.D.Device.only_now device file left) in few_at_rest text is gate s.at_gate file (at ∙ s.rest) (ap recovered at)) in
+    let written = and_then g.D.Device.moment g.D.Device.left_since device device c.write_synced.new.device HasFewAfter (Torn (gate + 1) (length bytes) (g.D.Device.seen device)) start c.write_synced.ensures.any_moment
+    (λ file torn. few_torn text is gate s.at_gate (length bytes) file bound (subst (λ was. Torn (gate + 1) (length bytes) was file) s.rest torn)) in
+    let following_is = c.deref.ensures.value ∙ c.in_ok-following.ensures in
+    let over = subst (λ was. Over (gate + 1) bytes was (g.D.Device.seen c.write_synced.new.device)) s.rest c.in_ok-write_synced.ensures.written in
+    let is_staged = written_after text is gate s.at_gate bytes _ over ∙ ap (λ l. text ++ 10 ∷ l) following_is in
+    let gone_on = and_then g.D.Device.moment g.D.Device.left_since device c.write_synced.new.device c.set_synced.new.device HasFewAfter (Swapped gate (get_or entry 0 0) (g.D.Device.seen c.write_synced.new.device)) written c.set_synced.ensures.any_moment
+    (λ file swapped. few_swapped text is gate s.at_gate entry c.requires.entry short file (subst (λ was. Swapped gate (get_or entry 0 0) was file) is_staged swapped)) in
+    gone_on
+
+pub returns-clause-few_after : goal.returns-clause-few_after
+returns-clause-few_after g c =
+    let s = c.requires.settled in
+    let device = c.args.self.now.device in
+    let entry = c.args.entry.now in
+    let gate = c.args.self.now.gate in
+    let bytes = c.deref.result.now in
+    let text = recovered (g.D.Device.seen device) in
+    let is = recovered_whole (g.D.Device.seen device) in
+    let short : length entry ≤ 2 ^ 18 = search rules in
+    let bound = short_following entry bytes c.requires.entry.some short (c.deref.ensures.value ∙ c.in_ok-following.ensures) in
+    let start = started g.D.Device.moment g.D.Device.left_since device HasFewAfter (λ file left. let at = s.durable file (g.met.D.Device.only_now device file left) in few_at_rest text is gate s.at_gate file (at ∙ s.rest) (ap recovered at)) in
+    let written = and_then g.D.Device.moment g.D.Device.left_since device device c.write_synced.new.device HasFewAfter (Torn (gate + 1) (length bytes) (g.D.Device.seen device)) start c.write_synced.ensures.any_moment
+    (λ file torn. few_torn text is gate s.at_gate (length bytes) file bound (subst (λ was. Torn (gate + 1) (length bytes) was file) s.rest torn)) in
+    let following_is = c.deref.ensures.value ∙ c.in_ok-following.ensures in
+    let over = subst (λ was. Over (gate + 1) bytes was (g.D.Device.seen c.write_synced.new.device)) s.rest c.in_ok-write_synced.ensures.written in
+    let is_staged = written_after text is gate s.at_gate bytes _ over ∙ ap (λ l. text ++ 10 ∷ l) following_is in
+    let gone_on = and_then g.D.Device.moment g.D.Device.left_since device c.write_synced.new.device c.set_synced.new.device HasFewAfter (Swapped gate (get_or entry 0 0) (g.D.Device.seen c.write_synced.new.device)) written c.set_synced.ensures.any_moment
+    (λ file swapped. few_swapped text is gate s.at_gate entry c.requires.entry short file (subst (λ was. Swapped gate (get_or entry 0 0) was file) is_staged swapped)) in
+    gone_on

@@ -1,0 +1,58 @@
+//! What a journal's file may hold, and what of it counts.
+ghost use Rattle.std.specs.Prelude.{◌≡◌, ◌≤◌, ◌⊎◌, ◌↔◌, ◌-◌, length, drop, IfOk, IfErr, IsTrue, codes};
+ghost use Rattle.zvt_journal.specs.Text.{whole};
+ghost use Rattle.zvt_journal.specs.Files.{IsNamed, IsBegun, HasFewAfter, after_gate};
+
+use crate::JournalFileError;
+use crate::journal::{LINE_FEED, MAX_RECORD_LEN, whole_lines};
+
+/// What a journal's first line begins with.
+const FORMAT: [u8; 15] = *b"# zvt journal 1";
+
+/// The length of the longest first record of a journal. Its first line names the format.
+pub const MAX_OPENING_LEN: usize = 1 << 8;
+
+/// Whether the first line names the format.
+fn is_named(bytes: &[u8]) -> bool
+    ensures { IsTrue result ↔ IsNamed bytes.now }
+{
+    bytes.starts_with(&FORMAT)
+}
+
+/// Whether a crash may leave these bytes before the first record is there.
+fn is_begun(bytes: &[u8]) -> bool
+    ensures { IsTrue result ↔ IsBegun bytes.now }
+{
+    bytes.len() <= 1 || bytes[0] == LINE_FEED && bytes.len() <= MAX_OPENING_LEN + 1
+}
+
+/// How many bytes of whole lines come before the first empty line, if a journal's file may hold these bytes.
+pub(crate) fn accepted_lines(bytes: &[u8]) -> Result<usize, JournalFileError>
+    ensures whole { IfOk result (λ end. end ≡ whole 0 bytes.now) }
+    ensures within { IfOk result (λ end. end ≤ length bytes.now) }
+    ensures accepted { IfOk result (λ _. (IsNamed bytes.now ⊎ IsBegun bytes.now) × HasFewAfter bytes.now) }
+    ensures refused { IfErr result (λ error. ((error ≡ JournalFileError.NotAJournal) × (IsNamed bytes.now ⊎ IsBegun bytes.now → ⊥))
+        ⊎ ((error ≡ JournalFileError.TooMuchAfter (length bytes.now - whole 0 bytes.now)) × (HasFewAfter bytes.now → ⊥))) }
+{
+    if !is_named(bytes) && !is_begun(bytes) {
+        return Err(JournalFileError::NotAJournal);
+    }
+    let end = whole_lines(bytes);
+    let after = bytes.len() - end;
+    if after > MAX_RECORD_LEN + 1 {
+        return Err(JournalFileError::TooMuchAfter { bytes: after });
+    }
+    Ok(end)
+}
+
+/// What is cut of a journal whose whole lines end here: all that comes after its closed gate.
+pub(crate) fn to_cut(bytes: &[u8], end: usize) -> &[u8]
+    requires { end ≤ length bytes.now }
+    ensures { result.now ≡ after_gate (drop end bytes.now) }
+{
+    let rest = &bytes[end..];
+    match rest.split_first() {
+        Some((&LINE_FEED, after)) => after,
+        _ => rest,
+    }
+}

@@ -1,0 +1,54 @@
+//! Why a journal's file is not opened.
+ghost use Rattle.std.specs.Prelude.{◌≡◌};
+ghost use Rattle.zvt_journal.specs.declared.error.JournalFileError.TheVariants.{Io, Memory};
+
+use std::alloc::AllocError;
+use std::io;
+use thiserror::Error;
+
+/// Why a journal's file is not opened. Nothing was written to it, but for `Io` and `Memory`, which may come at any moment.
+///
+/// No text names the file: the program writes the name before it.
+#[derive(Debug, Drop, Error)]
+pub enum JournalFileError {
+    /// Another process has the file open as its journal.
+    #[error("another till has this book open: end that till first, or name another file")]
+    InUse,
+    /// There is a folder of this name.
+    #[error("this is a folder: name a file in it")]
+    Folder,
+    /// There is something of this name that is no regular file.
+    #[error("this is no regular file: name a regular file, or one that is not there yet")]
+    NotAFile,
+    /// The file is no journal: its first line doesn't begin with the name of the format.
+    #[error("this is no journal, and it was left as it is: name a journal, or a file that is not there yet")]
+    NotAJournal,
+    /// More bytes come after the whole lines up to the first empty one than a crash leaves.
+    #[error("{bytes} bytes come after the first empty line, more than a crash leaves: remove that line if an editor put it there")]
+    TooMuchAfter { bytes: usize },
+    /// The bytes that are to be cut could not be kept in the file beside it, so they were not cut.
+    #[error("cannot keep the bytes that are to be cut in the file of this name and '.cut': {0}")]
+    CutNotKept(io::Error),
+    /// The file could not be opened, read, written or made durable.
+    #[error("cannot open, read or write this file: {0}")]
+    Io(io::Error),
+    /// Memory ran out.
+    #[error("out of memory")]
+    Memory,
+}
+
+impl From<io::Error> for JournalFileError {
+    ghost from_gives = { λ given error. error ≡ Io given };
+
+    fn from(error: io::Error) -> JournalFileError {
+        JournalFileError::Io(error)
+    }
+}
+
+impl From<AllocError> for JournalFileError {
+    ghost from_gives = { λ _ error. error ≡ Memory };
+
+    fn from(_refused: AllocError) -> JournalFileError {
+        JournalFileError::Memory
+    }
+}

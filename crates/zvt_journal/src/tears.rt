@@ -1,0 +1,57 @@
+//! Files that a crash may leave, for tests.
+ghost use Rattle.std.specs.Prelude.{◌≡◌, take, drop, IfOk};
+ghost use Rattle.zvt_journal.specs.Torn.{torn};
+
+use std::alloc::{AllocError, Global};
+
+/// How a crash tears a write.
+#[derive(Clone, Copy, Debug)]
+pub enum Tear {
+    /// The bytes before the place are the new ones.
+    First,
+    /// The bytes from the place on are the new ones.
+    Last,
+    /// The bytes before the place are the new ones, and the file has its new length already. Its end is zeros.
+    Padded,
+}
+
+/// A file that a crash may leave between two contents of a [`Memory`](crate::Memory), one call apart.
+///
+/// A test tries each place up to the longer length. Where the call was a cut, the file ends at the place, or at its new end.
+pub fn torn(
+    alloc: Global,
+    old: &[u8],
+    new: &[u8],
+    at: usize,
+    tear: Tear,
+) -> Result<Vec<u8>, AllocError>
+    ensures { IfOk result (λ file. file.items ≡ torn tear at old.now new.now) }
+{
+    if new.len() < old.len() {
+        return up_to(old, at.max(new.len())).to_vec(alloc);
+    }
+    let (begin, end) = match tear {
+        Tear::First | Tear::Padded => (up_to(new, at), from(old, at)),
+        Tear::Last => (up_to(old, at), from(new, at)),
+    };
+    let mut file = begin.to_vec(alloc)?;
+    file.extend_from_slice(end)?;
+    if matches!(tear, Tear::Padded) {
+        file.resize(new.len(), 0)?;
+    }
+    Ok(file)
+}
+
+/// The first bytes, as many as there are.
+fn up_to(bytes: &[u8], at: usize) -> &[u8]
+    ensures { result.now ≡ take at bytes.now }
+{
+    &bytes[..at.min(bytes.len())]
+}
+
+/// The bytes from this place on, if there are so many.
+fn from(bytes: &[u8], at: usize) -> &[u8]
+    ensures { result.now ≡ drop at bytes.now }
+{
+    &bytes[at.min(bytes.len())..]
+}
