@@ -1,10 +1,9 @@
 -- From an accepted order on, an order runs or it is known how one ended, also of a till with its journal.
-use Rattle.std.proofs.Common.{◌≡◌, ⊎_elim, ℕ, List, [], ◌∷◌, refl, subst, sym}
+use Rattle.std.proofs.Common.{⊎_elim, ℕ, List, [], ◌∷◌, refl, subst, sym}
 use Rattle.zvt_apdu.specs.Message.{Message}
 use Rattle.zvt_stream.specs.Answered.{Answered}
 use Rattle.zvt_stream.specs.Hearing.{Hears}
 use Rattle.zvt_stream.specs.declared.line.LineFault.TheVariants as faults
-use Rattle.zvt_till.specs.Till.{TillState}
 use Rattle.zvt_till.specs.Line.{till_loses}
 use Rattle.zvt_till.specs.View.{TillValue}
 use Rattle.zvt_till.proofs.Accepted.{IsKnown, known-heard, reported-over}
@@ -19,9 +18,9 @@ module _ {D : Type 0} (seen : D → List ℕ) (may_leave : D → List ℕ → Ty
   known_step old new m a h k = ⊎_elim
       (λ still. subst (λ (v : KeptValue D). IsKnown v.standing.till.state) (sym still.1) k)
       (λ more. ⊎_elim
-        (λ heard. known-heard old.standing.till new.standing.till (m ∷ []) (a ∷ []) (new.standing.till, heard.1.heard, refl) k)
-        (λ lost. known_lost old.standing.till new.standing.till lost.2.lost k)
-        more)
+      (λ heard. known-heard old.standing.till new.standing.till (m ∷ []) (a ∷ []) (new.standing.till, heard.1.heard, refl) k)
+      (λ lost. known_lost old.standing.till new.standing.till lost.2.lost k)
+      more)
       h
 
   pub known_kept : (old new : KeptValue D) (messages : List Message) (answers : List Answered) → Hears (kept.Hears seen may_leave moment left_since) old messages answers new

@@ -1,3 +1,4 @@
+mod Begun
 mod Bytes
 mod Kept
 mod Known

@@ -1,21 +1,21 @@
 -- What a till and its journal keep, one record further.
-use Rattle.std.proofs.Common.{◌≡◌, ⊎_elim, inl, inr, ℕ, ◌+◌, ◌<◌, Bool, true, false, cond, List, [], ◌∷◌, ◌++◌, Option, Some, None, refl, sym, ap, subst, ◌∙◌, append_assoc, arith, take}
+use Rattle.std.proofs.Common.{◌≡◌, ⊎_elim, inl, inr, ℕ, Bool, true, false, List, [], ◌∷◌, ◌++◌, Option, Some, None, refl, sym, ap, subst, ◌∙◌, append_assoc, arith}
 use Rattle.std.proofs.lemmas.List.{append-nil, take_all}
 use Rattle.zvt_till.specs.declared.happenings.Happening.{Happening}
-use Rattle.zvt_till.specs.declared.happenings.Happening.TheVariants.{Connected, Sent as SentOut, Heard as HeardIn, Lost}
+use Rattle.zvt_till.specs.declared.happenings.Happening.TheVariants.{Connected, Lost}
 use Rattle.zvt_till.specs.declared.statuses.Running.{Running}
 use Rattle.zvt_till.specs.Log.{CanFollow, facts_in, line_after, line_up}
 use Rattle.zvt_till.specs.Sending.{Settings}
-use Rattle.zvt_till.specs.Till.{TillState, facts_of, finish, meet, meet_running, line_down, new_till, state_after, step}
+use Rattle.zvt_till.specs.Till.{TillState, facts_of, meet, meet_running, line_down, new_till, state_after, step}
 use Rattle.zvt_till.specs.TillHistory.{Stands}
 use Rattle.zvt_till.proofs.BookStepLemmas.{settings-kept}
 use Rattle.zvt_till.proofs.Segments.{fold-snoc}
 use Rattle.zvt_till.proofs.Steps.{steps_meet_log}
 use Rattle.zvt_till.proofs.TillHistoryLemmas.{stands-more}
-use Rattle.zvt_journal.specs.Text.{recovered, whole, IsSettled, IsWithOrWithout}
+use Rattle.zvt_journal.specs.Text.{recovered, whole, IsWithOrWithout}
 use Rattle.zvt_journal.specs.Device.{LeavesOnly}
 use Rattle.zvt_journal.proofs.Lines.{recovered_whole}
-use Rattle.zvt_kept.specs.Records.{Kept, IsRecordOf, RecordsAreKept, kept_in}
+use Rattle.zvt_kept.specs.Records.{Kept, IsRecordOf, RecordsAreKept}
 use Rattle.zvt_kept.specs.Logs.{Happens, HappenAll, StandsFor}
 use Rattle.zvt_kept.specs.KeptTill.{IsKept, Keeps, KeepsSome, LeavesLogs, Outlives, Standing, unless_up}
 

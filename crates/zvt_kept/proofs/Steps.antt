@@ -1,24 +1,21 @@
 -- One step of a till and its journal.
 use Rattle.std.proofs.Common.{◌≡◌, ℕ, Bool, true, false, cond, List, [], ◌∷◌, ◌++◌, Option, Some, None, refl, sym, ap, subst, ◌∙◌}
-use Rattle.std.specs.Prelude.{Result, Ok, Err}
-use Rattle.zvt_apdu.specs.Message.{Message}
 use Rattle.zvt_till.specs.declared.happenings.Happening.{Happening}
-use Rattle.zvt_till.specs.declared.happenings.Happening.TheVariants.{Connected, Sent as SentOut, Heard as HeardIn, Lost}
+use Rattle.zvt_till.specs.declared.happenings.Happening.TheVariants.{Connected, Sent as SentOut, Lost}
 use Rattle.zvt_till.specs.declared.orders.Order.{Order}
-use Rattle.zvt_till.specs.declared.orders.Order.TheVariants.{Register, Pay, Reverse, CloseDay, Cancel}
 use Rattle.zvt_till.specs.declared.orders.OrderRefusal.{OrderRefusal}
 use Rattle.zvt_till.specs.declared.orders.OrderRefusal.TheVariants.{Offline}
 use Rattle.zvt_till.specs.Log.{CanFollow, facts_in, line_after}
 use Rattle.zvt_till.specs.Refusals.{or_else, refusal, sent_as}
 use Rattle.zvt_till.specs.Sending.{Settings}
-use Rattle.zvt_till.specs.Till.{TillState, accept, facts_of, step}
+use Rattle.zvt_till.specs.Till.{TillState, facts_of, step}
 use Rattle.zvt_till.specs.TillHistory.{Stands}
-use Rattle.zvt_till.proofs.Runs.{follows-order, step-order}
+use Rattle.zvt_till.proofs.Runs.{follows-order}
 use Rattle.zvt_till.proofs.Steps.{steps_meet_log}
 use Rattle.zvt_journal.specs.Text.{recovered, IsSettled}
-use Rattle.zvt_kept.specs.Records.{Kept, IsRecordOf, ordered}
+use Rattle.zvt_kept.specs.Records.{Kept, IsRecordOf}
 use Rattle.zvt_kept.specs.Logs.{Happens, StandsFor}
-use Rattle.zvt_kept.specs.KeptTill.{IsKept, Keeps, KeepsSome, Logs, Standing, order_sent, unless_up}
+use Rattle.zvt_kept.specs.KeptTill.{IsKept, Logs, Standing}
 use Rattle.zvt_kept.proofs.Logged.{connected_stands, keeps_some, line_is, stands_more, stays_up, up_stands}
 use Rattle.zvt_kept.proofs.Made.{records_are_kept}
 

@@ -1,5 +1,5 @@
 -- A till and its journal, and what each of their steps makes durable.
-use Rattle.std.specs.Prelude.{◌≡◌, ◌⊎◌, ℕ, Bool, true, false, cond, List, [], ◌∷◌, ◌++◌, Option, Some, None, Result, Ok, Err, IfOk}
+use Rattle.std.specs.Prelude.{◌≡◌, ◌⊎◌, ℕ, Bool, true, false, cond, List, [], ◌∷◌, ◌++◌, Some, None, Result, Ok, Err, IfOk}
 use Rattle.zvt_apdu.specs.Message.{Message}
 use Rattle.zvt_stream.specs.Answered.{Answered}
 use Rattle.zvt_till.specs.declared.happenings.Happening.{Happening}
@@ -12,7 +12,7 @@ use Rattle.zvt_till.specs.Refusals.{refusal, sent_as}
 use Rattle.zvt_till.specs.Sending.{Settings, message_of}
 use Rattle.zvt_till.specs.Till.{TillState, accept, facts_of, step}
 use Rattle.zvt_till.specs.TillHistory.{Stands}
-use Rattle.zvt_till.specs.View.{TillValue, IsRefusedAs, KeepsRoom}
+use Rattle.zvt_till.specs.View.{TillValue, IsRefusedAs}
 use Rattle.zvt_journal.specs.Text.{recovered, IsSettled, IsWithOrWithout}
 use Rattle.zvt_journal.specs.Device.{LeavesOnly}
 use Rattle.zvt_journal.specs.declared.device.DeviceError.{DeviceError}

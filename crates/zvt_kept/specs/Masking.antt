@@ -1,5 +1,5 @@
 -- Messages as a journal has them.
-use Rattle.std.specs.Prelude.{List, [], ◌∷◌}
+use Rattle.std.specs.Prelude.{[], ◌∷◌}
 use Rattle.zvt_till.specs.declared.orders.Outgoing.{Outgoing}
 use Rattle.zvt_till.specs.Sending.{outgoing}
 use Rattle.zvt_apdu.specs.declared.till_message.TillMessage.{TillMessage}

@@ -1,5 +1,5 @@
 -- One order of a till with its journal, from end to end.
-use Rattle.std.specs.Prelude.{◌≡◌, ◌⊎◌, ℕ, Bool, true, false, List, Option, Some, None, Result, Ok, Err}
+use Rattle.std.specs.Prelude.{◌≡◌, ◌⊎◌, ℕ, Bool, true, false, List, Option, Some, Result, Ok, Err}
 use Rattle.std.specs.Io.KnownBytes.{Appends}
 use Rattle.zvt_stream.specs.Apdus.{Spells}
 use Rattle.zvt_stream.specs.StreamState.{StreamState}

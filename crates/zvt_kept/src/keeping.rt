@@ -143,7 +143,9 @@ fn masked(outgoing: &Outgoing) -> Outgoing
 {
     let till_message = match outgoing.till_message {
         TillMessage::Register {
-            config, currency, ..
+            config,
+            currency,
+            ..
         } => TillMessage::Register {
             password: [0; 3],
             config,

@@ -35,10 +35,10 @@ impl<D: Device> Model for KeptTill<D> {
     ghost invariant = { λ k. IsKept k.failed (D.seen k.journal.device) (D.may_leave k.journal.device) k.journal.gate k.till.state };
 }
 
-impl<D: Device> KeptTill<D> {
+impl<D: Device + Drop> KeptTill<D> {
     ghost use Rattle.std.specs.Prelude.{◌∷◌, [], false, IfOk};
     ghost use Rattle.zvt_journal.specs.Text.{IsSettled};
-    ghost use Rattle.zvt_kept.specs.KeptTill.{IsKept, Keeps, Orders, Connects, LosesLine, failed_after};
+    ghost use Rattle.zvt_kept.specs.KeptTill.{Keeps};
     ghost use Rattle.zvt_till.specs.Settings.{settings_of};
     ghost use Rattle.zvt_till.specs.Till.{new_till};
     ghost use Rattle.zvt_till.specs.declared.happenings.Happening.TheVariants.{Connected};
@@ -70,6 +70,10 @@ impl<D: Device> KeptTill<D> {
             failed: false,
         })
     }
+}
+
+impl<D: Device> KeptTill<D> {
+    ghost use Rattle.zvt_kept.specs.KeptTill.{IsKept, Orders, Connects, LosesLine, failed_after};
 
     /// The till, to look at.
     pub fn till(&self) -> &Till
@@ -77,6 +81,13 @@ impl<D: Device> KeptTill<D> {
         ensures kept { IsKept self.now.failed (D.seen self.now.standing.device) (D.may_leave self.now.standing.device) self.now.standing.gate self.now.standing.till.state }
     {
         &self.till
+    }
+
+    /// The device of the journal, to look at.
+    pub fn device(&self) -> &D
+        ensures { result.now ≡ self.now.standing.device }
+    {
+        &self.journal.device
     }
 
     /// Whether the journal failed. The till's line is down then, and stays so.

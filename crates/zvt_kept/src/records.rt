@@ -1,7 +1,8 @@
 //! The text of records.
-ghost use Rattle.std.specs.Prelude.{◌++◌, ◌<◌, [], ◌∷◌, decimal, length};
+ghost use Rattle.std.specs.Prelude.{◌≡◌, ◌++◌, ◌<◌, [], ◌∷◌, Some, decimal, length};
+ghost use Rattle.zvt_journal.specs.Text.{IsRecord};
 ghost use Rattle.zvt_kept.specs.Reading.{Extends};
-ghost use Rattle.zvt_kept.specs.Records.{IsRecordOf, IsSpelledOrder, heard, heard_record, ordered, lost_record, one_or_none, opening, order_record, order_words, sent_lines};
+ghost use Rattle.zvt_kept.specs.Records.{IsRecordOf, IsSpelledOrder, heard, heard_record, kept_in, ordered, lost_record, one_or_none, opening, order_record, order_words, sent_lines};
 
 use std::alloc::AllocError;
 use zvt_bcd::Currency;
@@ -21,7 +22,9 @@ pub enum Entry {
 
 /// Writes the first line of a journal, with the currency of its till. After `Err` a prefix of it is written.
 pub fn put_opening(text: &mut Text, currency: Currency) -> Result<(), AllocError>
-    ensures { Extends result text.old text.new (opening currency) }
+    ensures written { Extends result text.old text.new (opening currency) }
+    ensures taken { IsRecord (opening currency) }
+    ensures kept { kept_in (opening currency) ≡ Some [] }
 {
     put_numbered(text, b"# zvt journal 1, currency ", currency.get())
 }

@@ -1,12 +1,20 @@
-//! Records in memory: what is written is read back.
+//! Records in memory are read back, and a till keeps what happens to it.
+ghost use Rattle.std.specs.Prelude.{◌≡◌, IfOk};
+ghost use Rattle.zvt_journal.specs.Memory.{memory_bytes};
+ghost use Rattle.zvt_journal.specs.Text.{IsSettled};
+
 use crate::{
-    Entry, RecordError, opening_is_taken, put_heard, put_lost, put_opening, put_order,
-    read_records, records_are_kept,
+    Entry, KeptTill, RecordError, opening_is_taken, put_heard, put_lost, put_opening, put_order,
+    read_records, records_are_kept, run_order_kept,
 };
+use std::alloc::Global;
 use std::test::Fail;
 use zvt_bcd::{Amount, Currency};
+use zvt_io::Counted;
+use zvt_journal::{Memory, open};
+use zvt_stream::{Endpoint, Stream};
 use zvt_text::Text;
-use zvt_till::Order;
+use zvt_till::{Order, Outcome, TillSettings};
 
 #[test]
 fn records_are_read_back(rt: HostRuntime) -> Result<(), Fail> {
@@ -77,5 +85,42 @@ fn a_wrong_line_is_named(rt: HostRuntime) -> Result<(), Fail> {
             "line 3 of the journal is no line of a till's record"
         );
     }
+    Ok(())
+}
+
+/// A terminal that registers a till: a positive answer, and a completion.
+const REGISTERED: [u8; 6] = *b"\x80\x00\x00\x06\x0F\x00";
+
+/// An empty file that a journal opened.
+fn empty(alloc: Global) -> Result<Memory, Fail>
+    ensures { IfOk result (λ file. IsSettled (memory_bytes file) (λ left. left ≡ memory_bytes file) 0) }
+{
+    let mut file = Memory::new(alloc, Vec::new(alloc));
+    let _ = open(&mut file, Vec::new(alloc))?;
+    Ok(file)
+}
+
+#[test]
+fn an_order_and_its_answers_are_kept(rt: HostRuntime) -> Result<(), Fail> {
+    let alloc = rt.alloc();
+    let settings = TillSettings::default();
+    let mut kept = KeptTill::create(alloc, &settings, empty(alloc)?)?;
+    assert!(rt; kept.connected(alloc).is_ok());
+    let mut end = Endpoint {
+        reader: Counted::new(REGISTERED.as_slice()),
+        writer: Counted::new(Vec::new(alloc)),
+        stream: Stream::new(alloc),
+    };
+    let ran = run_order_kept(alloc, &mut end, &mut kept, Order::Register, 4);
+    assert!(rt; matches!(ran, Ok(Outcome::Registered)), "another outcome");
+    assert!(rt; !kept.has_failed());
+    assert_eq!(rt;
+        kept.device().bytes(),
+        b"# zvt journal 1, currency 978\n!\n# register\n> 060006000000BE0978\n< 800000\n< 060F00\n> 800000\n\n".as_slice()
+    );
+    assert_eq!(rt;
+        end.writer.inner.as_slice(),
+        b"\x06\x00\x06\x00\x00\x00\xBE\x09\x78\x80\x00\x00".as_slice()
+    );
     Ok(())
 }

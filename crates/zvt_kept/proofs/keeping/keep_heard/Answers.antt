@@ -1,4 +1,4 @@
-use Rattle.std.proofs.Common.{◌≡◌, ◌<◌, ◌∙◌, arith, length, subst, sym}
+use Rattle.std.proofs.Common.{◌<◌, ◌∙◌, arith, length, subst, sym}
 use Rattle.std.proofs.Math.Logic.{∥∥₁_elim}
 use Rattle.std.specs.Coded.{le_prop}
 use Rattle.zvt_grammar.specs.Reading.{padded}
@@ -13,9 +13,12 @@ pub returns-in_err-put_heard : goal.returns-in_err-put_heard
 returns-in_err-put_heard g c =
     let journal = c.args.journal.now in
     let bytes = c.bytes.result.now in
-    let some : 0 < length bytes = ∥∥₁_elim c.bytes.ensures le_prop (λ spells. omega (arith, (bounds_in padded c.args.message.now bytes spells).0)) in
-    (bytes, c.bytes.ensures, unrecorded g.D.Device.seen g.D.Device.may_leave g.D.Device.moment g.D.Device.left_since journal.device journal.gate (heard bytes) _ c.from_residual.result c.from_residual.ensures.0
-    (c.put_heard.ensures.kept some) (g.met.D.Device.only_now journal.device) c.requires.settled)
+    let some : 0 < length bytes = ∥∥₁_elim c.bytes.ensures le_prop (λ spells. omega (arith, (bounds_in padded c.args.message.now bytes spells).0)) in (
+      bytes,
+      c.bytes.ensures,
+      unrecorded g.D.Device.seen g.D.Device.may_leave g.D.Device.moment g.D.Device.left_since journal.device journal.gate (heard bytes) _ c.from_residual.result c.from_residual.ensures.0
+          (c.put_heard.ensures.kept some) (g.met.D.Device.only_now journal.device) c.requires.settled,
+    )
 
 pub append-requires-clause-entry : goal.append-requires-clause-entry
 append-requires-clause-entry g c =
@@ -28,6 +31,9 @@ returns g c =
     let old = c.args.journal.now in
     let new = c.append.new.self in
     let bytes = c.bytes.result.now in
-    let some : 0 < length bytes = ∥∥₁_elim c.bytes.ensures le_prop (λ spells. omega (arith, (bounds_in padded c.args.message.now bytes spells).0)) in
-    (bytes, c.bytes.ensures, appended g.D.Device.seen g.D.Device.may_leave g.D.Device.moment g.D.Device.left_since old.device new.device new.gate (heard bytes) _ c.bytes-2.result.now c.append.result
-    (text_is c.bytes-2.result.now c.new-text.result _ (c.bytes-2.ensures ∙ c.in_ok-put_heard.ensures.written) c.new-text.ensures) (c.put_heard.ensures.kept some) c.append.ensures.settled c.append.ensures.acknowledged c.append.ensures.any_moment)
+    let some : 0 < length bytes = ∥∥₁_elim c.bytes.ensures le_prop (λ spells. omega (arith, (bounds_in padded c.args.message.now bytes spells).0)) in (
+      bytes,
+      c.bytes.ensures,
+      appended g.D.Device.seen g.D.Device.may_leave g.D.Device.moment g.D.Device.left_since old.device new.device new.gate (heard bytes) _ c.bytes-2.result.now c.append.result
+          (text_is c.bytes-2.result.now c.new-text.result _ (c.bytes-2.ensures ∙ c.in_ok-put_heard.ensures.written) c.new-text.ensures) (c.put_heard.ensures.kept some) c.append.ensures.settled c.append.ensures.acknowledged c.append.ensures.any_moment,
+    )

@@ -1,4 +1,4 @@
-use Rattle.std.proofs.Common.{◌≡◌, ap, subst, sym, ◌∙◌}
+use Rattle.std.proofs.Common.{subst, sym, ◌∙◌}
 use Rattle.zvt_journal.specs.Text.{IsRecord}
 use Rattle.zvt_kept.specs.Records.{ordered}
 use Rattle.zvt_kept.proofs.Kept.{appended, text_is, unrecorded}

@@ -1,4 +1,4 @@
-use Rattle.std.proofs.Common.{◌≡◌, None, cond, refl, sym, ap, subst, ◌∙◌}
+use Rattle.std.proofs.Common.{None, cond, refl, sym, ap, subst, ◌∙◌}
 use Rattle.zvt_till.specs.declared.happenings.Happening.TheVariants.{Heard as HeardIn}
 use Rattle.zvt_till.specs.Events.{hears}
 use Rattle.zvt_till.specs.Hearing.{heard_as}

@@ -1,4 +1,4 @@
-use Rattle.std.proofs.Common.{◌≡◌, refl, sym, ap, ◌∙◌}
+use Rattle.std.proofs.Common.{refl, sym, ap, ◌∙◌}
 use Rattle.zvt_till.specs.declared.happenings.Happening.TheVariants.{Sent as SentOut, Lost}
 use Rattle.zvt_till.specs.Refusals.{sent_as}
 use Rattle.zvt_till.specs.Till.{step}
@@ -30,7 +30,7 @@ returns-in-Ok-keep_order g c =
       message = took.sent;
       runs = took.runs;
       logs = logs_one V.seen V.may_leave V.moment V.left_since old new (ordered order) kept.added (λ settings. SentOut (sent_as settings.currency order)) (taken_up state order took.taken) (λ settings. refl) (order_follows order state took.taken)
-        (λ settings. took.runs ∙ sym (step-order settings.currency state order)) kept.is (λ settings. refl) kept.durable.0 kept.durable.1;
+          (λ settings. took.runs ∙ sym (step-order settings.currency state order)) kept.is (λ settings. refl) kept.durable.0 kept.durable.1;
       outlives = outlives records_are_kept V.seen V.may_leave V.moment V.left_since old new (ordered order) kept.added (order_sent V.seen V.may_leave V.moment V.left_since order) kept.is (λ settings. refl) kept.leaves;
     }
 

@@ -1,4 +1,12 @@
+use Rattle.std.proofs.Common.{◌≤◌, subst}
+use Rattle.zvt_kept.proofs.Made.{opening_is_taken}
 use Rattle.zvt_kept.proofs.records.put_opening.Goals as goal
 
-pub returns : goal.returns
-returns c = rw c.get.ensures.value at c.put_numbered.ensures
+pub returns-clause-written : goal.returns-clause-written
+returns-clause-written c = rw c.get.ensures.value at c.put_numbered.ensures
+
+pub returns-clause-taken : goal.returns-clause-taken
+returns-clause-taken c = (opening_is_taken c.args.currency (subst (λ n. n ≤ 9999) c.get.ensures.value c.get.ensures.most)).1
+
+pub returns-clause-kept : goal.returns-clause-kept
+returns-clause-kept c = (opening_is_taken c.args.currency (subst (λ n. n ≤ 9999) c.get.ensures.value c.get.ensures.most)).0

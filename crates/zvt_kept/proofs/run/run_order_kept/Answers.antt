@@ -1,4 +1,4 @@
-use Rattle.std.proofs.Common.{◌≡◌, ap, inl, inr, refl, sym, ◌∙◌, subst}
+use Rattle.std.proofs.Common.{ap, inl, inr, refl, sym, ◌∙◌, subst}
 use Rattle.std.specs.Io.KnownBytes.{Appends}
 use Rattle.zvt_till.proofs.Accepted.{IsKnown, known-accepted, rests-known}
 use Rattle.zvt_kept.specs.Runs.{SendsKept}

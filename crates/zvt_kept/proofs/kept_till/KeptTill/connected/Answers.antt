@@ -1,6 +1,4 @@
-use Rattle.std.proofs.Common.{◌≡◌, true, inr, refl, sym, ◌∙◌, ap, subst}
-use Rattle.zvt_till.specs.declared.happenings.Happening.TheVariants.{Connected}
-use Rattle.zvt_till.specs.Till.{step}
+use Rattle.std.proofs.Common.{◌≡◌, true, inr, refl, sym, ◌∙◌, subst}
 use Rattle.zvt_kept.specs.Records.{lost}
 use Rattle.zvt_kept.specs.KeptTill.{KeptValue, NewLine, Outlives, Standing, line_changed}
 use Rattle.zvt_kept.proofs.Logged.{outlives}

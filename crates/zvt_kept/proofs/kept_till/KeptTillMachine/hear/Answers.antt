@@ -1,4 +1,4 @@
-use Rattle.std.proofs.Common.{◌≡◌, sym, ◌∙◌}
+use Rattle.std.proofs.Common.{sym, ◌∙◌}
 use Rattle.zvt_kept.specs.KeptTill.{Standing, message_heard}
 use Rattle.zvt_kept.proofs.Steps.{kept_on, up_whole}
 use Rattle.zvt_kept.proofs.kept_till.KeptTillMachine.hear.Goals as goal
