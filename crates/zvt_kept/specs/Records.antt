@@ -36,7 +36,7 @@ abbrev pub sent_lines : List (List ℕ) → List ℕ
 sent_lines [] = []
 sent_lines (bytes ∷ more) = sent_line bytes ++ sent_lines more
 
--- one message, or none where there are no bytes
+-- one piece, or none where there are no bytes
 abbrev pub one_or_none : List ℕ → List (List ℕ)
 one_or_none [] = []
 one_or_none (byte ∷ bytes) = (byte ∷ bytes) ∷ []
@@ -107,10 +107,10 @@ is_count n = nat_lt 0 n && nat_le n 12
 abbrev pub is_number : List ℕ → Bool
 is_number digits = is_count (length digits) && list_all is_ascii_digit digits
 
--- one to twelve decimal digits, of a number that is not 0
 abbrev pub not_zero : ℕ → Option ℕ
 not_zero n = if n == 0 then None else Some n
 
+-- one to twelve decimal digits of a number that is not 0
 abbrev pub number_of : List ℕ → Option ℕ
 number_of digits = if is_number digits then not_zero (digits_value 10 digits) else None
 
