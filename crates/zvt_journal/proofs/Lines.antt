@@ -1,6 +1,6 @@
 -- What files of lines represent.
 use Rattle.std.proofs.Common.{◌≡◌, ◌≢◌, inl, inr, ℕ, zero, suc, ◌+◌, ◌≤◌, List, [], ◌∷◌, ◌++◌, length, take, refl, sym, ◌∙◌, ap, arith}
-use Rattle.std.proofs.lemmas.List.{append-nil, length-take-le}
+use Rattle.std.proofs.lemmas.List.{append-nil, take_all, length-take-le}
 use Rattle.std.proofs.lemmas.Bool.{cases_eq}
 use Rattle.std.proofs.lemmas.Bool.Decides.{nat_tests}
 use Rattle.zvt_journal.specs.Text.{whole, recovered}
@@ -84,6 +84,10 @@ length-recovered file = length-take-le (whole 0 file) file (omega (arith, whole_
 -- what a file represents is whole lines
 pub recovered_whole : (file : List ℕ) → whole 0 (recovered file) ≡ length (recovered file)
 recovered_whole file = whole_prefix 0 file (whole 0 file) (omega arith) ∙ sym (length-recovered file)
+
+-- lines that were recovered are recovered again
+pub recovered_again : (file : List ℕ) → recovered (recovered file) ≡ recovered file
+recovered_again file = take_all (whole 0 (recovered file)) (recovered file) (omega (arith, recovered_whole file))
 
 -- and so is what represents itself
 pub itself_whole : (text : List ℕ) → recovered text ≡ text → whole 0 text ≡ length text

@@ -33,6 +33,7 @@ pub struct Opened {
 /// bytes.
 pub fn open_file(rt: &HostRuntime, alloc: Global, path: &str) -> Result<Opened, JournalFileError>
     ensures text { IfOk result (λ opened. opened.text.items ≡ recovered (file_seen opened.device)) }
+    ensures whole { IfOk result (λ opened. recovered opened.text.items ≡ opened.text.items) }
     ensures settled { IfOk result (λ opened. IsSettled (file_seen opened.device) (file_may_leave opened.device) (length opened.text.items)) }
 {
     let (file, created) = open_or_make(rt, path)?;
@@ -54,7 +55,11 @@ pub fn open_file(rt: &HostRuntime, alloc: Global, path: &str) -> Result<Opened, 
 }
 
 /// The records that a journal's file has at this moment, for a program that only looks. It takes no lock and writes nothing.
-pub fn read_book(rt: &HostRuntime, alloc: Global, path: &str) -> Result<Vec<u8>, JournalFileError> {
+///
+/// Its text is whole lines, none of them empty. They need not be durable.
+pub fn read_book(rt: &HostRuntime, alloc: Global, path: &str) -> Result<Vec<u8>, JournalFileError>
+    ensures { IfOk result (λ text. recovered text.items ≡ text.items) }
+{
     only_regular(rt, path)?;
     let mut bytes = Vec::new(alloc);
     File::open(rt, path)?.read_to_end(&mut bytes)?;

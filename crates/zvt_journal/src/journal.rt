@@ -123,10 +123,11 @@ pub fn is_record(text: &[u8]) -> bool
     !text.is_empty() && whole_lines(text) == text.len()
 }
 
-/// Lines before a closed gate are what is recovered, whatever comes after it; and each file stands for such lines.
+/// Lines before a closed gate are what is recovered, whatever comes after it; each file stands for such lines, and so do they.
 pub fn lines_are_recovered()
     ensures lines { LinesAreRecovered }
     ensures converse { RecoveredIsLines }
+    ensures again { (file : List ℕ) → recovered (recovered file) ≡ recovered file }
 {}
 
 /// How many bytes of whole lines come before the first empty line.
