@@ -10,6 +10,7 @@ use Rattle.zvt_audit.specs.Audited.{AnswersReadBy}
 use Rattle.zvt_audit.specs.declared.summary.AuditSummary.{AuditSummary}
 use Rattle.zvt_vectors.specs.Checked.{AnswersVectors}
 use Rattle.zvt_show.specs.Written.{AnswersLinesBy}
+use Rattle.zvt_trace.specs.Journal.{readable}
 use Rattle.zvt_trace.specs.declared.fault.Tally.{Tally}
 use Rattle.zvt_trace.specs.declared.fault.TraceFault.{TraceFault}
 
@@ -19,7 +20,7 @@ tally_of (Err fault) = Err fault
 
 -- what is answered and written of a trace by these lengths
 abbrev pub AnswersWork : TraceWork → Reading → (trace : List ℕ) → (old new : Option (List ℕ)) → Result AuditSummary TraceFault → Type 0
-AnswersWork (Render style) r trace old new result = AnswersLinesBy r style (lines trace) old new (tally_of result)
+AnswersWork (Render style) r trace old new result = AnswersLinesBy r style (lines (readable trace)) old new (tally_of result)
 AnswersWork Audit r trace old new result = AnswersReadBy r trace old new result
 AnswersWork Vectors r trace old new result = AnswersVectors trace old new (tally_of result)
 

@@ -12,6 +12,7 @@ use Rattle.zvt_till.specs.declared.happenings.Happening.TheVariants.{Connected}
 use Rattle.zvt_trace.specs.Listening.{AnswersWalk, Fails, Hears, HearsAll, Stops}
 use Rattle.zvt_trace.specs.TraceEvent.{At}
 use Rattle.zvt_trace.specs.Emitting.{EventsSoFar}
+use Rattle.zvt_trace.specs.Journal.{readable}
 use Rattle.zvt_trace.specs.Written.{AppendsPrefix, limit}
 use Rattle.zvt_trace.specs.declared.direction.Direction.TheVariants.{FromTill, FromTerminal}
 use Rattle.zvt_trace.specs.declared.fault.Tally.{Tally}
@@ -90,7 +91,7 @@ keeps_same (Some bytes) = refl
 
 pub audited : {S : Type 0} {r : Reading} (books_of : S → BooksSoFar) (orders : S → Orders) (trace : List ℕ) (answer : AuditSummary) (old new : Option (List ℕ)) (first : BooksSoFar) (connected closed : S) (found : Books) (text : List ℕ)
     → HasJudged [] first → Takes first (books_of connected) (Connected ∷ []) → (orders connected).till ≡ false → (orders connected).terminal ≡ false
-    → AnswersWalk r (hears books_of orders) wants_memory WholeLine (lines trace) connected closed (Ok answer.tally) → answer.swapped ≡ (not (orders closed).till && (orders closed).terminal)
+    → AnswersWalk r (hears books_of orders) wants_memory WholeLine (lines (readable trace)) connected closed (Ok answer.tally) → answer.swapped ≡ (not (orders closed).till && (orders closed).terminal)
     → ((log : List Happening) → HasJudged log (books_of closed) → found ≡ books log) → text ≡ books_text found → Appends old new text
     → AnswersReadBy r trace old new (Ok answer)
 audited books_of orders trace answer old new first connected closed found text start connects till terminal walked is_swapped closes says appended =
@@ -103,7 +104,7 @@ audited books_of orders trace answer old new first connected closed found text s
     )
 
 pub audit_failed : {S : Type 0} {r : Reading} (books_of : S → BooksSoFar) (orders : S → Orders) (trace : List ℕ) (tally : Tally) (old new : Option (List ℕ)) (first : BooksSoFar) (connected closed : S) (found : Books) (text : List ℕ)
-    → HasJudged [] first → Takes first (books_of connected) (Connected ∷ []) → AnswersWalk r (hears books_of orders) wants_memory WholeLine (lines trace) connected closed (Ok tally)
+    → HasJudged [] first → Takes first (books_of connected) (Connected ∷ []) → AnswersWalk r (hears books_of orders) wants_memory WholeLine (lines (readable trace)) connected closed (Ok tally)
     → ((log : List Happening) → HasJudged log (books_of closed) → found ≡ books log) → text ≡ books_text found → AppendsPrefix old new text
     → AnswersReadBy r trace old new (Err Write)
 audit_failed books_of orders trace tally old new first connected closed found text start connects walked closes says prefix =
@@ -124,10 +125,10 @@ no_write {S = S} {r = r} books_of orders lines old new failed = by failed.stops
     by (inr (event, so_far, left)) = differ left
 
 pub walk_failed : {S : Type 0} (r : Reading) (books_of : S → BooksSoFar) (orders : S → Orders) (trace : List ℕ) (fault : TraceFault) (held : Option (List ℕ)) (old new : S)
-    → AnswersWalk r (hears books_of orders) wants_memory WholeLine (lines trace) old new (Err fault) → AnswersReadBy r trace held held (Err fault)
+    → AnswersWalk r (hears books_of orders) wants_memory WholeLine (lines (readable trace)) old new (Err fault) → AnswersReadBy r trace held held (Err fault)
 walk_failed r books_of orders trace (Trace number what) held old new walked = (walked.0, walked.1, keeps_same held)
 walk_failed r books_of orders trace Memory held old new walked = keeps_same held
-walk_failed r books_of orders trace Write held old new walked = absurd (no_write books_of orders (lines trace) old new walked)
+walk_failed r books_of orders trace Write held old new walked = absurd (no_write books_of orders (lines (readable trace)) old new walked)
 walk_failed r books_of orders trace TooLong held old new never = absurd never
 walk_failed r books_of orders trace Read held old new never = absurd never
 

@@ -9,6 +9,7 @@ use Rattle.zvt_trace.specs.Listening.{AnswersWalk, Fails, FailsIn, Hears, HearsA
 use Rattle.zvt_trace.specs.TraceEvent.{At}
 use Rattle.zvt_trace.specs.Emitting.{BrokenTrace, PrefixOf, SideEnds, EventsSoFar, WholeTrace}
 use Rattle.zvt_trace.specs.Trace.{new_line, running}
+use Rattle.zvt_trace.specs.Journal.{readable}
 use Rattle.zvt_trace.specs.Written.{AppendsPrefix, ReadsTrace}
 use Rattle.zvt_stream.proofs.Beginnings.{nothing_in}
 use Rattle.zvt_trace.specs.declared.direction.Direction.{Direction}
@@ -262,6 +263,6 @@ pub read_failed : (r : Reading) (style : Style) (left held : Option (List ℕ)) 
 read_failed r style None held fault reads = tt
 read_failed r style (Some trace) held TooLong reads = (reads, keeps_same held)
 read_failed r style (Some trace) held Read reads = keeps_same held
-read_failed r style (Some trace) held Memory reads = unread r style (lines trace) held
+read_failed r style (Some trace) held Memory reads = unread r style (lines (readable trace)) held
 read_failed r style (Some trace) held Write never = absurd never
 read_failed r style (Some trace) held (Trace number what) never = absurd never

@@ -1,6 +1,7 @@
 pub mod AfterLemmas
 pub mod EventLemmas
 pub mod InputLemmas
+mod JournalRows
 pub mod LineLemmas
 pub mod PairLemmas
 pub mod PieceLemmas

@@ -1,3 +1,4 @@
+pub mod Journal
 pub mod Lines
 pub mod Listening
 pub mod Meanings

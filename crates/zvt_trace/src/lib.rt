@@ -1,6 +1,7 @@
 //! Traces of the line between a till and its terminal.
 //!
-//! [`read_trace`] reads one whole. [`walk`] emits to a [`Listener`] all that it says, line by line.
+//! [`read_trace`] reads one whole. [`walk`] emits to a [`Listener`] all that it says, line by line. A journal ends at its
+//! first empty line ([`readable`]).
 #![tactic(auto)]
 
 mod direction;
@@ -8,6 +9,7 @@ mod emit;
 mod event;
 mod fault;
 mod input;
+mod journal;
 mod line;
 mod lines;
 mod listener;
@@ -18,6 +20,7 @@ pub use direction::Direction;
 pub use event::{Refusal, TraceEvent};
 pub use fault::{Tally, TraceFault, TraceLineError};
 pub use input::read_trace;
+pub use journal::readable;
 pub use lines::next_line;
 pub use listener::{Listener, ListenerError, Scope};
 pub use walker::walk;

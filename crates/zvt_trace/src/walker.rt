@@ -5,6 +5,7 @@ ghost use Rattle.zvt_grammar.specs.Reading.{Reading};
 ghost use Rattle.zvt_grammar.specs.Lengths.{reading_of};
 ghost use Rattle.zvt_trace.specs.Meanings.{GoesOn, Reads, SpellsBytes, bytes_in, meant_by, size_of};
 ghost use Rattle.zvt_trace.specs.Meanings as meaning;
+ghost use Rattle.zvt_trace.specs.Journal.{readable};
 ghost use Rattle.zvt_trace.specs.Trace.{Sides, new_line};
 ghost use Rattle.zvt_trace.specs.Emitting.{LineEnds};
 ghost use Rattle.zvt_trace.specs.Listening.{AnswersWalk, EmitsEnd, EmitsLine, FollowBoth, TakeBy, WalksLine};
@@ -14,6 +15,7 @@ use crate::direction::Direction;
 use crate::emit::{Piece, PieceAt, emit_truncation, feed_side};
 use crate::event::TraceEvent;
 use crate::fault::{Tally, TraceFault, TraceLineError};
+use crate::journal::readable;
 use crate::line::{CHUNK, TraceLine, first_line};
 use crate::listener::{Listener, ListenerError, Scope};
 use std::alloc::Global;
@@ -21,12 +23,27 @@ use zvt_grammar::Lengths;
 use zvt_stream::Stream;
 
 /// Emits all that the trace says to the listener, line by line, and what is cut off at its end. Its streams take such
-/// lengths.
+/// lengths. Of a journal the lines before the first empty one are read.
 ///
 /// No event comes of a line that can't be read, and none of the lines after it. A stream that is refused or cut off counts
 /// as bad. Where the walk fails, the listener has heard all events of the lines before, and some first events of the line
 /// that was being read.
 pub fn walk<D, L: Listener<D>>(
+    listener: &mut L,
+    device: &mut D,
+    alloc: Global,
+    scope: Scope,
+    lengths: Lengths,
+    trace: &[u8],
+) -> Result<Tally, TraceFault>
+    requires { length trace.now ≤ limit }
+    ensures { AnswersWalk (reading_of lengths) L.hears L.fails scope (lines (readable trace.now)) (listener.old, device.old) (listener.new, device.new) result }
+{
+    walk_lines(listener, device, alloc, scope, lengths, readable(trace))
+}
+
+/// Emits all that these lines say to the listener, and what is cut off at their end.
+fn walk_lines<D, L: Listener<D>>(
     listener: &mut L,
     device: &mut D,
     alloc: Global,

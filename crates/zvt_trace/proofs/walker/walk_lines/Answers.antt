@@ -1,7 +1,7 @@
 use Rattle.std.proofs.Common.{◌≡◌, length, arith, refl, rules}
 use Rattle.std.proofs.lemmas.Result.{err_from_is_err_and}
 use Rattle.zvt_trace.proofs.WalkedLemmas.{closed, end_failed, failed, none_walked, one_walked}
-use Rattle.zvt_trace.proofs.walker.walk.Goals as goal
+use Rattle.zvt_trace.proofs.walker.walk_lines.Goals as goal
 
 pub lines-init : goal.lines-init
 lines-init g c = record {

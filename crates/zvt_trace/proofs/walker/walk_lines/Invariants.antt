@@ -2,7 +2,7 @@ use Rattle.std.proofs.Common.{◌+◌, ◌*◌, ◌≤◌, length}
 use Rattle.zvt_grammar.specs.Lengths.{reading_of}
 use Rattle.zvt_trace.specs.Listening.{TakeBy}
 use Rattle.zvt_trace.proofs.WalkedLemmas.{Walked}
-use Rattle.zvt_trace.proofs.walker.walk.Given as goal
+use Rattle.zvt_trace.proofs.walker.walk_lines.Given as goal
 
 abbrev pub invariant-lines : goal.invariant-lines
 invariant-lines g l = record {
