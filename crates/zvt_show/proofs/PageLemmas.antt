@@ -1,5 +1,5 @@
 -- The text of what a walk emits.
-use Rattle.std.proofs.Common.{◌≡◌, inl, inr, ℕ, ◌<◌, ◌≤◌, List, [], ◌∷◌, ◌++◌, Result, Option, Some, None, Ok, Err, refl, sym, ◌∙◌, subst, arith, append_assoc, append-nil}
+use Rattle.std.proofs.Common.{◌≡◌, inl, inr, ℕ, ◌<◌, ◌≤◌, List, [], ◌∷◌, ◌++◌, Result, Option, Some, None, Ok, Err, refl, sym, ◌∙◌, subst, arith, append_assoc, append-nil, length}
 use Rattle.std.proofs.KnownBytes.{Appends-kept, Appends-trans}
 use Rattle.std.specs.Io.KnownBytes.{Appends}
 use Rattle.std.specs.Prelude.{IfSome}
@@ -10,7 +10,7 @@ use Rattle.zvt_trace.specs.TraceEvent.{At}
 use Rattle.zvt_trace.specs.Emitting.{BrokenTrace, PrefixOf, SideEnds, EventsSoFar, WholeTrace}
 use Rattle.zvt_trace.specs.Trace.{new_line, running}
 use Rattle.zvt_trace.specs.Journal.{readable}
-use Rattle.zvt_trace.specs.Written.{AppendsPrefix, ReadsTrace}
+use Rattle.zvt_trace.specs.Written.{AppendsPrefix, ReadsTrace, limit}
 use Rattle.zvt_stream.proofs.Beginnings.{nothing_in}
 use Rattle.zvt_trace.specs.declared.direction.Direction.{Direction}
 use Rattle.zvt_trace.specs.declared.direction.Direction.TheVariants.{FromTill, FromTerminal}
@@ -266,3 +266,19 @@ read_failed r style (Some trace) held Read reads = keeps_same held
 read_failed r style (Some trace) held Memory reads = unread r style (lines (readable trace)) held
 read_failed r style (Some trace) held Write never = absurd never
 read_failed r style (Some trace) held (Trace number what) never = absurd never
+
+-- ---- a trace that is read first
+
+pub read_answered : (r : Reading) (style : Style) (left : Option (List ℕ)) (trace slice : List ℕ) (old new : Option (List ℕ)) (answer : Result Tally TraceFault) → IfSome left (λ bytes. trace ≡ bytes) → length trace ≤ limit → slice ≡ trace
+    → AnswersLinesBy r style (lines (readable slice)) old new answer → IfSome left (λ bytes. AnswersTraceBy r style bytes old new answer)
+read_answered r style None trace slice old new answer read few same answers = tt
+read_answered r style (Some bytes) trace slice old new answer read few same answers =
+    subst (λ (b : List ℕ). AnswersTraceBy r style b old new answer) read (by answer (subst (λ (b : List ℕ). AnswersLinesBy r style (lines (readable b)) old new answer) same answers))
+  where
+    by : (answer : Result Tally TraceFault) → AnswersLinesBy r style (lines (readable trace)) old new answer → AnswersTraceBy r style trace old new answer
+    by (Ok tally) written = (few, written)
+    by (Err (Trace number what)) written = (few, written)
+    by (Err Memory) written = written
+    by (Err Write) written = (few, written)
+    by (Err TooLong) never = absurd never
+    by (Err Read) never = absurd never
