@@ -1,5 +1,6 @@
 -- A journal that was begun, and its new till.
 use Rattle.std.proofs.Common.{◌≡◌, ℕ, List, [], ◌∷◌, Some, length, refl, sym, ap, subst, ◌++◌, ◌∙◌}
+use Rattle.std.proofs.lemmas.List.{append-nil}
 use Rattle.zvt_till.specs.declared.happenings.Happening.TheVariants.{Connected}
 use Rattle.zvt_till.specs.Sending.{Settings}
 use Rattle.zvt_till.specs.Till.{TillState, new_till}
@@ -23,6 +24,6 @@ pub begun : (settings : Settings) (seen : List ℕ) (may_leave : List ℕ → Ty
     → kept_in (opening settings.currency) ≡ Some [] → state ≡ new_till settings → Keeps settings (Connected ∷ []) seen may_leave gate state
 begun settings seen may_leave gate state settled text means new = record {
   settled = settled;
-  recorded = record { kept = []; happened = []; read = ap kept_in text ∙ means; happens = refl; begins = refl };
+  recorded = record { opened = ([], text ∙ sym (append-nil (opening settings.currency))); kept = []; happened = []; read = ap kept_in text ∙ means; happens = refl; begins = refl };
   stands = stands_new settings state new;
 }

@@ -1,13 +1,20 @@
 mod Begun
 mod Bytes
+mod CallsOutlived
+mod Crashed
 mod Kept
-mod Known
+pub mod Known
 mod LineLemmas
 mod Logged
 mod Made
 mod Numbers
+mod Opened
+mod Outlived
 mod ReadLines
+mod Recovered
+mod Relived
 mod Rows
+mod RunsOutlived
 mod Sent
 mod Steps
 mod WordLemmas

@@ -15,13 +15,13 @@ use Rattle.zvt_till.proofs.TillHistoryLemmas.{stands-more}
 use Rattle.zvt_journal.specs.Text.{recovered, whole, IsWithOrWithout}
 use Rattle.zvt_journal.specs.Device.{LeavesOnly}
 use Rattle.zvt_journal.proofs.Lines.{recovered_whole}
-use Rattle.zvt_kept.specs.Records.{Kept, IsRecordOf, RecordsAreKept}
+use Rattle.zvt_kept.specs.Records.{Kept, IsRecordOf, RecordsAreKept, opening}
 use Rattle.zvt_kept.specs.Logs.{Happens, HappenAll, StandsFor}
 use Rattle.zvt_kept.specs.KeptTill.{IsKept, Keeps, KeepsSome, LeavesLogs, Outlives, Standing, unless_up}
 
 -- ---- records
 
-happen_more : (currency : ℕ) (kept : List Kept) (one : Kept) (log happened : List Happening) → HappenAll currency kept log → Happens currency one happened → HappenAll currency (kept ++ one ∷ []) (log ++ happened)
+pub happen_more : (currency : ℕ) (kept : List Kept) (one : Kept) (log happened : List Happening) → HappenAll currency kept log → Happens currency one happened → HappenAll currency (kept ++ one ∷ []) (log ++ happened)
 happen_more currency [] one log happened none h = (happened, [], h, refl, ap (λ l. l ++ happened) none ∙ sym (append-nil happened))
 happen_more currency (first ∷ kept) one log happened all h =
     (all.0, all.1 ++ happened, all.2, happen_more currency kept one all.1 happened all.3 h, ap (λ l. l ++ happened) all.4 ∙ append_assoc all.0 all.1 happened)
@@ -33,6 +33,7 @@ module _ (records_are_kept : RecordsAreKept) where
   pub stands_more : (currency : ℕ) (file : List ℕ) (log : List Happening) (one : Kept) (added : List ℕ) (happened : List Happening)
       → StandsFor currency (recovered file) log → IsRecordOf one added → Happens currency one happened → StandsFor currency (recovered file ++ added) (log ++ happened)
   stands_more currency file log one added happened s is h = record {
+    opened = (s.opened.0 ++ added, ap (λ text. text ++ added) s.opened.1 ∙ append_assoc (opening currency) s.opened.0 added);
     kept = s.kept ++ one ∷ [];
     happened = s.happened ++ happened;
     read = records_are_kept (recovered file) s.kept one added (whole_text file) s.read is;

@@ -79,7 +79,7 @@ made_order order text is =
       more = map sent_body (one_or_none is.sent);
       is = is.is ∙ first_text (order_body order) (one_or_none is.sent);
       plain = All-cons IsPlain (order_body order) (map sent_body (one_or_none is.sent)) line (all_plain (one_or_none is.sent) pieces);
-      means = first_means (order_body order) (ordered order ∷ []) (one_or_none is.sent) (ap (λ (o : Option Order). Some (ordered_by o)) (order_back order is.spelled)) pieces;
+      means = first_means (order_body order) (ordered order ∷ []) (one_or_none is.sent) (ap (λ (o : Option Order). ordered_by o (order_words order)) (order_back order is.spelled)) pieces;
     }
 
 made_heard : (message text : List ℕ) → IsHeardRecord message text → IsMade (heard message ∷ []) text

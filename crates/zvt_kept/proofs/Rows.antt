@@ -50,10 +50,6 @@ restart : kept_in (codes "# zvt journal 1, currency 978\n# register\n> 060000\n!
 unfolding hex_on_literals
 restart = refl
 
--- a comment that names no order means nothing
-comments : kept_in (codes "#\n#register\n# pay 0\n# pay -1\n# reverse 0\n# pay 1000000000000\n# closed\n") ≡ Some []
-comments = refl
-
 -- one carriage return before a line feed is no part of the line
 carriage_return : kept_in (codes "# pay 1234\r\n!\r\n") ≡ Some (ordered (Pay 1234) ∷ lost ∷ [])
 carriage_return = refl
@@ -92,3 +88,22 @@ other = refl
 
 empty_line : kept_in (codes "!\n\n!\n") ≡ None
 empty_line = refl
+
+-- a comment that is neither an order nor an opening
+misspelled : kept_in (codes "# closed\n") ≡ None
+misspelled = refl
+
+no_amount : kept_in (codes "# pay 0\n") ≡ None
+no_amount = refl
+
+too_great : kept_in (codes "# pay 1000000000000\n") ≡ None
+too_great = refl
+
+no_entry : kept_in (codes "# reverse 0\n") ≡ None
+no_entry = refl
+
+sign_alone : kept_in (codes "#\n") ≡ None
+sign_alone = refl
+
+other_format : kept_in (codes "# zvt journal 2\n") ≡ None
+other_format = refl

@@ -113,12 +113,14 @@ module _ {D : Type 0} (seen : D → List ℕ) (may_leave : D → List ℕ → Ty
 
   -- A message was heard by a till whose line is up, and its record is durable.
   pub record HeardKept (message : Message) (answered : Answered) (old new : Standing D) : Type 0 where
+    pub up : old.till.state.line_up ≡ true
     pub heard : till_hears old.till message answered new.till
     pub logs : Logs (message_heard message) old new
     pub outlives : Outlives (message_heard message) old new
 
   -- The journal failed as a message came. The till is told as of a lost line.
   pub record MessageLost (message : Message) (old new : Standing D) : Type 0 where
+    pub up : old.till.state.line_up ≡ true
     pub lost : till_loses old.till new.till
     pub outlives : Outlives (message_heard message) old new
 
@@ -146,6 +148,9 @@ module _ {D : Type 0} (seen : D → List ℕ) (may_leave : D → List ℕ → Ty
     pub logs : Logs line_changed old new
     pub outlives : Outlives line_changed old new
 
+  -- Whether a line is up, and that an earlier one was lost is durable. Once the journal failed nothing changes.
   abbrev pub Connects : (old new : KeptValue D) → Result Unit DeviceError → Type 0
-  Connects old new (Ok done) = ((old.standing.till.state.line_up ≡ true) × (new ≡ old)) ⊎ ((new.failed ≡ false) × NewLine old.standing new.standing)
-  Connects old new (Err why) = (new.failed ≡ true) × (new.standing.till ≡ old.standing.till) × Outlives line_changed old.standing new.standing
+  Connects old new (Ok done) = ((old.standing.till.state.line_up ≡ true) × (new ≡ old)) ⊎ ((old.failed ≡ false) × (new.failed ≡ false) × NewLine old.standing new.standing)
+  Connects old new (Err why) =
+      ((old.failed ≡ true) × (new ≡ old))
+      ⊎ ((old.failed ≡ false) × (new.failed ≡ true) × (new.standing.till ≡ old.standing.till) × Outlives line_changed old.standing new.standing)

@@ -1,6 +1,9 @@
+pub mod Crashes
 pub mod KeptTill
 pub mod Logs
 pub mod Masking
+pub mod Outliving
 pub mod Reading
 pub mod Records
+pub mod Recovery
 pub mod Runs

@@ -7,7 +7,7 @@ use Rattle.zvt_till.specs.declared.happenings.Happening.{Happening}
 use Rattle.zvt_till.specs.declared.happenings.Happening.TheVariants.{Connected, Sent as SentOut, Heard as HeardIn, Lost}
 use Rattle.zvt_till.specs.Hearing.{heard_as}
 use Rattle.zvt_till.specs.Refusals.{sent_as}
-use Rattle.zvt_kept.specs.Records.{Kept, ordered, heard, lost, kept_in}
+use Rattle.zvt_kept.specs.Records.{Kept, ordered, heard, lost, kept_in, opening}
 
 -- What happened by one record. After a lost line a new one is up.
 abbrev pub Happens : (currency : ℕ) → Kept → List Happening → Type 0
@@ -21,10 +21,19 @@ HappenAll currency [] log = log ≡ []
 HappenAll currency (one ∷ more) log =
     (first : List Happening) × (rest : List Happening) × Happens currency one first × HappenAll currency more rest × (log ≡ first ++ rest)
 
+-- a text begins with the first line of a journal of this currency
+abbrev pub HasOpening : (currency : ℕ) → (text : List ℕ) → Type 0
+HasOpening currency text = (records : List ℕ) × (text ≡ opening currency ++ records)
+
 -- A text of records stands for this log. A line is up before the first record.
 pub record StandsFor (currency : ℕ) (text : List ℕ) (log : List Happening) : Type 0 where
+  pub opened : HasOpening currency text
   pub kept : List Kept
   pub happened : List Happening
   pub read : kept_in text ≡ Some kept
   pub happens : HappenAll currency kept happened
   pub begins : log ≡ Connected ∷ happened
+
+-- A text stands for one log.
+abbrev pub LogsAreOne : Type 0
+LogsAreOne = (currency : ℕ) (text : List ℕ) (a b : List Happening) → StandsFor currency text a → StandsFor currency text b → a ≡ b

@@ -132,14 +132,18 @@ order_of words =
     else if bytes_eq words (codes "cancel") then Some Cancel
     else numbered words
 
-abbrev pub ordered_by : Option Order → List Kept
-ordered_by None = []
-ordered_by (Some order) = ordered order ∷ []
+-- the first words of a journal
+abbrev pub format_name : List ℕ
+format_name = codes "zvt journal 1"
 
--- a comment that isn't an order means nothing
-abbrev pub comment : (after_sign : List ℕ) → List Kept
-comment [] = []
-comment (space ∷ words) = if space == 32 then ordered_by (order_of words) else []
+abbrev pub ordered_by : Option Order → (words : List ℕ) → Option (List Kept)
+ordered_by None words = option_map (λ rest. []) (trailing format_name words)
+ordered_by (Some order) words = Some (ordered order ∷ [])
+
+-- a comment is an order, or the opening of a journal, which means nothing; no other has a meaning
+abbrev pub comment : (after_sign : List ℕ) → Option (List Kept)
+comment [] = None
+comment (space ∷ words) = if space == 32 then ordered_by (order_of words) words else None
 
 -- at least one byte
 abbrev pub some_bytes : Result (List ℕ) FromHexError → Option (List ℕ)
@@ -152,12 +156,11 @@ abbrev pub bytes_in : (after_sign : List ℕ) → Option (List ℕ)
 bytes_in [] = None
 bytes_in (space ∷ digits) = if space == 32 then some_bytes (decode_of digits) else None
 
--- What a line means. `#`, a space and the words of an order are that order, and another line that begins with `#` is a comment.
--- `> ` and bytes are nothing, `< ` and bytes are a message, and `!` alone is a loss. No other line has a meaning.
+-- What a line means. `#`, a space and the words of an order are that order, and an opening is nothing. `> ` and bytes are nothing, `< ` and bytes are a message, and `!` alone is a loss. No other line has a meaning.
 abbrev pub meaning : (line : List ℕ) → Option (List Kept)
 meaning [] = None
 meaning (first ∷ rest) =
-    if first == 35 then Some (comment rest)
+    if first == 35 then comment rest
     else if first == 62 then option_map (λ bytes. []) (bytes_in rest)
     else if first == 60 then option_map (λ bytes. heard bytes ∷ []) (bytes_in rest)
     else if first == 33 && length rest == 0 then Some (lost ∷ [])

@@ -161,8 +161,8 @@ fn masked(outgoing: &Outgoing) -> Outgoing
     Outgoing { till_message }
 }
 
-/// The bytes of what answers this at once.
-fn answers_to(heard: &Heard) -> Answers
+/// The bytes with which a till answers this at once, while its line is up.
+pub fn answers_to(heard: &Heard) -> Answers
     ensures { IsAnswer (reply_to heard.now) result }
 {
     let mut answers = Answers::new();

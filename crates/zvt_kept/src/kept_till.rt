@@ -3,6 +3,7 @@ ghost use Rattle.std.specs.Prelude.{◌≡◌};
 
 use crate::keeping::{keep_lost, take_message, take_order};
 use crate::records::put_opening;
+use crate::recovery::{RecoveryError, recover};
 use crate::refusal::KeptRefusal;
 use std::alloc::{AllocError, Global};
 use std::marker::Model;
@@ -36,7 +37,11 @@ impl<D: Device> Model for KeptTill<D> {
 }
 
 impl<D: Device + Drop> KeptTill<D> {
-    ghost use Rattle.std.specs.Prelude.{◌∷◌, [], false, IfOk};
+    ghost use Rattle.std.specs.Prelude.{◌∷◌, [], Err, List, false, length, IfOk, MatchResult};
+    ghost use Rattle.zvt_journal.specs.Text.{recovered};
+    ghost use Rattle.zvt_kept.specs.Logs.{StandsFor};
+    ghost use Rattle.zvt_kept.specs.Recovery.{IsRecovered, Recovers};
+    ghost use Rattle.zvt_till.specs.declared.happenings.Happening.{Happening};
     ghost use Rattle.zvt_journal.specs.Text.{IsSettled};
     ghost use Rattle.zvt_kept.specs.KeptTill.{Keeps};
     ghost use Rattle.zvt_till.specs.Settings.{settings_of};
@@ -64,6 +69,35 @@ impl<D: Device + Drop> KeptTill<D> {
         };
         journal.append(text.bytes())?;
         let till = Till::new(alloc, settings.password, settings.config, settings.currency);
+        Ok(KeptTill {
+            till,
+            journal,
+            failed: false,
+        })
+    }
+
+    /// The till of the records that a device at rest has, as [`recover`] makes it. Its line is down. Nothing is written.
+    ///
+    /// A text without a record is no till's: [`KeptTill::create`] begins a journal on its device.
+    pub fn open(
+        alloc: Global,
+        settings: &TillSettings,
+        device: D,
+        text: &[u8],
+    ) -> Result<KeptTill<D>, RecoveryError>
+        requires text { recovered (D.seen device) ≡ text.now }
+        requires settled { IsSettled (D.seen device) (D.may_leave device) (length text.now) }
+        ensures till { MatchResult result (λ kept. IsRecovered (settings_of settings.now) text.now kept.standing.till.state) (λ why. Recovers (settings_of settings.now) text.now (Err why)) }
+        ensures device { IfOk result (λ kept. (kept.standing.device ≡ device) × (kept.standing.gate ≡ length text.now)) }
+        ensures whole { IfOk result (λ kept. kept.failed ≡ false) }
+        ensures log { IfOk result (λ kept. (log : List Happening) → StandsFor settings.now.currency text.now log → Keeps (settings_of settings.now) log (D.seen device) (D.may_leave device) (length text.now) kept.standing.till.state) }
+    {
+        let till = recover(alloc, settings, text)?;
+        let journal = Journal {
+            alloc,
+            device,
+            gate: text.len(),
+        };
         Ok(KeptTill {
             till,
             journal,

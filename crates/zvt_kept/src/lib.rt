@@ -10,15 +10,21 @@ mod kept_till;
 mod laws;
 mod lines;
 mod records;
+mod recovery;
 mod refusal;
 mod run;
 #[cfg(test)]
 mod tests;
 mod words;
 
+pub use keeping::answers_to;
 pub use kept_till::KeptTill;
-pub use laws::{opening_is_taken, records_are_kept};
+pub use laws::{
+    calls_outlive, crashes_are_losses, hearings_outlive, logs_are_one, logs_are_recovered,
+    opening_is_taken, records_are_kept, runs_outlive, tills_are_recovered,
+};
 pub use lines::{RecordError, read_records};
 pub use records::{Entry, put_heard, put_lost, put_opening, put_order};
+pub use recovery::{RecoveryError, recover};
 pub use refusal::KeptRefusal;
 pub use run::{KeptFault, run_order_kept};

@@ -8,7 +8,7 @@ ghost use Rattle.zvt_kept.specs.Records.{bytes_in, comment, heard, meaning, some
 ghost use Rattle.zvt_kept.specs.declared.lines.RecordError.TheVariants.{Memory};
 
 use crate::records::Entry;
-use crate::words::order_of;
+use crate::words::{order_of, trailing};
 use hex::FromHexError;
 use std::alloc::{AllocError, Global};
 use thiserror::Error;
@@ -82,16 +82,22 @@ fn read_line(alloc: Global, line: &[u8]) -> Result<Meaning, AllocError>
     }
 }
 
-/// Reads a comment, after its sign.
+/// The first words of a journal.
+const FORMAT_NAME: &[u8] = b"zvt journal 1";
+
+/// Reads a comment, after its sign: an order, or the opening of a journal.
 fn comment(text: &[u8]) -> Meaning
-    ensures { meant_by result ≡ Some (comment text.now) }
+    ensures { meant_by result ≡ comment text.now }
 {
     let [b' ', words @ ..] = text else {
-        return Meaning::Nothing;
+        return Meaning::Unknown;
     };
-    match order_of(words) {
-        Some(order) => Meaning::Kept(Entry::Order(order)),
-        None => Meaning::Nothing,
+    if let Some(order) = order_of(words) {
+        return Meaning::Kept(Entry::Order(order));
+    }
+    match trailing(FORMAT_NAME, words) {
+        Some(_) => Meaning::Nothing,
+        None => Meaning::Unknown,
     }
 }
 

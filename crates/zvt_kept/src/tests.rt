@@ -4,8 +4,8 @@ ghost use Rattle.zvt_journal.specs.Memory.{memory_bytes};
 ghost use Rattle.zvt_journal.specs.Text.{IsSettled};
 
 use crate::{
-    Entry, KeptTill, RecordError, opening_is_taken, put_heard, put_lost, put_opening, put_order,
-    read_records, records_are_kept, run_order_kept,
+    Entry, KeptTill, RecordError, RecoveryError, opening_is_taken, put_heard, put_lost,
+    put_opening, put_order, read_records, records_are_kept, recover, run_order_kept,
 };
 use std::alloc::Global;
 use std::test::Fail;
@@ -14,7 +14,7 @@ use zvt_io::Counted;
 use zvt_journal::{Memory, open};
 use zvt_stream::{Endpoint, Stream};
 use zvt_text::Text;
-use zvt_till::{Order, Outcome, TillSettings};
+use zvt_till::{Cause, Order, Outcome, TillSettings};
 
 #[test]
 fn records_are_read_back(rt: HostRuntime) -> Result<(), Fail> {
@@ -122,5 +122,86 @@ fn an_order_and_its_answers_are_kept(rt: HostRuntime) -> Result<(), Fail> {
         end.writer.inner.as_slice(),
         b"\x06\x00\x06\x00\x00\x00\xBE\x09\x78\x80\x00\x00".as_slice()
     );
+    Ok(())
+}
+
+#[test]
+fn a_book_is_recovered(rt: HostRuntime) -> Result<(), Fail> {
+    let alloc = rt.alloc();
+    let text =
+        b"# zvt journal 1, currency 978\n!\n# register\n> 060006000000BE0978\n< 800000\n< 060F00\n> 800000\n\
+# pay 1234\n> 06010A04000000001234490978\n< 800000\n< 040F102700040000000012340B000017870005\n> 800000\n< 060F00\n> 800000\n\
+# pay 500\n> 06010A04000000000500490978\n< 800000\n";
+    let till = recover(alloc, &TillSettings::default(), text.as_slice())?;
+    let [entry] = till.book() else {
+        assert!(rt; false, "another book");
+        return Ok(());
+    };
+    assert_eq!(rt; entry.amount.get(), 1234);
+    assert_eq!(rt; entry.trace.get(), 17);
+    assert!(rt; !entry.reversed);
+    let [(amount, cause)] = till.unclear() else {
+        assert!(rt; false, "no unclear payment");
+        return Ok(());
+    };
+    assert_eq!(rt; amount.get(), 500);
+    assert_eq!(rt; *cause, Cause::Line);
+    assert!(rt; !till.line_up());
+    Ok(())
+}
+
+#[test]
+fn a_till_goes_on_over_its_book(rt: HostRuntime) -> Result<(), Fail> {
+    let alloc = rt.alloc();
+    let settings = TillSettings::default();
+    let text =
+        b"# zvt journal 1, currency 978\n!\n# register\n> 060006000000BE0978\n< 800000\n".as_slice();
+    let mut file = Memory::new(alloc, text.to_vec(alloc)?);
+    let records = open(&mut file, text.to_vec(alloc)?)?;
+    let mut kept = KeptTill::open(alloc, &settings, file, &records)?;
+    assert!(rt; kept.connected(alloc).is_ok());
+    let mut end = Endpoint {
+        reader: Counted::new(REGISTERED.as_slice()),
+        writer: Counted::new(Vec::new(alloc)),
+        stream: Stream::new(alloc),
+    };
+    let ran = run_order_kept(alloc, &mut end, &mut kept, Order::Register, 4);
+    assert!(rt; matches!(ran, Ok(Outcome::Registered)), "another outcome");
+    assert_eq!(rt;
+        kept.device().bytes(),
+        b"# zvt journal 1, currency 978\n!\n# register\n> 060006000000BE0978\n< 800000\n!\n# register\n> 060006000000BE0978\n< 800000\n< 060F00\n> 800000\n\n".as_slice()
+    );
+    Ok(())
+}
+
+#[test]
+fn what_is_no_tills_journal_is_refused(rt: HostRuntime) -> Result<(), Fail> {
+    let alloc = rt.alloc();
+    let rows = [
+        (b"".as_slice(), RecoveryError::Opening),
+        (b"# zvt journal 1, currency 840\n", RecoveryError::Opening),
+        (
+            b"# zvt journal 1, currency 978\n!\n# registered\n",
+            RecoveryError::Line { number: 3 },
+        ),
+        // Not registered.
+        (
+            b"# zvt journal 1, currency 978\n!\n# pay 100\n",
+            RecoveryError::Record { number: 2 },
+        ),
+        // One byte more than a message.
+        (
+            b"# zvt journal 1, currency 978\n!\n# register\n< 80000000\n",
+            RecoveryError::Record { number: 3 },
+        ),
+    ];
+    for (text, expected) in rows {
+        let recovered = recover(alloc, &TillSettings::default(), text);
+        let Err(error) = recovered else {
+            assert!(rt; false, "a till was recovered");
+            return Ok(());
+        };
+        assert_eq!(rt; error, expected);
+    }
     Ok(())
 }

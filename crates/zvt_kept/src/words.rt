@@ -47,7 +47,7 @@ fn numbered(words: &[u8]) -> Option<Order>
 }
 
 /// The bytes after this prefix.
-fn trailing<'a>(prefix: &[u8], words: &'a [u8]) -> Option<&'a [u8]>
+pub(crate) fn trailing<'a>(prefix: &[u8], words: &'a [u8]) -> Option<&'a [u8]>
     ensures { option_map (λ rest. rest.now) result ≡ trailing prefix.now words.now }
 {
     words.strip_prefix(prefix)

@@ -1,4 +1,4 @@
-use Rattle.std.proofs.Common.{◌≡◌, true, inr, refl, sym, ◌∙◌, subst}
+use Rattle.std.proofs.Common.{◌≡◌, true, false, inr, refl, sym, ◌∙◌, subst}
 use Rattle.zvt_kept.specs.Records.{lost}
 use Rattle.zvt_kept.specs.KeptTill.{KeptValue, NewLine, Outlives, Standing, line_changed}
 use Rattle.zvt_kept.proofs.Logged.{outlives}
@@ -13,8 +13,9 @@ returns-in-Err g c =
     let old : Standing g.row.D.Denot = record { till = k.till; device = k.journal.device; gate = k.journal.gate } in
     let new : Standing g.row.D.Denot = record { till = k.till; device = c.keep_lost.new.journal.device; gate = c.keep_lost.new.journal.gate } in
     let kept = c.keep_lost.ensures in
-    subst (λ (v : KeptValue g.row.D.Denot). (true ≡ true) × (k.till ≡ v.standing.till) × Outlives V.seen V.may_leave V.moment V.left_since (line_changed V.seen V.may_leave V.moment V.left_since) v.standing new) c.self.view_is
-    (refl, refl, outlives records_are_kept V.seen V.may_leave V.moment V.left_since old new lost kept.added (line_changed V.seen V.may_leave V.moment V.left_since) kept.is (λ settings. refl) kept.leaves)
+    inr
+    (subst (λ (v : KeptValue g.row.D.Denot). (v.failed ≡ false) × (true ≡ true) × (k.till ≡ v.standing.till) × Outlives V.seen V.may_leave V.moment V.left_since (line_changed V.seen V.may_leave V.moment V.left_since) v.standing new) c.self.view_is
+    (c.if-self.false, refl, refl, outlives records_are_kept V.seen V.may_leave V.moment V.left_since old new lost kept.added (line_changed V.seen V.may_leave V.moment V.left_since) kept.is (λ settings. refl) kept.leaves))
 
 pub invariant_of-self-2 : goal.invariant_of-self-2
 invariant_of-self-2 g c =
@@ -40,4 +41,6 @@ returns g c =
       logs = logs_line V.seen V.may_leave V.moment V.left_since old new lost kept.added down c.connected.ensures.state kept.is (λ settings. refl) kept.durable.0 kept.durable.1;
       outlives = outlives records_are_kept V.seen V.may_leave V.moment V.left_since old new lost kept.added (line_changed V.seen V.may_leave V.moment V.left_since) kept.is (λ settings. refl) kept.leaves;
     } in
-    inr (c.if-self.false, subst (λ (v : KeptValue g.row.D.Denot). NewLine V.seen V.may_leave V.moment V.left_since v.standing new) c.self.view_is made)
+    inr
+    (subst (λ (v : KeptValue g.row.D.Denot). (v.failed ≡ false) × (k.failed ≡ false) × NewLine V.seen V.may_leave V.moment V.left_since v.standing new) c.self.view_is
+    (c.if-self.false, c.if-self.false, made))

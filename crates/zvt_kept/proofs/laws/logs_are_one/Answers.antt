@@ -1,0 +1,5 @@
+use Rattle.zvt_kept.proofs.Recovered.{logs_are_one}
+use Rattle.zvt_kept.proofs.laws.logs_are_one.Goals as goal
+
+pub returns : goal.returns
+returns c = logs_are_one

@@ -1,0 +1,49 @@
+-- The till of a journal's records.
+use Rattle.std.specs.Prelude.{◌≡◌, ◌+◌, Bool, true, false, ℕ, List, [], ◌∷◌, ◌++◌, Some, None, length, Result, Ok, Err}
+use Rattle.zvt_till.specs.declared.happenings.Happening.{Happening}
+use Rattle.zvt_till.specs.declared.happenings.Happening.TheVariants.{Connected, Lost}
+use Rattle.zvt_till.specs.Log.{IsLog}
+use Rattle.zvt_till.specs.Sending.{Settings}
+use Rattle.zvt_till.specs.Till.{TillState}
+use Rattle.zvt_till.specs.TillHistory.{Stands}
+use Rattle.zvt_till.specs.View.{TillValue}
+use Rattle.zvt_kept.specs.Records.{Kept, kept_in}
+use Rattle.zvt_kept.specs.Logs.{Happens, HappenAll, HasOpening, StandsFor}
+use Rattle.zvt_kept.specs.Reading.{IsFirstWrong}
+use Rattle.zvt_kept.specs.declared.recovery.RecoveryError.{RecoveryError}
+use Rattle.zvt_kept.specs.declared.recovery.RecoveryError.TheVariants.{Opening, Line, Record, Memory}
+
+-- The records stand for this log, and the till is that of the log and a lost line.
+pub record IsRecovered (settings : Settings) (text : List ℕ) (state : TillState) : Type 0 where
+  pub log : List Happening
+  pub recorded : StandsFor settings.currency text log
+  pub stands : Stands settings (log ++ Lost ∷ []) state
+
+-- a till of these settings can have lived through these records
+abbrev pub IsLife : Settings → List Kept → Type 0
+IsLife settings kept = (happened : List Happening) × HappenAll settings.currency kept happened × IsLog settings (Connected ∷ happened)
+
+-- The record of this number, counted from 1, is the first that no till can have lived through.
+pub record IsFirstForeign (settings : Settings) (text : List ℕ) (number : ℕ) : Type 0 where
+  pub before : List Kept
+  pub one : Kept
+  pub after : List Kept
+  pub read : kept_in text ≡ Some (before ++ one ∷ after)
+  pub number_is : number ≡ length before + 1
+  pub good : IsLife settings before
+  pub wrong : IsLife settings (before ++ one ∷ []) → ⊥
+
+abbrev pub Recovers : Settings → (text : List ℕ) → Result TillValue RecoveryError → Type 0
+Recovers settings text (Ok till) = IsRecovered settings text till.state
+Recovers settings text (Err Opening) = HasOpening settings.currency text → ⊥
+Recovers settings text (Err (Line number)) = (kept_in text ≡ None) × IsFirstWrong text number
+Recovers settings text (Err (Record number)) = IsFirstForeign settings text number
+Recovers settings text (Err Memory) = Unit {0}
+
+-- a till of some log, whose line is up, lived through what was recorded, or can't have
+abbrev pub Relives : Bool → Kept → (old new : TillState) → Type 0
+Relives true one old new =
+    (settings : Settings) (log : List Happening) → Stands settings log old → old.line_up ≡ true
+    → (happened : List Happening) × Happens settings.currency one happened × Stands settings (log ++ happened) new × (new.line_up ≡ true)
+Relives false one old new =
+    (settings : Settings) (log happened : List Happening) → Stands settings log old → Happens settings.currency one happened → IsLog settings (log ++ happened) → ⊥

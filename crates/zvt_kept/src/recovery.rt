@@ -1,0 +1,122 @@
+//! The till of a journal's records.
+ghost use Rattle.std.specs.Prelude.{◌≡◌, ◌↔◌, IsTrue, IfOk};
+ghost use Rattle.zvt_kept.specs.Reading.{kept_of};
+ghost use Rattle.zvt_kept.specs.Logs.{HasOpening};
+ghost use Rattle.zvt_kept.specs.Records.{heard, ordered};
+ghost use Rattle.zvt_kept.specs.Recovery.{Recovers, Relives};
+ghost use Rattle.zvt_kept.specs.declared.recovery.RecoveryError.TheVariants.{Memory};
+ghost use Rattle.zvt_till.specs.Settings.{settings_of};
+
+use crate::lines::{RecordError, read_records};
+use crate::records::{Entry, put_opening};
+use crate::words::trailing;
+use std::alloc::{AllocError, Global};
+use thiserror::Error;
+use zvt_apdu::scan_loose;
+use zvt_bcd::Currency;
+use zvt_grammar::Scan;
+use zvt_text::Text;
+use zvt_till::heard::heard;
+use zvt_till::{Order, OrderRefusal, Till, TillSettings};
+
+/// Why a journal's records make no till.
+#[derive(Clone, Copy, Debug, PartialEq, Eq, Error)]
+pub enum RecoveryError {
+    /// The first line isn't that of a journal of a till with this currency.
+    #[error("this book is of another currency: give the book's currency, or name another file")]
+    Opening,
+    /// This line, counted from 1, is no line of a journal.
+    #[error("line {number} of the book is no line of a till's record")]
+    Line { number: usize },
+    /// This record, counted from 1, is the first that can't follow from those before it: the till refuses its order, or its
+    /// bytes are not one message.
+    #[error("record {number} of the book is none that a till makes after those before it")]
+    Record { number: usize },
+    /// Memory was refused.
+    #[error("out of memory")]
+    Memory,
+}
+
+impl From<AllocError> for RecoveryError {
+    ghost from_gives = { λ _ error. error ≡ Memory };
+
+    fn from(_refused: AllocError) -> RecoveryError {
+        RecoveryError::Memory
+    }
+}
+
+/// Makes the till of a journal's records. It has lived through each of them, and then its line was lost.
+///
+/// So its book has each payment that the records complete, a payment or a reversal that ran is unclear, and the till
+/// registers again on its next line. The settings' currency is that of the journal. A journal doesn't have the password: the
+/// till has that of the settings.
+pub fn recover(alloc: Global, settings: &TillSettings, text: &[u8]) -> Result<Till, RecoveryError>
+    ensures { Recovers (settings_of settings.now) text.now result }
+{
+    if !has_opening(alloc, text, settings.currency)? {
+        return Err(RecoveryError::Opening);
+    }
+    let entries = match read_records(alloc, text) {
+        Ok(entries) => entries,
+        Err(RecordError::Line { number }) => return Err(RecoveryError::Line { number }),
+        Err(RecordError::Memory) => return Err(RecoveryError::Memory),
+    };
+    let mut till = Till::new(alloc, settings.password, settings.config, settings.currency);
+    till.connected();
+    for (at, entry) in entries.iter().enumerate() {
+        if !relive(alloc, &mut till, entry)? {
+            return Err(RecoveryError::Record { number: at + 1 });
+        }
+    }
+    let _ = till.lost();
+    Ok(till)
+}
+
+/// Whether the text begins with the first line of a journal of this currency.
+fn has_opening(alloc: Global, text: &[u8], currency: Currency) -> Result<bool, AllocError>
+    ensures { IfOk result (λ begins. IsTrue begins ↔ HasOpening currency text.now) }
+{
+    let mut opening = Text::new(alloc);
+    put_opening(&mut opening, currency)?;
+    Ok(trailing(opening.bytes(), text).is_some())
+}
+
+/// Lets the till live through what was recorded. It answers whether it can: a till that can't is of no use.
+fn relive(alloc: Global, till: &mut Till, entry: &Entry) -> Result<bool, AllocError>
+    ensures { IfOk result (λ can. Relives can (kept_of entry.now) till.old.state till.new.state) }
+{
+    match entry {
+        Entry::Order(order) => relive_order(till, order),
+        Entry::Heard(message) => relive_message(alloc, till, message),
+        Entry::Lost => {
+            let _ = till.lost();
+            till.connected();
+            Ok(true)
+        }
+    }
+}
+
+/// Gives the till an order again. It answers whether the till takes it.
+fn relive_order(till: &mut Till, order: &Order) -> Result<bool, AllocError>
+    ensures { IfOk result (λ can. Relives can (ordered order.now) till.old.state till.new.state) }
+{
+    match till.order(*order) {
+        Ok(_) => Ok(true),
+        Err(why) if why == OrderRefusal::Memory => Err(AllocError),
+        Err(_) => Ok(false),
+    }
+}
+
+/// Lets the till hear a message again. It answers whether the bytes are one message.
+fn relive_message(alloc: Global, till: &mut Till, bytes: &[u8]) -> Result<bool, AllocError>
+    ensures { IfOk result (λ can. Relives can (heard bytes.now) till.old.state till.new.state) }
+{
+    let Scan::Whole((apdu, size)) = scan_loose(alloc, bytes)? else {
+        return Ok(false);
+    };
+    if size != bytes.len() {
+        return Ok(false);
+    }
+    let _ = till.hear(heard(&apdu));
+    Ok(true)
+}
