@@ -12,19 +12,19 @@ _zvt() {
     done
     case $command in
     show | audit | receipts) options='--loose' ;;
-    join | normalise | vectors) ;;
-    loop) options='--trace' steps='register pay: decline: reverse: close' ;;
-    till) options='--port --host --password --config --currency --trace --loose' steps='register pay: reverse: close' ;;
+    join | normalise | vectors | book) ;;
+    loop) options='--trace --book' steps='register pay: decline: reverse: close' ;;
+    till) options='--port --host --password --config --currency --trace --book --loose' steps='register pay: reverse: close' ;;
     terminal) options='--port --host --tid --connections --decline --trace --loose' ;;
-    '') options='--version -V' words='show join normalise audit receipts vectors loop till terminal help' ;;
+    '') options='--version -V' words='show join normalise audit receipts vectors book loop till terminal help' ;;
     help)
-        [ "$COMP_CWORD" -ne $((position + 1)) ] || COMPREPLY=($(compgen -W 'show join normalise audit receipts vectors loop till terminal' -- "$word"))
+        [ "$COMP_CWORD" -ne $((position + 1)) ] || COMPREPLY=($(compgen -W 'show join normalise audit receipts vectors book loop till terminal' -- "$word"))
         return
         ;;
     *) return ;;
     esac
     case $before in
-    --trace)
+    --trace | --book)
         compopt -o filenames 2> /dev/null
         COMPREPLY=($(compgen -f -- "$word"))
         return
@@ -39,7 +39,7 @@ _zvt() {
     -*) COMPREPLY=($(compgen -W "$options --help -h" -- "$word")); return ;;
     esac
     case $command in
-    show | join | normalise | audit | receipts | vectors)
+    show | join | normalise | audit | receipts | vectors | book)
         compopt -o filenames 2> /dev/null
         COMPREPLY=($(compgen -f -- "$word"))
         return

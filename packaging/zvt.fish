@@ -8,6 +8,7 @@ complete -c zvt -n __fish_use_subcommand -a normalise -d 'Write each message of 
 complete -c zvt -n __fish_use_subcommand -a audit -d 'Write which payments of a trace are booked and which are unclear'
 complete -c zvt -n __fish_use_subcommand -a receipts -d 'Write the text of each print line of the terminal'
 complete -c zvt -n __fish_use_subcommand -a vectors -d 'Check the reader of messages against test vectors'
+complete -c zvt -n __fish_use_subcommand -a book -d 'Write the payments of a book, which are unclear, and the total'
 complete -c zvt -n __fish_use_subcommand -a loop -d 'Run steps between a till and a terminal in this process'
 complete -c zvt -n __fish_use_subcommand -a till -d 'Connect to a terminal and run steps as its till'
 complete -c zvt -n __fish_use_subcommand -a terminal -d 'Listen as a simulated terminal'
@@ -17,9 +18,10 @@ complete -c zvt -s h -l help -d 'Print help'
 complete -c zvt -n __fish_use_subcommand -s V -l version -d 'Print the version'
 
 complete -c zvt -n '__fish_seen_subcommand_from show audit receipts' -l loose -d 'Also read lengths in longer forms than they need'
-complete -c zvt -n '__fish_seen_subcommand_from show join normalise audit receipts vectors' -F
+complete -c zvt -n '__fish_seen_subcommand_from show join normalise audit receipts vectors book' -F
 
 complete -c zvt -n '__fish_seen_subcommand_from loop' -l trace -rF -d 'Write a trace of the line to this file'
+complete -c zvt -n '__fish_seen_subcommand_from loop' -l book -rF -d 'Keep the book in this file'
 complete -c zvt -n '__fish_seen_subcommand_from loop' -a 'register pay: decline: reverse: close'
 
 complete -c zvt -n '__fish_seen_subcommand_from till' -l port -x -d 'The TCP port of the terminal'
@@ -28,6 +30,7 @@ complete -c zvt -n '__fish_seen_subcommand_from till' -l password -x -d 'The pas
 complete -c zvt -n '__fish_seen_subcommand_from till' -l config -x -d 'The configuration byte, two hexadecimal digits'
 complete -c zvt -n '__fish_seen_subcommand_from till' -l currency -x -d 'The number of the currency, four digits'
 complete -c zvt -n '__fish_seen_subcommand_from till' -l trace -rF -d 'Write a trace of the line to this file'
+complete -c zvt -n '__fish_seen_subcommand_from till' -l book -rF -d 'Keep the book in this file'
 complete -c zvt -n '__fish_seen_subcommand_from till' -l loose -d 'Also read lengths in longer forms than they need'
 complete -c zvt -n '__fish_seen_subcommand_from till' -a 'register pay: reverse: close'
 
@@ -39,4 +42,4 @@ complete -c zvt -n '__fish_seen_subcommand_from terminal' -l decline -x -d 'Decl
 complete -c zvt -n '__fish_seen_subcommand_from terminal' -l trace -rF -d 'Write a trace of the line to this file'
 complete -c zvt -n '__fish_seen_subcommand_from terminal' -l loose -d 'Also read lengths in longer forms than they need'
 
-complete -c zvt -n '__fish_seen_subcommand_from help' -a 'show join normalise audit receipts vectors loop till terminal'
+complete -c zvt -n '__fish_seen_subcommand_from help' -a 'show join normalise audit receipts vectors book loop till terminal'

@@ -22,9 +22,14 @@ _zvt() {
         _arguments $help \
             '1:trace:_files'
         ;;
+    book)
+        _arguments $help \
+            '1:book:_files'
+        ;;
     loop)
         _arguments $help \
             '--trace[write a trace of the line to this file]:file:_files' \
+            '--book[keep the book in this file]:file:_files' \
             '*:step:(register pay\:1000 decline\:500\:6C reverse\:1 close)'
         ;;
     till)
@@ -35,6 +40,7 @@ _zvt() {
             '--config[the configuration byte, two hexadecimal digits]:byte:' \
             "--currency[the currency's number, four digits]:number:" \
             '--trace[write a trace of the line to this file]:file:_files' \
+            '--book[keep the book in this file]:file:_files' \
             '--loose[also read lengths in longer forms than they need]' \
             '*:step:(register pay\:1000 reverse\:1 close)'
         ;;
@@ -63,6 +69,7 @@ _zvt_commands() {
         'audit:write which payments of a trace are booked and which are unclear'
         'receipts:write the text of each print line of the terminal'
         'vectors:check the reader of messages against test vectors'
+        'book:write the payments of a book, which are unclear, and the total'
         'loop:run steps between a till and a terminal in this process'
         'till:connect to a terminal and run steps as its till'
         'terminal:listen as a simulated terminal'

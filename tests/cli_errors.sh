@@ -200,6 +200,86 @@ cp "$work/says" "$work/err"
 check "a terminal's trace that is full" "$status" 4 "register -> unclear Line
 total 0" "zvt: cannot write the trace file"
 
+# A trace goes behind what its file has, but for a book.
+"$zvt" loop --trace "$work/mine.trace" register > "$work/out" 2> "$work/err"
+check "a trace behind a comment" "$?" 0 "register -> registered
+total 0" "zvt: '$work/mine.trace': the trace goes behind what this file has"
+printf '# mine' > "$work/half.trace"
+"$zvt" loop --trace "$work/half.trace" register > "$work/out" 2> "$work/err"
+for file in mine half; do
+    head -n 3 "$work/$file.trace" > "$work/out"
+    check "the first lines of $file.trace" 0 0 "# mine
+!
+> 060006000000BE0978" ""
+done
+"$zvt" loop --trace "$work/new.trace" register > "$work/out" 2> "$work/err"
+check "a new trace" "$?" 0 "register -> registered
+total 0" ""
+[ ! -s "$work/err" ] && [ "$(head -n 1 "$work/new.trace")" = "> 060006000000BE0978" ] || echo "a new trace says nothing" >> "$work/failed"
+
+# Books that can't be had. A file that is there is left as it is, and nothing is connected.
+"$zvt" loop --book "$work/day.book" register pay:500 > "$work/out" 2> "$work/err"
+check "a new book" "$?" 0 "register -> registered
+pay:500 -> paid trace 000001 receipt 0001
+total 500" "zvt: '$work/day.book': a new book"
+cp "$work/day.book" "$work/copy.book"
+refuses "a trace in a book" 3 "zvt: '$work/day.book': this is a till's book, which a trace would end" loop --trace "$work/day.book"
+refuses "a book of another currency" 3 "zvt: '$work/day.book': the first line is not that of a book in the till's currency" till --port "$port" --currency 0840 --book "$work/day.book"
+refuses "a wrong step beside a book" 2 "'pay:0'" loop --book "$work/day.book" pay:0
+cmp -s "$work/day.book" "$work/copy.book" || { echo "NOT AS EXPECTED: a book that was to stay"; echo "a book" >> "$work/failed"; }
+for command in "loop --book" "till --port 1 --book" book; do
+    refuses "$command of a folder" 4 "zvt: '$work': this is a folder" $command "$work"
+    refuses "$command of no regular file" 4 "zvt: '/dev/null': this is no regular file" $command /dev/null
+    refuses "$command of a trace" 3 "zvt: '$work/new.trace': this is no journal" $command "$work/new.trace"
+    refuses "$command in no folder" 4 "zvt: '$work/none/day.book': cannot open, read or write this file" $command "$work/none/day.book"
+    printf '# zvt journal 1, currency 978\n!\n# pay 1\n\n' > "$work/odd.book"
+    refuses "$command of records that are no till's" 3 "zvt: '$work/odd.book': " $command "$work/odd.book"
+    printf '# zvt journal 1, currency 978\n!\n? 80\n\n' > "$work/odd.book"
+    refuses "$command of a line that is none" 3 "zvt: '$work/odd.book': line 3 " $command "$work/odd.book"
+done
+refuses "book of no file" 4 "zvt: '$work/none.book': cannot open" book "$work/none.book"
+[ ! -e "$work/none.book" ] || echo "a book that is only looked at" >> "$work/failed"
+python3 -c '
+import fcntl, subprocess, sys
+with open(sys.argv[2]) as file:
+    fcntl.flock(file, fcntl.LOCK_EX)
+    sys.exit(subprocess.run([sys.argv[1], "loop", "--book", sys.argv[2]]).returncode)
+' "$zvt" "$work/day.book" > "$work/out" 2> "$work/err"
+check "a book that another till has open" "$?" 4 "" "zvt: '$work/day.book': another till has this book open"
+refuses "a book before there is a connection" 4 "zvt: '$work/day.book': 1 booked, 0 unclear, total 500" till --port 1 --book "$work/day.book"
+cmp -s "$work/day.book" "$work/copy.book" || { echo "NOT AS EXPECTED: a book without a connection"; echo "a book" >> "$work/failed"; }
+
+# A book that is full before the first order is sent: 32 bytes are the opening and the lost line, and 32 more that order.
+python3 -c '
+import resource, signal, subprocess, sys
+def limit():
+    signal.signal(signal.SIGXFSZ, signal.SIG_IGN)
+    resource.setrlimit(resource.RLIMIT_FSIZE, (64, 64))
+ran = subprocess.run(sys.argv[1:], preexec_fn=limit, capture_output=True)
+sys.stdout.buffer.write(ran.stdout)
+sys.stderr.buffer.write(ran.stderr)
+sys.exit(ran.returncode)
+' "$zvt" loop --book "$work/full.book" --trace "$work/full.trace" register pay:5 > "$work/out" 2> "$work/err"
+check "a book that is full" "$?" 4 "register -> unclear Line
+total 0" "zvt: cannot write the book, so the run stopped and nothing more was sent"
+[ "$(cat "$work/full.trace")" = "!" ] || { echo "NOT AS EXPECTED: an order that was sent without its record"; echo "an order" >> "$work/failed"; }
+reads "what a full book has" 0 "total 0" "" book "$work/full.book"
+
+# A book goes on from run to run, and a crash leaves a part of a record.
+printf 'pay 7\n> 06' >> "$work/day.book"
+"$zvt" loop --book "$work/day.book" register reverse:1 > "$work/out" 2> "$work/err"
+check "a book after a crash" "$?" 0 "register -> registered
+reverse:1 -> aborted B5 reversal not possible
+total 500" "zvt: '$work/day.book': a crash left 10 bytes of an unfinished record"
+[ "$(cat "$work/day.book.cut")" = "$(printf 'pay 7\n> 06')" ] || echo "what was cut" >> "$work/failed"
+"$zvt" loop --book "$work/marked.book" register pay:1000 pay:500 reverse:1 close > "$work/out" 2> "$work/err"
+reads "what a book has" 0 "booked 1000 trace 000001 receipt 0001 reversed
+booked 500 trace 000002 receipt 0002
+total 500" "" book "$work/marked.book"
+"$zvt" loop --book "$work/marked.book" pay:1 > "$work/out" 2> "$work/err"
+check "a book without a registration" "$?" 0 "pay:1 -> not sent: NotRegistered
+total 500" "zvt: '$work/marked.book': 2 booked, 0 unclear, total 500"
+
 # Connections that can't be had.
 refuses "a host that is none" 4 "zvt: no connection: the host name has no address" till --port 1 --host no.such.host.invalid
 refuses "an address that is elsewhere" 4 "zvt: no connection: the address to listen at does not belong to this machine" terminal --port 0 --host 192.0.2.1

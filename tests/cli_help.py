@@ -12,7 +12,7 @@ import sys
 
 HERE = os.path.dirname(os.path.abspath(__file__))
 PROGRAM = os.path.abspath(sys.argv[1]) if len(sys.argv) > 1 else os.path.join(HERE, "..", "crates", "zvt", "out", "zvt")
-COMMANDS = ["show", "join", "normalise", "audit", "receipts", "vectors", "loop", "till", "terminal"]
+COMMANDS = ["show", "join", "normalise", "audit", "receipts", "vectors", "book", "loop", "till", "terminal"]
 USAGE = f"Usage: zvt [{'|'.join(COMMANDS)}]"
 TILL, TERMINAL = ["till", "--port", "1"], ["terminal", "--port", "1"]
 # Words that make no command, and what is said of them.
@@ -22,6 +22,9 @@ REFUSED = [
     ("show x y", "error: unexpected argument 'y' found\n\nUsage: zvt show [OPTIONS] [FILE]\n"),
     ("--port 1", "error: unexpected argument '--port' found\n"),
     ("join --loose", "error: unexpected argument '--loose' found\n"),
+    ("book", "error: the following required arguments were not provided:\n  <FILE>\n"),
+    ("book x y", "error: unexpected argument 'y' found\n\nUsage: zvt book <FILE>\n"),
+    ("loop --book", "error: a value is required for '--book <FILE>' but none was supplied\n"),
     ("till close", "error: the following required arguments were not provided:\n  --port <PORT>\n"),
     ("terminal", "error: the following required arguments were not provided:\n  --port <PORT>\n"),
     ("till --port=65536", "error: invalid value '65536' for '--port <PORT>': 65536 is not in 0..=65535\n"),

@@ -7,6 +7,12 @@ use Rattle.zvt_trace.specs.declared.fault.TraceFault.{TraceFault}
 use Rattle.zvt_trace.specs.declared.fault.TraceFault.TheVariants as on_trace
 use Rattle.zvt_session.specs.declared.fault.EndFault.{EndFault}
 use Rattle.zvt_session.specs.declared.fault.EndFault.TheVariants as at_end
+use Rattle.zvt_journal.specs.declared.device.DeviceError.{DeviceError}
+use Rattle.zvt_journal.specs.declared.device.DeviceError.TheVariants as on_device
+use Rattle.zvt_journal.specs.declared.error.JournalFileError.{JournalFileError}
+use Rattle.zvt_journal.specs.declared.error.JournalFileError.TheVariants as on_file
+use Rattle.zvt_kept.specs.declared.recovery.RecoveryError.{RecoveryError}
+use Rattle.zvt_kept.specs.declared.recovery.RecoveryError.TheVariants as on_records
 
 -- 1 where a stream of the trace was refused or cut off
 abbrev pub status_of_bad : ℕ → ℕ
@@ -31,14 +37,39 @@ status_of_trace_fault on_trace.Read = 4
 status_of_trace_fault on_trace.Write = 4
 status_of_trace_fault on_trace.Memory = 5
 
--- a wrong word is 2, a device, a line, its trace or a connection that failed 4, out of memory 5
+-- a wrong word is 2, a device, a line, its trace, a book or a connection that failed 4, out of memory 5
 abbrev pub status_of_end_fault : EndFault → ℕ
 status_of_end_fault (at_end.BadStep at) = 2
 status_of_end_fault (at_end.Net why) = 4
 status_of_end_fault at_end.Trace = 4
+status_of_end_fault at_end.Book = 4
 status_of_end_fault (at_end.Line fault) = status_of_line fault
 status_of_end_fault at_end.Write = 4
 status_of_end_fault at_end.Memory = 5
+
+-- a file that is no journal is 3, one that can't be had 4, out of memory 5
+abbrev pub status_of_file_error : JournalFileError → ℕ
+status_of_file_error on_file.InUse = 4
+status_of_file_error on_file.Folder = 4
+status_of_file_error on_file.NotAFile = 4
+status_of_file_error on_file.NotAJournal = 3
+status_of_file_error (on_file.TooMuchAfter bytes) = 3
+status_of_file_error (on_file.CutNotKept error) = 4
+status_of_file_error (on_file.Io error) = 4
+status_of_file_error on_file.Memory = 5
+
+-- records that are no till's are 3, out of memory 5
+abbrev pub status_of_recovery : RecoveryError → ℕ
+status_of_recovery on_records.Opening = 3
+status_of_recovery (on_records.Line number) = 3
+status_of_recovery (on_records.Record number) = 3
+status_of_recovery on_records.Memory = 5
+
+-- a journal that can't be begun is 4, out of memory 5
+abbrev pub status_of_device : DeviceError → ℕ
+status_of_device on_device.Memory = 5
+status_of_device on_device.Failed = 4
+status_of_device on_device.Full = 4
 
 -- of a command on a trace
 abbrev pub status_of_tally : Result Tally TraceFault → ℕ

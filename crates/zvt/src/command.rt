@@ -25,12 +25,21 @@ pub struct TraceCommand {
     pub lengths: Lengths,
 }
 
+/// A run of both ends in this process: the files of its trace and of its till's book, if they are named, and its steps.
+#[derive(Clone, Copy)]
+pub struct LoopOptions<'a> {
+    pub trace: Option<&'a str>,
+    pub book: Option<&'a str>,
+    pub steps: &'a [&'a str],
+}
+
 /// A command of the program. A file is named, or none or `-` for standard input.
 #[derive(Clone, Copy)]
 pub enum Command<'a> {
     OnTrace(TraceCommand, Option<&'a str>),
-    /// Both ends in this process, with a trace perhaps.
-    Loop(Option<&'a str>, &'a [&'a str]),
+    /// What a book has, by its file.
+    Book(&'a str),
+    Loop(LoopOptions<'a>),
     Till(&'a TillOptions<'a>),
     Terminal(&'a TerminalOptions<'a>),
 }
@@ -75,7 +84,12 @@ pub fn command_of<'a>(chosen: &'a Choice<'a>) -> Command<'a>
         Choice::Audit { file, loose } => working(TraceWork::Audit, lengths_by(*loose), *file),
         Choice::Receipts { file, loose } => rendering(Style::Receipts, lengths_by(*loose), *file),
         Choice::Vectors { file } => working(TraceWork::Vectors, Lengths::Shortest, *file),
-        Choice::Loop { trace, steps } => Command::Loop(*trace, steps.as_slice()),
+        Choice::Book { file } => Command::Book(file),
+        Choice::Loop { trace, book, steps } => Command::Loop(LoopOptions {
+            trace: *trace,
+            book: *book,
+            steps: steps.as_slice(),
+        }),
         Choice::Till(options) => Command::Till(options),
         Choice::Terminal(options) => Command::Terminal(options),
     }

@@ -1,34 +1,46 @@
 //! The runs of either end of a line, as the command line asks for them.
 ghost use Rattle.std.specs.Prelude.{◌≤◌};
 
-use crate::command::lengths_by;
+use crate::command::{LoopOptions, lengths_by};
 use crate::finish::{finish_plan, finish_run};
 use crate::output::Output;
 use crate::settings::{settings, verdict};
-use crate::statuses::{DEVICE, WORDS};
-use std::fs::File;
+use crate::statuses::WORDS;
+use crate::{book, trace_file};
 use std::io;
 use zvt_io::Counted;
 use zvt_tool::{
-    Ends, Planned, TerminalOptions, TerminalRun, TillOptions, TillRun, plan, run_loop,
-    run_terminal, run_till,
+    BookRun, Ends, FileDevice, KeptTill, LoopRun, Planned, TerminalOptions, TerminalRun,
+    TillOptions, TillRun, TillSettings, plan, run_loop, run_loop_kept, run_terminal, run_till,
+    run_till_kept,
 };
 
 /// Runs both ends in this process, and answers the exit status.
-pub fn both_ends(rt: &HostRuntime, trace: Option<&str>, steps: &[&str]) -> io::Result<u8> {
-    let plan = match planned(rt, Ends::Both, steps)? {
+pub fn both_ends(rt: &HostRuntime, options: &LoopOptions<'_>) -> io::Result<u8> {
+    let plan = match planned(rt, Ends::Both, options.steps)? {
         Ok(plan) => plan,
         Err(status) => return Ok(status),
     };
-    let file = match created(rt, trace)? {
+    let settings = TillSettings::default();
+    let kept = match opened(rt, options.book, &settings)? {
+        Ok(kept) => kept,
+        Err(status) => return Ok(status),
+    };
+    let file = match trace_file::opened(rt, options.trace)? {
         Ok(file) => file,
         Err(status) => return Ok(status),
     };
     let plan = plan.as_slice();
-    let file = file.as_ref();
+    let trace = file.as_ref();
     let mut writer = Counted::new(Output::new(io::writer(rt)));
     let mut report = Counted::new(rt.stderr());
-    let answer = run_loop(rt, rt.alloc(), plan, file, &mut writer, &mut report);
+    let answer = match kept {
+        None => run_loop(rt, rt.alloc(), plan, trace, &mut writer, &mut report),
+        Some(mut kept) => {
+            let run = LoopRun { trace, plan };
+            run_loop_kept(rt, rt.alloc(), &run, &mut kept, &mut writer, &mut report)
+        }
+    };
     finish_run(rt, writer.inner.broken_pipe, answer)
 }
 
@@ -45,22 +57,57 @@ pub fn till(rt: &HostRuntime, options: &TillOptions<'_>) -> io::Result<u8> {
         Ok(plan) => plan,
         Err(status) => return Ok(status),
     };
-    let file = match created(rt, options.trace)? {
+    let kept = match opened(rt, options.book, &settings)? {
+        Ok(kept) => kept,
+        Err(status) => return Ok(status),
+    };
+    let file = match trace_file::opened(rt, options.trace)? {
         Ok(file) => file,
         Err(status) => return Ok(status),
     };
     let trace = file.as_ref();
-    let run = TillRun {
-        host: options.host,
-        port: options.port,
-        settings,
-        lengths: lengths_by(options.loose),
-        trace,
-    };
     let plan = plan.as_slice();
+    match kept {
+        None => {
+            let run = TillRun {
+                host: options.host,
+                port: options.port,
+                settings,
+                lengths: lengths_by(options.loose),
+                trace,
+            };
+            till_alone(rt, &run, plan)
+        }
+        Some(kept) => {
+            let run = BookRun {
+                host: options.host,
+                port: options.port,
+                lengths: lengths_by(options.loose),
+                trace,
+                plan,
+            };
+            till_with_book(rt, &run, kept)
+        }
+    }
+}
+
+/// Runs a new till, and answers the exit status.
+fn till_alone(rt: &HostRuntime, run: &TillRun<'_, '_>, plan: &[Planned]) -> io::Result<u8> {
     let mut writer = Counted::new(Output::new(io::writer(rt)));
     let mut report = Counted::new(rt.stderr());
-    let answer = run_till(rt, rt.alloc(), &run, plan, &mut writer, &mut report);
+    let answer = run_till(rt, rt.alloc(), run, plan, &mut writer, &mut report);
+    finish_run(rt, writer.inner.broken_pipe, answer)
+}
+
+/// Runs the till of a book, and answers the exit status.
+fn till_with_book(
+    rt: &HostRuntime,
+    run: &BookRun<'_, '_>,
+    mut kept: KeptTill<FileDevice>,
+) -> io::Result<u8> {
+    let mut writer = Counted::new(Output::new(io::writer(rt)));
+    let mut report = Counted::new(rt.stderr());
+    let answer = run_till_kept(rt, rt.alloc(), run, &mut kept, &mut writer, &mut report);
     finish_run(rt, writer.inner.broken_pipe, answer)
 }
 
@@ -75,7 +122,7 @@ pub fn terminal(rt: &HostRuntime, options: &TerminalOptions<'_>) -> io::Result<u
     let Some(verdict) = verdict(rt, options.decline)? else {
         return Ok(WORDS);
     };
-    let file = match created(rt, options.trace)? {
+    let file = match trace_file::opened(rt, options.trace)? {
         Ok(file) => file,
         Err(status) => return Ok(status),
     };
@@ -102,16 +149,18 @@ fn planned(rt: &HostRuntime, ends: Ends, words: &[&str]) -> io::Result<Result<Ve
     }
 }
 
-/// The file of a trace, empty. A file that can't be created is reported, and the exit status is answered.
-fn created(rt: &HostRuntime, trace: Option<&str>) -> io::Result<Result<Option<File>, u8>> {
-    let Some(path) = trace else {
+/// The till of the book in this file, if one is named. A book that can't be opened is reported, and the exit status is
+/// answered.
+fn opened(
+    rt: &HostRuntime,
+    path: Option<&str>,
+    settings: &TillSettings,
+) -> io::Result<Result<Option<KeptTill<FileDevice>>, u8>> {
+    let Some(path) = path else {
         return Ok(Ok(None));
     };
-    match File::create(rt, path) {
-        Ok(file) => Ok(Ok(Some(file))),
-        Err(error) => {
-            eprintln!(rt; "zvt: '{path}': cannot create the trace file: {error}")?;
-            Ok(Err(DEVICE))
-        }
+    match book::open(rt, path, settings)? {
+        Ok(kept) => Ok(Ok(Some(kept))),
+        Err(status) => Ok(Err(status)),
     }
 }

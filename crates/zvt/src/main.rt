@@ -5,6 +5,7 @@ ghost use Rattle.std.specs.Prelude.{Option, List};
 ghost use Rattle.clap.specs.Words.{Row, Text};
 ghost use Rattle.zvt_cli.specs.Chosen.{IsChoiceOf};
 
+mod book;
 mod command;
 mod ends;
 mod finish;
@@ -14,6 +15,7 @@ mod on_trace;
 mod output;
 mod settings;
 mod statuses;
+mod trace_file;
 
 use crate::command::{Command, command_of};
 use crate::statuses::{DEVICE, DONE, MEMORY, WORDS};
@@ -76,7 +78,8 @@ fn execute(rt: &HostRuntime, chosen: &Choice<'_>) -> io::Result<u8>
 {
     match command_of(chosen) {
         Command::OnTrace(work, file) => inputs::work_on(rt, &work, file),
-        Command::Loop(trace, steps) => ends::both_ends(rt, trace, steps),
+        Command::Book(path) => book::show(rt, path),
+        Command::Loop(options) => ends::both_ends(rt, &options),
         Command::Till(options) => ends::till(rt, options),
         Command::Terminal(options) => ends::terminal(rt, options),
     }

@@ -1,10 +1,10 @@
 //! The exit statuses.
 ghost use Rattle.std.specs.Prelude.{◌≡◌};
 ghost use Rattle.zvt.specs.OnTrace.{tally_of};
-ghost use Rattle.zvt.specs.Statuses.{status_of_bad, status_of_end_fault, status_of_run, status_of_tally, status_of_trace_fault};
+ghost use Rattle.zvt.specs.Statuses.{status_of_bad, status_of_device, status_of_file_error, status_of_recovery, status_of_end_fault, status_of_run, status_of_tally, status_of_trace_fault};
 
 use zvt_stream::LineFault;
-use zvt_tool::{AuditSummary, EndFault, TraceFault};
+use zvt_tool::{AuditSummary, DeviceError, EndFault, JournalFileError, RecoveryError, TraceFault};
 
 /// All was done, or help was asked for.
 pub const DONE: u8 = 0;
@@ -15,8 +15,8 @@ const BAD: u8 = 1;
 /// The command line or a step is wrong.
 pub const WORDS: u8 = 2;
 
-/// The trace can't be read as one.
-const TRACE: u8 = 3;
+/// The trace can't be read as one, or the book as one of a till.
+pub const TRACE: u8 = 3;
 
 /// A device, the line or the connection failed.
 pub const DEVICE: u8 = 4;
@@ -68,8 +68,43 @@ pub fn of_end_fault(fault: &EndFault) -> u8
 {
     match fault {
         EndFault::BadStep { .. } => WORDS,
-        EndFault::Net(_) | EndFault::Trace | EndFault::Write => DEVICE,
+        EndFault::Net(_) | EndFault::Trace | EndFault::Book | EndFault::Write => DEVICE,
         EndFault::Line(LineFault::Memory) | EndFault::Memory => MEMORY,
         EndFault::Line(_) => DEVICE,
+    }
+}
+
+/// The status of a book whose file is not opened.
+pub fn of_file_error(error: &JournalFileError) -> u8
+    ensures { result ≡ status_of_file_error error.now }
+{
+    match error {
+        JournalFileError::NotAJournal | JournalFileError::TooMuchAfter { .. } => TRACE,
+        JournalFileError::InUse
+        | JournalFileError::Folder
+        | JournalFileError::NotAFile
+        | JournalFileError::CutNotKept(_)
+        | JournalFileError::Io(_) => DEVICE,
+        JournalFileError::Memory => MEMORY,
+    }
+}
+
+/// The status of a book whose records give no till.
+pub fn of_recovery(error: RecoveryError) -> u8
+    ensures { result ≡ status_of_recovery error }
+{
+    match error {
+        RecoveryError::Opening | RecoveryError::Line { .. } | RecoveryError::Record { .. } => TRACE,
+        RecoveryError::Memory => MEMORY,
+    }
+}
+
+/// The status of a book that can't be begun.
+pub fn of_device(error: DeviceError) -> u8
+    ensures { result ≡ status_of_device error }
+{
+    match error {
+        DeviceError::Memory => MEMORY,
+        DeviceError::Failed | DeviceError::Full => DEVICE,
     }
 }

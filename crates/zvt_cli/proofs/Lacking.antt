@@ -3,7 +3,7 @@ use Rattle.std.proofs.Common.{◌≡◌, ◌≢◌, ◌∙◌, ap, sym, arith, c
 use Rattle.clap.specs.Walk.{Row, Text, first_of}
 use Rattle.zvt_cli.specs.Chosen.{GivesNumber, HasNoChoice, IsCommandOf, IsNumberOf}
 use Rattle.zvt_cli.specs.declared.choice.Choice.{Choice}
-use Rattle.zvt_cli.specs.declared.choice.Choice.TheVariants.{Audit, Join, Loop, Normalise, Receipts, Show, Terminal, Till, Vectors}
+use Rattle.zvt_cli.specs.declared.choice.Choice.TheVariants.{Audit, Book, Join, Loop, Normalise, Receipts, Show, Terminal, Till, Vectors}
 
 -- texts that differ in a letter
 other_first : (name text : Text) → (slice_index name 0 ≢ slice_index text 0) → (name ≢ text)
@@ -20,7 +20,8 @@ till_has rows (Normalise file) said lacks = other_first (codes "till") (codes "n
 till_has rows (Audit file loose) said lacks = other_first (codes "till") (codes "audit") (λ e. omega (arith, e)) said.0
 till_has rows (Receipts file loose) said lacks = other_first (codes "till") (codes "receipts") (λ e. omega (arith, e)) said.0
 till_has rows (Vectors file) said lacks = other_first (codes "till") (codes "vectors") (λ e. omega (arith, e)) said.0
-till_has rows (Loop trace steps) said lacks = other_first (codes "till") (codes "loop") (λ e. omega (arith, e)) said.0
+till_has rows (Book file) said lacks = other_first (codes "till") (codes "book") (λ e. omega (arith, e)) said.0
+till_has rows (Loop trace book steps) said lacks = other_first (codes "till") (codes "loop") (λ e. omega (arith, e)) said.0
 till_has rows (Till options) said lacks = lacks options.port said.1
 till_has rows (Terminal options) said lacks = other_second (codes "till") (codes "terminal") (λ e. omega (arith, e)) said.0
 
@@ -31,7 +32,8 @@ till_has_host rows (Normalise file) said lacks = other_first (codes "till") (cod
 till_has_host rows (Audit file loose) said lacks = other_first (codes "till") (codes "audit") (λ e. omega (arith, e)) said.0
 till_has_host rows (Receipts file loose) said lacks = other_first (codes "till") (codes "receipts") (λ e. omega (arith, e)) said.0
 till_has_host rows (Vectors file) said lacks = other_first (codes "till") (codes "vectors") (λ e. omega (arith, e)) said.0
-till_has_host rows (Loop trace steps) said lacks = other_first (codes "till") (codes "loop") (λ e. omega (arith, e)) said.0
+till_has_host rows (Book file) said lacks = other_first (codes "till") (codes "book") (λ e. omega (arith, e)) said.0
+till_has_host rows (Loop trace book steps) said lacks = other_first (codes "till") (codes "loop") (λ e. omega (arith, e)) said.0
 till_has_host rows (Till options) said lacks = let bad : Some options.host.now ≡ None = sym said.2 ∙ lacks in cc
 till_has_host rows (Terminal options) said lacks = other_second (codes "till") (codes "terminal") (λ e. omega (arith, e)) said.0
 
@@ -42,7 +44,8 @@ terminal_has_host rows (Normalise file) said lacks = other_first (codes "termina
 terminal_has_host rows (Audit file loose) said lacks = other_first (codes "terminal") (codes "audit") (λ e. omega (arith, e)) said.0
 terminal_has_host rows (Receipts file loose) said lacks = other_first (codes "terminal") (codes "receipts") (λ e. omega (arith, e)) said.0
 terminal_has_host rows (Vectors file) said lacks = other_first (codes "terminal") (codes "vectors") (λ e. omega (arith, e)) said.0
-terminal_has_host rows (Loop trace steps) said lacks = other_first (codes "terminal") (codes "loop") (λ e. omega (arith, e)) said.0
+terminal_has_host rows (Book file) said lacks = other_first (codes "terminal") (codes "book") (λ e. omega (arith, e)) said.0
+terminal_has_host rows (Loop trace book steps) said lacks = other_first (codes "terminal") (codes "loop") (λ e. omega (arith, e)) said.0
 terminal_has_host rows (Till options) said lacks = other_second (codes "terminal") (codes "till") (λ e. omega (arith, e)) said.0
 terminal_has_host rows (Terminal options) said lacks = let bad : Some options.host.now ≡ None = sym said.2 ∙ lacks in cc
 
@@ -54,12 +57,28 @@ terminal_has rows (Normalise file) said lacks = other_first (codes "terminal") (
 terminal_has rows (Audit file loose) said lacks = other_first (codes "terminal") (codes "audit") (λ e. omega (arith, e)) said.0
 terminal_has rows (Receipts file loose) said lacks = other_first (codes "terminal") (codes "receipts") (λ e. omega (arith, e)) said.0
 terminal_has rows (Vectors file) said lacks = other_first (codes "terminal") (codes "vectors") (λ e. omega (arith, e)) said.0
-terminal_has rows (Loop trace steps) said lacks = other_first (codes "terminal") (codes "loop") (λ e. omega (arith, e)) said.0
+terminal_has rows (Book file) said lacks = other_first (codes "terminal") (codes "book") (λ e. omega (arith, e)) said.0
+terminal_has rows (Loop trace book steps) said lacks = other_first (codes "terminal") (codes "loop") (λ e. omega (arith, e)) said.0
 terminal_has rows (Till options) said lacks = other_second (codes "terminal") (codes "till") (λ e. omega (arith, e)) said.0
 terminal_has rows (Terminal options) said lacks = lacks options.port options.tid options.connections said.1 said.3 said.4
 
+book_has : (rows : List Row) (choice : Choice) → IsCommandOf (codes "book") rows choice → first_of (codes "file") rows ≢ None
+book_has rows (Show file loose) said lacks = other_first (codes "book") (codes "show") (λ e. omega (arith, e)) said.0
+book_has rows (Join file) said lacks = other_first (codes "book") (codes "join") (λ e. omega (arith, e)) said.0
+book_has rows (Normalise file) said lacks = other_first (codes "book") (codes "normalise") (λ e. omega (arith, e)) said.0
+book_has rows (Audit file loose) said lacks = other_first (codes "book") (codes "audit") (λ e. omega (arith, e)) said.0
+book_has rows (Receipts file loose) said lacks = other_first (codes "book") (codes "receipts") (λ e. omega (arith, e)) said.0
+book_has rows (Vectors file) said lacks = other_first (codes "book") (codes "vectors") (λ e. omega (arith, e)) said.0
+book_has rows (Loop trace book steps) said lacks = other_first (codes "book") (codes "loop") (λ e. omega (arith, e)) said.0
+book_has rows (Till options) said lacks = other_first (codes "book") (codes "till") (λ e. omega (arith, e)) said.0
+book_has rows (Terminal options) said lacks = other_first (codes "book") (codes "terminal") (λ e. omega (arith, e)) said.0
+book_has rows (Book file) said lacks = let bad : Some file.now ≡ None = sym said.1 ∙ lacks in cc
+
 pub till_without_port : (rows : List Row) → IsNumberOf (codes "port") rows 65535 None → HasNoChoice (Some (codes "till", rows))
 till_without_port rows lacks = λ choice said. till_has rows choice said lacks
+
+pub book_without_file : (rows : List Row) → first_of (codes "file") rows ≡ None → HasNoChoice (Some (codes "book", rows))
+book_without_file rows lacks = λ choice said. book_has rows choice said lacks
 
 pub till_without_host : (rows : List Row) → first_of (codes "host") rows ≡ None → HasNoChoice (Some (codes "till", rows))
 till_without_host rows lacks = λ choice said. till_has_host rows choice said lacks
@@ -78,9 +97,9 @@ terminal_without_connections rows lacks = λ choice said. terminal_has rows choi
 
 -- the name is none of a command
 pub no_command : (name : Text) (rows : List Row) → (name ≢ codes "show") → (name ≢ codes "join") → (name ≢ codes "normalise") → (name ≢ codes "audit")
-    → (name ≢ codes "receipts") → (name ≢ codes "vectors") → (name ≢ codes "loop") → (name ≢ codes "till") → (name ≢ codes "terminal")
+    → (name ≢ codes "receipts") → (name ≢ codes "vectors") → (name ≢ codes "book") → (name ≢ codes "loop") → (name ≢ codes "till") → (name ≢ codes "terminal")
     → HasNoChoice (Some (name, rows))
-no_command name rows show join normalise audit receipts vectors loop till terminal = no
+no_command name rows show join normalise audit receipts vectors book loop till terminal = no
   where
     no : HasNoChoice (Some (name, rows))
     no (Show file loose) said = show said.0
@@ -89,6 +108,7 @@ no_command name rows show join normalise audit receipts vectors loop till termin
     no (Audit file loose) said = audit said.0
     no (Receipts file loose) said = receipts said.0
     no (Vectors file) said = vectors said.0
-    no (Loop trace steps) said = loop said.0
+    no (Book file) said = book said.0
+    no (Loop trace book steps) said = loop said.0
     no (Till options) said = till said.0
     no (Terminal options) said = terminal said.0

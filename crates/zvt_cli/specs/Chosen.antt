@@ -7,7 +7,7 @@ use Rattle.clap.specs.declared.error.Error.{Error}
 use Rattle.clap.specs.declared.error.kind.ErrorKind.TheVariants.{MissingRequiredArgument, OutOfMemory}
 use Rattle.zvt_cli.specs.Commands.{zvt_app}
 use Rattle.zvt_cli.specs.declared.choice.Choice.{Choice}
-use Rattle.zvt_cli.specs.declared.choice.Choice.TheVariants.{Audit, Join, Loop, Normalise, Receipts, Show, Terminal, Till, Vectors}
+use Rattle.zvt_cli.specs.declared.choice.Choice.TheVariants.{Audit, Book, Join, Loop, Normalise, Receipts, Show, Terminal, Till, Vectors}
 use Rattle.zvt_cli.specs.declared.choice.ChoiceFault.{ChoiceFault}
 use Rattle.zvt_cli.specs.declared.choice.ChoiceFault.TheVariants.{Memory, Words}
 
@@ -51,8 +51,10 @@ IsCommandOf name rows (Normalise file) = (name ≡ codes "normalise") × IsTextO
 IsCommandOf name rows (Audit file loose) = (name ≡ codes "audit") × IsTextOf (codes "file") rows file × IsFlagOf (codes "loose") rows loose
 IsCommandOf name rows (Receipts file loose) = (name ≡ codes "receipts") × IsTextOf (codes "file") rows file × IsFlagOf (codes "loose") rows loose
 IsCommandOf name rows (Vectors file) = (name ≡ codes "vectors") × IsTextOf (codes "file") rows file
-IsCommandOf name rows (Loop trace steps) =
+IsCommandOf name rows (Book file) = (name ≡ codes "book") × (first_of (codes "file") rows ≡ Some file.now)
+IsCommandOf name rows (Loop trace book steps) =
     (name ≡ codes "loop") × IsTextOf (codes "trace") rows trace
+    × IsTextOf (codes "book") rows book
     × (map (λ step. step.now) steps.items ≡ steps_of rows)
 IsCommandOf name rows (Till options) =
     (name ≡ codes "till") × GivesNumber (codes "port") rows 65535 options.port
@@ -61,6 +63,7 @@ IsCommandOf name rows (Till options) =
     × IsTextOf (codes "config") rows options.config
     × IsTextOf (codes "currency") rows options.currency
     × IsTextOf (codes "trace") rows options.trace
+    × IsTextOf (codes "book") rows options.book
     × IsFlagOf (codes "loose") rows options.loose
     × (map (λ step. step.now) options.steps.items ≡ steps_of rows)
 IsCommandOf name rows (Terminal options) =

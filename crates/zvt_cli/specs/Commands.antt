@@ -15,6 +15,10 @@ step_rule = record (new_rule (codes "step")) { action = Some Append; value_names
 abbrev pub file_rule : Rule
 file_rule = record (new_rule (codes "file")) { value_names = 1 }
 
+-- a word that has to be there
+abbrev pub book_file_rule : Rule
+book_file_rule = record (new_rule (codes "file")) { value_names = 1; required = true }
+
 -- an option without a value
 abbrev pub loose_rule : Rule
 loose_rule = record (new_rule (codes "loose")) { long = Some (codes "loose"); action = Some SetTrue }
@@ -48,14 +52,17 @@ connections_rule = record (option_rule (codes "connections")) {
 abbrev pub plain_option : App → Text → App
 plain_option app name = with_rule app (option_rule name)
 
+abbrev pub book_app : App
+book_app = with_rule (new_app (codes "book")) book_file_rule
+
 abbrev pub loop_app : App
-loop_app = with_rule (plain_option (new_app (codes "loop")) (codes "trace")) step_rule
+loop_app = with_rule (plain_option (plain_option (new_app (codes "loop")) (codes "trace")) (codes "book")) step_rule
 
 abbrev pub till_app : App
 till_app =
-    with_rule (with_rule (plain_option (plain_option (plain_option
+    with_rule (with_rule (plain_option (plain_option (plain_option (plain_option
     (plain_option (with_rule (with_rule (new_app (codes "till")) port_rule) host_rule) (codes "password"))
-    (codes "config")) (codes "currency")) (codes "trace")) loose_rule) step_rule
+    (codes "config")) (codes "currency")) (codes "trace")) (codes "book")) loose_rule) step_rule
 
 abbrev pub terminal_app : App
 terminal_app =
@@ -93,4 +100,4 @@ trace_app =
 
 -- the program with its commands and their options
 abbrev pub zvt_app : App
-zvt_app = with_command (with_command (with_command trace_app loop_app) till_app) terminal_app
+zvt_app = with_command (with_command (with_command (with_command trace_app book_app) loop_app) till_app) terminal_app

@@ -57,7 +57,7 @@ fn refused(error: Error) -> ChoiceFault
 }
 
 /// The fault of a reading that names no choice. No arguments are known that lead here: `clap` wants a
-/// port, has a default for the host and the other numbers, and checks each number.
+/// port and a book's file, has a default for the host and the other numbers, and checks each number.
 fn incomplete(alloc: Global) -> ChoiceFault
     ensures { IsMissing result }
 {
@@ -106,14 +106,23 @@ fn chosen<'a>(
         "vectors" => Some(Choice::Vectors {
             file: text(inner, "file"),
         }),
+        "book" => book(inner),
         "loop" => Some(Choice::Loop {
             trace: text(inner, "trace"),
+            book: text(inner, "book"),
             steps: steps(alloc, inner)?,
         }),
         "till" => till(alloc, inner)?,
         "terminal" => terminal(inner),
         _ => None,
     })
+}
+
+fn book<'a>(inner: &ArgMatches<'a>) -> Option<Choice<'a>>
+    ensures { MayBeChoiceOf (Some (codes "book", rows_of (found_of inner.now))) result }
+{
+    let file = text(inner, "file")?;
+    Some(Choice::Book { file })
 }
 
 fn till<'a>(alloc: Global, inner: &ArgMatches<'a>) -> Result<Option<Choice<'a>>, AllocError>
@@ -133,6 +142,7 @@ fn till<'a>(alloc: Global, inner: &ArgMatches<'a>) -> Result<Option<Choice<'a>>,
         config: text(inner, "config"),
         currency: text(inner, "currency"),
         trace: text(inner, "trace"),
+        book: text(inner, "book"),
         loose: flag(inner, "loose"),
         steps,
     })))

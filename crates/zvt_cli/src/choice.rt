@@ -35,8 +35,13 @@ pub enum Choice<'a> {
     Vectors {
         file: Option<&'a str>,
     },
+    /// The till's book is kept in a file of this name.
+    Book {
+        file: &'a str,
+    },
     Loop {
         trace: Option<&'a str>,
+        book: Option<&'a str>,
         steps: Vec<&'a str>,
     },
     Till(TillOptions<'a>),
@@ -53,6 +58,7 @@ pub struct TillOptions<'a> {
     pub config: Option<&'a str>,
     pub currency: Option<&'a str>,
     pub trace: Option<&'a str>,
+    pub book: Option<&'a str>,
     /// Whether lengths are read in any form that holds them.
     pub loose: bool,
     pub steps: Vec<&'a str>,

@@ -2,7 +2,7 @@
 ghost use Rattle.std.specs.Prelude.{◌≡◌, IfOk, IsOkAnd, false};
 ghost use Rattle.clap.specs.Words.{App, Rule, app_of, new_app, rule_of, with_rule};
 ghost use Rattle.clap.specs.declared.builder.command.Command.TheViews.{out-Command as fields_of};
-ghost use Rattle.zvt_cli.specs.Commands.{IsLocalAppOf, loop_app, loose_trace_app, on_trace_app, program_app, terminal_app, till_app, trace_app, with_command, zvt_app};
+ghost use Rattle.zvt_cli.specs.Commands.{IsLocalAppOf, book_app, loop_app, loose_trace_app, on_trace_app, program_app, terminal_app, till_app, trace_app, with_command, zvt_app};
 
 use crate::{help, options};
 use clap::{Arg, Command};
@@ -14,7 +14,8 @@ const VERSION: &str = "0.2.0";
 pub fn zvt<'a>(alloc: Global) -> Result<Command<'a>, AllocError>
     ensures { IfOk result (λ r. app_of r ≡ zvt_app) }
 {
-    let looping = with(trace_commands(alloc)?, looping(alloc))?;
+    let booking = with(trace_commands(alloc)?, book(alloc))?;
+    let looping = with(booking, looping(alloc))?;
     let paying = with(looping, till(alloc))?;
     with(paying, terminal(alloc))
 }
@@ -105,13 +106,25 @@ fn and<'a>(
     command?.arg(option)
 }
 
+fn book<'a>(alloc: Global) -> Result<Command<'a>, AllocError>
+    ensures app { IfOk result (λ r. app_of r ≡ book_app) }
+    ensures local { IfOk result (λ r. (fields_of r).has_globals ≡ false) }
+{
+    let named = Ok(plain(alloc, "book", help::BOOK, help::BOOK_EXAMPLE));
+    and(named, options::book_file(alloc))
+}
+
 fn looping<'a>(alloc: Global) -> Result<Command<'a>, AllocError>
     ensures app { IfOk result (λ r. app_of r ≡ loop_app) }
     ensures local { IfOk result (λ r. (fields_of r).has_globals ≡ false) }
 {
     let named = Ok(plain(alloc, "loop", help::LOOP, help::LOOP_EXAMPLE));
     let traced = and(named, options::text(alloc, "trace", "FILE", help::TRACE));
-    and(traced, options::step(alloc, help::LOOP_STEP))
+    let keeping = and(
+        traced,
+        options::text(alloc, "book", "FILE", help::KEEP_BOOK),
+    );
+    and(keeping, options::step(alloc, help::LOOP_STEP))
 }
 
 fn till<'a>(alloc: Global) -> Result<Command<'a>, AllocError>
@@ -131,7 +144,11 @@ fn till<'a>(alloc: Global) -> Result<Command<'a>, AllocError>
         options::text(alloc, "currency", "NNNN", help::CURRENCY),
     );
     let traced = and(paying, options::text(alloc, "trace", "FILE", help::TRACE));
-    let reading = and(traced, options::loose(alloc, help::TILL_LOOSE));
+    let keeping = and(
+        traced,
+        options::text(alloc, "book", "FILE", help::KEEP_BOOK),
+    );
+    let reading = and(keeping, options::loose(alloc, help::TILL_LOOSE));
     and(reading, options::step(alloc, help::TILL_STEP))
 }
 

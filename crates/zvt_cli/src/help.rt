@@ -17,6 +17,9 @@ pub const AUDIT: &str =
 
 pub const RECEIPTS: &str = "Write the text of each print line of the terminal";
 
+pub const BOOK: &str =
+    "Write the payments of a till's book, which are unclear, and the total without those taken back";
+
 pub const LOOP: &str = "Run steps between a till and a simulated terminal, both in this process";
 
 pub const TILL: &str = "Connect to a terminal and run steps as its till";
@@ -30,7 +33,7 @@ pub const VECTORS: &str =
 pub const FILE: &str = "The trace to read; standard input without it, or with '-'";
 
 /// The names of the commands, as a usage line shows them.
-pub const NAMES: &str = "show|join|normalise|audit|receipts|vectors|loop|till|terminal";
+pub const NAMES: &str = "show|join|normalise|audit|receipts|vectors|book|loop|till|terminal";
 
 /// What follows the commands.
 pub const MORE: &str =
@@ -55,7 +58,7 @@ Exit status:
   0  Done, or help was asked for
   1  A stream of the trace was refused or cut off
   2  The command line or a step is wrong
-  3  The input is no trace, or is too long
+  3  The input is no trace or no book, or is too long
   4  A read, a write, the line or the connection failed
   5  Out of memory
 
@@ -86,6 +89,16 @@ pub const VECTORS_EXAMPLE: &str = "Lines of vectors:
 
 Example:
   zvt vectors examples/vectors.txt";
+
+pub const BOOK_EXAMPLE: &str = "Lines of a book:
+  booked N trace T receipt R  A payment that was completed; then, if so, what became of its reversal:
+                              reversed, reversal unclear CAUSE, or taken back
+  unclear N CAUSE             A payment of which it is not known whether it happened
+  total N                     The sum of the payments that were not reversed
+FILE is read without a lock, and it is not changed.
+
+Example:
+  zvt book day.book";
 
 pub const LOOP_EXAMPLE: &str = "Default steps: register pay:1000 decline:500:6C reverse:1 close
 
@@ -119,7 +132,12 @@ pub const CONFIG: &str = "The configuration byte, two hexadecimal digits (defaul
 pub const CURRENCY: &str = "The currency's number, four decimal digits (default 0978)";
 
 pub const TRACE: &str =
-    "Write a trace of the line to this file, as the till sees it; the file is overwritten";
+    "Write a trace of the line to this file, as the till sees it, behind what the file has";
+
+pub const KEEP_BOOK: &str =
+    "Keep the till's book in this file, which is made if it is not there. Register first: each run has a new line. A book has at most 10000 entries; begin each day with a new file.";
+
+pub const BOOK_FILE: &str = "The file of the book";
 
 pub const LOOSE: &str = "Accept non-minimal length encodings, as some terminals send them";
 

@@ -1,7 +1,7 @@
 //! The options and steps of the commands.
 ghost use Rattle.std.specs.Prelude.{◌≡◌, false};
 ghost use Rattle.clap.specs.Words.{rule_of};
-ghost use Rattle.zvt_cli.specs.Commands.{connections_rule, file_rule, host_rule, loose_rule, option_rule, port_rule, step_rule, tid_rule};
+ghost use Rattle.zvt_cli.specs.Commands.{book_file_rule, connections_rule, file_rule, host_rule, loose_rule, option_rule, port_rule, step_rule, tid_rule};
 
 use crate::help;
 use clap::{Arg, ArgAction, value_parser};
@@ -22,6 +22,16 @@ pub fn file<'a>(alloc: Global) -> Arg<'a>
     ensures local { result.global ≡ false }
 {
     Arg::new(alloc, "file").value_name("FILE").help(help::FILE)
+}
+
+pub fn book_file<'a>(alloc: Global) -> Arg<'a>
+    ensures rule { rule_of result ≡ book_file_rule }
+    ensures local { result.global ≡ false }
+{
+    Arg::new(alloc, "file")
+        .required(true)
+        .value_name("FILE")
+        .help(help::BOOK_FILE)
 }
 
 pub fn port<'a>(alloc: Global, text: &'a str) -> Arg<'a>

@@ -7,7 +7,7 @@ use Rattle.zvt_stream.specs.declared.line.LineFault.{LineFault}
 use Rattle.zvt_text.specs.Writing.{Adds}
 use Rattle.zvt_session.specs.Reporting.{SaysGone, Reports, ReportsGone, ledger_text}
 
-two_parts : (r : Result (Unit {0}) AllocError) (old t new a b : List ℕ) → t ≡ old ++ a → Adds r t new b → OnOk r (new ≡ old ++ (a ++ b))
+pub two_parts : (r : Result (Unit {0}) AllocError) (old t new a b : List ℕ) → t ≡ old ++ a → Adds r t new b → OnOk r (new ≡ old ++ (a ++ b))
 two_parts (Ok done) old t new a b first second = second ∙ ap (λ l. l ++ b) first ∙ append_assoc old a b
 two_parts (Err refused) old t new a b first second = tt
 

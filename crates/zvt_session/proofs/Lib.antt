@@ -2,6 +2,8 @@ pub mod Numbers
 pub mod Runs
 pub mod NamedSteps
 pub mod Turns
+pub mod TurnsKept
+pub mod KeptRuns
 pub mod OverTcp
 pub mod Traced
 pub mod ManyTills

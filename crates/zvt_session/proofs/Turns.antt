@@ -59,11 +59,11 @@ begun step old sent b = record {
   known = known_begun step old sent b;
 }
 
-busy : (rests : Bool) (last : Option Outcome) → cond rests last None ≡ None → (rests ≡ true → last ≡ None → ⊥) → rests ≡ false
+pub busy : (rests : Bool) (last : Option Outcome) → cond rests last None ≡ None → (rests ≡ true → last ≡ None → ⊥) → rests ≡ false
 busy true last e never = absurd (never refl e)
 busy false last e never = refl
 
-idle : (rests : Bool) (last : Option Outcome) (outcome : Outcome) → cond rests last None ≡ Some outcome → (rests ≡ true) × (last ≡ Some outcome)
+pub idle : (rests : Bool) (last : Option Outcome) (outcome : Outcome) → cond rests last None ≡ Some outcome → (rests ≡ true) × (last ≡ Some outcome)
 idle true last outcome e = (refl, e)
 idle false last outcome e = absurd (cc)
 

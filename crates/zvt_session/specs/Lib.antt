@@ -6,6 +6,9 @@ pub mod Runs
 pub mod LineEnd
 pub mod TillEnd
 pub mod BothEnds
+pub mod Kept
+pub mod BothKept
+pub mod Books
 pub mod Service
 pub mod Settings
 pub mod OverTcp

@@ -1,5 +1,6 @@
 -- One end of a line, at which a machine has its turns.
 use Rattle.std.specs.Prelude.{◌≡◌, ℕ, ◌+◌, Bool, List, Option}
+use Rattle.std.specs.Io.KnownBytes.{Appends}
 use Rattle.zvt_apdu.specs.Message.{Message}
 use Rattle.zvt_stream.specs.Answered.{Answered}
 use Rattle.zvt_stream.specs.LineRun.{Broken, Reported, failed_reads, failed_writes}
@@ -42,6 +43,11 @@ pub record NoneFails (old new : EndState) : Type 0 where
 pub record OneFails (fault : LineFault) (old new : EndState) : Type 0 where
   pub reads : new.failed_reads ≡ old.failed_reads + failed_reads fault
   pub writes : new.failed_writes ≡ old.failed_writes + failed_writes fault
+
+-- a message was written, and nothing read
+pub record Wrote (message : List ℕ) (before after : EndState) : Type 0 where
+  pub appended : Appends before.written after.written message
+  pub reads_nothing : ReadsNothing before after
 
 -- the order was taken and written
 pub record Ordered (order : Order) (before : EndState) (old : TillValue) (after : EndState) (new : TillValue) : Type 0 where

@@ -6,26 +6,28 @@ use Rattle.zvt_till.specs.Sending.{Settings}
 use Rattle.zvt_till.specs.Till.{new_till, step}
 use Rattle.zvt_till.specs.declared.happenings.Happening.TheVariants.{Connected}
 use Rattle.zvt_session.specs.declared.fault.EndFault.{EndFault}
-use Rattle.zvt_session.specs.declared.fault.EndFault.TheVariants.{BadStep, Line as LineBroke, Memory, Net, Trace, Write}
-use Rattle.zvt_session.specs.Runs.{Answers, Law, Standing}
+use Rattle.zvt_session.specs.declared.fault.EndFault.TheVariants.{BadStep, Book, Line as LineBroke, Memory, Net, Trace, Write}
+use Rattle.zvt_till.specs.View.{TillValue}
+use Rattle.zvt_session.specs.Runs.{Answers, Law, Standing, itself}
 use Rattle.zvt_session.specs.Traced.{AnswersTraced}
 use Rattle.zvt_session.specs.declared.plans.Planned.{Planned}
 
 -- A new till of these settings, connected to a line at its start, ran these steps, and this was reported of its book.
-pub record RunsPlan {L : Type 0} (makes : Law L) (begins : L → Type 0) (settings : Settings) (plan : List Planned) (old new : Option (List ℕ)) (Reported : List Entry → Type 0) (result : Result Unit EndFault) : Type 0 where
-  pub before : Standing L
-  pub after : Standing L
+pub record RunsPlan {L : Type 0} (makes : Law L TillValue) (begins : L → Type 0) (settings : Settings) (plan : List Planned) (old new : Option (List ℕ)) (Reported : List Entry → Type 0) (result : Result Unit EndFault) : Type 0 where
+  pub before : Standing L TillValue
+  pub after : Standing L TillValue
   pub begun : begins before.line
   pub connected : before.till.state ≡ step (new_till settings) Connected
-  pub answers : Answers makes plan before after old new result
+  pub answers : Answers itself makes plan before after old new result
   pub reported : Reported after.till.state.book
 
 -- What a run of these steps answers, with a trace perhaps. Without a connection nothing is written or reported. The words of
 -- the steps were read before, so none of them is found wrong.
-abbrev pub AnswersRun : {L : Type 0} → Law L → (L → Type 0) → Settings → List Planned → (old new : Option (List ℕ)) → (Reported : List Entry → Type 0) → (Quiet : Type 0) → Result Unit EndFault → Type 0
+abbrev pub AnswersRun : {L : Type 0} → Law L TillValue → (L → Type 0) → Settings → List Planned → (old new : Option (List ℕ)) → (Reported : List Entry → Type 0) → (Quiet : Type 0) → Result Unit EndFault → Type 0
 AnswersRun makes begins settings plan old new Reported Quiet (Ok done) = AnswersTraced (RunsPlan makes begins settings plan old new Reported) (Ok done)
 AnswersRun makes begins settings plan old new Reported Quiet (Err (LineBroke fault)) = AnswersTraced (RunsPlan makes begins settings plan old new Reported) (Err (LineBroke fault))
 AnswersRun makes begins settings plan old new Reported Quiet (Err Trace) = AnswersTraced (RunsPlan makes begins settings plan old new Reported) (Err Trace)
+AnswersRun makes begins settings plan old new Reported Quiet (Err Book) = ⊥
 AnswersRun makes begins settings plan old new Reported Quiet (Err Write) = AnswersTraced (RunsPlan makes begins settings plan old new Reported) (Err Write)
 AnswersRun makes begins settings plan old new Reported Quiet (Err Memory) = (Keeps old new × Quiet) ⊎ AnswersTraced (RunsPlan makes begins settings plan old new Reported) (Err Memory)
 AnswersRun makes begins settings plan old new Reported Quiet (Err (BadStep at)) = ⊥

@@ -12,7 +12,7 @@ use Rattle.zvt_term.specs.declared.turns.Verdict.{Verdict}
 use Rattle.zvt_session.specs.BothEnds.{never}
 use Rattle.zvt_session.specs.LineEnd.{Breaks, EndState}
 use Rattle.zvt_session.specs.declared.fault.EndFault.{EndFault}
-use Rattle.zvt_session.specs.declared.fault.EndFault.TheVariants.{BadStep, Line as LineBroke, Memory, Net, Trace, Write}
+use Rattle.zvt_session.specs.declared.fault.EndFault.TheVariants.{BadStep, Book, Line as LineBroke, Memory, Net, Trace, Write}
 
 -- ---- one line
 
@@ -73,6 +73,7 @@ AnswersTills r count old new (Ok done) = ServesMany r count None old new
 AnswersTills r count old new (Err (LineBroke fault)) = ServesMany r count (Some fault) old new
 AnswersTills r count old new (Err (Net why)) = ServesSome r count old new
 AnswersTills r count old new (Err Trace) = ServesSome r count old new
+AnswersTills r count old new (Err Book) = ⊥
 AnswersTills r count old new (Err (BadStep at)) = ⊥
 AnswersTills r count old new (Err Write) = ⊥
 AnswersTills r count old new (Err Memory) = ServesSome r count old new
@@ -83,6 +84,7 @@ TakesTills count before after (Ok done) = after ≡ before + count
 TakesTills count before after (Err (LineBroke fault)) = after ≡ before + count
 TakesTills count before after (Err (Net why)) = after ≤ before + count
 TakesTills count before after (Err Trace) = after ≤ before + count
+TakesTills count before after (Err Book) = ⊥
 TakesTills count before after (Err (BadStep at)) = ⊥
 TakesTills count before after (Err Write) = ⊥
 TakesTills count before after (Err Memory) = after ≤ before + count
@@ -95,6 +97,7 @@ AnswersService r count tid verdict result = (new : Served) × AnswersTills r cou
 abbrev pub AnswersTill : Reading → Served → Served → Result (Option LineFault) EndFault → Type 0
 AnswersTill r old new (Ok broke) = ServesLine r old broke new
 AnswersTill r old new (Err Trace) = (broke : Option LineFault) × ServesLine r old broke new
+AnswersTill r old new (Err Book) = ⊥
 AnswersTill r old new (Err (LineBroke fault)) = ⊥
 AnswersTill r old new (Err (Net why)) = ⊥
 AnswersTill r old new (Err (BadStep at)) = ⊥

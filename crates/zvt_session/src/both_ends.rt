@@ -19,7 +19,7 @@ use zvt_term::Served;
 use zvt_till::{Outcome, RunFault, Till, TillSettings};
 
 /// The number of turns of each end after which an order is given up.
-const ALTERNATIONS: u64 = 1_000;
+pub(crate) const ALTERNATIONS: u64 = 1_000;
 
 /// Both ends of a line. They take turns, the terminal first.
 #[derive(Drop)]
@@ -43,12 +43,18 @@ impl<A: LineEnd, B: LineEnd> BothEnds<A, B> {
     }
 }
 
-impl<A: LineEnd, B: LineEnd> StepLine for BothEnds<A, B> {
+impl<A: LineEnd, B: LineEnd> StepLine<Till> for BothEnds<A, B> {
+    ghost use Rattle.std.specs.Prelude.{IfErr};
+    ghost use Rattle.zvt_till.specs.Line.{IsOver};
     ghost use Rattle.zvt_session.specs.BothEnds.{MakesHere, here};
 
     ghost makes = { λ old till step result new left. MakesHere step result (here A.state B.state old till) (here A.state B.state new left) };
 
-    fn make(&mut self, alloc: Global, till: &mut Till, step: &Step) -> Result<Outcome, RunFault> {
+    fn make(&mut self, alloc: Global, till: &mut Till, step: &Step) -> Result<Outcome, RunFault>
+        ensures made { MakesHere step.now result (here A.state B.state self.old till.old) (here A.state B.state self.new till.new) }
+        // After a broken line it is known what became of the order.
+        ensures over { IfErr result (λ fault. IsOver fault till.new.state) }
+    {
         self.served.decide(step.verdict());
         self.till.order(till, step.order())?;
         'alternations: for made in 0..ALTERNATIONS {
@@ -88,7 +94,7 @@ pub fn run_both_ends<A: LineEnd, B: LineEnd, T: Sink, E: Sink>(
 }
 
 /// How the last order of a till ended, where no order runs.
-fn ended(till: &Till) -> Option<Outcome>
+pub(crate) fn ended(till: &Till) -> Option<Outcome>
     ensures { result ≡ ended_of till.now }
 {
     match till.running() {

@@ -1,6 +1,6 @@
 //! Why a run ends early.
 ghost use Rattle.std.specs.Prelude.{◌≡◌, Bool};
-ghost use Rattle.zvt_session.specs.Traced.{by_trace};
+ghost use Rattle.zvt_session.specs.Traced.{by_book, by_trace};
 ghost use Rattle.zvt_session.specs.declared.fault.EndFault.TheVariants.{Memory, Write};
 
 use crate::connection::NetFault;
@@ -20,6 +20,10 @@ pub enum EndFault {
     /// that ran, which ended as after a failed connection. All of the text was written.
     #[error("cannot write the trace file, so the run stopped: check its permissions and the free space")]
     Trace,
+    /// The journal of the till's book could not be written. Nothing was sent from then on. The order that ran ended as after
+    /// a failed connection. The book's file has what happened before.
+    #[error("cannot write the book, so the run stopped and nothing more was sent: check the free space and the disk, then run 'zvt book' on the file")]
+    Book,
     /// The word at this place, counted from 0, names no step. Nothing was sent or written.
     #[error("invalid step {number}: expected 'register', 'pay:N', 'reverse:N', 'close' or, in 'zvt loop', 'decline:N:XX'", number = from_one(.at))]
     BadStep { at: usize },
@@ -52,6 +56,16 @@ impl From<Failed> for EndFault {
 
     fn from(_failed: Failed) -> EndFault {
         EndFault::Write
+    }
+}
+
+/// What a run answers whose till's journal failed, or did not.
+pub(crate) fn by_book(failed: bool, answer: Result<(), EndFault>) -> Result<(), EndFault>
+    ensures { result ≡ by_book failed answer }
+{
+    match answer {
+        Ok(()) | Err(EndFault::Line(_)) if failed => Err(EndFault::Book),
+        answer => answer,
     }
 }
 

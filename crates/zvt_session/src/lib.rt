@@ -6,9 +6,13 @@
 #![tactic(auto)]
 
 mod arguments;
+mod books;
 mod both_ends;
 mod connection;
 mod fault;
+mod kept_end;
+mod kept_ends;
+mod kept_steps;
 mod line_end;
 mod options;
 mod outcomes;
@@ -20,18 +24,23 @@ mod service;
 mod settings;
 mod steps;
 mod tcp;
+mod tcp_kept;
 mod till_end;
 
 pub use arguments::{Ends, Step, result_code, step_of};
+pub use books::write_book;
 pub use both_ends::{BothEnds, run_both_ends};
 pub use connection::NetFault;
 pub use fault::EndFault;
+pub use kept_end::run_till_end_kept;
+pub use kept_ends::run_both_ends_kept;
 pub use line_end::LineEnd;
-pub use options::{TerminalRun, TillRun};
+pub use options::{BookRun, LoopRun, TerminalRun, TillRun};
 pub use plans::{Planned, plan};
 pub use recorder::{Recorded, Way, end_trace};
 pub use service::serve;
 pub use settings::{config_of, currency_of, password_of};
 pub use tcp::{run_loop, run_terminal, run_till};
+pub use tcp_kept::{run_loop_kept, run_till_kept};
 pub use till_end::run_till_end;
 pub use zvt_stream::Endpoint;

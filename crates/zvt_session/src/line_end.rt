@@ -1,8 +1,8 @@
 //! One end of a line, at which a machine has its turns.
-ghost use Rattle.std.specs.Prelude.{MatchResult};
+ghost use Rattle.std.specs.Prelude.{◌≡◌, MatchResult};
 ghost use Rattle.zvt_till.specs.View.{TillValue};
 ghost use Rattle.zvt_till.specs.declared.line.RunFault.{RunFault};
-ghost use Rattle.zvt_session.specs.LineEnd.{EndState, NotOrdered, Ordered, Turn, TurnBreaks};
+ghost use Rattle.zvt_session.specs.LineEnd.{EndState, NotOrdered, Ordered, ReadsNothing, Turn, TurnBreaks, Wrote};
 
 use std::alloc::Global;
 use zvt_io::{Sink, Source};
@@ -23,6 +23,12 @@ pub trait LineEnd {
             (λ _. Ordered order (state self.old) till.old (state self.new) till.new)
             (λ fault. NotOrdered fault order (state self.old) till.old (state self.new) till.new) };
 
+    /// Writes a message. Its only fault is `Write`, which is reported to no machine.
+    fn send(&mut self, message: &[u8]) -> Result<(), LineFault>
+        ensures { MatchResult result
+            (λ _. Wrote message.now (state self.old) (state self.new))
+            (λ fault. (fault ≡ LineFault.Write) × ReadsNothing (state self.old) (state self.new)) };
+
     /// The machine reads until it has written a message or rests. It hears of a fault.
     fn turn<M: Machine>(&mut self, alloc: Global, machine: &mut M) -> Result<(), LineFault>
         ensures { MatchResult result
@@ -37,6 +43,10 @@ impl<R: Source, W: Sink> LineEnd for Endpoint<R, W> {
 
     fn order(&mut self, till: &mut Till, order: Order) -> Result<(), RunFault> {
         send_order(&mut self.writer, till, order)
+    }
+
+    fn send(&mut self, message: &[u8]) -> Result<(), LineFault> {
+        zvt_stream::send(&mut self.writer, message)
     }
 
     fn turn<M: Machine>(&mut self, alloc: Global, machine: &mut M) -> Result<(), LineFault> {

@@ -1,4 +1,5 @@
 //! What a run over TCP is given.
+use crate::plans::Planned;
 use std::fs::File;
 use zvt_grammar::Lengths;
 use zvt_term::Verdict;
@@ -17,6 +18,30 @@ pub struct TillRun<'a, 'f> {
     pub lengths: Lengths,
     /// The file that the trace is written to.
     pub trace: Option<&'f File>,
+}
+
+/// The run of a till that keeps its book: the terminal that it connects to, its steps, and how its line is read and traced.
+#[derive(Clone, Copy)]
+pub struct BookRun<'a, 'f> {
+    /// The name or address of the terminal's host.
+    pub host: &'a str,
+    /// The port that the terminal listens at.
+    pub port: u16,
+    /// The length encodings that the till reads.
+    pub lengths: Lengths,
+    /// The file that the trace is written to.
+    pub trace: Option<&'f File>,
+    /// The steps of the till.
+    pub plan: &'a [Planned],
+}
+
+/// The run of both ends in this process: the till's steps, and how its line is traced.
+#[derive(Clone, Copy)]
+pub struct LoopRun<'a, 'f> {
+    /// The file that the trace is written to.
+    pub trace: Option<&'f File>,
+    /// The steps of the till.
+    pub plan: &'a [Planned],
 }
 
 /// The run of a simulated terminal: where it listens, what it answers, and how its lines are read and traced.

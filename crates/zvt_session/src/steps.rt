@@ -1,7 +1,6 @@
 //! Steps made one after another on a line, and what is written of them.
-ghost use Rattle.std.specs.Prelude.{◌≡◌, ◌<◌, ◌++◌, Err, IfErr, IfOk, OnOk, Result};
+ghost use Rattle.std.specs.Prelude.{◌≡◌, ◌<◌, ◌++◌, Err, IfOk, OnOk, Result};
 ghost use Rattle.zvt_io.specs.Devices.{Writes};
-ghost use Rattle.zvt_till.specs.Line.{IsOver};
 ghost use Rattle.zvt_till.specs.Marks.{total};
 ghost use Rattle.zvt_till.specs.Till.{new_till, step};
 ghost use Rattle.zvt_till.specs.View.{TillValue};
@@ -23,16 +22,35 @@ use zvt_stream::LineFault;
 use zvt_text::Text;
 use zvt_till::{OrderRefusal, Outcome, RunFault, Till, TillSettings};
 
+/// A till, alone or with its journal.
+pub(crate) trait Keeper {
+    /// The till, as contracts see it.
+    ghost till: { Self → TillValue };
+
+    /// The till, to look at.
+    fn look(&self) -> &Till
+        ensures { result.now ≡ till self.now };
+}
+
+impl Keeper for Till {
+    ghost use Rattle.zvt_session.specs.Runs.{itself};
+
+    ghost till = { itself };
+
+    fn look(&self) -> &Till {
+        self
+    }
+}
+
 /// A line on which each step of a till is made from end to end.
-pub(crate) trait StepLine {
+pub(crate) trait StepLine<K: Keeper> {
     /// The step, made on the line by the till, came to this, and leads to this line and this till.
-    ghost makes: { Self → TillValue → Step → Result Outcome RunFault → Self → TillValue → Type 0 };
+    ghost makes: { Self → K → Step → Result Outcome RunFault → Self → K → Type 0 };
 
     /// Gives the till the order of the step, and goes on with the line until no order runs. It answers the order's outcome.
     /// `RunFault::Line` was reported to the till, whose last outcome is that of the order. The line is then given up.
-    fn make(&mut self, alloc: Global, till: &mut Till, step: &Step) -> Result<Outcome, RunFault>
-        ensures made { makes self.old till.old step.now result self.new till.new }
-        ensures over { IfErr result (λ fault. IsOver fault till.new.state) };
+    fn make(&mut self, alloc: Global, till: &mut K, step: &Step) -> Result<Outcome, RunFault>
+        ensures { makes self.old till.old step.now result self.new till.new };
 }
 
 /// Makes the steps one after another. Each writes a line when it ends: its word and its outcome. The last line is the
@@ -40,14 +58,14 @@ pub(crate) trait StepLine {
 /// sent is a fault only where memory runs out. The other faults are `Write` and `Memory`. After these no step is made again,
 /// and no step after the one whose line is missing. The lines of all steps before it were written. After `Write` a prefix
 /// of its own line may be written.
-pub(crate) fn run_steps<L: StepLine, W: Sink>(
+pub(crate) fn run_steps<L: StepLine<K>, K: Keeper, W: Sink>(
     alloc: Global,
     line: &mut L,
-    till: &mut Till,
+    till: &mut K,
     plan: &[Planned],
     writer: &mut W,
 ) -> Result<(), EndFault>
-    ensures run { Answers L.makes plan.now (standing line.old till.old) (standing line.new till.new) (W.written writer.old) (W.written writer.new) result }
+    ensures run { Answers K.till L.makes plan.now (standing line.old till.old) (standing line.new till.new) (W.written writer.old) (W.written writer.new) result }
     ensures write { result ≡ Err EndFault.Write → W.failures writer.old < W.failures writer.new }
 {
     'steps: for planned in plan {
@@ -69,14 +87,14 @@ pub(crate) fn connected_till(alloc: Global, settings: &TillSettings) -> Till
 }
 
 /// Makes a step and writes its line. Answers how the line broke, if it did.
-fn make_step<L: StepLine, W: Sink>(
+fn make_step<L: StepLine<K>, K: Keeper, W: Sink>(
     alloc: Global,
     line: &mut L,
-    till: &mut Till,
+    till: &mut K,
     planned: &Planned,
     writer: &mut W,
 ) -> Result<Option<LineFault>, EndFault>
-    ensures step { AnswersStep L.makes planned.now (standing line.old till.old) (standing line.new till.new) (W.written writer.old) (W.written writer.new) result }
+    ensures step { AnswersStep K.till L.makes planned.now (standing line.old till.old) (standing line.new till.new) (W.written writer.old) (W.written writer.new) result }
     ensures write { result ≡ Err EndFault.Write → W.failures writer.old < W.failures writer.new }
     ensures count { IfOk result (λ _. W.failures writer.new ≡ W.failures writer.old) }
 {
@@ -87,7 +105,7 @@ fn make_step<L: StepLine, W: Sink>(
     let mut text = Text::new(alloc);
     text.word(planned.word.as_bytes())?;
     text.word(b" -> ")?;
-    say_ending(&mut text, &made, till.last_outcome())?;
+    say_ending(&mut text, &made, till.look().last_outcome())?;
     text.push(b'\n')?;
     writer.write_all(text.bytes())?;
     Ok(fault_of(&made))
@@ -133,11 +151,11 @@ fn wants_memory(made: &Result<Outcome, RunFault>) -> bool
 }
 
 /// Writes the till's total.
-fn write_total<W: Sink>(alloc: Global, till: &Till, writer: &mut W) -> Result<(), EndFault>
-    ensures text { AnswersText (total_text (total till.now.state.book)) (W.written writer.old) (W.written writer.new) result }
+fn write_total<K: Keeper, W: Sink>(alloc: Global, till: &K, writer: &mut W) -> Result<(), EndFault>
+    ensures text { AnswersText (total_text (total (K.till till.now).state.book)) (W.written writer.old) (W.written writer.new) result }
     ensures write { result ≡ Err EndFault.Write → W.failures writer.old < W.failures writer.new }
 {
-    let total = till.total();
+    let total = till.look().total();
     let mut text = Text::new(alloc);
     say_total(&mut text, total)?;
     writer.write_all(text.bytes())?;
@@ -145,7 +163,7 @@ fn write_total<W: Sink>(alloc: Global, till: &Till, writer: &mut W) -> Result<()
 }
 
 /// The line of a total.
-fn say_total(text: &mut Text, total: u64) -> Result<(), AllocError>
+pub(crate) fn say_total(text: &mut Text, total: u64) -> Result<(), AllocError>
     ensures { OnOk result (text.new ≡ text.old ++ total_text total) }
 {
     text.word(b"total ")?;

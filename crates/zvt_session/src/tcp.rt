@@ -67,7 +67,7 @@ where
 }
 
 /// Both ends of this connection at their start, of which the till's is given, with a new terminal.
-fn both_ends_of<'a, R: Source, W: Sink>(
+pub(crate) fn both_ends_of<'a, R: Source, W: Sink>(
     alloc: Global,
     till: Endpoint<R, W>,
     terminal_end: &'a TcpStream,
@@ -207,16 +207,20 @@ fn serve_till(
 }
 
 /// An end over a connection.
-type PlainEnd<'a> = Endpoint<Counted<&'a TcpStream>, Counted<&'a TcpStream>>;
+pub(crate) type PlainEnd<'a> = Endpoint<Counted<&'a TcpStream>, Counted<&'a TcpStream>>;
 
 /// An end over a connection, whose reads and writes go to a trace.
-type RecordedEnd<'a> = Endpoint<
+pub(crate) type RecordedEnd<'a> = Endpoint<
     Recorded<Counted<&'a TcpStream>, Counted<&'a File>>,
     Recorded<Counted<&'a TcpStream>, Counted<&'a File>>,
 >;
 
 /// An end of a line at its start, whose stream takes such lengths.
-fn plain_end<'a>(alloc: Global, connection: &'a TcpStream, lengths: Lengths) -> PlainEnd<'a>
+pub(crate) fn plain_end<'a>(
+    alloc: Global,
+    connection: &'a TcpStream,
+    lengths: Lengths,
+) -> PlainEnd<'a>
     ensures { result.stream ≡ start_in (reading_of lengths) }
 {
     Endpoint {
@@ -227,7 +231,7 @@ fn plain_end<'a>(alloc: Global, connection: &'a TcpStream, lengths: Lengths) -> 
 }
 
 /// The till's end at its start, with its trace: what is read comes from the terminal, and what is written from the till.
-fn recorded_till_end<'a>(
+pub(crate) fn recorded_till_end<'a>(
     alloc: Global,
     connection: &'a TcpStream,
     lengths: Lengths,
@@ -290,7 +294,7 @@ fn recorded_end<'a>(
 
 /// Ends the trace of the line, and answers whether it lacks something: a piece that was read, one that was to be written,
 /// or its end.
-fn is_broken(end: &RecordedEnd<'_>, trace: &File) -> bool
+pub(crate) fn is_broken(end: &RecordedEnd<'_>, trace: &File) -> bool
     ensures { (end.now.reader.broken || end.now.writer.broken) ≡ true → result ≡ true }
 {
     let lacks = end.reader.broken || end.writer.broken;

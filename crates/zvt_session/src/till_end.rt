@@ -17,16 +17,22 @@ use zvt_stream::Endpoint;
 use zvt_till::{Outcome, RunFault, Till, TillSettings, run_order};
 
 /// The turns of one read each after which an order is given up.
-const READS_OF_AN_ORDER: u64 = 100_000;
+pub(crate) const READS_OF_AN_ORDER: u64 = 100_000;
 
 /// What the terminal elsewhere decides of a step is its own.
-impl<R: Source, W: Sink> StepLine for Endpoint<R, W> {
+impl<R: Source, W: Sink> StepLine<Till> for Endpoint<R, W> {
     ghost use Rattle.zvt_session.specs.LineEnd.{end_state};
+    ghost use Rattle.std.specs.Prelude.{IfErr};
+    ghost use Rattle.zvt_till.specs.Line.{IsOver};
     ghost use Rattle.zvt_session.specs.TillEnd.{MakesThere};
 
     ghost makes = { λ old till step result new left. MakesThere (end_state old.stream (R.remaining old.reader) (W.written old.writer) (R.reads old.reader) (R.failures old.reader) (W.failures old.writer)) till step result (end_state new.stream (R.remaining new.reader) (W.written new.writer) (R.reads new.reader) (R.failures new.reader) (W.failures new.writer)) left };
 
-    fn make(&mut self, alloc: Global, till: &mut Till, step: &Step) -> Result<Outcome, RunFault> {
+    fn make(&mut self, alloc: Global, till: &mut Till, step: &Step) -> Result<Outcome, RunFault>
+        ensures made { MakesThere (end_state self.old.stream (R.remaining self.old.reader) (W.written self.old.writer) (R.reads self.old.reader) (R.failures self.old.reader) (W.failures self.old.writer)) till.old step.now result (end_state self.new.stream (R.remaining self.new.reader) (W.written self.new.writer) (R.reads self.new.reader) (R.failures self.new.reader) (W.failures self.new.writer)) till.new }
+        // After a broken line it is known what became of the order.
+        ensures over { IfErr result (λ fault. IsOver fault till.new.state) }
+    {
         run_order(alloc, self, till, step.order(), READS_OF_AN_ORDER)
     }
 }

@@ -19,10 +19,13 @@ pub use zvt_audit::{AuditSummary, audit_trace};
 pub use zvt_cli::{Choice, ChoiceFault, TerminalOptions, TillOptions, arguments};
 pub use zvt_diagnostics::{hint_on, write_notes};
 pub use zvt_grammar::Lengths;
+pub use zvt_journal::{DeviceError, FileDevice, JournalFileError, Opened, open_file, read_book};
+pub use zvt_kept::{KeptTill, RecoveryError, recover};
 pub use zvt_session::{
-    BothEnds, EndFault, Endpoint, Ends, LineEnd, NetFault, Planned, Recorded, Step, TerminalRun,
-    TillRun, Way, config_of, currency_of, end_trace, password_of, plan, result_code, run_both_ends,
-    run_loop, run_terminal, run_till, run_till_end, serve, step_of,
+    BookRun, BothEnds, EndFault, Endpoint, Ends, LineEnd, LoopRun, NetFault, Planned, Recorded,
+    Step, TerminalRun, TillRun, Way, config_of, currency_of, end_trace, password_of, plan,
+    result_code, run_both_ends, run_both_ends_kept, run_loop, run_loop_kept, run_terminal,
+    run_till, run_till_end, run_till_end_kept, run_till_kept, serve, step_of, write_book,
 };
 pub use zvt_show::{Style, render_trace};
 pub use zvt_till::TillSettings;

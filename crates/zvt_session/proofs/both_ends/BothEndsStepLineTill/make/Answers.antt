@@ -1,7 +1,7 @@
 use Rattle.std.proofs.Common.{refl, arith}
 use Rattle.zvt_session.specs.BothEnds.{here}
 use Rattle.zvt_session.proofs.Turns.{comes, given_up, goes_on, over_broken}
-use Rattle.zvt_session.proofs.both_ends.BothEndsStepLine.make.Goals as goal
+use Rattle.zvt_session.proofs.both_ends.BothEndsStepLineTill.make.Goals as goal
 
 pub returns-in-Err-clause-over : goal.returns-in-Err-clause-over
 returns-in-Err-clause-over g c =

@@ -1,0 +1,153 @@
+//! The book of a till in a file.
+ghost use Rattle.zvt_journal.specs.Files.{file_may_leave, file_seen};
+ghost use Rattle.zvt_journal.specs.Text.{IsSettled};
+
+use crate::finish::finish_run;
+use crate::output::Output;
+use crate::statuses::{MEMORY, of_device, of_file_error, of_recovery};
+use std::{io, str};
+use zvt_bcd::Currency;
+use zvt_io::Counted;
+use zvt_till::Till;
+use zvt_tool::{
+    FileDevice, JournalFileError, KeptTill, Opened, RecoveryError, TillSettings, next_line,
+    open_file, read_book, recover, write_book,
+};
+
+/// What the first line of a book says before the number of its currency.
+const OPENING: [u8; 26] = *b"# zvt journal 1, currency ";
+
+/// Writes what the book in this file has, and answers the exit status.
+pub fn show(rt: &HostRuntime, path: &str) -> io::Result<u8> {
+    let text = match read_book(rt, rt.alloc(), path) {
+        Ok(text) => text,
+        Err(error) => return unopened(rt, path, &error),
+    };
+    let till = match till_of(rt, text.as_slice()) {
+        Ok(till) => till,
+        Err(error) => return unrecovered(rt, path, error),
+    };
+    let mut writer = Counted::new(Output::new(io::writer(rt)));
+    let answer = write_book(rt.alloc(), &till, &mut writer);
+    finish_run(rt, writer.inner.broken_pipe, answer)
+}
+
+/// The till of these records. Its currency is that of the book. A book without a record is that of a new till.
+fn till_of(rt: &HostRuntime, text: &[u8]) -> Result<Till, RecoveryError> {
+    if text.is_empty() {
+        return Ok(Till::with_defaults(rt.alloc()));
+    }
+    let Some(currency) = currency_of(text) else {
+        return Err(RecoveryError::Opening);
+    };
+    let settings = TillSettings {
+        currency,
+        ..TillSettings::default()
+    };
+    recover(rt.alloc(), &settings, text)
+}
+
+/// The currency that the first line of a book names. [`recover`] checks that line.
+fn currency_of(text: &[u8]) -> Option<Currency> {
+    if text.is_empty() {
+        return None;
+    }
+    let (line, _) = next_line(text);
+    let digits = line.strip_prefix(&OPENING)?;
+    match str::from_utf8(digits) {
+        Ok(word) => match word.parse::<u16>() {
+            Ok(number) => Currency::new(number),
+            Err(_) => None,
+        },
+        Err(_) => None,
+    }
+}
+
+/// Opens the book in this file, which is made if it is not there, and reports what it has. A book that can't be opened is
+/// reported, and the exit status is answered.
+pub fn open(
+    rt: &HostRuntime,
+    path: &str,
+    settings: &TillSettings,
+) -> io::Result<Result<KeptTill<FileDevice>, u8>> {
+    let opened = match open_file(rt, rt.alloc(), path) {
+        Ok(opened) => opened,
+        Err(error) => return Ok(Err(unopened(rt, path, &error)?)),
+    };
+    report_opening(rt, path, &opened)?;
+    let text = opened.text;
+    if text.is_empty() {
+        return begun(rt, path, settings, opened.device);
+    }
+    match KeptTill::open(rt.alloc(), settings, opened.device, text.as_slice()) {
+        Ok(kept) => {
+            report_book(rt, path, kept.till())?;
+            Ok(Ok(kept))
+        }
+        Err(error) => Ok(Err(unrecovered(rt, path, error)?)),
+    }
+}
+
+/// A new book on this device.
+fn begun(
+    rt: &HostRuntime,
+    path: &str,
+    settings: &TillSettings,
+    device: FileDevice,
+) -> io::Result<Result<KeptTill<FileDevice>, u8>>
+    requires { IsSettled (file_seen device) (file_may_leave device) 0 }
+{
+    match KeptTill::create(rt.alloc(), settings, device) {
+        Ok(kept) => Ok(Ok(kept)),
+        Err(error) => {
+            let status = of_device(error);
+            if status == MEMORY {
+                eprintln!(rt; "zvt: '{path}': out of memory")?;
+            } else {
+                eprintln!(rt;
+                    "zvt: '{path}': cannot begin the book: check the free space and the permissions"
+                )?;
+            }
+            Ok(Err(status))
+        }
+    }
+}
+
+/// Reports that the file was made, or what was cut off.
+fn report_opening(rt: &HostRuntime, path: &str, opened: &Opened) -> io::Result<()> {
+    if opened.created {
+        eprintln!(rt; "zvt: '{path}': a new book")?;
+    }
+    if opened.cut > 0 {
+        let cut = opened.cut;
+        eprintln!(rt;
+            "zvt: '{path}': a crash left {cut} bytes of an unfinished record: they were moved to '{path}.cut'"
+        )?;
+    }
+    Ok(())
+}
+
+/// Reports what was recovered.
+fn report_book(rt: &HostRuntime, path: &str, till: &Till) -> io::Result<()> {
+    let booked = till.book().len();
+    let unclear = till.unclear().len();
+    let total = till.total();
+    eprintln!(rt; "zvt: '{path}': {booked} booked, {unclear} unclear, total {total}")
+}
+
+/// Reports that the file of a book is not opened, and answers the exit status.
+fn unopened(rt: &HostRuntime, path: &str, error: &JournalFileError) -> io::Result<u8> {
+    eprintln!(rt; "zvt: '{path}': {error}")?;
+    Ok(of_file_error(error))
+}
+
+/// Reports that the records of a book give no till, and answers the exit status.
+fn unrecovered(rt: &HostRuntime, path: &str, error: RecoveryError) -> io::Result<u8> {
+    match error {
+        RecoveryError::Opening => eprintln!(rt;
+            "zvt: '{path}': the first line is not that of a book in the till's currency: give the book's currency, or name another file"
+        )?,
+        error => eprintln!(rt; "zvt: '{path}': {error}")?,
+    }
+    Ok(of_recovery(error))
+}

@@ -1,0 +1,116 @@
+//! The text of a till's book.
+ghost use Rattle.std.specs.Prelude.{◌≡◌, ◌<◌, ◌++◌, Err, OnOk};
+ghost use Rattle.zvt_session.specs.Books.{book_text, booked_text, doubt_text, entries_text, entry_text, reversed_text, unclear_reversal_text, unclear_text, unclears_text};
+ghost use Rattle.zvt_session.specs.Runs.{AnswersText};
+
+use crate::fault::EndFault;
+use crate::steps::say_total;
+use std::alloc::{AllocError, Global};
+use zvt_bcd::Amount;
+use zvt_io::Sink;
+use zvt_text::Text;
+use zvt_till::{Cause, Doubt, Entry, Till};
+
+/// Writes a till's book: a line for each entry with what became of its reversals, one for each payment of which it is not
+/// known whether it happened, and the sum of the entries that were not reversed.
+///
+/// The text is written once. Where memory runs out nothing is written.
+pub fn write_book<W: Sink>(alloc: Global, till: &Till, writer: &mut W) -> Result<(), EndFault>
+    ensures text { AnswersText (book_text till.now.state) (W.written writer.old) (W.written writer.new) result }
+    ensures write { result ≡ Err EndFault.Write → W.failures writer.old < W.failures writer.new }
+{
+    let mut text = Text::new(alloc);
+    say_book(&mut text, till)?;
+    writer.write_all(text.bytes())?;
+    Ok(())
+}
+
+/// The lines of a book.
+fn say_book(text: &mut Text, till: &Till) -> Result<(), AllocError>
+    ensures { OnOk result (text.new ≡ text.old ++ book_text till.now.state) }
+{
+    say_entries(text, till.book())?;
+    say_unclear(text, till.unclear())?;
+    say_total(text, till.total())
+}
+
+/// The lines of these entries.
+fn say_entries(text: &mut Text, book: &[Entry]) -> Result<(), AllocError>
+    ensures { OnOk result (text.new ≡ text.old ++ entries_text book.now) }
+{
+    for entry in book {
+        say_entry(text, entry)?;
+    }
+    Ok(())
+}
+
+/// The lines of these payments of which it is not known whether they happened.
+fn say_unclear(text: &mut Text, unclear: &[(Amount, Cause)]) -> Result<(), AllocError>
+    ensures { OnOk result (text.new ≡ text.old ++ unclears_text unclear.now) }
+{
+    for row in unclear {
+        say_unclear_row(text, row)?;
+    }
+    Ok(())
+}
+
+/// The line of an entry.
+fn say_entry(text: &mut Text, entry: &Entry) -> Result<(), AllocError>
+    ensures { OnOk result (text.new ≡ text.old ++ entry_text entry.now) }
+{
+    say_booked(text, entry)?;
+    say_reversed(text, entry.reversed)?;
+    say_doubt(text, entry.doubt)?;
+    text.push(b'\n')
+}
+
+/// The amount and the numbers of an entry.
+fn say_booked(text: &mut Text, entry: &Entry) -> Result<(), AllocError>
+    ensures { OnOk result (text.new ≡ text.old ++ booked_text entry.now) }
+{
+    text.word(b"booked ")?;
+    text.number(entry.amount.get())?;
+    text.push(b' ')?;
+    zvt_text::numbers(text, entry.trace, entry.receipt)
+}
+
+/// That an entry was reversed, if it was.
+fn say_reversed(text: &mut Text, reversed: bool) -> Result<(), AllocError>
+    ensures { OnOk result (text.new ≡ text.old ++ reversed_text reversed) }
+{
+    if reversed {
+        text.word(b" reversed")?;
+    }
+    Ok(())
+}
+
+/// What the reversals of an entry leave open, if they do.
+fn say_doubt(text: &mut Text, doubt: Doubt) -> Result<(), AllocError>
+    ensures { OnOk result (text.new ≡ text.old ++ doubt_text doubt) }
+{
+    match doubt {
+        Doubt::No => Ok(()),
+        Doubt::Unclear(cause) => say_unclear_reversal(text, cause),
+        Doubt::TakenBack => text.word(b" taken back"),
+    }
+}
+
+/// That the last reversal of an entry took the payment back or not, with the cause.
+fn say_unclear_reversal(text: &mut Text, cause: Cause) -> Result<(), AllocError>
+    ensures { OnOk result (text.new ≡ text.old ++ unclear_reversal_text cause) }
+{
+    text.word(b" reversal unclear ")?;
+    text.word(cause.name().as_bytes())
+}
+
+/// The line of a payment of which it is not known whether it happened.
+fn say_unclear_row(text: &mut Text, row: &(Amount, Cause)) -> Result<(), AllocError>
+    ensures { OnOk result (text.new ≡ text.old ++ unclear_text row.now) }
+{
+    let (amount, cause) = row;
+    text.word(b"unclear ")?;
+    text.number(amount.get())?;
+    text.push(b' ')?;
+    text.word(cause.name().as_bytes())?;
+    text.push(b'\n')
+}
