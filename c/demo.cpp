@@ -9,6 +9,32 @@ static void say(const char *what, const zvt::Reply &reply) {
     for (const std::string &line : reply.lines) std::printf("  printed: %s\n", line.c_str());
 }
 
+/* A till's journal, which would be in a file, and the till that is made of it. */
+static void show_journal(const uint8_t *registered, size_t length) {
+    zvt::Till till(123456);
+    std::string journal = zvt::record_opening() + zvt::record_lost();
+    till.connected();
+    journal += zvt::record_order(ZVT_REGISTER, 0, till.order(ZVT_REGISTER));
+    while (length > 0) {
+        const zvt::Heard heard = zvt::record_heard(registered, length);
+        journal += heard.record;
+        till.feed(registered, heard.answer.size);
+        registered += heard.answer.size;
+        length -= heard.answer.size;
+    }
+    journal += zvt::record_order(ZVT_PAY, 1234, till.order(ZVT_PAY, 1234));
+    std::printf("%s", journal.c_str());
+    zvt::Till again(123456);
+    again.recover(journal);
+    for (const zvt_entry &entry : again.unclear())
+        std::printf("unclear %llu for cause %u\n", (unsigned long long)entry.amount, entry.cause);
+    try {
+        again.recover(journal + "< 8\n");
+    } catch (const zvt::BadJournal &bad) {
+        std::printf("no journal: reason %u at %zu\n", bad.reason, bad.place);
+    }
+}
+
 int main() {
     const uint8_t registered[] = {0x80, 0x00, 0x00, 0x06, 0x0F, 0x00};
     const uint8_t approved[] = {0x80, 0x00, 0x00, 0x06, 0xD1, 0x07, 0x00, 'T', 'h', 'a', 'n', 'k', 's', 0x04, 0x0F, 0x10, 0x27, 0x00, 0x04, 0x00, 0x00, 0x00, 0x00,
@@ -50,4 +76,5 @@ int main() {
     say("reversed again", saved.feed(reversed_before, sizeof reversed_before));
     std::printf("unclear reversals: %zu, doubt %u\n", saved.state().unclear_reversals, saved.book()[0].doubt);
     std::printf("total %llu\n", (unsigned long long)till.state().total);
+    show_journal(registered, sizeof registered);
 }

@@ -4,7 +4,7 @@
 #[allow(dead_code)] // a part of it is used here
 mod zvt;
 
-use zvt::{Order, Refused, Till, text};
+use zvt::{Order, Refused, Till, record_heard, record_lost, record_opening, record_order, text};
 
 const REGISTERED: &[u8] = &[0x80, 0x00, 0x00, 0x06, 0x0F, 0x00];
 const APPROVED: &[u8] = &[
@@ -43,5 +43,28 @@ fn main() -> Result<(), Refused> {
         again = Till::load(&again.save()?)?;
         println!("{outcome:?}, {} unclear: {:?}", again.unclear_reversals()?, again.book()?[0].doubt);
     }
+    show_journal()
+}
+
+/// A till's journal, which would be in a file, and the till that is made of it.
+fn show_journal() -> Result<(), Refused> {
+    let mut till = Till::new(123456, 0xBE, 978)?;
+    let mut journal = [record_opening(978)?, record_lost()?].concat();
+    till.connected()?;
+    let sent = till.order(Order::Register)?;
+    journal.extend(record_order(Order::Register, &sent)?);
+    let mut rest = REGISTERED;
+    while let Ok((record, size)) = record_heard(rest) {
+        journal.extend(record);
+        till.feed(&rest[..size])?;
+        rest = &rest[size..];
+    }
+    let sent = till.order(Order::Pay(1234))?;
+    journal.extend(record_order(Order::Pay(1234), &sent)?);
+    print!("{}", String::from_utf8_lossy(&journal));
+    println!("{:?}", Till::recover(123456, 0xBE, 978, &journal).map(|mut till| till.unclear()));
+    println!("{:?}", Till::recover(123456, 0xBE, 756, &journal).err());
+    journal.extend(b"< 8\n");
+    println!("{:?}, {:?}", Till::recover(0, 0xBE, 978, &journal).err(), record_heard(&[0x80]));
     Ok(())
 }

@@ -1,4 +1,6 @@
 """Kills a till during reversals, and starts it again from what it saved: kill_check.py LIBRARY [KILLS [SEED [PROGRAM]]].
+With --book before LIBRARY the till keeps its book in a file, and is killed at any moment, the opening of its book too; no
+PROGRAM is taken then.
 
 The till is a process of its own, over zvt.py. It pays and reverses at a terminal in this process, which keeps its own ledger
 and knows nothing of the library; or, where the program `zvt` is given, at the terminal of that program. After each kill the saved till is held against the ledger: what the terminal took back is
@@ -36,7 +38,7 @@ class Row:
     """A payment that the terminal approved, under its trace number, which is its receipt number too."""
 
     def __init__(self, number, amount):
-        self.number, self.amount, self.taken_back = number, amount, False
+        self.number, self.amount, self.taken_back, self.completed = number, amount, False, False
 
 
 class Terminal(threading.Thread):
@@ -46,20 +48,20 @@ class Terminal(threading.Thread):
         super().__init__(daemon=True)
         self.chance, self.ledger, self.numbers = random.Random(seed), [], 0
         self.declines, self.breaks = 0.1, False  # how many reversals; whether the next line breaks behind the row
-        self.stage, self.ended = WAITS, threading.Semaphore(0)
+        self.stage, self.ended, self.served = WAITS, threading.Semaphore(0), None
         self.listener = socket.create_server(("127.0.0.1", 0))
         self.port = self.listener.getsockname()[1]
 
     def run(self):
         while True:
-            line = self.listener.accept()[0]
+            line, address = self.listener.accept()
             line.setsockopt(socket.IPPROTO_TCP, socket.TCP_NODELAY, 1)
             with line:
                 try:
                     self.talks(line)
                 except (EOFError, OSError):
                     pass
-            self.stage = WAITS
+            self.stage, self.served = WAITS, address[1]
             self.ended.release()
 
     def talks(self, line):
@@ -93,6 +95,8 @@ class Terminal(threading.Thread):
             if order[:2] == AUTHORISATION:
                 self.approve(line, order)
             self.tells(line, DONE)
+            if order[:2] == AUTHORISATION:
+                self.ledger[-1].completed = True
 
     def number(self):
         self.numbers += 1
@@ -192,7 +196,10 @@ class Relay(Terminal):
 
 
 def open_till(library, path):
-    """A till that saves itself in the file, and goes on from what stands there."""
+    """A till that saves itself in the file, or keeps its book there, and goes on from what stands there."""
+    if path.endswith(".trace"):
+        return zvt.Till(library, book=path)
+
     def keep(saved):
         with open(path + ".new", "wb") as file:
             file.write(saved)
@@ -207,14 +214,18 @@ def open_till(library, path):
 
 
 def pay_and_reverse(library, port, path, seed):
-    """The till that is killed. It says when a reversal begins, of which place, and when it has ended."""
+    """The till that is killed. It says what it begins, of a reversal the place, and when that has ended."""
     chance = random.Random(seed)
+    print("opens", 0, flush=True)
     till = open_till(library, path)
+    print("connects", 0, flush=True)
     till.connect("127.0.0.1", int(port), timeout=10)
+    print("registers", 0, flush=True)
     till.register()
     while True:
         places = [place for place, _ in till.unclear_reversals()]
         if not places or chance.random() < 0.7:
+            print("pays", 0, flush=True)
             till.pay(chance.randint(1, 999999))
             book = till.book()
             places = [place for place in range(max(0, len(book) - 5), len(book)) if not book[place].reversed]
@@ -246,7 +257,8 @@ class Check:
             word, number = line.split()
             if word == "begins":
                 return int(number)
-            self.times.append(float(number))
+            if word == "ended":
+                self.times.append(float(number))
         sys.exit("kill_check: the till ended by itself")
 
     def kills(self, number, spared):
@@ -293,6 +305,8 @@ class Check:
             entry = entries.get(row.number)
             if entry is None:
                 missing[row.amount] += 1
+                if row.completed:
+                    self.violates("what the till acknowledged the completion of is booked:", row.number)
             if row.taken_back and (entry is None or not (entry.reversed or entry.doubt)):
                 self.violates("what was taken back is marked, unclear, or taken back by B4:", entry or row.number)
         if missing - collections.Counter(entry.amount for entry in unclear):
@@ -335,6 +349,44 @@ class Check:
                 self.violates("the entry says so, and so does what is saved:", entry)
 
 
+class BookCheck(Check):
+    """A till that keeps its book in a file, which is killed at any moment."""
+
+    def __init__(self, library, seed, folder, terminal):
+        super().__init__(library, seed, folder, terminal)
+        self.path += ".trace"
+
+    def kills(self, number, spared):
+        child = self.start(number)
+        # It opens its book, connects, registers, pays, reverses: in one of these it is killed, or soon behind it.
+        for _ in range(self.chance.randint(1, 8)):
+            said = child.stdout.readline().split()
+        if not said:
+            sys.exit("kill_check: the till ended by itself")
+        time.sleep(self.chance.uniform(0, 0.02))
+        child.kill()
+        said += child.stdout.read().split()
+        child.wait()
+        child.stdout.close()
+        self.line_ended()
+        before = self.compare()
+        if self.compare() != before:
+            self.violates("a book that is opened twice is the same")
+        # A line that was being written may have its word alone.
+        doing = next(word for word in reversed(said) if word.isalpha())
+        self.left[{"begins": "in a reversal", "ended": "between orders"}.get(doing, f"as it {doing}")] += 1
+
+    def line_ended(self):
+        """Waits until the terminal has served each till so far: then it serves this line, which ends at once."""
+        with socket.create_connection(("127.0.0.1", self.terminal.port)) as last:
+            port = last.getsockname()[1]
+        for _ in range(1000):
+            if self.terminal.served == port:
+                return
+            time.sleep(0.01)
+        sys.exit("kill_check: the terminal hangs")
+
+
 def run(check, kills):
     """The kills, and the line that breaks; and what stands at the end."""
     check.kills(0, 20)  # how long a reversal takes
@@ -346,12 +398,12 @@ def run(check, kills):
     return check.settle()
 
 
-def main(library, kills=500, seed=1, program=None):
+def main(kind, library, kills=500, seed=1, program=None):
     kills, seed = int(kills), int(seed)
     # a till for each kill, and one before and three behind them
     terminal = Terminal(seed) if program is None else Relay(seed, program, kills + 4)
     with tempfile.TemporaryDirectory() as folder:
-        check = Check(library, seed, folder, terminal)
+        check = kind(library, seed, folder, terminal)
         try:
             marked, by_b4, taken = run(check, kills)
             if program is not None and terminal.program.wait(timeout=10) not in (0, 4):
@@ -361,8 +413,11 @@ def main(library, kills=500, seed=1, program=None):
                 terminal.program.kill()
     told = ", ".join(f"{check.stages[stage]} {stage}" for stage in STAGES)
     left = ", ".join(f"{count} {how}" for how, count in sorted(check.left.items()))
-    print(f"kill_check: {kills} kills, {sum(check.stages.values())} in a reversal that ran: {told}")
-    print(f"kill_check: the saved till then had its payment: {left}")
+    if kind is BookCheck:
+        print(f"kill_check: {kills} kills of a till that keeps a book: {left}")
+    else:
+        print(f"kill_check: {kills} kills, {sum(check.stages.values())} in a reversal that ran: {told}")
+        print(f"kill_check: the saved till then had its payment: {left}")
     print(f"kill_check: at the end {len(terminal.ledger)} approved, {taken} taken back: {marked} marked, {by_b4} known by B4; "
           f"{check.violations} violations")
     sys.exit(1 if check.violations else 0)
@@ -370,5 +425,7 @@ def main(library, kills=500, seed=1, program=None):
 
 if sys.argv[1] == "till":
     pay_and_reverse(*sys.argv[2:])
+elif sys.argv[1] == "--book":
+    main(BookCheck, *sys.argv[2:5])
 else:
-    main(*sys.argv[1:])
+    main(Check, *sys.argv[1:])

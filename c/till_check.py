@@ -270,12 +270,18 @@ def silence_ends_a_payment_that_may_be_cancelled():
         assert paid.cause == zvt.Cause.LINE and 0.9 < took < 1.2, (paid, took)
 
 
-# A till that waits for ever fails too.
-signal.alarm(60)
-for check in [it for name, it in list(globals().items()) if callable(it) and getattr(it, "__module__", "") == "__main__"
-              and name not in ("Terminal", "Line", "till_at", "goes_to", "till_that_paid", "has_doubt", "raises", "thrower")]:
-    try:
-        check()
-    except AssertionError:
-        sys.exit(f"till_check: {check.__name__.replace('_', ' ')}: this does not hold")
-print("zvt.py: all callbacks, orders, reversals and silences")
+def holds(script, checks):
+    """Makes each check. A till that waits for ever fails too."""
+    signal.alarm(60)
+    for check in checks:
+        try:
+            check()
+        except AssertionError as error:
+            sys.exit(f"{script}: {check.__name__.replace('_', ' ')}: this does not hold: {error}")
+
+
+HELPERS = ("Terminal", "Line", "till_at", "goes_to", "till_that_paid", "has_doubt", "raises", "thrower", "holds")
+if __name__ == "__main__":
+    holds("till_check", [it for name, it in list(globals().items()) if callable(it) and getattr(it, "__module__", "") == "__main__"
+                         and name not in HELPERS])
+    print("zvt.py: all callbacks, orders, reversals and silences")

@@ -11,8 +11,9 @@
  *  - malloc, realloc and free are the program's, and of one allocator.
  *
  * What a till on TCP does, in this order: it gives an order, saves the till (zvt_till_save), and only then sends the order's
- * bytes; it feeds what comes, saves where an outcome is told, and then sends `send` bytes. Set TCP_NODELAY on the socket:
- * without it the system may hold each acknowledgement back for some 40 ms.
+ * bytes; it feeds what comes, saves where an outcome is told, and then sends `send` bytes. Or it keeps a journal in place of
+ * the saves (zvt_record_order and the calls beside it). Set TCP_NODELAY on the socket: without it the system may hold each
+ * acknowledgement back for some 40 ms.
  */
 #ifndef ZVT_H
 #define ZVT_H
@@ -155,6 +156,35 @@ void zvt_till_save(zvt_till *till, uint8_t *room, size_t room_length, zvt_answer
 /* The till that the bytes were saved of. Bytes of the first layout, which had no `doubt`, are taken too. A till that was
  * there is freed. ZVT_REFUSED: the bytes are cut, altered, or no till's; the handle is then as it was. */
 uint32_t zvt_till_load(zvt_till *till, const uint8_t *bytes, size_t length);
+
+/* A journal: text records in a file, out of which the till is made again. journal_demo.c keeps one. Each of these calls writes
+ * the text of a record that is to be durable before what follows from it leaves the till; where the room is less than its
+ * size, nothing is written. ZVT_RECORD_ROOM bytes hold each record. */
+#define ZVT_RECORD_ROOM 131200
+
+/* The first record. The answer's size is the text's; its status is ZVT_OK, ZVT_NO_MEMORY or ZVT_ARGUMENT. */
+void zvt_record_opening(uint16_t currency, uint8_t *room, size_t room_length, zvt_answer *answer);
+/* An order that zvt_till_order took, with the bytes that it gave: durable before they are sent. A password is written as
+ * 00 00 00. The answer is as above: ZVT_ARGUMENT for numbers that name no order, a place of the book of 10,000 or more, or
+ * more than ZVT_ROOM bytes. */
+void zvt_record_order(uint32_t order, uint64_t number, const uint8_t *sent, size_t sent_length, uint8_t *room,
+                      size_t room_length, zvt_answer *answer);
+/* The message of the terminal that stands first, and what answers it: durable before the till is fed these `answer->size`
+ * bytes. Answers the size of the text: 0 where no whole message stands there. The answer is that of zvt_scan; on ZVT_REFUSED
+ * feed nothing, and give the line up (zvt_till_lost). */
+size_t zvt_record_heard(const uint8_t *bytes, size_t length, uint8_t *room, size_t room_length, zvt_answer *answer);
+/* That the line before was lost: durable before zvt_till_connected. The answer's status is ZVT_OK or ZVT_NO_MEMORY. */
+void zvt_record_lost(uint8_t *room, size_t room_length, zvt_answer *answer);
+
+/* Why a text makes no till. */
+enum { ZVT_WRONG_OPENING = 1, ZVT_WRONG_LINE, ZVT_WRONG_RECORD };
+
+/* Makes the till of a handle that of a journal's records, with the settings of zvt_till_new, and its line down: a payment or
+ * a reversal that ran is unclear. `text` is the file's whole lines up to the first empty one. The answer's status is ZVT_OK; or
+ * ZVT_NO_MEMORY, ZVT_CLOSED or ZVT_REFUSED, and then the handle is as it was. ZVT_REFUSED has a reason: ZVT_WRONG_OPENING, where
+ * the first line is not that of a till with this currency; ZVT_WRONG_LINE, and `place` is the line, from 1; ZVT_WRONG_RECORD,
+ * and `place` is the record, from 1 behind the opening, that no such till can have lived through after those before it. */
+void zvt_till_recover(zvt_till *till, const uint8_t *text, size_t length, zvt_answer *answer);
 
 /* Names of numbers, as the program writes them (ASCII, no final zero). Each call answers the name's size; where the room
  * is less, nothing is written. 0: the number names nothing. */

@@ -29,6 +29,55 @@ struct Reply {
     uint32_t status = ZVT_OK; /* ZVT_REFUSED: no message: give the line up, and call lost(). ZVT_NO_MEMORY: feed what was not taken again. */
 };
 
+inline void check(uint32_t status) {
+    if (status != ZVT_OK) throw Refused(status);
+}
+
+/* Records of a journal, each to be durable before what zvt.h says. */
+inline std::string record_opening(uint16_t currency = 978) {
+    uint8_t room[64];
+    zvt_answer answer{};
+    zvt_record_opening(currency, room, sizeof room, &answer);
+    check(answer.status);
+    return {room, room + answer.size};
+}
+/* An order, with the bytes that Till::order gave. */
+inline std::string record_order(uint32_t order, uint64_t number, const std::vector<uint8_t> &sent) {
+    uint8_t room[128];
+    zvt_answer answer{};
+    zvt_record_order(order, number, sent.data(), sent.size(), room, sizeof room, &answer);
+    check(answer.status);
+    return {room, room + answer.size};
+}
+inline std::string record_lost() {
+    uint8_t room[8];
+    zvt_answer answer{};
+    zvt_record_lost(room, sizeof room, &answer);
+    check(answer.status);
+    return {room, room + answer.size};
+}
+/* The message that stands first: feed it once its record is durable. The status is ZVT_WHOLE, ZVT_MORE or ZVT_REFUSED. */
+struct Heard {
+    std::string record;
+    zvt_answer answer{};
+};
+inline Heard record_heard(const uint8_t *bytes, size_t length) {
+    std::vector<uint8_t> room(ZVT_RECORD_ROOM);
+    Heard heard;
+    size_t size = zvt_record_heard(bytes, length, room.data(), room.size(), &heard.answer);
+    if (heard.answer.status == ZVT_NO_MEMORY) check(ZVT_NO_MEMORY);
+    heard.record.assign(room.begin(), room.begin() + size);
+    return heard;
+}
+
+/* Why a text makes no till. */
+class BadJournal : public Refused {
+public:
+    explicit BadJournal(const zvt_answer &answer) : Refused(answer.status), reason(answer.reason), place(answer.place) {}
+    const uint32_t reason; /* ZVT_WRONG_OPENING .. ZVT_WRONG_RECORD */
+    const size_t place;
+};
+
 /* A till. It is moved, never copied. One thread at a time uses it. */
 class Till {
 public:
@@ -39,6 +88,13 @@ public:
         Till till;
         check(zvt_till_load(&till.handle, saved.data(), saved.size()));
         return till;
+    }
+    /* Becomes the till of a journal's records, with the settings that it has. */
+    void recover(const std::string &text) {
+        zvt_answer answer{};
+        zvt_till_recover(&handle, reinterpret_cast<const uint8_t *>(text.data()), text.size(), &answer);
+        if (answer.status == ZVT_REFUSED) throw BadJournal(answer);
+        check(answer.status);
     }
     Till(Till &&other) noexcept : handle(std::exchange(other.handle, zvt_till{})), line(std::move(other.line)) {}
     Till &operator=(Till &&other) noexcept {
@@ -98,9 +154,6 @@ public:
     }
 
 private:
-    static void check(uint32_t status) {
-        if (status != ZVT_OK) throw Refused(status);
-    }
     std::vector<zvt_entry> entries(size_t count, uint32_t (*show)(zvt_till *, size_t, zvt_entry *)) {
         std::vector<zvt_entry> entries(count);
         for (size_t place = 0; place < count; place++) check(show(&handle, place, &entries[place]));

@@ -7,6 +7,9 @@
         till.register()
         print(till.pay(1000))          # paid, trace 000001, receipt 0001
 
+With `book="day.trace"` the till keeps its book in that file, through every crash of the process and the machine. Opened
+anew, it has the payments of the file. zvt_journal.py is needed for it too.
+
 Amounts are in the smallest unit of the currency. One thread at a time uses a Till.
 """
 import ctypes as c
@@ -16,7 +19,7 @@ import socket
 import time
 from typing import NamedTuple, Optional
 
-ROOM, LINE_ROOM = 8 * 32, 65534
+ROOM, LINE_ROOM, RECORD_ROOM = 8 * 32, 65534, 131200
 
 
 class Order(enum.IntEnum):
@@ -43,6 +46,11 @@ class Doubt(enum.IntEnum):
 class Status(enum.IntEnum):
     OK, MORE, REFUSED, NO_MEMORY, NO_ROOM, ARGUMENT, CLOSED, STOPPED = range(8)
     OFFLINE, NOT_REGISTERED, BUSY, NOTHING_TO_CANCEL, BOOK_FULL, UNKNOWN_ENTRY, ALREADY_REVERSED, NO_RECEIPT = range(10, 18)
+
+
+# Why a text is no book of a till.
+NO_BOOK = {1: "line {} is not the first line of a journal of its currency", 2: "line {} is no line of a till's record",
+           3: "record {} can't follow from those before it"}
 
 
 class Refused(Exception):
@@ -152,7 +160,15 @@ _TYPES = {
     "zvt_till_unclear": [c.c_void_p, c.c_size_t, c.c_void_p],
     "zvt_till_save": [c.c_void_p, c.c_void_p, c.c_size_t, c.c_void_p],
     "zvt_till_load": [c.c_void_p, c.c_char_p, c.c_size_t],
+    "zvt_till_recover": [c.c_void_p, c.c_char_p, c.c_size_t, c.c_void_p],
+    "zvt_record_opening": [c.c_uint16, c.c_void_p, c.c_size_t, c.c_void_p],
+    "zvt_record_order": [c.c_uint32, c.c_uint64, c.c_char_p, c.c_size_t, c.c_void_p, c.c_size_t, c.c_void_p],
+    "zvt_record_heard": [c.c_char_p, c.c_size_t, c.c_void_p, c.c_size_t, c.c_void_p],
+    "zvt_record_lost": [c.c_void_p, c.c_size_t, c.c_void_p],
 }
+# What the calls answer that answer no status.
+_RESULTS = {name: None for name in ("zvt_till_free", "zvt_till_save", "zvt_till_recover", "zvt_record_opening", "zvt_record_order",
+                                    "zvt_record_lost")} | {"zvt_record_heard": c.c_size_t}
 
 
 class Till:
@@ -163,19 +179,48 @@ class Till:
 
     A callback that raises loses nothing. What the terminal sent is heard to its end and answered, the order goes on to
     its outcome, and then the exception goes on; `last()` has the outcome. An exception that is to end the program, as
-    KeyboardInterrupt, gives the line up first, so that no order runs on: a payment or a reversal is then unclear."""
+    KeyboardInterrupt, gives the line up first, so that no order runs on: a payment or a reversal is then unclear.
 
-    def __init__(self, library, password=0, config=0xBE, currency=978, keep=None, print_line=None):
+    `book`, where it is given, is the path of a file in which the till keeps its book. Where the file is there the till goes on
+    from it; `journal` is its zvt_journal.Journal. An order is in it before it is sent, and a message of the terminal before
+    the till hears it. Where it can't be opened or written a zvt_journal.BookError is raised, nothing more is sent, and a till
+    is made anew from it. A line that brings what is no message is a lost line to such a till."""
+
+    def __init__(self, library, password=0, config=0xBE, currency=978, keep=None, print_line=None, book=None):
         self._library = c.CDLL(library)
         for name, types in _TYPES.items():
             function = getattr(self._library, name)
-            function.argtypes, function.restype = types, c.c_uint32
-        self._library.zvt_till_free.restype = self._library.zvt_till_save.restype = None
+            function.argtypes, function.restype = types, _RESULTS.get(name, c.c_uint32)
         self._handle, self._step = _Handle(), _Step()
         self._out, self._text = c.create_string_buffer(ROOM), c.create_string_buffer(LINE_ROOM)
         self._keep, self._print_line, self._line = keep, print_line, None
         self._timeout, self._raised, self._outcome = None, None, None
+        self.journal, self._unheard, self._record_room = None, b"", None
         self._call("new", password, config, currency)
+        if book is not None:
+            self._record_room = c.create_string_buffer(RECORD_ROOM)
+            self._open_book(book, currency)
+
+    def _open_book(self, path, currency):
+        """Makes the till that of the file, or begins the file."""
+        import zvt_journal
+        try:
+            self.journal, answer = zvt_journal.Journal(path), _Answer()
+            text = self.journal.text
+            if text:
+                self._library.zvt_till_recover(c.byref(self._handle), text, len(text), c.byref(answer))
+            if answer.status == Status.REFUSED:
+                raise zvt_journal.BookError(f"{path} is no book of such a till: {NO_BOOK[answer.reason].format(answer.place)}")
+            if answer.status:
+                raise Refused(answer.status)
+            self.journal.settle()
+            if not text:
+                self._make_durable("opening", currency)
+        except BaseException as error:
+            self.close()
+            if isinstance(error, OSError):
+                raise zvt_journal.BookError(f"cannot open the book {path}: {error.strerror}") from error
+            raise
 
     def __enter__(self):
         return self
@@ -188,6 +233,8 @@ class Till:
         if self._line is not None:
             self._line.close()
             self._line = None
+        if self.journal is not None:
+            self.journal.close()
         self._library.zvt_till_free(c.byref(self._handle))
 
     def _call(self, name, *arguments):
@@ -202,6 +249,13 @@ class Till:
         self._line, self._timeout = socket.create_connection((host, port), timeout=timeout), timeout
         # Each message goes out at once: without this the system may hold an acknowledgement back for 40 ms.
         self._line.setsockopt(socket.IPPROTO_TCP, socket.TCP_NODELAY, 1)
+        self._unheard = b""
+        try:
+            self._make_durable("lost")
+        except BaseException:
+            self._line.close()
+            self._line = None
+            raise
         self._call("connected")
 
     def disconnect(self):
@@ -276,8 +330,25 @@ class Till:
         self._call("order", order, number, self._out, ROOM, c.byref(self._step))
         return self._out.raw[:self._step.send]
 
-    def _keep_and_send(self, message):
-        """Saves the till, and only then sends."""
+    def _make_durable(self, kind, *arguments):
+        """Adds a record to the book, if the till keeps one: an opening, an order, or that an earlier line was lost."""
+        if self.journal is None:
+            return
+        answer = _Answer()
+        getattr(self._library, f"zvt_record_{kind}")(*arguments, self._record_room, RECORD_ROOM, c.byref(answer))
+        if answer.status:
+            self._give_book_up()
+            raise Refused(answer.status)
+        self.journal.append(self._record_room[:answer.size])
+
+    def _give_book_up(self):
+        """The book may have a record that the till has not lived through, or lack one: this till adds no more to it."""
+        if self.journal is not None:
+            self.journal.give_up()
+
+    def _keep_and_send(self, order, number, message):
+        """Makes the order durable and saves the till, and only then sends."""
+        self._make_durable("order", order, number, message, len(message))
         if self._keep is not None:
             self._keep(self.save())
         self._send(message)
@@ -298,12 +369,14 @@ class Till:
         message = self._order(order, number)
         self._raised = self._outcome = None
         try:
-            self._keep_and_send(message)
+            self._keep_and_send(order, number, message)
             self._hear_out(wants_cancel)
         except _BrokenLine:
             self._give_up()
-        except BaseException:
+        except BaseException as error:
             self._give_up()
+            if self._must_stop(error) and error is not self._raised:
+                self._give_book_up()
             raise
         if self._raised is not None:
             raise self._raised
@@ -318,7 +391,7 @@ class Till:
             if wants_cancel is not None and self._raised is None and not self._brings(since):
                 if self._tell(wants_cancel):
                     wants_cancel = None
-                    self._keep_and_send(self._order(Order.CANCEL, 0))
+                    self._keep_and_send(Order.CANCEL, 0, self._order(Order.CANCEL, 0))
                 continue
             self._hear(self._receive())
             since = time.monotonic()
@@ -335,24 +408,45 @@ class Till:
     def _hear(self, piece):
         """Feeds a whole piece and sends what answers it. Where the line takes no answer, the rest is heard all the same."""
         broken = None
-        while piece:
-            status = self._library.zvt_till_feed_all(
-                c.byref(self._handle), piece, len(piece), self._out, ROOM, self._text, LINE_ROOM, c.byref(self._step))
-            self._ended()
-            if self._step.send and broken is None:
-                try:
-                    self._send(self._out.raw[:self._step.send])
-                except _BrokenLine as error:
-                    broken = error
-            if self._step.printed and self._print_line is not None:
-                self._tell(self._print_line, self._text.raw[:self._step.line])
-            if status == Status.REFUSED:
-                raise _BrokenLine
-            if status != Status.OK:
-                raise Refused(status)
-            piece = piece[self._step.taken:]
+        for part in self._parts(piece):
+            while part:
+                status = self._library.zvt_till_feed_all(
+                    c.byref(self._handle), part, len(part), self._out, ROOM, self._text, LINE_ROOM, c.byref(self._step))
+                self._ended()
+                if self._step.send and broken is None:
+                    try:
+                        self._send(self._out.raw[:self._step.send])
+                    except _BrokenLine as error:
+                        broken = error
+                if self._step.printed and self._print_line is not None:
+                    self._tell(self._print_line, self._text.raw[:self._step.line])
+                if status == Status.REFUSED:
+                    raise _BrokenLine
+                if status != Status.OK:
+                    self._give_book_up()
+                    raise Refused(status)
+                part = part[self._step.taken:]
         if broken is not None:
             raise broken
+
+    def _parts(self, piece):
+        """What is fed of a piece: all of it; of a till that keeps a book each message by itself, once the book has it."""
+        if self.journal is None:
+            yield piece
+            return
+        self._unheard += piece
+        while self._unheard:
+            answer = _Answer()
+            size = self._library.zvt_record_heard(self._unheard, len(self._unheard), self._record_room, RECORD_ROOM, c.byref(answer))
+            if answer.status == Status.MORE:
+                return
+            if answer.status == Status.REFUSED:
+                raise _BrokenLine
+            if answer.status:
+                raise Refused(answer.status)
+            self.journal.append(self._record_room[:size])
+            message, self._unheard = self._unheard[:answer.size], self._unheard[answer.size:]
+            yield message
 
     def state(self):
         """The total, the counts of booked and unclear payments and of unclear reversals, whether the till is registered, the
@@ -399,6 +493,8 @@ class Till:
             room = c.create_string_buffer(answer.size)
 
     def load(self, saved):
-        """Makes this the till that the bytes were saved of. Its line is down then."""
+        """Makes this the till that the bytes were saved of. Its line is down then. A till that keeps a book is that of its book."""
+        if self.journal is not None:
+            raise ValueError("a till that keeps a book is that of its book, and of no save")
         self.disconnect()
         self._call("load", saved, len(saved))

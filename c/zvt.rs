@@ -8,6 +8,8 @@ use std::ptr::null_mut;
 const ROOM: usize = 32;
 /// The room that holds each print line.
 const LINE_ROOM: usize = 65_534;
+/// The room that holds each record.
+const RECORD_ROOM: usize = 131_200;
 
 #[repr(C)]
 struct Handle {
@@ -97,6 +99,13 @@ unsafe extern "C" {
     fn zvt_till_unclear(till: *mut Handle, place: usize, entry: *mut EntryNumbers) -> u32;
     fn zvt_till_save(till: *mut Handle, room: *mut u8, room_length: usize, answer: *mut Answer);
     fn zvt_till_load(till: *mut Handle, bytes: *const u8, length: usize) -> u32;
+    fn zvt_till_recover(till: *mut Handle, text: *const u8, length: usize, answer: *mut Answer);
+    fn zvt_record_opening(currency: u16, room: *mut u8, room_length: usize, answer: *mut Answer);
+    fn zvt_record_order(
+        order: u32, number: u64, sent: *const u8, sent_length: usize, room: *mut u8, room_length: usize, answer: *mut Answer,
+    );
+    fn zvt_record_heard(bytes: *const u8, length: usize, room: *mut u8, room_length: usize, answer: *mut Answer) -> usize;
+    fn zvt_record_lost(room: *mut u8, room_length: usize, answer: *mut Answer);
 }
 
 const REFUSED: u32 = 2;
@@ -177,6 +186,18 @@ pub enum Order {
     Reverse(u64),
     CloseDay,
     Cancel,
+}
+
+impl Order {
+    fn numbers(self) -> (u32, u64) {
+        match self {
+            Order::Register => (1, 0),
+            Order::Pay(amount) => (2, amount),
+            Order::Reverse(place) => (3, place),
+            Order::CloseDay => (4, 0),
+            Order::Cancel => (5, 0),
+        }
+    }
 }
 
 /// Why a payment or a reversal is unclear: ask the terminal's journal, and book nothing by guess.
@@ -357,6 +378,20 @@ impl Till {
         }
     }
 
+    /// The till of a journal's records, which are the file up to its first empty line. Its line is down.
+    pub fn recover(password: u32, config: u8, currency: u16, text: &[u8]) -> Result<Till, NoTill> {
+        let mut till = Till::new(password, config, currency).map_err(NoTill::Refused)?;
+        let mut answer = Answer::default();
+        unsafe { zvt_till_recover(&mut till.handle, text.as_ptr(), text.len(), &mut answer) };
+        match (answer.status, answer.reason) {
+            (0, _) => Ok(till),
+            (REFUSED, 1) => Err(NoTill::Opening),
+            (REFUSED, 2) => Err(NoTill::Line(answer.place)),
+            (REFUSED, 3) => Err(NoTill::Record(answer.place)),
+            (status, _) => Err(NoTill::Refused(Refused::of(status))),
+        }
+    }
+
     /// A line to the terminal is up.
     pub fn connected(&mut self) -> Result<(), Refused> {
         checked(unsafe { zvt_till_connected(&mut self.handle) })
@@ -371,13 +406,7 @@ impl Till {
 
     /// The bytes to send to the terminal. Save before they go out.
     pub fn order(&mut self, order: Order) -> Result<Vec<u8>, Refused> {
-        let (kind, number) = match order {
-            Order::Register => (1, 0),
-            Order::Pay(amount) => (2, amount),
-            Order::Reverse(place) => (3, place),
-            Order::CloseDay => (4, 0),
-            Order::Cancel => (5, 0),
-        };
+        let (kind, number) = order.numbers();
         let (mut out, mut step) = ([0; ROOM], Step::default());
         checked(unsafe { zvt_till_order(&mut self.handle, kind, number, out.as_mut_ptr(), ROOM, &mut step) })?;
         Ok(out[..step.send].to_vec())
@@ -446,12 +475,71 @@ impl Till {
     }
 }
 
+/// Why a text makes no till.
+#[derive(Clone, Copy, Debug, PartialEq, Eq)]
+pub enum NoTill {
+    /// The first line is not that of a till with this currency.
+    Opening,
+    /// This line, from 1, is none of a journal.
+    Line(usize),
+    /// No such till can have lived through this record, from 1 behind the opening, after those before it.
+    Record(usize),
+    Refused(Refused),
+}
+
+/// The text that a call writes into a room and tells the size of.
+fn record(write: impl Fn(*mut u8, usize, *mut Answer)) -> Result<Vec<u8>, Refused> {
+    let (mut room, mut answer) = (vec![0; 128], Answer::default());
+    write(room.as_mut_ptr(), room.len(), &mut answer);
+    checked(answer.status)?;
+    room.truncate(answer.size);
+    Ok(room)
+}
+
+/// The first record of a journal.
+pub fn record_opening(currency: u16) -> Result<Vec<u8>, Refused> {
+    // SAFETY: here and below the room is lent for the call, and the declaration fits zvt.h.
+    record(|room, length, answer| unsafe { zvt_record_opening(currency, room, length, answer) })
+}
+
+/// The record of an order, with the bytes that [`Till::order`] gave: durable before they are sent.
+pub fn record_order(order: Order, sent: &[u8]) -> Result<Vec<u8>, Refused> {
+    let (kind, number) = order.numbers();
+    record(|room, length, answer| unsafe {
+        zvt_record_order(kind, number, sent.as_ptr(), sent.len(), room, length, answer)
+    })
+}
+
+/// The record of a lost line: durable before [`Till::connected`].
+pub fn record_lost() -> Result<Vec<u8>, Refused> {
+    record(|room, length, answer| unsafe { zvt_record_lost(room, length, answer) })
+}
+
+/// The record of the message that stands first, and the message's size: durable before the till is fed those bytes.
+pub fn record_heard(bytes: &[u8]) -> Result<(Vec<u8>, usize), NoText> {
+    let (mut room, mut answer) = (vec![0; RECORD_ROOM], Answer::default());
+    // SAFETY: both slices are lent for the call and apart, and the declaration fits zvt.h.
+    let size = unsafe { zvt_record_heard(bytes.as_ptr(), bytes.len(), room.as_mut_ptr(), room.len(), &mut answer) };
+    no_text(&answer)?;
+    room.truncate(size);
+    Ok((room, answer.size))
+}
+
 /// Why no text is written: more bytes are needed, no message can follow the byte at a place, or memory is wanted.
 #[derive(Clone, Copy, Debug, PartialEq, Eq)]
 pub enum NoText {
     More,
     RefusedAt { place: usize, reason: u32 },
     Memory,
+}
+
+fn no_text(answer: &Answer) -> Result<(), NoText> {
+    match answer.status {
+        0 => Ok(()),
+        1 => Err(NoText::More),
+        REFUSED => Err(NoText::RefusedAt { place: answer.place, reason: answer.reason }),
+        _ => Err(NoText::Memory),
+    }
 }
 
 /// The text of the message that stands first, and its size in bytes.
@@ -461,12 +549,7 @@ pub fn text(bytes: &[u8]) -> Result<(String, usize), NoText> {
         let mut answer = Answer::default();
         // SAFETY: both slices are lent for the call and apart, and the declaration fits zvt.h.
         let size = unsafe { zvt_text(bytes.as_ptr(), bytes.len(), room.as_mut_ptr(), room.len(), &mut answer) };
-        match answer.status {
-            0 => {}
-            1 => return Err(NoText::More),
-            REFUSED => return Err(NoText::RefusedAt { place: answer.place, reason: answer.reason }),
-            _ => return Err(NoText::Memory),
-        }
+        no_text(&answer)?;
         if size <= room.len() {
             room.truncate(size);
             return Ok((String::from_utf8_lossy(&room).into_owned(), answer.size));

@@ -6,6 +6,8 @@ pub mod Names
 pub mod Numbers
 pub mod Ordering
 pub mod Owned
+pub mod Records
+pub mod Recovering
 pub mod Saving
 pub mod States
 pub mod Texts

@@ -8,6 +8,8 @@ mod names;
 mod numbers;
 mod raw_box;
 mod raw_handle;
+mod records;
+mod recovery;
 mod session;
 mod snapshot;
 mod stream;

@@ -1,0 +1,30 @@
+-- What is recovered of a journal.
+use Rattle.std.specs.Prelude.{◌≡◌, ℕ, List, Option, Some, None, Ok, Err}
+use Rattle.zvt_stream.specs.StreamState.{at_start}
+use Rattle.zvt_kept.specs.Recovery.{Recovers}
+use Rattle.zvt_kept.specs.declared.recovery.RecoveryError.{RecoveryError}
+use Rattle.zvt_kept.specs.declared.recovery.RecoveryError.TheVariants.{Opening, Line, Record, Memory}
+use Rattle.zvt_c.specs.declared.answer.ZvtAnswer.{ZvtAnswer}
+use Rattle.zvt_c.specs.declared.session.Session.{Session}
+use Rattle.zvt_c.specs.Saving.{bare}
+
+-- bytes that are no journal of this till, for a reason, and the line or the record that is wrong
+abbrev pub wrong_at : (reason place : ℕ) → ZvtAnswer
+wrong_at reason place = record { size = 0; place = place; reason = reason; status = 2 }
+
+-- why there is no till
+abbrev pub refused_as : RecoveryError → ZvtAnswer
+refused_as Opening = wrong_at 1 1
+refused_as (Line number) = wrong_at 2 number
+refused_as (Record number) = wrong_at 3 number
+refused_as Memory = bare 3
+
+-- The till is that of the records, with the settings that it had, and its stream is at the start of a line. Or nothing changes.
+pub data RecoversEnd (before : Session) (text : List ℕ) (after : Session) (answer : ZvtAnswer) : Type 0 where
+  recovered : Recovers before.till.state.settings text (Ok after.till) → after.stream ≡ at_start → answer ≡ bare 0 → RecoversEnd before text after answer
+  refused : (why : RecoveryError) → Recovers before.till.state.settings text (Err why) → after ≡ before → answer ≡ refused_as why → RecoversEnd before text after answer
+
+-- The till of a handle is recovered. Where the handle is closed nothing changes.
+abbrev pub RecoversHandle : Option Session → (text : List ℕ) → Option Session → ZvtAnswer → Type 0
+RecoversHandle None text after answer = (after ≡ None) × (answer ≡ bare 6)
+RecoversHandle (Some before) text after answer = (end : Session) × (after ≡ Some end) × RecoversEnd before text end answer

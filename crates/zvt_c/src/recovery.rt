@@ -1,0 +1,75 @@
+//! The till of a journal.
+ghost use Rattle.std.specs.Prelude.{◌≡◌};
+ghost use Rattle.zvt_till.specs.Settings.{settings_of};
+ghost use Rattle.zvt_c.specs.Recovering.{RecoversEnd, RecoversHandle, refused_as};
+
+use crate::answer::{ZvtAnswer, bare};
+use crate::handle::ZvtTill;
+use crate::session::Session;
+use std::alloc::Global;
+use zvt_kept::{RecoveryError, recover};
+use zvt_stream::Stream;
+use zvt_till::{Till, TillSettings};
+
+/// Makes the handle's till that of a journal's records, with the settings that it has: its line is down, and no order runs.
+/// The status is 0; or 2, 3 or 6, and then nothing changes. With 2 the reason says what is wrong. It is 1 for a first line of
+/// another currency, 2 for the line at `place`, and 3 for the record at `place`, which can't follow from those before it.
+#[unsafe(no_mangle)]
+pub extern "C" fn zvt_till_recover(
+    alloc: Global,
+    till: &mut ZvtTill,
+    text: &[u8],
+    answer: &mut ZvtAnswer,
+)
+    ensures { RecoversHandle till.old.raw_handle.held text.now till.new.raw_handle.held answer.new }
+{
+    let Some(mut end) = till.take(alloc) else {
+        *answer = bare(6);
+        return;
+    };
+    *answer = recover_end(alloc, &mut end, text);
+    *till = ZvtTill::of(end);
+}
+
+/// Makes the till of a handle that of a journal's records.
+fn recover_end(alloc: Global, end: &mut Session, text: &[u8]) -> ZvtAnswer
+    ensures { RecoversEnd end.old text.now end.new result }
+{
+    match recover(alloc, &settings(&end.till), text) {
+        Ok(till) => {
+            end.till = till;
+            end.stream = Stream::new(alloc);
+            bare(0)
+        }
+        Err(why) => unrecovered(why),
+    }
+}
+
+/// What a till is set to.
+fn settings(till: &Till) -> TillSettings
+    ensures { settings_of result ≡ till.now.state.settings }
+{
+    TillSettings {
+        password: till.password(),
+        config: till.config(),
+        currency: till.currency(),
+    }
+}
+
+/// Why there is no till, in numbers.
+fn unrecovered(why: RecoveryError) -> ZvtAnswer
+    ensures { result ≡ refused_as why }
+{
+    let (reason, place) = match why {
+        RecoveryError::Opening => (1, 1),
+        RecoveryError::Line { number } => (2, number),
+        RecoveryError::Record { number } => (3, number),
+        RecoveryError::Memory => return bare(3),
+    };
+    ZvtAnswer {
+        size: 0,
+        place,
+        reason,
+        status: 2,
+    }
+}
