@@ -172,7 +172,9 @@ class Trial:
         mark.unlink(missing_ok=True)
         environment = {"LD_PRELOAD": str(self.work / "refuse.so"), "REFUSED_MARK": str(mark)}
         environment.update({name: str(value) for name, value in settings.items()})
-        words = [word.replace("{}", str(self.work / f"{tag}.trace")) for word in words]
+        trace = self.work / f"{tag}.trace"
+        trace.unlink(missing_ok=True)
+        words = [word.replace("{}", str(trace)) for word in words]
         pipe = subprocess.PIPE
         return subprocess.Popen([program, *words], stdin=pipe, stdout=pipe, stderr=pipe, env=environment), mark
 

@@ -5,9 +5,10 @@
 //! called so, and 5 where memory was wanted for the words or for what a run is made of.
 //!
 //! Under `time-replay N`, `time-orders N` and `time-scan N` it spends time in them instead, for bench/payments and
-//! bench/scan.
+//! bench/scan; under `time-kept N FILE` it keeps the book of N payments in a file, for bench/journal.
 #![tactic(auto)]
 
+mod kept;
 mod ordering;
 mod paying;
 mod reading;
@@ -42,14 +43,31 @@ fn make_runs(rt: &HostRuntime) -> io::Result<u8> {
         timed::run(rt, Work::Orders, 100)?;
         return Ok(status);
     };
+    if name.as_str() == "time-kept" {
+        return time_kept(rt, words.next(), words.next());
+    }
     let Some(work) = work_of(name.as_str()) else {
         return check(rt, name.as_str());
     };
-    let times = match words.next() {
+    timed::run(rt, work, times_of(words.next()))?;
+    Ok(0)
+}
+
+/// How often something is to be done by this word.
+fn times_of(word: Option<String>) -> u32 {
+    match word {
         Some(number) => number.parse::<u32>().unwrap_or(100),
         None => 100,
+    }
+}
+
+/// Takes so many payments with a book in this file, and answers the exit status.
+fn time_kept(rt: &HostRuntime, times: Option<String>, path: Option<String>) -> io::Result<u8> {
+    let Some(path) = path else {
+        eprintln!(rt; "harness: time-kept needs a number and a file")?;
+        return Ok(2);
     };
-    timed::run(rt, work, times)?;
+    kept::run(rt, path.as_str(), times_of(times))?;
     Ok(0)
 }
 

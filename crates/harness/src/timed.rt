@@ -15,10 +15,10 @@ use zvt_till::{Event, Order, RunFault, Till, replay, run_order};
 const MOST: u32 = 10_000;
 
 /// What the terminal answers to a registration: an acknowledgement and the completion.
-const REGISTERED: [u8; 6] = [0x80, 0x00, 0x00, 0x06, 0x0F, 0x00];
+pub const REGISTERED: [u8; 6] = [0x80, 0x00, 0x00, 0x06, 0x0F, 0x00];
 
 /// What the terminal answers to a payment of 1234: an acknowledgement, an approval, and the completion.
-const APPROVED: [u8; 25] = [
+pub const APPROVED: [u8; 25] = [
     0x80, 0x00, 0x00, 0x04, 0x0F, 0x10, 0x27, 0x00, 0x04, 0x00, 0x00, 0x00, 0x00, 0x12, 0x34, 0x0B,
     0x00, 0x00, 0x00, 0x87, 0x00, 0x01, 0x06, 0x0F, 0x00,
 ];
@@ -74,7 +74,7 @@ fn scanned(alloc: Global, times: u32) -> Result<u64, AllocError> {
 }
 
 /// The worked price, in cents.
-fn price() -> Amount {
+pub fn price() -> Amount {
     let Some(price) = Amount::new(1234) else {
         unreachable!()
     };
@@ -82,7 +82,7 @@ fn price() -> Amount {
 }
 
 /// What the terminal answers to a payment under this trace number.
-fn approved(trace: u32) -> [u8; 25]
+pub fn approved(trace: u32) -> [u8; 25]
     requires { trace ≤ 10000 }
 {
     let mut bytes = APPROVED;
