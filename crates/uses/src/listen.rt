@@ -15,12 +15,14 @@ struct Counts {
     terminal: u64,
 }
 
+/// It never fails.
 impl Listener<()> for Counts {
-    ghost use Rattle.std.specs.Prelude.{⊤};
+    ghost use Rattle.std.specs.Prelude.{◌≡◌};
+    ghost use Rattle.uses.specs.Counting.{counted};
 
-    ghost hears = { λ _ _ _. ⊤ };
+    ghost hears = { λ old at new. new.0 ≡ counted old.0 at.trace_event };
 
-    ghost fails = { λ _ _ _ _. ⊤ };
+    ghost fails = { λ _ _ _ _. ⊥ };
 
     fn hear(
         &mut self,
@@ -29,11 +31,10 @@ impl Listener<()> for Counts {
         trace_event: &TraceEvent<'_>,
     ) -> Result<(), ListenerError> {
         if let TraceEvent::Message { from, .. } = trace_event {
-            let count = match from {
-                Direction::FromTill => &mut self.till,
-                Direction::FromTerminal => &mut self.terminal,
-            };
-            *count = count.saturating_add(1);
+            match from {
+                Direction::FromTill => self.till = self.till.saturating_add(1),
+                Direction::FromTerminal => self.terminal = self.terminal.saturating_add(1),
+            }
         }
         Ok(())
     }
