@@ -1,5 +1,8 @@
 -- The exit statuses of the program.
 use Rattle.std.specs.Prelude.{ℕ, zero, suc, Result, Ok, Err}
+use Rattle.std.specs.IoError.{error_kind}
+use Rattle.std.specs.declared.io.ErrorKind.{ErrorKind}
+use Rattle.std.specs.declared.io.ErrorKind.TheVariants.{OutOfMemory}
 use Rattle.zvt_stream.specs.declared.line.LineFault.{LineFault}
 use Rattle.zvt_stream.specs.declared.line.LineFault.TheVariants.{Read as ReadBroke, Write as WriteBroke, Ended, Turns, Malformed, Memory as NoMemory, Stopped}
 use Rattle.zvt_trace.specs.declared.fault.Tally.{Tally}
@@ -47,6 +50,11 @@ status_of_end_fault (at_end.Line fault) = status_of_line fault
 status_of_end_fault at_end.Write = 4
 status_of_end_fault at_end.Memory = 5
 
+-- a call on a file that failed is 4, one that wanted memory 5
+abbrev pub status_of_call : ErrorKind → ℕ
+status_of_call OutOfMemory = 5
+status_of_call _ = 4
+
 -- a file that is no journal is 3, one that can't be had 4, out of memory 5
 abbrev pub status_of_file_error : JournalFileError → ℕ
 status_of_file_error on_file.InUse = 4
@@ -54,8 +62,8 @@ status_of_file_error on_file.Folder = 4
 status_of_file_error on_file.NotAFile = 4
 status_of_file_error on_file.NotAJournal = 3
 status_of_file_error (on_file.TooMuchAfter bytes) = 3
-status_of_file_error (on_file.CutNotKept error) = 4
-status_of_file_error (on_file.Io error) = 4
+status_of_file_error (on_file.CutNotKept error) = status_of_call (error_kind error)
+status_of_file_error (on_file.Io error) = status_of_call (error_kind error)
 status_of_file_error on_file.Memory = 5
 
 -- records that are no till's are 3, out of memory 5

@@ -1,8 +1,10 @@
 //! The exit statuses.
 ghost use Rattle.std.specs.Prelude.{◌≡◌};
+ghost use Rattle.std.specs.IoError.{error_kind};
 ghost use Rattle.zvt.specs.OnTrace.{tally_of};
-ghost use Rattle.zvt.specs.Statuses.{status_of_bad, status_of_device, status_of_file_error, status_of_recovery, status_of_end_fault, status_of_run, status_of_tally, status_of_trace_fault};
+ghost use Rattle.zvt.specs.Statuses.{status_of_bad, status_of_call, status_of_device, status_of_file_error, status_of_recovery, status_of_end_fault, status_of_run, status_of_tally, status_of_trace_fault};
 
+use std::io::{self, ErrorKind};
 use zvt_stream::LineFault;
 use zvt_tool::{AuditSummary, DeviceError, EndFault, JournalFileError, RecoveryError, TraceFault};
 
@@ -80,12 +82,19 @@ pub fn of_file_error(error: &JournalFileError) -> u8
 {
     match error {
         JournalFileError::NotAJournal | JournalFileError::TooMuchAfter { .. } => TRACE,
-        JournalFileError::InUse
-        | JournalFileError::Folder
-        | JournalFileError::NotAFile
-        | JournalFileError::CutNotKept(_)
-        | JournalFileError::Io(_) => DEVICE,
+        JournalFileError::InUse | JournalFileError::Folder | JournalFileError::NotAFile => DEVICE,
+        JournalFileError::CutNotKept(error) | JournalFileError::Io(error) => of_call(error),
         JournalFileError::Memory => MEMORY,
+    }
+}
+
+/// The status of a call on a file that failed.
+fn of_call(error: &io::Error) -> u8
+    ensures { result ≡ status_of_call (error_kind error.now) }
+{
+    match error.kind() {
+        ErrorKind::OutOfMemory => MEMORY,
+        _ => DEVICE,
     }
 }
 
