@@ -104,20 +104,25 @@ ssize_t send(int file, const void *bytes, size_t size, int flags) {
 """
 
 
-def main():
+def run_with(name, source, programs, trial):
+    """Builds the library that refuses, and runs a trial with it. Answers the status: without gcc nothing is tried."""
     compiler = shutil.which("gcc")
     if compiler is None:
-        print("fault_injection: gcc is missing, which builds the library that refuses: nothing was tried", file=sys.stderr)
+        print(f"{name}: gcc is missing, which builds the library that refuses: nothing was tried", file=sys.stderr)
         return 0
-    for program in (ZVT, CALLS):
+    for program in programs:
         if not os.access(program, os.X_OK):
-            print(f"fault_injection: no program at {program}: build it by 'rt run' in its crate, or by 'rt ci'", file=sys.stderr)
+            print(f"{name}: no program at {program}: build it by 'rt run' in its crate, or by 'rt ci'", file=sys.stderr)
             return 2
     with tempfile.TemporaryDirectory() as folder:
         work = pathlib.Path(folder)
-        (work / "refuse.c").write_text(LIBRARY)
+        (work / "refuse.c").write_text(source)
         subprocess.run([compiler, "-O1", "-shared", "-fPIC", "-o", work / "refuse.so", work / "refuse.c"], check=True)
-        return Trial(work).run()
+        return trial(work).run()
+
+
+def main():
+    return run_with("fault_injection", LIBRARY, (ZVT, CALLS), Trial)
 
 
 class Trial:

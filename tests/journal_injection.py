@@ -9,13 +9,10 @@ unclear. Then a whole run goes over the same book. Writes of one byte at a time 
 journal_injection.py [PROGRAM]: without a word the program of `rt ci`. It takes half a minute, and needs gcc, else nothing is
 tried. The status is 1 where anything differs.
 """
-import os
 import pathlib
 import re
-import shutil
 import subprocess
 import sys
-import tempfile
 
 import fault_injection
 import journal_dialogues
@@ -184,18 +181,7 @@ class Trial(fault_injection.Trial):
 
 
 def main():
-    compiler = shutil.which("gcc")
-    if compiler is None:
-        print("journal_injection: gcc is missing, which builds the library that refuses: nothing was tried", file=sys.stderr)
-        return 0
-    if not os.access(ZVT, os.X_OK):
-        print(f"journal_injection: no program at {ZVT}: build it by 'rt run' in crates/zvt, or by 'rt ci'", file=sys.stderr)
-        return 2
-    with tempfile.TemporaryDirectory() as folder:
-        work = pathlib.Path(folder)
-        (work / "refuse.c").write_text(LIBRARY)
-        subprocess.run([compiler, "-O1", "-shared", "-fPIC", "-o", work / "refuse.so", work / "refuse.c"], check=True)
-        return Trial(work).run()
+    return fault_injection.run_with("journal_injection", LIBRARY, (ZVT,), Trial)
 
 
 if __name__ == "__main__":
