@@ -11,8 +11,10 @@ _zvt() {
         esac
     done
     case $command in
-    show | audit | receipts) options='--loose' ;;
-    join | normalise | vectors | book) ;;
+    show | receipts) options='--loose --json --follow' ;;
+    join) options='--follow' ;;
+    audit) options='--loose --check --json --follow' ;;
+    normalise | vectors | book) ;;
     loop) options='--trace --book' steps='register pay: decline: reverse: close' ;;
     till) options='--port --host --password --config --currency --trace --book --loose' steps='register pay: reverse: close' ;;
     terminal) options='--port --host --tid --connections --decline --trace --loose' ;;

@@ -13,14 +13,29 @@ _zvt() {
     local -a help
     help=('(- *)'{-h,--help}'[print help]')
     case $words[1] in
-    show|audit|receipts)
+    show|receipts)
         _arguments $help \
             '--loose[also read lengths in longer forms than they need]' \
-            '1:trace:_files'
+            '--json[write JSON, one object a line]' \
+            '--follow[read a trace as it comes]' \
+            '*:trace:_files'
         ;;
-    join|normalise|vectors)
+    join)
         _arguments $help \
-            '1:trace:_files'
+            '--follow[read a trace as it comes]' \
+            '*:trace:_files'
+        ;;
+    audit)
+        _arguments $help \
+            '--loose[also read lengths in longer forms than they need]' \
+            '--check[end with status 1 where a payment is unclear]' \
+            '--json[write JSON, one object a line]' \
+            '--follow[read a trace as it comes]' \
+            '*:trace:_files'
+        ;;
+    normalise|vectors)
+        _arguments $help \
+            '*:trace:_files'
         ;;
     book)
         _arguments $help \

@@ -41,7 +41,7 @@ refuses() { # NAME STATUS WORDS ARGUMENT..
 listening() { # ARGUMENT..
     "$zvt" terminal --port 0 "$@" > /dev/null 2> "$work/says" &
     terminal=$!
-    for attempt in 1 2 3 4 5 6 7 8 9 10; do
+    for attempt in $(seq 100); do
         grep -q listens "$work/says" && break
         sleep 0.1
     done
@@ -56,7 +56,9 @@ for command in show join normalise audit receipts; do
 done
 echo '> 8' > "$work/half.trace"
 refuses "a line that is none" 3 "zvt: '$work/half.trace': line 1 of the trace: " audit "$work/half.trace"
-refuses "two files" 2 "'two'" show one two
+refuses "two books" 2 "'two'" book one two
+refuses "two files that are followed" 2 "zvt: '--follow' takes one FILE" show --follow one two
+refuses "the second of two files that are not there" 4 "zvt: 'two': cannot open the trace: " show one two
 refuses "a word that is no text" 2 "zvt: an argument is not valid UTF-8" show "$(printf '\377')"
 "$zvt" show < "$work" > "$work/out" 2> "$work/err"
 check "standard input that is a directory" "$?" 4 "" "zvt: the trace can't be read to its end"

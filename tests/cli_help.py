@@ -19,7 +19,7 @@ TILL, TERMINAL = ["till", "--port", "1"], ["terminal", "--port", "1"]
 REFUSED = [
     ("pay", f"error: unrecognized subcommand 'pay'\n\n{USAGE}\n"),
     ("receipt", f"error: unrecognized subcommand 'receipt'\n\n  tip: a similar subcommand exists: 'receipts'\n\n{USAGE}\n"),
-    ("show x y", "error: unexpected argument 'y' found\n\nUsage: zvt show [OPTIONS] [FILE]\n"),
+    ("show --check x y", "error: unexpected argument '--check' found\n"),
     ("--port 1", "error: unexpected argument '--port' found\n"),
     ("join --loose", "error: unexpected argument '--loose' found\n"),
     ("book", "error: the following required arguments were not provided:\n  <FILE>\n"),

@@ -38,70 +38,8 @@ close -> day closed
 total 1023
 """
 
-# Stands between the program and the C library. Standard error is left alone.
-LIBRARY = r"""
-#define _GNU_SOURCE
-#include <errno.h>
-#include <fcntl.h>
-#include <stdlib.h>
-#include <sys/socket.h>
-#include <sys/syscall.h>
-#include <unistd.h>
-
-extern void *__libc_malloc(size_t);
-extern void *__libc_calloc(size_t, size_t);
-extern void *__libc_realloc(void *, size_t);
-extern void *__libc_memalign(size_t, size_t);
-
-static long requests, reads, writes;
-
-static long number(const char *name) {
-    const char *text = getenv(name);
-    return text ? atol(text) : 0;
-}
-
-/* whether this is the call to refuse, with this error; it leaves a mark then */
-static int refuses(long *count, const char *name, int error) {
-    long at = number(name);
-    if (at == 0 || ++*count != at) return 0;
-    int mark = open(getenv("REFUSED_MARK"), O_CREAT | O_WRONLY, 0600);
-    if (mark >= 0) close(mark);
-    errno = error;
-    return 1;
-}
-
-static int is_refused(void) { return refuses(&requests, "REFUSED_REQUEST", ENOMEM); }
-void *malloc(size_t size) { return is_refused() ? NULL : __libc_malloc(size); }
-void *calloc(size_t count, size_t size) { return is_refused() ? NULL : __libc_calloc(count, size); }
-void *realloc(void *block, size_t size) { return is_refused() ? NULL : __libc_realloc(block, size); }
-void *memalign(size_t to, size_t size) { return is_refused() ? NULL : __libc_memalign(to, size); }
-void *aligned_alloc(size_t to, size_t size) { return memalign(to, size); }
-int posix_memalign(void **block, size_t to, size_t size) {
-    void *made = memalign(to, size);
-    if (!made) return ENOMEM;
-    *block = made;
-    return 0;
-}
-
-ssize_t read(int file, void *bytes, size_t size) {
-    if (refuses(&reads, "FAILED_READ", EIO)) return -1;
-    return syscall(SYS_read, file, bytes, size);
-}
-ssize_t recv(int file, void *bytes, size_t size, int flags) {
-    if (refuses(&reads, "FAILED_READ", EIO)) return -1;
-    return syscall(SYS_recvfrom, file, bytes, size, flags, NULL, NULL);
-}
-ssize_t write(int file, const void *bytes, size_t size) {
-    if (file != 2 && refuses(&writes, "FAILED_WRITE", ENOSPC)) return -1;
-    if (file != 2 && size > 1 && number("WRITES_OF_ONE")) size = 1;
-    return syscall(SYS_write, file, bytes, size);
-}
-ssize_t send(int file, const void *bytes, size_t size, int flags) {
-    if (refuses(&writes, "FAILED_WRITE", ECONNRESET)) return -1;
-    if (size > 1 && number("WRITES_OF_ONE")) size = 1;
-    return syscall(SYS_sendto, file, bytes, size, flags, NULL, 0);
-}
-"""
+# Stands between the program and the C library.
+LIBRARY = (HERE / "refusing.c").read_text()
 
 
 def run_with(name, source, programs, trial):
@@ -135,6 +73,7 @@ class Trial:
         for name, (words, given) in self.commands().items():
             self.refuses_each(name, words, given)
             self.fails_each(name, words, given)
+        self.refuses_several()
         self.fails_outside()
         for end in ("till", "terminal"):
             self.fails_each_of(end)
@@ -167,6 +106,8 @@ class Trial:
         vectors = b"".join((HERE.parent / "examples/vectors.txt").read_bytes().splitlines(True)[:100])
         listed["vectors"] = (["vectors"], vectors + b"80 00 00 = more\n")
         listed["show of a file"] = (["show", str(self.work / "small.trace")], b"")
+        for words in ("show --json", "show --follow", "join --follow", "receipts --json --loose", "audit --json --check", "audit --follow"):
+            listed[words] = (words.split(), self.traces["small"])
         listed["help"] = (["--help"], b"")
         listed["a wrong word"] = (["loop", "--port", "1"], b"")
         return listed
@@ -245,6 +186,20 @@ class Trial:
         ended = self.end_of(words, given, "one", WRITES_OF_ONE=1)
         if ended != (status, full, full_errors, False):
             self.differs(f"{name}, a byte at a time", ended)
+
+    def refuses_several(self):
+        """With several files a request that is refused ends one of them; the others are done, and the status is 5."""
+        small = str(self.work / "small.trace")
+        for words in (["audit", small, small], ["audit", "--json", small, small], ["show", "--json", small, small]):
+            status, full, full_errors, _ = self.end_of(words, b"", "plain")
+
+            def look(at, words=words, whole=(status, full, full_errors), **setting):
+                ended, text, errors, refused = self.end_of(words, b"", f"{at}", **setting)
+                if refused and (ended, text, errors) != whole and (ended != 5 or not errors.endswith(b"\n")):
+                    self.differs(f"{words}, request {at}", ended, errors)
+                return refused
+
+            self.each(f"{' '.join(words[:-2])} of two files, each request refused", "REFUSED_REQUEST", look)
 
     def fails_outside(self):
         """Standard output that is full, that is limited, or whose reader has gone."""

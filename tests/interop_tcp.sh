@@ -33,7 +33,7 @@ check() { # NAME STATUS TEXT EXPECTED_STATUS EXPECTED_TEXT
 till() { # PORT STEP..
     port=$1
     shift
-    for attempt in 1 2 3 4 5 6 7 8 9 10 11 12 13 14 15 16 17 18 19 20; do
+    for attempt in $(seq 80); do
         text=$("$zvt" till --port "$port" "$@" 2> "$work/till.$port")
         status=$?
         if [ "$status" != 4 ] || [ -n "$text" ]; then
@@ -141,7 +141,7 @@ wait "$served"
 # A terminal at a port that it finds itself, and the traces that both ends write: their books are the till's.
 "$zvt" terminal --port 0 --trace "$work/terminal.trace" 2> "$work/says" &
 served=$!
-for attempt in 1 2 3 4 5 6 7 8 9 10; do
+for attempt in $(seq 40); do
     grep -q listens "$work/says" && break
     sleep 0.25
 done
@@ -164,7 +164,7 @@ done
 # not end the service of the next, but its fault is the program's.
 "$zvt" terminal --port 0 --connections 4 --trace "$work/four.trace" 2> "$work/says" &
 served=$!
-for attempt in 1 2 3 4 5 6 7 8 9 10; do
+for attempt in $(seq 40); do
     grep -q listens "$work/says" && break
     sleep 0.25
 done

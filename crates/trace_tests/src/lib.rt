@@ -5,6 +5,10 @@
 #[cfg(test)]
 mod devices;
 #[cfg(test)]
+mod followed;
+#[cfg(test)]
+mod json_lines;
+#[cfg(test)]
 mod recorded_runs;
 #[cfg(test)]
 mod reported_runs;

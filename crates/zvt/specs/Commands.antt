@@ -2,11 +2,16 @@
 use Rattle.std.specs.Prelude.{◌≤◌, Bool, true, false, Option, Some, None}
 use Rattle.zvt_cli.specs.declared.choice.Choice.{Choice}
 use Rattle.zvt_cli.specs.declared.choice.Choice.TheVariants as choice
+use Rattle.zvt_cli.specs.declared.choice.TraceOptions.{TraceOptions}
 use Rattle.zvt_grammar.specs.declared.lengths.Lengths.{Lengths}
 use Rattle.zvt_grammar.specs.declared.lengths.Lengths.TheVariants.{Shortest, Padded}
-use Rattle.zvt_show.specs.declared.render.Style.TheVariants.{Show, Join, Receipts}
+use Rattle.zvt_show.specs.declared.render.Style.{Style}
+use Rattle.zvt_show.specs.declared.render.Style.TheVariants.{Show, Join, Receipts, Json, JsonReceipts}
+use Rattle.zvt_audit.specs.declared.form.Form.{Form}
+use Rattle.zvt_audit.specs.declared.form.Form.TheVariants.{Text}
+use Rattle.zvt_audit.specs.declared.form.Form.TheVariants as form
 use Rattle.zvt.specs.declared.command.Command.{Command}
-use Rattle.zvt.specs.declared.command.Command.TheVariants.{OnTrace, Book, Loop, Till, Terminal}
+use Rattle.zvt.specs.declared.command.Command.TheVariants.{OnTraces, Book, Loop, Till, Terminal}
 use Rattle.zvt.specs.declared.command.TraceCommand.{TraceCommand}
 use Rattle.zvt.specs.declared.command.TraceWork.{TraceWork}
 use Rattle.zvt.specs.declared.command.TraceWork.TheVariants.{Render, Audit, Vectors}
@@ -15,24 +20,43 @@ abbrev pub lengths_by : (loose : Bool) → Lengths
 lengths_by false = Shortest
 lengths_by true = Padded
 
-abbrev pub working : TraceWork → Lengths → Option TraceCommand
-working work lengths = Some (record { work = work; lengths = lengths })
+abbrev pub style_by : (plain objects : Style) → (is_json : Bool) → Style
+style_by plain objects false = plain
+style_by plain objects true = objects
 
--- what is written of a trace, and by which lengths, if the choice is a command on one; `normalise` joins what it reads loosely
+abbrev pub form_by : (is_json : Bool) → Form
+form_by false = Text
+form_by true = form.Json
+
+-- each line that is written is a JSON object
+abbrev pub is_json : TraceWork → Bool
+is_json (Render Show) = false
+is_json (Render Join) = false
+is_json (Render Receipts) = false
+is_json (Render Json) = true
+is_json (Render JsonReceipts) = true
+is_json (Audit Text) = false
+is_json (Audit form.Json) = true
+is_json Vectors = false
+
+abbrev pub working : TraceWork → Lengths → TraceOptions → Option TraceCommand
+working work lengths options = Some (record { work = work; lengths = lengths; check = options.check; follow = options.follow })
+
+-- what is written of traces, and by which lengths, if the choice is a command on them; `normalise` joins what it reads loosely
 abbrev pub chosen_on_trace : Choice → Option TraceCommand
-chosen_on_trace (choice.Show file loose) = working (Render Show) (lengths_by loose)
-chosen_on_trace (choice.Join file) = working (Render Join) Shortest
-chosen_on_trace (choice.Normalise file) = working (Render Join) Padded
-chosen_on_trace (choice.Audit file loose) = working Audit (lengths_by loose)
-chosen_on_trace (choice.Receipts file loose) = working (Render Receipts) (lengths_by loose)
-chosen_on_trace (choice.Vectors file) = working Vectors Shortest
+chosen_on_trace (choice.Show options) = working (Render (style_by Show Json options.json)) (lengths_by options.loose) options
+chosen_on_trace (choice.Join options) = working (Render Join) Shortest options
+chosen_on_trace (choice.Normalise options) = working (Render Join) Padded options
+chosen_on_trace (choice.Audit options) = working (Audit (form_by options.json)) (lengths_by options.loose) options
+chosen_on_trace (choice.Receipts options) = working (Render (style_by Receipts JsonReceipts options.json)) (lengths_by options.loose) options
+chosen_on_trace (choice.Vectors options) = working Vectors Shortest options
 chosen_on_trace (choice.Book file) = None
 chosen_on_trace (choice.Loop trace book steps) = None
 chosen_on_trace (choice.Till options) = None
 chosen_on_trace (choice.Terminal options) = None
 
 abbrev pub on_trace : Command → Option TraceCommand
-on_trace (OnTrace command file) = Some command
+on_trace (OnTraces command files) = Some command
 on_trace (Book file) = None
 on_trace (Loop options) = None
 on_trace (Till options) = None
@@ -40,7 +64,7 @@ on_trace (Terminal options) = None
 
 -- a terminal's number has eight digits at most
 abbrev pub HasTerminalNumber : Command → Type 0
-HasTerminalNumber (OnTrace command file) = Unit {0}
+HasTerminalNumber (OnTraces command files) = Unit {0}
 HasTerminalNumber (Book file) = Unit {0}
 HasTerminalNumber (Loop options) = Unit {0}
 HasTerminalNumber (Till options) = Unit {0}

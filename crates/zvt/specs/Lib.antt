@@ -3,3 +3,4 @@ pub mod Commands
 pub mod OnTrace
 pub mod Settings
 pub mod Notes
+pub mod Labels

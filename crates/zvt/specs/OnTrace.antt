@@ -1,15 +1,18 @@
 -- What the commands on a trace answer.
-use Rattle.std.specs.Prelude.{ℕ, List, Option, Result, Ok, Err}
+use Rattle.std.specs.Prelude.{ℕ, List, Option, Result, Ok, Err, IfSome}
+use Rattle.std.specs.Io.KnownBytes.{Consumes}
 use Rattle.std.specs.Str.Lines.{lines}
 use Rattle.zvt_grammar.specs.Reading.{Reading}
 use Rattle.zvt_grammar.specs.Lengths.{reading_of}
 use Rattle.zvt.specs.declared.command.TraceCommand.{TraceCommand}
 use Rattle.zvt.specs.declared.command.TraceWork.{TraceWork}
 use Rattle.zvt.specs.declared.command.TraceWork.TheVariants.{Render, Audit, Vectors}
-use Rattle.zvt_audit.specs.Audited.{AnswersReadBy}
+use Rattle.zvt_audit.specs.Audited.{AnswersFollowed, AnswersReadBy}
 use Rattle.zvt_audit.specs.declared.summary.AuditSummary.{AuditSummary}
 use Rattle.zvt_vectors.specs.Checked.{AnswersVectors}
+use Rattle.zvt_show.specs.Followed.{AnswersFollow}
 use Rattle.zvt_show.specs.Written.{AnswersLinesBy}
+use Rattle.zvt_trace.specs.Chunks.{IsTaken}
 use Rattle.zvt_trace.specs.Journal.{readable}
 use Rattle.zvt_trace.specs.declared.fault.Tally.{Tally}
 use Rattle.zvt_trace.specs.declared.fault.TraceFault.{TraceFault}
@@ -21,9 +24,19 @@ tally_of (Err fault) = Err fault
 -- what is answered and written of a trace by these lengths
 abbrev pub AnswersWork : TraceWork → Reading → (trace : List ℕ) → (old new : Option (List ℕ)) → Result AuditSummary TraceFault → Type 0
 AnswersWork (Render style) r trace old new result = AnswersLinesBy r style (lines (readable trace)) old new (tally_of result)
-AnswersWork Audit r trace old new result = AnswersReadBy r trace old new result
+AnswersWork (Audit form) r trace old new result = AnswersReadBy r form trace old new result
 AnswersWork Vectors r trace old new result = AnswersVectors trace old new (tally_of result)
 
 -- what the command answers for a trace that was read
 abbrev pub AnswersOnTrace : TraceCommand → (trace : List ℕ) → (old new : Option (List ℕ)) → Result AuditSummary TraceFault → Type 0
 AnswersOnTrace command trace old new result = AnswersWork command.work (reading_of command.lengths) trace old new result
+
+-- what is answered and written of a trace that comes, by these lengths; vectors are read whole
+abbrev pub FollowsWork : TraceWork → Reading → (left rest old new : Option (List ℕ)) → Result AuditSummary TraceFault → Type 0
+FollowsWork (Render style) r left rest old new result = (taken : List ℕ) × Consumes left rest taken × AnswersFollow r style taken rest old new (tally_of result)
+FollowsWork (Audit form) r left rest old new result = (taken : List ℕ) × Consumes left rest taken × IsTaken taken × AnswersFollowed r form taken rest old new result
+FollowsWork Vectors r left rest old new result = IfSome left (λ text. AnswersVectors text old new (tally_of result))
+
+-- what the command answers for a trace that comes
+abbrev pub FollowsTrace : TraceCommand → (left rest old new : Option (List ℕ)) → Result AuditSummary TraceFault → Type 0
+FollowsTrace command left rest old new result = FollowsWork command.work (reading_of command.lengths) left rest old new result

@@ -1,11 +1,11 @@
 -- The exit statuses of the program.
-use Rattle.std.specs.Prelude.{ℕ, zero, suc, Result, Ok, Err}
+use Rattle.std.specs.Prelude.{ℕ, zero, suc, ◌+◌, Bool, false, true, Result, Ok, Err}
 use Rattle.std.specs.IoError.{error_kind}
 use Rattle.std.specs.declared.io.ErrorKind.{ErrorKind}
 use Rattle.std.specs.declared.io.ErrorKind.TheVariants.{OutOfMemory}
 use Rattle.zvt_stream.specs.declared.line.LineFault.{LineFault}
 use Rattle.zvt_stream.specs.declared.line.LineFault.TheVariants.{Read as ReadBroke, Write as WriteBroke, Ended, Turns, Malformed, Memory as NoMemory, Stopped}
-use Rattle.zvt_trace.specs.declared.fault.Tally.{Tally}
+use Rattle.zvt_audit.specs.declared.summary.AuditSummary.{AuditSummary}
 use Rattle.zvt_trace.specs.declared.fault.TraceFault.{TraceFault}
 use Rattle.zvt_trace.specs.declared.fault.TraceFault.TheVariants as on_trace
 use Rattle.zvt_session.specs.declared.fault.EndFault.{EndFault}
@@ -79,10 +79,12 @@ status_of_device on_device.Memory = 5
 status_of_device on_device.Failed = 4
 status_of_device on_device.Full = 4
 
--- of a command on a trace
-abbrev pub status_of_tally : Result Tally TraceFault → ℕ
-status_of_tally (Ok tally) = status_of_bad tally.bad
-status_of_tally (Err fault) = status_of_trace_fault fault
+-- of a command on a trace: where it checks that no payment is unclear, one that is counts as bad
+abbrev pub status_of_found : (check : Bool) → Result AuditSummary TraceFault → ℕ
+status_of_found false (Ok found) = status_of_bad found.tally.bad
+status_of_found true (Ok found) = status_of_bad (found.unclear + found.tally.bad)
+status_of_found false (Err fault) = status_of_trace_fault fault
+status_of_found true (Err fault) = status_of_trace_fault fault
 
 -- of a run
 abbrev pub status_of_run : Result Unit EndFault → ℕ

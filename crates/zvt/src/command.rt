@@ -2,27 +2,42 @@
 ghost use Rattle.std.specs.Prelude.{◌≡◌, Option, List};
 ghost use Rattle.clap.specs.Words.{Row, Text};
 ghost use Rattle.zvt_cli.specs.Chosen.{IsChoiceOf};
-ghost use Rattle.zvt.specs.Commands.{HasTerminalNumber, chosen_on_trace, lengths_by, on_trace, working};
+ghost use Rattle.zvt.specs.Commands.{HasTerminalNumber, chosen_on_trace, is_json, lengths_by, on_trace, style_by, working};
 ghost use Rattle.zvt.specs.declared.command.TraceWork.TheVariants.{Render};
 
-use zvt_tool::{Choice, Lengths, Style, TerminalOptions, TillOptions};
+use zvt_tool::{Choice, Form, Lengths, Style, TerminalOptions, TillOptions, TraceOptions};
 
 /// What is written of a trace, or of vectors.
 #[derive(Clone, Copy, Debug, PartialEq, Eq)]
 pub enum TraceWork {
     /// The text of the trace, in this style.
     Render(Style),
-    /// The books of its payments.
-    Audit,
+    /// The books of its payments, in this form.
+    Audit(Form),
     /// The vectors to which the reader of messages gives another answer.
     Vectors,
 }
 
-/// A command on a trace: what it writes, and the lengths that it reads.
+/// A command on traces: what it writes, the lengths that it reads, whether an unclear payment counts as bad, and whether
+/// the trace is written as it comes.
 #[derive(Clone, Copy)]
 pub struct TraceCommand {
     pub work: TraceWork,
     pub lengths: Lengths,
+    pub check: bool,
+    pub follow: bool,
+}
+
+impl TraceCommand {
+    /// Whether each line that is written is a JSON object.
+    pub fn is_json(&self) -> bool
+        ensures { result ≡ is_json self.now.work }
+    {
+        matches!(
+            self.work,
+            TraceWork::Render(Style::Json | Style::JsonReceipts) | TraceWork::Audit(Form::Json)
+        )
+    }
 }
 
 /// A run of both ends in this process: the files of its trace and of its till's book, if they are named, and its steps.
@@ -33,10 +48,10 @@ pub struct LoopOptions<'a> {
     pub steps: &'a [&'a str],
 }
 
-/// A command of the program. A file is named, or none or `-` for standard input.
+/// A command of the program. Of traces the files are named: none, and `-`, for standard input.
 #[derive(Clone, Copy)]
 pub enum Command<'a> {
-    OnTrace(TraceCommand, Option<&'a str>),
+    OnTraces(TraceCommand, &'a [&'a str]),
     /// What a book has, by its file.
     Book(&'a str),
     Loop(LoopOptions<'a>),
@@ -55,20 +70,27 @@ pub fn lengths_by(loose: bool) -> Lengths
     }
 }
 
-/// A command that does this with the trace in that file.
-fn working<'a>(work: TraceWork, lengths: Lengths, file: Option<&'a str>) -> Command<'a>
-    ensures on_trace { on_trace result ≡ working work lengths }
+/// A command that does this with the traces, by those lengths.
+fn working<'a>(work: TraceWork, lengths: Lengths, options: &'a TraceOptions<'a>) -> Command<'a>
+    ensures on_trace { on_trace result ≡ working work lengths options.now }
     ensures number { HasTerminalNumber result }
 {
-    Command::OnTrace(TraceCommand { work, lengths }, file)
+    let command = TraceCommand {
+        work,
+        lengths,
+        check: options.check,
+        follow: options.follow,
+    };
+    Command::OnTraces(command, options.files.as_slice())
 }
 
-/// A command that writes the text of the trace in that file.
-fn rendering<'a>(style: Style, lengths: Lengths, file: Option<&'a str>) -> Command<'a>
-    ensures on_trace { on_trace result ≡ working (Render style) lengths }
+/// A command that writes the text of the traces in one style, or in the other as JSON.
+fn rendering<'a>(text: Style, json: Style, options: &'a TraceOptions<'a>) -> Command<'a>
+    ensures on_trace { on_trace result ≡ working (Render (style_by text json options.now.json)) (lengths_by options.now.loose) options.now }
     ensures number { HasTerminalNumber result }
 {
-    working(TraceWork::Render(style), lengths, file)
+    let style = if options.json { json } else { text };
+    working(TraceWork::Render(style), lengths_by(options.loose), options)
 }
 
 /// The command that was chosen.
@@ -78,12 +100,19 @@ pub fn command_of<'a>(chosen: &'a Choice<'a>) -> Command<'a>
     ensures number { HasTerminalNumber result }
 {
     match chosen {
-        Choice::Show { file, loose } => rendering(Style::Show, lengths_by(*loose), *file),
-        Choice::Join { file } => rendering(Style::Join, Lengths::Shortest, *file),
-        Choice::Normalise { file } => rendering(Style::Join, Lengths::Padded, *file),
-        Choice::Audit { file, loose } => working(TraceWork::Audit, lengths_by(*loose), *file),
-        Choice::Receipts { file, loose } => rendering(Style::Receipts, lengths_by(*loose), *file),
-        Choice::Vectors { file } => working(TraceWork::Vectors, Lengths::Shortest, *file),
+        Choice::Show(options) => rendering(Style::Show, Style::Json, options),
+        Choice::Join(options) => {
+            working(TraceWork::Render(Style::Join), Lengths::Shortest, options)
+        }
+        Choice::Normalise(options) => {
+            working(TraceWork::Render(Style::Join), Lengths::Padded, options)
+        }
+        Choice::Audit(options) => {
+            let form = if options.json { Form::Json } else { Form::Text };
+            working(TraceWork::Audit(form), lengths_by(options.loose), options)
+        }
+        Choice::Receipts(options) => rendering(Style::Receipts, Style::JsonReceipts, options),
+        Choice::Vectors(options) => working(TraceWork::Vectors, Lengths::Shortest, options),
         Choice::Book { file } => Command::Book(file),
         Choice::Loop { trace, book, steps } => Command::Loop(LoopOptions {
             trace: *trace,

@@ -1,23 +1,23 @@
 //! The reports of how a command or a run ended, and the exit statuses.
 ghost use Rattle.std.specs.Prelude.{◌≡◌, IfOk};
-ghost use Rattle.zvt.specs.OnTrace.{tally_of};
-ghost use Rattle.zvt.specs.Statuses.{status_of_end_fault, status_of_run, status_of_tally};
+ghost use Rattle.zvt.specs.Statuses.{status_of_end_fault, status_of_found, status_of_run};
 
 use crate::statuses;
 use std::io;
 use zvt_tool::{AuditSummary, EndFault, ToolFault, TraceFault};
 
-/// The exit status of a command on a trace. A fault is reported, with the file if there is one. Text that was not written
-/// since its reader disconnected is no fault to report.
+/// The exit status of a command on a trace, which may check that no payment is unclear. A fault is reported, with the file
+/// if there is one. Text that was not written since its reader disconnected is no fault to report.
 pub fn finish_trace(
     rt: &HostRuntime,
     file: Option<&str>,
     broken_pipe: bool,
+    check: bool,
     answer: Result<AuditSummary, TraceFault>,
 ) -> io::Result<u8>
-    ensures { IfOk result (λ status. status ≡ status_of_tally (tally_of answer)) }
+    ensures { IfOk result (λ status. status ≡ status_of_found check answer) }
 {
-    let status = statuses::of_found(&answer);
+    let status = statuses::of_found(check, &answer);
     match answer {
         Ok(_) => {}
         Err(TraceFault::Write) if broken_pipe => {}

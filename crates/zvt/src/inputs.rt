@@ -1,67 +1,262 @@
-//! Where the trace of a command comes from.
-use crate::command::TraceCommand;
+//! Where the traces of a command come from.
+use crate::command::{TraceCommand, TraceWork};
 use crate::finish::finish_trace;
-use crate::notes::{faulty_line, report_hint, report_notes};
-use crate::on_trace::work_on_trace;
+use crate::label::Label;
+use crate::notes::{faulty_line, report_counts, report_hint, report_notes};
+use crate::on_trace::{follow_work, work_on_trace};
 use crate::output::Output;
-use crate::statuses::{DEVICE, MEMORY};
+use crate::progress::Progress;
+use crate::statuses::{DEVICE, DONE, MEMORY, WORDS};
+use std::alloc::{AllocError, Global};
 use std::fs::File;
-use std::io::{self, IsTerminal};
-use zvt_io::{Counted, Source};
-use zvt_tool::read_trace;
+use std::io::{self, IsTerminal, Write};
+use zvt_io::{Counted, Sink, Source};
+use zvt_text::Text;
+use zvt_tool::{AuditSummary, Form, Lengths, Style, Sum, TraceFault, follow_trace, read_trace};
 
-/// Runs the command on the trace in this file, or of standard input where none or `-` is named. Answers the exit status.
-pub fn work_on(rt: &HostRuntime, command: &TraceCommand, file: Option<&str>) -> io::Result<u8> {
-    match file {
-        None | Some("-") => work_on_input(rt, command),
-        Some(path) => work_on_file(rt, command, path),
+/// A trace of a command: its file, or `-` for standard input, and whether it is one of several.
+#[derive(Clone, Copy)]
+pub struct Input<'a> {
+    file: &'a str,
+    is_labelled: bool,
+}
+
+impl<'a> Input<'a> {
+    /// The name of the file, if the trace is in one.
+    fn path(&self) -> Option<&'a str> {
+        if self.file == "-" {
+            None
+        } else {
+            Some(self.file)
+        }
+    }
+
+    /// A writer of what a command finds in the trace: of one of several, each line names it.
+    fn output<W: Write + Drop>(
+        &self,
+        alloc: Global,
+        command: &TraceCommand,
+        inner: W,
+    ) -> Result<Output<W>, AllocError> {
+        if !self.is_labelled {
+            return Ok(Output::new(inner));
+        }
+        let label = if command.is_json() {
+            Label::of_json(alloc, self.file)?
+        } else {
+            Label::of_text(alloc, self.file)?
+        };
+        Ok(Output::labelled(alloc, inner, label))
+    }
+
+    /// A writer of what is reported of the trace: of one of several, each line begins with its name.
+    pub fn errors<W: Write + Drop>(
+        &self,
+        alloc: Global,
+        inner: W,
+    ) -> Result<Output<W>, AllocError> {
+        if !self.is_labelled {
+            return Ok(Output::new(inner));
+        }
+        let label = Label::of_text(alloc, self.file)?;
+        Ok(Output::labelled(alloc, inner, label))
+    }
+}
+
+/// How a command ended on one trace.
+#[derive(Clone, Copy)]
+struct Ended {
+    status: u8,
+    /// What was found, where the command read the trace to its end.
+    found: Option<AuditSummary>,
+    /// Whether nothing more can be written.
+    is_output_lost: bool,
+}
+
+impl Ended {
+    /// The command ended before it read the trace.
+    fn early(status: u8) -> Ended {
+        Ended {
+            status,
+            found: None,
+            is_output_lost: false,
+        }
+    }
+}
+
+/// Runs the command on the trace in each of these files, or of standard input where none is named. Answers the highest
+/// exit status.
+pub fn work_on(rt: &HostRuntime, command: &TraceCommand, files: &[&str]) -> io::Result<u8> {
+    match files {
+        [] => work_on_only(rt, command, "-"),
+        [file] => work_on_only(rt, command, file),
+        _ if command.follow => {
+            eprintln!(rt; "zvt: '--follow' takes one FILE: it reads one line after another")?;
+            Ok(WORDS)
+        }
+        _ => work_on_all(rt, command, files),
+    }
+}
+
+/// Runs the command on the one trace that is named.
+fn work_on_only(rt: &HostRuntime, command: &TraceCommand, file: &str) -> io::Result<u8> {
+    let input = Input {
+        file,
+        is_labelled: false,
+    };
+    Ok(work_on_one(rt, command, input)?.status)
+}
+
+/// Runs the command on one trace after another. An audit ends with the sum of all.
+fn work_on_all(rt: &HostRuntime, command: &TraceCommand, files: &[&str]) -> io::Result<u8> {
+    let mut progress = Progress::new(rt, files.len());
+    let mut sum = Sum::new(files.len());
+    let mut status = DONE;
+    for file in files {
+        let input = Input {
+            file,
+            is_labelled: true,
+        };
+        let ended = work_on_one(rt, command, input)?;
+        status = status.max(ended.status);
+        if ended.is_output_lost {
+            return Ok(status);
+        }
+        if let Some(found) = ended.found {
+            sum.add(&found);
+        }
+        progress.step(rt)?;
+    }
+    progress.clear(rt)?;
+    match command.work {
+        TraceWork::Audit(form) => Ok(status.max(write_sum(rt, form, &sum)?)),
+        _ => Ok(status),
+    }
+}
+
+/// Writes the line of the sum, and answers the exit status of that.
+fn write_sum(rt: &HostRuntime, form: Form, sum: &Sum) -> io::Result<u8> {
+    let mut text = Text::new(rt.alloc());
+    if sum.write(&mut text, form).is_err() {
+        return finish_trace(rt, None, false, false, Err(TraceFault::Memory));
+    }
+    let mut writer = Counted::new(Output::new(io::writer(rt)));
+    match Sink::write_all(&mut writer, text.bytes()) {
+        Ok(()) => Ok(DONE),
+        Err(_) => finish_trace(
+            rt,
+            None,
+            writer.inner.broken_pipe,
+            false,
+            Err(TraceFault::Write),
+        ),
+    }
+}
+
+/// Runs the command on one trace.
+fn work_on_one(rt: &HostRuntime, command: &TraceCommand, input: Input<'_>) -> io::Result<Ended> {
+    match input.path() {
+        None => work_on_input(rt, command, input),
+        Some(path) => work_on_file(rt, command, input, path),
     }
 }
 
 /// Runs the command on the trace of standard input. Where that is a keyboard, standard error reports that a trace is read.
-fn work_on_input(rt: &HostRuntime, command: &TraceCommand) -> io::Result<u8> {
-    let input = rt.reader();
-    if input.is_terminal() {
+fn work_on_input(rt: &HostRuntime, command: &TraceCommand, input: Input<'_>) -> io::Result<Ended> {
+    let reader = rt.reader();
+    if reader.is_terminal() {
         eprintln!(rt;
             "zvt: reading a trace from the keyboard: end it with Ctrl-D at the start of a line"
         )?;
     }
-    work_with(rt, command, None, &mut Counted::new(input))
+    work_with(rt, command, input, &mut Counted::new(reader))
 }
 
 /// Runs the command on the trace in this file.
-fn work_on_file(rt: &HostRuntime, command: &TraceCommand, path: &str) -> io::Result<u8> {
+fn work_on_file(
+    rt: &HostRuntime,
+    command: &TraceCommand,
+    input: Input<'_>,
+    path: &str,
+) -> io::Result<Ended> {
     let file = match opened(rt, path) {
         Ok(file) => file,
         Err(error) => {
             eprintln!(rt; "zvt: '{path}': cannot open the trace: {error}")?;
-            return Ok(DEVICE);
+            return Ok(Ended::early(DEVICE));
         }
     };
-    work_with(rt, command, Some(path), &mut Counted::new(file))
+    work_with(rt, command, input, &mut Counted::new(file))
+}
+
+/// Runs the command on the trace that the reader brings, as it comes or once it is read.
+fn work_with<R: Source>(
+    rt: &HostRuntime,
+    command: &TraceCommand,
+    input: Input<'_>,
+    reader: &mut R,
+) -> io::Result<Ended> {
+    if command.follow {
+        follow(rt, command, input, reader)
+    } else {
+        work_on_whole(rt, command, input, reader)
+    }
+}
+
+/// Runs the command on the trace as the reader brings it. Standard error counts what is bad in the trace, then reports the
+/// fault that ends the command.
+fn follow<R: Source>(
+    rt: &HostRuntime,
+    command: &TraceCommand,
+    input: Input<'_>,
+    reader: &mut R,
+) -> io::Result<Ended> {
+    let mut writer = Counted::new(Output::new(io::writer(rt)));
+    let answer = follow_work(rt.alloc(), command, reader, &mut writer);
+    let is_output_lost = matches!(answer, Err(TraceFault::Write));
+    report_counts(rt, &answer)?;
+    let broken_pipe = writer.inner.broken_pipe;
+    let status = finish_trace(rt, input.path(), broken_pipe, command.check, answer)?;
+    Ok(Ended {
+        status,
+        found: None,
+        is_output_lost,
+    })
 }
 
 /// Runs the command on the trace that the reader brings, and names the file in its messages, if there is one. Standard
 /// error reports what is bad in the trace, then the fault that ends the command. If there is no memory for such a report,
 /// the command ends as one that is out of memory.
-fn work_with<R: Source>(
+fn work_on_whole<R: Source>(
     rt: &HostRuntime,
     command: &TraceCommand,
-    path: Option<&str>,
+    input: Input<'_>,
     reader: &mut R,
-) -> io::Result<u8> {
+) -> io::Result<Ended> {
+    let path = input.path();
     let trace = match read_trace(rt.alloc(), reader) {
         Ok(trace) => trace,
-        Err(fault) => return finish_trace(rt, path, false, Err(fault)),
+        Err(fault) => return Ok(Ended::early(finish_trace(rt, path, false, false, Err(fault))?)),
     };
+    let Ok(output) = input.output(rt.alloc(), command, io::writer(rt)) else {
+        let status = finish_trace(rt, path, false, false, Err(TraceFault::Memory))?;
+        return Ok(Ended::early(status));
+    };
+    let mut writer = Counted::new(output);
     let trace = trace.as_slice();
-    let mut writer = Counted::new(Output::new(io::writer(rt)));
     let answer = work_on_trace(rt.alloc(), command, trace, &mut writer);
+    let answer = writer.inner.explained(answer);
     let faulty = faulty_line(command, &answer);
-    let had_memory = report_notes(rt, command, trace, &answer)?;
-    let status = finish_trace(rt, path, writer.inner.broken_pipe, answer)?;
-    report_hint(rt, trace, faulty)?;
-    Ok(if had_memory { status } else { MEMORY })
+    let had_memory = report_notes(rt, command, input, trace, &answer)?;
+    let found = answer.as_ref().ok().copied();
+    let is_output_lost = matches!(answer, Err(TraceFault::Write));
+    let status = finish_trace(rt, path, writer.inner.broken_pipe, command.check, answer)?;
+    report_hint(rt, input, trace, faulty)?;
+    Ok(Ended {
+        status: if had_memory { status } else { MEMORY },
+        found,
+        is_output_lost,
+    })
 }
 
 /// The file, which is no directory: the system opens one, and fails at the first read alone.

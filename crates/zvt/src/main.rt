@@ -10,9 +10,11 @@ mod command;
 mod ends;
 mod finish;
 mod inputs;
+mod label;
 mod notes;
 mod on_trace;
 mod output;
+mod progress;
 mod settings;
 mod statuses;
 mod trace_file;
@@ -23,16 +25,26 @@ use std::io::ErrorKind;
 use std::process::ExitCode;
 use std::{env, io};
 use zvt_tool::arguments::choice;
-use zvt_tool::{Choice, ChoiceFault};
+use zvt_tool::{Choice, ChoiceFault, TraceFault, with_show};
 
 fn main(rt: HostRuntime) -> ExitCode {
     match run(&rt) {
         Ok(status) => ExitCode::from(status),
-        Err(_) => ExitCode::from(DEVICE),
+        Err(error) => ExitCode::from(failed(&rt, &error)),
     }
 }
 
-/// The exit status. An `Err` is a failed write of help or of a fault.
+/// The exit status where help or a report was not written. That memory was refused for it is said, if it can be.
+fn failed(rt: &HostRuntime, error: &io::Error) -> u8 {
+    if error.kind() != ErrorKind::OutOfMemory {
+        return DEVICE;
+    }
+    let fault = TraceFault::Memory;
+    let _ = eprintln!(rt; "zvt: {fault}");
+    MEMORY
+}
+
+/// The exit status. An `Err` is a failed write of help or of a report.
 fn run(rt: &HostRuntime) -> io::Result<u8> {
     let arguments = match env::args(rt) {
         Ok(arguments) => arguments,
@@ -43,6 +55,10 @@ fn run(rt: &HostRuntime) -> io::Result<u8> {
         Err(_) => return without_memory(rt),
     };
     let texts: Vec<&str> = match arguments.iter().map(String::as_str).collect(rt.alloc()) {
+        Ok(texts) => texts,
+        Err(_) => return without_memory(rt),
+    };
+    let texts = match with_show(rt.alloc(), texts.as_slice()) {
         Ok(texts) => texts,
         Err(_) => return without_memory(rt),
     };
@@ -77,7 +93,7 @@ fn execute(rt: &HostRuntime, chosen: &Choice<'_>) -> io::Result<u8>
     requires { (reading : Option (Text × List Row)) × IsChoiceOf reading chosen.now }
 {
     match command_of(chosen) {
-        Command::OnTrace(work, file) => inputs::work_on(rt, &work, file),
+        Command::OnTraces(work, files) => inputs::work_on(rt, &work, files),
         Command::Book(path) => book::show(rt, path),
         Command::Loop(options) => ends::both_ends(rt, &options),
         Command::Till(options) => ends::till(rt, options),

@@ -5,10 +5,11 @@ ghost use Rattle.zvt.specs.Notes.{scope_of, faulty_line};
 
 use crate::command::{TraceCommand, TraceWork};
 use crate::finish::report;
-use std::io::{self, ErrorKind};
+use crate::inputs::Input;
+use std::io::{self, ErrorKind, Write};
 use zvt_io::Counted;
 use zvt_tool::{
-    AuditSummary, Lengths, ListenerError, Scope, ToolFault, TraceFault, hint_on, write_notes,
+    AuditSummary, Lengths, ListenerError, Scope, Tally, ToolFault, TraceFault, hint_on, write_notes,
 };
 
 /// Reports bad streams, a trace without a message, and directions that may be swapped. It answers whether there was memory
@@ -16,6 +17,7 @@ use zvt_tool::{
 pub fn report_notes(
     rt: &HostRuntime,
     command: &TraceCommand,
+    input: Input<'_>,
     trace: &[u8],
     answer: &Result<AuditSummary, TraceFault>,
 ) -> io::Result<bool>
@@ -24,23 +26,44 @@ pub fn report_notes(
     let Some(scope) = scope_of(command) else {
         return Ok(true);
     };
+    let mut errors = input.errors(rt.alloc(), rt.stderr())?;
     let is_bad = match answer {
         Ok(found) => found.tally.bad > 0,
         Err(TraceFault::Trace { .. }) => true,
         Err(_) => false,
     };
-    if is_bad && !report_bad_streams(rt, scope, command.lengths, trace)? {
+    if is_bad && !report_bad_streams(rt, input, scope, command.lengths, trace)? {
         return Ok(false);
     }
     if let Ok(found) = answer {
         if !is_bad && found.tally.messages == 0 {
-            eprintln!(rt; "zvt: the trace contains no message")?;
+            errors.write_all(b"zvt: the trace contains no message\n")?;
         }
         if found.swapped {
-            eprintln!(rt; "zvt: only '<' sent orders: the directions of the trace may be swapped")?;
+            errors.write_all(
+                b"zvt: only '<' sent orders: the directions of the trace may be swapped\n",
+            )?;
         }
     }
     Ok(true)
+}
+
+/// Reports how much of a trace that was followed is bad. Its output has said where.
+pub fn report_counts(
+    rt: &HostRuntime,
+    answer: &Result<AuditSummary, TraceFault>,
+) -> io::Result<()> {
+    let Ok(found) = answer else {
+        return Ok(());
+    };
+    let Tally { messages, bad } = found.tally;
+    if bad > 0 {
+        eprintln!(rt; "zvt: messages: {messages}, streams refused or cut off: {bad}")
+    } else if messages == 0 {
+        eprintln!(rt; "zvt: the trace contains no message")
+    } else {
+        Ok(())
+    }
 }
 
 /// The line of the trace, counted from 1, that can't be read, if that is why the command ended.
@@ -54,12 +77,17 @@ pub fn faulty_line(command: &TraceCommand, answer: &Result<AuditSummary, TraceFa
 }
 
 /// Reports why that line can't be read.
-pub fn report_hint(rt: &HostRuntime, trace: &[u8], line: Option<u64>) -> io::Result<()> {
+pub fn report_hint(
+    rt: &HostRuntime,
+    input: Input<'_>,
+    trace: &[u8],
+    line: Option<u64>,
+) -> io::Result<()> {
     let Some(line) = line else {
         return Ok(());
     };
     match hint_on(trace, line) {
-        Some(hint) => eprintln!(rt; "zvt: {hint}"),
+        Some(hint) => writeln!(input.errors(rt.alloc(), rt.stderr())?, "zvt: {hint}"),
         None => Ok(()),
     }
 }
@@ -70,7 +98,7 @@ fn scope_of(command: &TraceCommand) -> Option<Scope>
 {
     match command.work {
         TraceWork::Render(_) => Some(Scope::OneSide),
-        TraceWork::Audit => Some(Scope::WholeLine),
+        TraceWork::Audit(_) => Some(Scope::WholeLine),
         TraceWork::Vectors => None,
     }
 }
@@ -78,18 +106,22 @@ fn scope_of(command: &TraceCommand) -> Option<Scope>
 /// Reports the bad streams of the trace, or that memory was refused for that. It answers whether there was memory.
 fn report_bad_streams(
     rt: &HostRuntime,
+    input: Input<'_>,
     scope: Scope,
     lengths: Lengths,
     trace: &[u8],
 ) -> io::Result<bool>
     requires { length trace.now ≤ limit }
 {
-    let mut device = Counted::new(rt.stderr());
+    let mut device = Counted::new(input.errors(rt.alloc(), rt.stderr())?);
     match write_notes(rt.alloc(), scope, lengths, trace, &mut device) {
         Ok(()) => Ok(true),
         Err(ListenerError::Memory) => {
             report(rt, None, &ToolFault::from(TraceFault::Memory))?;
             Ok(false)
+        }
+        Err(ListenerError::Write) if device.inner.out_of_memory => {
+            Err(io::Error::from(ErrorKind::OutOfMemory))
         }
         Err(ListenerError::Write) => Err(io::Error::from(ErrorKind::Other)),
     }

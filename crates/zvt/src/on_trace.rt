@@ -1,12 +1,14 @@
 //! The commands on a trace.
 ghost use Rattle.std.specs.Prelude.{◌≡◌, ◌<◌, ◌≤◌, false, length, Err, IfOk};
 ghost use Rattle.zvt_trace.specs.Written.{limit};
-ghost use Rattle.zvt.specs.OnTrace.{AnswersOnTrace, tally_of};
+ghost use Rattle.zvt.specs.OnTrace.{AnswersOnTrace, FollowsTrace, tally_of};
 
 use crate::command::{TraceCommand, TraceWork};
 use std::alloc::Global;
-use zvt_io::{Counted, Sink};
-use zvt_tool::{AuditSummary, Tally, TraceFault, audit_trace, render_trace, vectors};
+use zvt_io::{Counted, Sink, Source};
+use zvt_tool::{
+    AuditSummary, Tally, TraceFault, audit_trace, follow_audit, follow_trace, render_trace, vectors,
+};
 
 /// Does with the trace what the command says, and writes what comes of it.
 pub fn work_on_trace<W: Sink>(
@@ -22,8 +24,27 @@ pub fn work_on_trace<W: Sink>(
     let lengths = command.lengths;
     match command.work {
         TraceWork::Render(style) => found(render_trace(alloc, style, lengths, trace, writer)),
-        TraceWork::Audit => audit_trace(alloc, lengths, trace, writer),
+        TraceWork::Audit(form) => audit_trace(alloc, form, lengths, trace, writer),
         TraceWork::Vectors => found(vectors(alloc, &mut Counted::new(trace), writer)),
+    }
+}
+
+/// Does with the trace that the reader brings what the command says, while the trace comes. Vectors are read whole.
+pub fn follow_work<R: Source, W: Sink>(
+    alloc: Global,
+    command: &TraceCommand,
+    reader: &mut R,
+    writer: &mut W,
+) -> Result<AuditSummary, TraceFault>
+    ensures follows { FollowsTrace command.now (R.remaining reader.old) (R.remaining reader.new) (W.written writer.old) (W.written writer.new) result }
+    ensures read { result ≡ Err TraceFault.Read → R.failures reader.old < R.failures reader.new }
+    ensures write { result ≡ Err TraceFault.Write → W.failures writer.old < W.failures writer.new }
+{
+    let lengths = command.lengths;
+    match command.work {
+        TraceWork::Render(style) => found(follow_trace(alloc, style, lengths, reader, writer)),
+        TraceWork::Audit(form) => follow_audit(alloc, form, lengths, reader, writer),
+        TraceWork::Vectors => found(vectors(alloc, reader, writer)),
     }
 }
 
@@ -31,10 +52,13 @@ pub fn work_on_trace<W: Sink>(
 fn found(answer: Result<Tally, TraceFault>) -> Result<AuditSummary, TraceFault>
     ensures tally { tally_of result ≡ answer }
     ensures swapped { IfOk result (λ found. found.swapped ≡ false) }
+    ensures none { IfOk result (λ found. (found.total ≡ 0) × (found.unclear ≡ 0)) }
 {
     match answer {
         Ok(tally) => Ok(AuditSummary {
             tally,
+            total: 0,
+            unclear: 0,
             swapped: false,
         }),
         Err(fault) => Err(fault),

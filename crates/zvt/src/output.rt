@@ -1,30 +1,84 @@
-//! Standard output, whose reader may disconnect.
-use std::io::{self, ErrorKind, Write};
+//! Standard output and standard error, whose reader may disconnect.
+ghost use Rattle.std.specs.Prelude.{◌≡◌, None};
+ghost use Rattle.std.specs.Io.{WritesAtMost};
 
-/// A writer that remembers whether its reader disconnected, as the reader of a pipe may.
+use crate::label::Label;
+use std::alloc::Global;
+use std::io::{self, ErrorKind, Write};
+use zvt_text::Text;
+use zvt_tool::TraceFault;
+
+/// A writer that remembers whether its reader disconnected, as the reader of a pipe may. With a label, each line that is
+/// written begins with it.
 #[derive(Drop)]
 pub struct Output<W> {
     inner: W,
+    labelling: Option<Labelling>,
     pub broken_pipe: bool,
+    /// Whether a write failed since memory was refused for a label.
+    pub out_of_memory: bool,
+}
+
+/// A label, the text of what was written last, and its last byte.
+#[derive(Drop)]
+struct Labelling {
+    label: Label,
+    text: Text,
+    before: u8,
+}
+
+impl<W: Drop> Output<W> {
+    /// A writer whose reader is connected.
+    pub fn new(inner: W) -> Output<W>
+        ensures { result.labelling ≡ None }
+    {
+        Output {
+            inner,
+            labelling: None,
+            broken_pipe: false,
+            out_of_memory: false,
+        }
+    }
+
+    /// A writer whose lines begin with this label.
+    pub fn labelled(alloc: Global, inner: W, label: Label) -> Output<W> {
+        let labelling = Labelling {
+            label,
+            text: Text::new(alloc),
+            before: b'\n',
+        };
+        Output {
+            inner,
+            labelling: Some(labelling),
+            broken_pipe: false,
+            out_of_memory: false,
+        }
+    }
 }
 
 impl<W> Output<W> {
-    /// A writer whose reader is connected.
-    pub fn new(inner: W) -> Output<W> {
-        Output {
-            inner,
-            broken_pipe: false,
+    /// The answer of a command that wrote here, where a write that failed since memory was refused counts as that.
+    pub fn explained<T: Drop>(&self, answer: Result<T, TraceFault>) -> Result<T, TraceFault> {
+        match answer {
+            Err(TraceFault::Write) if self.out_of_memory => Err(TraceFault::Memory),
+            answer => answer,
         }
     }
 }
 
 impl<W: Write> Write for Output<W> {
-    ghost contents = { λ output. W.contents output.inner };
+    ghost use Rattle.zvt.specs.Labels.{known};
+
+    ghost contents = { λ output. known output.labelling (W.contents output.inner) };
 
     fn write(&mut self, bytes: &[u8]) -> io::Result<usize> {
-        let written = self.inner.write(bytes);
+        let written = match &mut self.labelling {
+            None => self.inner.write(bytes),
+            Some(labelling) => write_labelled(&mut self.inner, labelling, bytes),
+        };
         if let Err(error) = &written {
             self.broken_pipe = error.kind() == ErrorKind::BrokenPipe;
+            self.out_of_memory = error.kind() == ErrorKind::OutOfMemory;
         }
         written
     }
@@ -32,4 +86,26 @@ impl<W: Write> Write for Output<W> {
     fn flush(&mut self) -> io::Result<()> {
         self.inner.flush()
     }
+}
+
+/// Writes the bytes with their labels.
+fn write_labelled<W: Write>(
+    inner: &mut W,
+    labelling: &mut Labelling,
+    bytes: &[u8],
+) -> io::Result<usize>
+    ensures { WritesAtMost result bytes.now }
+{
+    let Labelling {
+        label,
+        text,
+        before,
+    } = labelling;
+    text.clear();
+    label.add(text, *before, bytes)?;
+    inner.write_all(text.bytes())?;
+    if let Some(last) = bytes.last() {
+        *before = *last;
+    }
+    Ok(bytes.len())
 }

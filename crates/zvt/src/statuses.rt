@@ -1,8 +1,7 @@
 //! The exit statuses.
 ghost use Rattle.std.specs.Prelude.{◌≡◌};
 ghost use Rattle.std.specs.IoError.{error_kind};
-ghost use Rattle.zvt.specs.OnTrace.{tally_of};
-ghost use Rattle.zvt.specs.Statuses.{status_of_bad, status_of_call, status_of_device, status_of_file_error, status_of_recovery, status_of_end_fault, status_of_run, status_of_tally, status_of_trace_fault};
+ghost use Rattle.zvt.specs.Statuses.{status_of_bad, status_of_call, status_of_device, status_of_file_error, status_of_recovery, status_of_end_fault, status_of_found, status_of_run, status_of_trace_fault};
 
 use std::io::{self, ErrorKind};
 use zvt_stream::LineFault;
@@ -11,7 +10,7 @@ use zvt_tool::{AuditSummary, DeviceError, EndFault, JournalFileError, RecoveryEr
 /// All was done, or help was asked for.
 pub const DONE: u8 = 0;
 
-/// A stream of the trace was refused or cut off.
+/// A stream of the trace was refused or cut off, or a payment is unclear where that is checked.
 const BAD: u8 = 1;
 
 /// The command line or a step is wrong.
@@ -26,11 +25,12 @@ pub const DEVICE: u8 = 4;
 /// There was too little memory.
 pub const MEMORY: u8 = 5;
 
-/// The status of a command on a trace.
-pub fn of_found(answer: &Result<AuditSummary, TraceFault>) -> u8
-    ensures { result ≡ status_of_tally (tally_of answer.now) }
+/// The status of a command on a trace, which may check that no payment is unclear.
+pub fn of_found(check: bool, answer: &Result<AuditSummary, TraceFault>) -> u8
+    ensures { result ≡ status_of_found check answer.now }
 {
     match answer {
+        Ok(found) if check && found.unclear > 0 => BAD,
         Ok(found) => of_bad(found.tally.bad),
         Err(fault) => of_trace_fault(fault),
     }

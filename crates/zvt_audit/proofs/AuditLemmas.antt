@@ -1,27 +1,29 @@
 -- The books of what a walk emits.
-use Rattle.std.proofs.Common.{◌≡◌, inl, inr, ℕ, ◌≤◌, Bool, true, false, not, ◌&&◌, ◌||◌, List, [], ◌∷◌, ◌++◌, Option, Some, None, Ok, Err, length, refl, sym, ◌∙◌, ap, subst, append_assoc, append-nil}
+use Rattle.std.proofs.Common.{◌≡◌, inl, inr, ℕ, ◌≤◌, Bool, true, false, not, ◌&&◌, ◌||◌, List, [], ◌∷◌, ◌++◌, Option, Some, None, Result, Ok, Err, length, refl, sym, ◌∙◌, ap, subst, append_assoc, append-nil}
 use Rattle.std.specs.List.{flat_map}
 use Rattle.std.specs.Io.KnownBytes.{Appends, Keeps}
 use Rattle.std.specs.Prelude.{IfSome}
 use Rattle.std.specs.Str.Lines.{lines}
 use Rattle.zvt_grammar.specs.Reading.{Reading}
-use Rattle.zvt_till.specs.Books.{Books, books}
+use Rattle.zvt_till.specs.Books.{books}
 use Rattle.zvt_till.specs.Judging.{BooksSoFar, HasJudged}
 use Rattle.zvt_till.specs.declared.happenings.Happening.{Happening}
 use Rattle.zvt_till.specs.declared.happenings.Happening.TheVariants.{Connected}
 use Rattle.zvt_trace.specs.Listening.{AnswersWalk, Fails, Hears, HearsAll, Stops}
-use Rattle.zvt_trace.specs.TraceEvent.{At}
+use Rattle.zvt_trace.specs.TraceEvent.{At, Tallies}
 use Rattle.zvt_trace.specs.Emitting.{EventsSoFar}
 use Rattle.zvt_trace.specs.Journal.{readable}
-use Rattle.zvt_trace.specs.Written.{AppendsPrefix, limit}
+use Rattle.zvt_trace.specs.Written.{limit}
 use Rattle.zvt_trace.specs.declared.direction.Direction.TheVariants.{FromTill, FromTerminal}
 use Rattle.zvt_trace.specs.declared.fault.Tally.{Tally}
 use Rattle.zvt_trace.specs.declared.fault.TraceFault.{TraceFault}
 use Rattle.zvt_trace.specs.declared.fault.TraceFault.TheVariants.{Memory, Read, TooLong, Trace, Write}
 use Rattle.zvt_trace.specs.declared.listener.ListenerError.TheVariants as failure
 use Rattle.zvt_trace.specs.declared.listener.Scope.TheVariants.{WholeLine}
-use Rattle.zvt_audit.specs.Audited.{AnswersAuditBy, AnswersReadBy, Takes}
-use Rattle.zvt_audit.specs.Booked.{books_text}
+use Rattle.zvt_audit.specs.Audited.{AnswersAuditBy, AnswersBooks, AnswersReadBy, SumsUp, Takes, has_swapped}
+use Rattle.zvt_audit.specs.Json.{books_in}
+use Rattle.zvt_audit.specs.declared.form.Form.{Form}
+use Rattle.zvt_audit.specs.declared.form.Form.TheVariants.{Text}
 use Rattle.zvt_audit.specs.Happened.{happenings_of, log_of}
 use Rattle.zvt_audit.specs.Orders.{are_swapped, is_order_from, noticed, orders_from}
 use Rattle.zvt_audit.specs.declared.summary.AuditSummary.{AuditSummary}
@@ -52,9 +54,8 @@ taken books_of orders (event ∷ events) old new some =
     takes_more (books_of old) (books_of some.0) (books_of new) (happenings_of event.trace_event) (happened_by events) some.1.0 (taken books_of orders events some.0 new some.2)
 
 -- the books of the whole log, from the connection on
-log_judged : {S : Type 0} (books_of : S → BooksSoFar) (orders : S → Orders) (events : List At) (first : BooksSoFar) (old new : S) → HasJudged [] first → Takes first (books_of old) (Connected ∷ []) → HearsAll (hears books_of orders) old events new
-    → HasJudged (log_of events) (books_of new)
-log_judged books_of orders events first old new start connects heard = taken books_of orders events old new heard (Connected ∷ []) (connects [] start)
+log_judged : {S : Type 0} (books_of : S → BooksSoFar) (orders : S → Orders) (events : List At) (old new : S) → HasJudged (Connected ∷ []) (books_of old) → HearsAll (hears books_of orders) old events new → HasJudged (log_of events) (books_of new)
+log_judged books_of orders events old new start heard = taken books_of orders events old new heard (Connected ∷ []) start
 
 -- ---- who sent orders
 
@@ -85,31 +86,29 @@ swapped books_of orders events old new till terminal heard =
 
 -- ---- what is written
 
-keeps_same : (held : Option (List ℕ)) → Keeps held held
+pub keeps_same : (held : Option (List ℕ)) → Keeps held held
 keeps_same None = tt
 keeps_same (Some bytes) = refl
 
-pub audited : {S : Type 0} {r : Reading} (books_of : S → BooksSoFar) (orders : S → Orders) (trace : List ℕ) (answer : AuditSummary) (old new : Option (List ℕ)) (first : BooksSoFar) (connected closed : S) (found : Books) (text : List ℕ)
-    → HasJudged [] first → Takes first (books_of connected) (Connected ∷ []) → (orders connected).till ≡ false → (orders connected).terminal ≡ false
-    → AnswersWalk r (hears books_of orders) wants_memory WholeLine (lines (readable trace)) connected closed (Ok answer.tally) → answer.swapped ≡ (not (orders closed).till && (orders closed).terminal)
-    → ((log : List Happening) → HasJudged log (books_of closed) → found ≡ books log) → text ≡ books_text found → Appends old new text
-    → AnswersReadBy r trace old new (Ok answer)
-audited books_of orders trace answer old new first connected closed found text start connects till terminal walked is_swapped closes says appended =
-    let judged = log_judged books_of orders walked.0 first connected closed start connects walked.2 in (
+pub audited : {S : Type 0} {r : Reading} (books_of : S → BooksSoFar) (orders : S → Orders) (trace : List ℕ) (form : Form) (tally : Tally) (answer : Result AuditSummary TraceFault) (old new : Option (List ℕ)) (connected closed : S)
+    → HasJudged (Connected ∷ []) (books_of connected) → (orders connected).till ≡ false → (orders connected).terminal ≡ false → AnswersWalk r (hears books_of orders) wants_memory WholeLine (lines (readable trace)) connected closed (Ok tally)
+    → ((log : List Happening) → HasJudged log (books_of closed) → AnswersBooks form log tally (has_swapped (orders closed)) old new answer) → AnswersReadBy r form trace old new answer
+audited {S = S} {r = r} books_of orders trace form tally answer old new connected closed start till terminal walked closes = by answer (closes (log_of walked.0) (log_judged books_of orders walked.0 connected closed start walked.2))
+  where
+    by : (answer : Result AuditSummary TraceFault) → AnswersBooks form (log_of walked.0) tally (has_swapped (orders closed)) old new answer → AnswersReadBy r form trace old new answer
+    by (Ok audited) (appended, same, is_swapped, sums) = (
       walked.0,
       walked.1,
-      subst (λ (t : List ℕ). Appends old new t) (says ∙ ap books_text (closes (log_of walked.0) judged)) appended,
-      walked.3,
+      subst (λ (t : Tally). Appends old new (books_in form t (books (log_of walked.0)))) (sym same) appended,
+      subst (λ (t : Tally). Tallies t walked.0) (sym same) walked.3,
       is_swapped ∙ swapped books_of orders walked.0 connected closed till terminal walked.2,
+      sums,
     )
-
-pub audit_failed : {S : Type 0} {r : Reading} (books_of : S → BooksSoFar) (orders : S → Orders) (trace : List ℕ) (tally : Tally) (old new : Option (List ℕ)) (first : BooksSoFar) (connected closed : S) (found : Books) (text : List ℕ)
-    → HasJudged [] first → Takes first (books_of connected) (Connected ∷ []) → AnswersWalk r (hears books_of orders) wants_memory WholeLine (lines (readable trace)) connected closed (Ok tally)
-    → ((log : List Happening) → HasJudged log (books_of closed) → found ≡ books log) → text ≡ books_text found → AppendsPrefix old new text
-    → AnswersReadBy r trace old new (Err Write)
-audit_failed books_of orders trace tally old new first connected closed found text start connects walked closes says prefix =
-    let judged = log_judged books_of orders walked.0 first connected closed start connects walked.2 in
-    (walked.0, walked.1, subst (λ (t : List ℕ). AppendsPrefix old new t) (says ∙ ap books_text (closes (log_of walked.0) judged)) prefix)
+    by (Err Memory) kept = kept
+    by (Err Write) prefix = (walked.0, tally, walked.1, prefix, walked.3)
+    by (Err (Trace number what)) never = absurd never
+    by (Err TooLong) never = absurd never
+    by (Err Read) never = absurd never
 
 -- ---- where the walk fails
 
@@ -124,32 +123,32 @@ no_write {S = S} {r = r} books_of orders lines old new failed = by failed.stops
     by (inl (is, so_far, same)) = differ is
     by (inr (event, so_far, left)) = differ left
 
-pub walk_failed : {S : Type 0} (r : Reading) (books_of : S → BooksSoFar) (orders : S → Orders) (trace : List ℕ) (fault : TraceFault) (held : Option (List ℕ)) (old new : S)
-    → AnswersWalk r (hears books_of orders) wants_memory WholeLine (lines (readable trace)) old new (Err fault) → AnswersReadBy r trace held held (Err fault)
-walk_failed r books_of orders trace (Trace number what) held old new walked = (walked.0, walked.1, keeps_same held)
-walk_failed r books_of orders trace Memory held old new walked = keeps_same held
-walk_failed r books_of orders trace Write held old new walked = absurd (no_write books_of orders (lines (readable trace)) old new walked)
-walk_failed r books_of orders trace TooLong held old new never = absurd never
-walk_failed r books_of orders trace Read held old new never = absurd never
+pub walk_failed : {S : Type 0} (r : Reading) (form : Form) (books_of : S → BooksSoFar) (orders : S → Orders) (trace : List ℕ) (fault : TraceFault) (held : Option (List ℕ)) (old new : S)
+    → AnswersWalk r (hears books_of orders) wants_memory WholeLine (lines (readable trace)) old new (Err fault) → AnswersReadBy r form trace held held (Err fault)
+walk_failed r form books_of orders trace (Trace number what) held old new walked = (walked.0, walked.1, keeps_same held)
+walk_failed r form books_of orders trace Memory held old new walked = keeps_same held
+walk_failed r form books_of orders trace Write held old new walked = absurd (no_write books_of orders (lines (readable trace)) old new walked)
+walk_failed r form books_of orders trace TooLong held old new never = absurd never
+walk_failed r form books_of orders trace Read held old new never = absurd never
 
 -- ---- a trace that is read first
 
 pub read_audited : (r : Reading) (left : Option (List ℕ)) (trace slice : List ℕ) (old new : Option (List ℕ)) (found : AuditSummary) → IfSome left (λ bytes. trace ≡ bytes) → length trace ≤ limit → slice ≡ trace
-    → AnswersReadBy r slice old new (Ok found) → IfSome left (λ bytes. AnswersAuditBy r bytes old new (Ok found.tally))
+    → AnswersReadBy r Text slice old new (Ok found) → IfSome left (λ bytes. AnswersAuditBy r bytes old new (Ok found.tally))
 read_audited r None trace slice old new found read few same answers = tt
 read_audited r (Some bytes) trace slice old new found read few same answers =
-    let here = subst (λ (b : List ℕ). AnswersReadBy r b old new (Ok found)) same answers in
+    let here = subst (λ (b : List ℕ). AnswersReadBy r Text b old new (Ok found)) same answers in
     subst (λ (b : List ℕ). AnswersAuditBy r b old new (Ok found.tally)) read (few, (here.0, here.1, here.2, here.3))
 
 pub read_failed : (r : Reading) (left : Option (List ℕ)) (trace slice : List ℕ) (old new : Option (List ℕ)) (fault : TraceFault) → IfSome left (λ bytes. trace ≡ bytes) → length trace ≤ limit → slice ≡ trace
-    → AnswersReadBy r slice old new (Err fault) → IfSome left (λ bytes. AnswersAuditBy r bytes old new (Err fault))
+    → AnswersReadBy r Text slice old new (Err fault) → IfSome left (λ bytes. AnswersAuditBy r bytes old new (Err fault))
 read_failed r None trace slice old new fault read few same answers = tt
 read_failed r (Some bytes) trace slice old new fault read few same answers =
-    subst (λ (b : List ℕ). AnswersAuditBy r b old new (Err fault)) read (by fault (subst (λ (b : List ℕ). AnswersReadBy r b old new (Err fault)) same answers))
+    subst (λ (b : List ℕ). AnswersAuditBy r b old new (Err fault)) read (by fault (subst (λ (b : List ℕ). AnswersReadBy r Text b old new (Err fault)) same answers))
   where
-    by : (fault : TraceFault) → AnswersReadBy r trace old new (Err fault) → AnswersAuditBy r trace old new (Err fault)
+    by : (fault : TraceFault) → AnswersReadBy r Text trace old new (Err fault) → AnswersAuditBy r trace old new (Err fault)
     by (Trace number what) answers = (few, answers.0, answers.1, answers.2)
     by Memory answers = answers
-    by Write answers = (few, answers.0, answers.1, answers.2)
+    by Write answers = (few, answers.0, answers.2, answers.3)
     by TooLong never = absurd never
     by Read never = absurd never

@@ -1,1 +1,3 @@
 pub mod AuditLemmas
+pub mod HearLemmas
+pub mod JsonLemmas

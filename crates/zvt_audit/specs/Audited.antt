@@ -1,11 +1,14 @@
 -- What an audit answers and writes.
-use Rattle.std.specs.Prelude.{◌≡◌, ℕ, ◌<◌, ◌≤◌, List, ◌++◌, length, Option, Result, Ok, Err}
-use Rattle.std.specs.Io.KnownBytes.{Appends, Keeps}
+use Rattle.std.specs.Prelude.{◌≡◌, ◌⊎◌, ℕ, ◌<◌, ◌≤◌, Bool, false, not, ◌&&◌, List, [], ◌∷◌, ◌++◌, length, Option, Result, Ok, Err}
+use Rattle.std.specs.Io.KnownBytes.{Appends, IsAtEnd, Keeps}
 use Rattle.std.specs.Str.Lines.{lines}
 use Rattle.zvt_grammar.specs.Reading.{Reading, shortest}
-use Rattle.zvt_till.specs.Books.{books}
+use Rattle.zvt_till.specs.Books.{Books, books}
 use Rattle.zvt_till.specs.Judging.{BooksSoFar, HasJudged}
 use Rattle.zvt_till.specs.declared.happenings.Happening.{Happening}
+use Rattle.zvt_till.specs.declared.happenings.Happening.TheVariants.{Connected}
+use Rattle.zvt_trace.specs.Chunks.{IsEnded, IsTooLong}
+use Rattle.zvt_trace.specs.Listening.{AnswersWalk, Fails, Hears}
 use Rattle.zvt_trace.specs.TraceEvent.{At, Tallies}
 use Rattle.zvt_trace.specs.Emitting.{BrokenTrace, WholeTrace}
 use Rattle.zvt_trace.specs.Journal.{readable}
@@ -13,31 +16,78 @@ use Rattle.zvt_trace.specs.Written.{AppendsPrefix, limit}
 use Rattle.zvt_trace.specs.declared.fault.Tally.{Tally}
 use Rattle.zvt_trace.specs.declared.fault.TraceFault.{TraceFault}
 use Rattle.zvt_trace.specs.declared.fault.TraceFault.TheVariants.{Memory, Read, TooLong, Trace, Write}
+use Rattle.zvt_trace.specs.declared.listener.ListenerError.TheVariants as failure
 use Rattle.zvt_trace.specs.declared.listener.Scope.TheVariants.{WholeLine}
-use Rattle.zvt_audit.specs.Booked.{books_text}
-use Rattle.zvt_audit.specs.Happened.{log_of}
-use Rattle.zvt_audit.specs.Orders.{are_swapped}
+use Rattle.zvt_audit.specs.Booked.{books_text, total}
+use Rattle.zvt_audit.specs.Happened.{happenings_of, log_of}
+use Rattle.zvt_audit.specs.Json.{books_in}
+use Rattle.zvt_audit.specs.Orders.{are_swapped, noticed}
+use Rattle.zvt_audit.specs.declared.form.Form.{Form}
+use Rattle.zvt_audit.specs.declared.auditor.Auditor.{Auditor}
+use Rattle.zvt_audit.specs.declared.orders.Orders.{Orders}
 use Rattle.zvt_audit.specs.declared.summary.AuditSummary.{AuditSummary}
 
 -- the books of a log became those of the log with these happenings after it
 abbrev pub Takes : (old new : BooksSoFar) → List Happening → Type 0
 Takes old new happened = (log : List Happening) → HasJudged log old → HasJudged (log ++ happened) new
 
+-- the auditor's till is connected, and nothing else happened at it
+abbrev pub IsConnected : Auditor → Type 0
+IsConnected auditor = HasJudged (Connected ∷ []) auditor.books × (auditor.orders.till ≡ false) × (auditor.orders.terminal ≡ false)
+
+-- orders came from where the terminal is said to be, and none from where the till is
+abbrev pub has_swapped : Orders → Bool
+has_swapped orders = not orders.till && orders.terminal
+
+-- the sum of what was booked, and how many payments are unclear
+pub record SumsUp (audited : AuditSummary) (found : Books) : Type 0 where
+  pub total : audited.total ≡ total found.booked
+  pub unclear : audited.unclear ≡ length found.unclear
+
+-- What writing the books of a log in that form answers.
+abbrev pub AnswersBooks : Form → List Happening → Tally → Bool → (old new : Option (List ℕ)) → Result AuditSummary TraceFault → Type 0
+AnswersBooks form log tally swapped old new (Ok audited) = Appends old new (books_in form tally (books log)) × (audited.tally ≡ tally) × (audited.swapped ≡ swapped) × SumsUp audited (books log)
+AnswersBooks form log tally swapped old new (Err Memory) = Keeps old new
+AnswersBooks form log tally swapped old new (Err Write) = AppendsPrefix old new (books_in form tally (books log))
+AnswersBooks form log tally swapped old new (Err (Trace number what)) = ⊥
+AnswersBooks form log tally swapped old new (Err TooLong) = ⊥
+AnswersBooks form log tally swapped old new (Err Read) = ⊥
+
+-- ---- an auditor as a listener
+
+-- what it becomes by an event, and how it fails
+abbrev pub hears : Hears (Auditor × Unit {0})
+hears old event new = Takes old.0.books new.0.books (happenings_of event.trace_event) × (new.0.orders ≡ noticed old.0.orders event.trace_event)
+
+abbrev pub wants_memory : Fails (Auditor × Unit {0})
+wants_memory old event why new = why ≡ failure.Memory
+
+-- What an auditor hears of these bytes that were taken of a trace, and what is left of them.
+abbrev pub AnswersHearing : Reading → (taken : List ℕ) → (rest : Option (List ℕ)) → (old new : Auditor) → Result Tally TraceFault → Type 0
+AnswersHearing r taken rest old new (Ok tally) = AnswersWalk r hears wants_memory WholeLine (lines (readable taken)) (old, tt) (new, tt) (Ok tally) × (IsAtEnd rest ⊎ IsEnded taken)
+AnswersHearing r taken rest old new (Err (Trace number what)) = AnswersWalk r hears wants_memory WholeLine (lines (readable taken)) (old, tt) (new, tt) (Err (Trace number what))
+AnswersHearing r taken rest old new (Err Memory) = AnswersWalk r hears wants_memory WholeLine (lines (readable taken)) (old, tt) (new, tt) (Err Memory)
+AnswersHearing r taken rest old new (Err Write) = ⊥
+AnswersHearing r taken rest old new (Err TooLong) = (events : List At) × IsTooLong r WholeLine taken events
+AnswersHearing r taken rest old new (Err Read) = Unit {0}
+
 -- the device has besides the text of the books of what the trace emits, by that reading of lengths
 abbrev pub WritesBooks : Reading → (trace : List ℕ) → Tally → (old new : Option (List ℕ)) → Type 0
 WritesBooks r trace tally old new =
     (events : List At) × WholeTrace r WholeLine (lines (readable trace)) events × Appends old new (books_text (books (log_of events))) × Tallies tally events
 
--- What an audit answers for a trace that was read, by that reading of lengths. Where it fails nothing is written, but of
--- a write that failed a prefix of the text.
-abbrev pub AnswersReadBy : Reading → (trace : List ℕ) → (old new : Option (List ℕ)) → Result AuditSummary TraceFault → Type 0
-AnswersReadBy r trace old new (Ok audited) =
-    (events : List At) × WholeTrace r WholeLine (lines (readable trace)) events × Appends old new (books_text (books (log_of events))) × Tallies audited.tally events × (audited.swapped ≡ are_swapped events)
-AnswersReadBy r trace old new (Err (Trace number what)) = (events : List At) × BrokenTrace r WholeLine (lines (readable trace)) number what events × Keeps old new
-AnswersReadBy r trace old new (Err Memory) = Keeps old new
-AnswersReadBy r trace old new (Err Write) = (events : List At) × WholeTrace r WholeLine (lines (readable trace)) events × AppendsPrefix old new (books_text (books (log_of events)))
-AnswersReadBy r trace old new (Err TooLong) = ⊥
-AnswersReadBy r trace old new (Err Read) = ⊥
+-- What an audit answers for a trace that was read, in that form and by that reading of lengths. Where it fails nothing is
+-- written, but of a write that failed a prefix of the text.
+abbrev pub AnswersReadBy : Reading → Form → (trace : List ℕ) → (old new : Option (List ℕ)) → Result AuditSummary TraceFault → Type 0
+AnswersReadBy r form trace old new (Ok audited) =
+    (events : List At) × WholeTrace r WholeLine (lines (readable trace)) events × Appends old new (books_in form audited.tally (books (log_of events))) × Tallies audited.tally events × (audited.swapped ≡ are_swapped events)
+    × SumsUp audited (books (log_of events))
+AnswersReadBy r form trace old new (Err (Trace number what)) = (events : List At) × BrokenTrace r WholeLine (lines (readable trace)) number what events × Keeps old new
+AnswersReadBy r form trace old new (Err Memory) = Keeps old new
+AnswersReadBy r form trace old new (Err Write) =
+    (events : List At) × (tally : Tally) × WholeTrace r WholeLine (lines (readable trace)) events × AppendsPrefix old new (books_in form tally (books (log_of events))) × Tallies tally events
+AnswersReadBy r form trace old new (Err TooLong) = ⊥
+AnswersReadBy r form trace old new (Err Read) = ⊥
 
 -- What an audit answers for a trace of known bytes, which may be too long, by that reading of lengths.
 abbrev pub AnswersAuditBy : Reading → (trace : List ℕ) → (old new : Option (List ℕ)) → Result Tally TraceFault → Type 0
@@ -52,3 +102,12 @@ AnswersAuditBy r trace old new (Err Write) =
 -- what a strict audit answers
 abbrev pub AnswersAudit : (trace : List ℕ) → (old new : Option (List ℕ)) → Result Tally TraceFault → Type 0
 AnswersAudit trace old new answer = AnswersAuditBy shortest trace old new answer
+
+-- What an audit of a trace answers that comes piece by piece, once these bytes of it were taken. Where a line is too long, or a read fails, nothing is written.
+abbrev pub AnswersFollowed : Reading → Form → (taken : List ℕ) → (rest old new : Option (List ℕ)) → Result AuditSummary TraceFault → Type 0
+AnswersFollowed r form taken rest old new (Ok audited) = AnswersReadBy r form taken old new (Ok audited) × (IsAtEnd rest ⊎ IsEnded taken)
+AnswersFollowed r form taken rest old new (Err (Trace number what)) = AnswersReadBy r form taken old new (Err (Trace number what))
+AnswersFollowed r form taken rest old new (Err Memory) = Keeps old new
+AnswersFollowed r form taken rest old new (Err Write) = AnswersReadBy r form taken old new (Err Write)
+AnswersFollowed r form taken rest old new (Err TooLong) = ((events : List At) × IsTooLong r WholeLine taken events) × Keeps old new
+AnswersFollowed r form taken rest old new (Err Read) = Keeps old new

@@ -1,4 +1,6 @@
 pub mod Audited
 pub mod Booked
 pub mod Happened
+pub mod Json
 pub mod Orders
+pub mod Sums

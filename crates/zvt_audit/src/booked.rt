@@ -49,7 +49,7 @@ fn unclear_row(text: &mut Text, row: &(Amount, Cause)) -> Result<(), AllocError>
 }
 
 /// The sum of the payments that were completed.
-fn total(rows: &[Booked]) -> u128
+pub(crate) fn total(rows: &[Booked]) -> u128
     ensures { result ≡ total (rows_value rows.now) }
 {
     let mut total = 0;

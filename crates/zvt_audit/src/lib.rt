@@ -3,8 +3,15 @@
 
 mod auditor;
 mod booked;
+mod follow;
+mod form;
 mod happened;
+mod objects;
 mod orders;
+mod sum;
 mod summary;
 
+pub use follow::follow_audit;
+pub use form::Form;
+pub use sum::Sum;
 pub use summary::{AuditSummary, audit_trace};

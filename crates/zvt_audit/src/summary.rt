@@ -1,13 +1,16 @@
 //! The books of a whole trace.
-ghost use Rattle.std.specs.Prelude.{◌≡◌, ◌<◌, ◌≤◌, length, Err};
+ghost use Rattle.std.specs.Prelude.{◌≡◌, ◌<◌, ◌≤◌, List, length, Err, IfOk};
 ghost use Rattle.zvt_grammar.specs.Lengths.{reading_of};
 ghost use Rattle.zvt_trace.specs.Written.{limit};
-ghost use Rattle.zvt_audit.specs.Audited.{AnswersReadBy};
+ghost use Rattle.zvt_till.specs.Judging.{HasJudged};
+ghost use Rattle.zvt_till.specs.declared.happenings.Happening.{Happening};
+ghost use Rattle.zvt_audit.specs.Audited.{AnswersBooks, AnswersReadBy, IsConnected, has_swapped};
 
 use crate::auditor::Auditor;
 use crate::booked;
+use crate::form::{self, Form};
 use crate::orders::Orders;
-use std::alloc::Global;
+use std::alloc::{AllocError, Global};
 use zvt_grammar::Lengths;
 use zvt_io::Sink;
 use zvt_text::Text;
@@ -19,13 +22,17 @@ use zvt_trace::{Scope, Tally, TraceFault, walk};
 #[derive(Clone, Copy, Debug, PartialEq, Eq)]
 pub struct AuditSummary {
     pub tally: Tally,
+    /// The sum of the payments that were completed, in the smallest unit of the currency.
+    pub total: u128,
+    /// How many payments it is not known of whether they happened.
+    pub unclear: u64,
     /// Orders, which a till sends, came from where the terminal is said to be, and none from where the till is.
     pub swapped: bool,
 }
 
-/// Writes the books of the trace: a line for each payment that was completed, then one for each of which it is not
-/// known whether it happened, and the sum of the former in the smallest unit of the currency. Payments that were taken
-/// back count too. The trace may have such lengths.
+/// Writes the books of the trace in this form. A line represents each payment that was completed. Then one represents each
+/// of which it is not known whether it happened. Last comes the sum of the former, in the smallest unit of the currency.
+/// Payments that were taken back count too. The trace may have such lengths.
 ///
 /// The till's orders and the terminal's messages are judged as a till's log that begins with its connection. Where bytes
 /// of either side are refused, neither is read until the connection is lost. A stream that is refused or cut off counts as
@@ -35,20 +42,16 @@ pub struct AuditSummary {
 /// memory.
 pub fn audit_trace<W: Sink>(
     alloc: Global,
+    form: Form,
     lengths: Lengths,
     trace: &[u8],
     writer: &mut W,
 ) -> Result<AuditSummary, TraceFault>
     requires { length trace.now ≤ limit }
-    ensures writes { AnswersReadBy (reading_of lengths) trace.now (W.written writer.old) (W.written writer.new) result }
+    ensures writes { AnswersReadBy (reading_of lengths) form trace.now (W.written writer.old) (W.written writer.new) result }
     ensures write { result ≡ Err TraceFault.Write → W.failures writer.old < W.failures writer.new }
 {
-    let mut books = Bookkeeping::new(alloc);
-    books.take(&Happening::Connected)?;
-    let mut auditor = Auditor {
-        books,
-        orders: Orders::none(),
-    };
+    let mut auditor = connected(alloc)?;
     let tally = walk(
         &mut auditor,
         &mut (),
@@ -57,10 +60,42 @@ pub fn audit_trace<W: Sink>(
         lengths,
         trace,
     )?;
+    write_books(alloc, form, auditor, tally, writer)
+}
+
+/// An auditor of a till that is connected, and has not noticed an order.
+pub(crate) fn connected(alloc: Global) -> Result<Auditor, AllocError>
+    ensures { IfOk result IsConnected }
+{
+    let mut books = Bookkeeping::new(alloc);
+    books.take(&Happening::Connected)?;
+    Ok(Auditor {
+        books,
+        orders: Orders::none(),
+    })
+}
+
+/// Writes the books of an auditor that has heard all, in this form.
+pub(crate) fn write_books<W: Sink>(
+    alloc: Global,
+    form: Form,
+    auditor: Auditor,
+    tally: Tally,
+    writer: &mut W,
+) -> Result<AuditSummary, TraceFault>
+    ensures writes { (log : List Happening) → HasJudged log auditor.books → AnswersBooks form log tally (has_swapped auditor.orders) (W.written writer.old) (W.written writer.new) result }
+    ensures write { result ≡ Err TraceFault.Write → W.failures writer.old < W.failures writer.new }
+    ensures read { result ≡ Err TraceFault.Read → ⊥ }
+{
     let swapped = auditor.orders.are_swapped();
     let found = auditor.books.close()?;
     let mut text = Text::new(alloc);
-    booked::write(&mut text, &found)?;
+    form::write(&mut text, form, tally, &found)?;
     writer.write_all(text.bytes())?;
-    Ok(AuditSummary { tally, swapped })
+    Ok(AuditSummary {
+        tally,
+        total: booked::total(found.booked.as_slice()),
+        unclear: found.unclear.len() as u64,
+        swapped,
+    })
 }

@@ -40,3 +40,9 @@ pub with_given : {E : Type 0} (p r command : Command) (given : Result Command E)
 with_given p r command given is own adds =
     let local : (fields_of command).has_globals ≡ false = subst (λ x. IfOk x (λ command. (fields_of command).has_globals ≡ false)) is own in
     subst (λ x. IsOkAnd x (λ command. app_of r ≡ with_command (app_of p) (app_of command))) (sym is) (adds.shape local)
+
+-- what is known of a command that may be there, as one fact
+pub is_local : {E : Type 0} (given : Result Command E) (app : App) → IfOk given (λ r. app_of r ≡ app) → IfOk given (λ r. (fields_of r).has_globals ≡ false)
+    → IfOk given (IsLocalAppOf app)
+is_local (Ok command) app has own = (has, own)
+is_local (Err e) app has own = tt

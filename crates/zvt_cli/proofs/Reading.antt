@@ -50,7 +50,7 @@ some_over id rows most large n r known e lt = λ m given.
     let is = one_number id rows most large n m (subst (IsNumberOf id rows large) e known) given in
     omega (arith, is, lt, given.4)
 
--- the steps are what the matches hold of them
-pub steps_known : (f : Found) (id : Text) (o : Option (Bor (List (Bor (List ℕ))))) → option_map (λ s. map (λ v. v.now) s.now) o ≡ option_map raw_values (matched_of f id)
+-- the words of an argument are what the matches hold of them
+pub words_known : (f : Found) (id : Text) (o : Option (Bor (List (Bor (List ℕ))))) → option_map (λ s. map (λ v. v.now) s.now) o ≡ option_map raw_values (matched_of f id)
     → unwrap_or (option_map (λ s. map (λ v. v.now) s.now) o) [] ≡ unwrap_or (all_of id (rows_of f)) []
-steps_known f id o e = ap (λ (v : Option (List Text)). unwrap_or v []) (e ∙ raw_values-rows f id)
+words_known f id o e = ap (λ (v : Option (List Text)). unwrap_or v []) (e ∙ raw_values-rows f id)

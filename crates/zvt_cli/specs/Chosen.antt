@@ -8,6 +8,7 @@ use Rattle.clap.specs.declared.error.kind.ErrorKind.TheVariants.{MissingRequired
 use Rattle.zvt_cli.specs.Commands.{zvt_app}
 use Rattle.zvt_cli.specs.declared.choice.Choice.{Choice}
 use Rattle.zvt_cli.specs.declared.choice.Choice.TheVariants.{Audit, Book, Join, Loop, Normalise, Receipts, Show, Terminal, Till, Vectors}
+use Rattle.zvt_cli.specs.declared.choice.TraceOptions.{TraceOptions}
 use Rattle.zvt_cli.specs.declared.choice.ChoiceFault.{ChoiceFault}
 use Rattle.zvt_cli.specs.declared.choice.ChoiceFault.TheVariants.{Memory, Words}
 
@@ -30,9 +31,9 @@ abbrev pub IsNumberOf : Text → List Row → ℕ → Option ℕ → Type 0
 IsNumberOf id rows most (Some n) = GivesNumber id rows most n
 IsNumberOf id rows most None = (n : ℕ) → GivesNumber id rows most n → ⊥
 
--- the words of the steps
-abbrev pub steps_of : List Row → List Text
-steps_of rows = unwrap_or (all_of (codes "step") rows) []
+-- the words of an argument, in order
+abbrev pub words_of : Text → List Row → List Text
+words_of id rows = unwrap_or (all_of id rows) []
 
 -- the option's text, or that it has none
 abbrev pub IsTextOf : Text → List Row → Option (Bor Text) → Type 0
@@ -43,19 +44,27 @@ abbrev pub IsFlagOf : Text → List Row → Bool → Type 0
 IsFlagOf id rows flag =
     (one_of id rows ≡ None → flag ≡ false) × (one_of id rows ≡ Some (codes "true") → flag ≡ true) × (one_of id rows ≡ Some (codes "false") → flag ≡ false)
 
+-- the files and the flags of a command on traces; a flag that it doesn't have is not set
+pub record AreTraceOptionsOf (rows : List Row) (options : TraceOptions) : Type 0 where
+  pub files : map (λ file. file.now) options.files.items ≡ words_of (codes "file") rows
+  pub loose : IsFlagOf (codes "loose") rows options.loose
+  pub check : IsFlagOf (codes "check") rows options.check
+  pub json : IsFlagOf (codes "json") rows options.json
+  pub follow : IsFlagOf (codes "follow") rows options.follow
+
 -- the command of this name, given these, is the choice
 abbrev pub IsCommandOf : Text → List Row → Choice → Type 0
-IsCommandOf name rows (Show file loose) = (name ≡ codes "show") × IsTextOf (codes "file") rows file × IsFlagOf (codes "loose") rows loose
-IsCommandOf name rows (Join file) = (name ≡ codes "join") × IsTextOf (codes "file") rows file
-IsCommandOf name rows (Normalise file) = (name ≡ codes "normalise") × IsTextOf (codes "file") rows file
-IsCommandOf name rows (Audit file loose) = (name ≡ codes "audit") × IsTextOf (codes "file") rows file × IsFlagOf (codes "loose") rows loose
-IsCommandOf name rows (Receipts file loose) = (name ≡ codes "receipts") × IsTextOf (codes "file") rows file × IsFlagOf (codes "loose") rows loose
-IsCommandOf name rows (Vectors file) = (name ≡ codes "vectors") × IsTextOf (codes "file") rows file
+IsCommandOf name rows (Show options) = (name ≡ codes "show") × AreTraceOptionsOf rows options
+IsCommandOf name rows (Join options) = (name ≡ codes "join") × AreTraceOptionsOf rows options
+IsCommandOf name rows (Normalise options) = (name ≡ codes "normalise") × AreTraceOptionsOf rows options
+IsCommandOf name rows (Audit options) = (name ≡ codes "audit") × AreTraceOptionsOf rows options
+IsCommandOf name rows (Receipts options) = (name ≡ codes "receipts") × AreTraceOptionsOf rows options
+IsCommandOf name rows (Vectors options) = (name ≡ codes "vectors") × AreTraceOptionsOf rows options
 IsCommandOf name rows (Book file) = (name ≡ codes "book") × (first_of (codes "file") rows ≡ Some file.now)
 IsCommandOf name rows (Loop trace book steps) =
     (name ≡ codes "loop") × IsTextOf (codes "trace") rows trace
     × IsTextOf (codes "book") rows book
-    × (map (λ step. step.now) steps.items ≡ steps_of rows)
+    × (map (λ step. step.now) steps.items ≡ words_of (codes "step") rows)
 IsCommandOf name rows (Till options) =
     (name ≡ codes "till") × GivesNumber (codes "port") rows 65535 options.port
     × (first_of (codes "host") rows ≡ Some options.host.now)
@@ -65,7 +74,7 @@ IsCommandOf name rows (Till options) =
     × IsTextOf (codes "trace") rows options.trace
     × IsTextOf (codes "book") rows options.book
     × IsFlagOf (codes "loose") rows options.loose
-    × (map (λ step. step.now) options.steps.items ≡ steps_of rows)
+    × (map (λ step. step.now) options.steps.items ≡ words_of (codes "step") rows)
 IsCommandOf name rows (Terminal options) =
     (name ≡ codes "terminal") × GivesNumber (codes "port") rows 65535 options.port
     × (first_of (codes "host") rows ≡ Some options.host.now)

@@ -8,20 +8,16 @@ use Rattle.clap.specs.declared.builder.action.ArgAction.TheVariants.{Append, Set
 use Rattle.clap.specs.declared.builder.value_parser.ValueParser.TheVariants as parser
 
 -- any number of words
-abbrev pub step_rule : Rule
-step_rule = record (new_rule (codes "step")) { action = Some Append; value_names = 1 }
-
--- a word that may be left out
-abbrev pub file_rule : Rule
-file_rule = record (new_rule (codes "file")) { value_names = 1 }
+abbrev pub several_rule : Text → Rule
+several_rule name = record (new_rule name) { action = Some Append; value_names = 1 }
 
 -- a word that has to be there
 abbrev pub book_file_rule : Rule
 book_file_rule = record (new_rule (codes "file")) { value_names = 1; required = true }
 
 -- an option without a value
-abbrev pub loose_rule : Rule
-loose_rule = record (new_rule (codes "loose")) { long = Some (codes "loose"); action = Some SetTrue }
+abbrev pub flag_rule : Text → Rule
+flag_rule name = record (new_rule name) { long = Some name; action = Some SetTrue }
 
 -- an option that has one value
 abbrev pub option_rule : Text → Rule
@@ -56,19 +52,19 @@ abbrev pub book_app : App
 book_app = with_rule (new_app (codes "book")) book_file_rule
 
 abbrev pub loop_app : App
-loop_app = with_rule (plain_option (plain_option (new_app (codes "loop")) (codes "trace")) (codes "book")) step_rule
+loop_app = with_rule (plain_option (plain_option (new_app (codes "loop")) (codes "trace")) (codes "book")) (several_rule (codes "step"))
 
 abbrev pub till_app : App
 till_app =
     with_rule (with_rule (plain_option (plain_option (plain_option (plain_option
     (plain_option (with_rule (with_rule (new_app (codes "till")) port_rule) host_rule) (codes "password"))
-    (codes "config")) (codes "currency")) (codes "trace")) (codes "book")) loose_rule) step_rule
+    (codes "config")) (codes "currency")) (codes "trace")) (codes "book")) (flag_rule (codes "loose"))) (several_rule (codes "step"))
 
 abbrev pub terminal_app : App
 terminal_app =
     with_rule (plain_option (plain_option
     (with_rule (with_rule (with_rule (with_rule (new_app (codes "terminal")) port_rule) host_rule) tid_rule) connections_rule)
-    (codes "decline")) (codes "trace")) loose_rule
+    (codes "decline")) (codes "trace")) (flag_rule (codes "loose"))
 
 -- a command of this line, whose options are its own
 abbrev pub IsLocalAppOf : App → Command → Type 0
@@ -82,20 +78,30 @@ program_app = on_top (λ top. record top { has_version = true }) (new_app (codes
 abbrev pub with_command : App → App → App
 with_command app command = with_subcommand app command.top
 
--- a command that reads a trace
+-- a command that reads traces
 abbrev pub on_trace_app : Text → App
-on_trace_app name = with_rule (new_app name) file_rule
+on_trace_app name = with_rule (new_app name) (several_rule (codes "file"))
 
--- a command that reads a trace with padded lengths too
+-- a command that reads traces with padded lengths too
 abbrev pub loose_trace_app : Text → App
-loose_trace_app name = with_rule (on_trace_app name) loose_rule
+loose_trace_app name = with_rule (on_trace_app name) (flag_rule (codes "loose"))
 
--- with the commands that read a trace, or vectors
+-- a command that writes what traces have, also as JSON, and line by line
+abbrev pub written_app : Text → App
+written_app name = with_rule (with_rule (loose_trace_app name) (flag_rule (codes "json"))) (flag_rule (codes "follow"))
+
+abbrev pub join_app : App
+join_app = with_rule (on_trace_app (codes "join")) (flag_rule (codes "follow"))
+
+abbrev pub audit_app : App
+audit_app = with_rule (with_rule (with_rule (loose_trace_app (codes "audit")) (flag_rule (codes "check"))) (flag_rule (codes "json"))) (flag_rule (codes "follow"))
+
+-- with the commands that read traces, or vectors
 abbrev pub trace_app : App
 trace_app =
     with_command (with_command (with_command (with_command
-    (with_command (with_command program_app (loose_trace_app (codes "show"))) (on_trace_app (codes "join")))
-    (on_trace_app (codes "normalise"))) (loose_trace_app (codes "audit"))) (loose_trace_app (codes "receipts")))
+    (with_command (with_command program_app (written_app (codes "show"))) join_app)
+    (on_trace_app (codes "normalise"))) audit_app) (written_app (codes "receipts")))
     (on_trace_app (codes "vectors"))
 
 -- the program with its commands and their options

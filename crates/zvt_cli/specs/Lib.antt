@@ -1,2 +1,3 @@
 pub mod Commands
 pub mod Chosen
+pub mod Paths

@@ -1,9 +1,9 @@
 //! The arguments of the program, as a choice.
-ghost use Rattle.std.specs.Prelude.{◌≡◌, codes, IfErr, IfOk, map, option_map, unwrap_or, Some, []};
-ghost use Rattle.clap.specs.Words.{all_of, first_of, found_of, kind_of, rows_of, subcommand_rows_of};
-ghost use Rattle.zvt_cli.specs.Chosen.{HasNoChoice, IsChoiceOf, IsFaultOf, IsFlagOf, IsMissing, IsNumberOf, IsTakenAs, MayBeChoiceOf, faults_of_arguments, reading_of_arguments};
+ghost use Rattle.std.specs.Prelude.{◌≡◌, codes, IfErr, IfOk, map, option_map, Some, []};
+ghost use Rattle.clap.specs.Words.{first_of, found_of, kind_of, rows_of, subcommand_rows_of};
+ghost use Rattle.zvt_cli.specs.Chosen.{AreTraceOptionsOf, HasNoChoice, IsChoiceOf, IsFaultOf, IsFlagOf, IsMissing, IsNumberOf, IsTakenAs, MayBeChoiceOf, faults_of_arguments, reading_of_arguments, words_of};
 
-use crate::choice::{Choice, ChoiceFault, TerminalOptions, TillOptions};
+use crate::choice::{Choice, ChoiceFault, TerminalOptions, TillOptions, TraceOptions};
 use crate::command;
 use clap::error::ErrorKind;
 use clap::{ArgMatches, Error};
@@ -21,10 +21,7 @@ pub fn choice<'a>(alloc: Global, arguments: &'a [&'a str]) -> Result<Choice<'a>,
 {
     let matches = matches(alloc, arguments)?;
     match matches.subcommand() {
-        None => Ok(Choice::Show {
-            file: None,
-            loose: false,
-        }),
+        None => Ok(Choice::Show(nothing(alloc))),
         Some((name, inner)) => match chosen(alloc, name, inner)? {
             Some(choice) => Ok(choice),
             None => Err(incomplete(alloc)),
@@ -85,37 +82,48 @@ fn chosen<'a>(
     ensures { IfOk result (MayBeChoiceOf (Some (name.now, rows_of (found_of inner.now)))) }
 {
     Ok(match name {
-        "show" => Some(Choice::Show {
-            file: text(inner, "file"),
-            loose: flag(inner, "loose"),
-        }),
-        "join" => Some(Choice::Join {
-            file: text(inner, "file"),
-        }),
-        "normalise" => Some(Choice::Normalise {
-            file: text(inner, "file"),
-        }),
-        "audit" => Some(Choice::Audit {
-            file: text(inner, "file"),
-            loose: flag(inner, "loose"),
-        }),
-        "receipts" => Some(Choice::Receipts {
-            file: text(inner, "file"),
-            loose: flag(inner, "loose"),
-        }),
-        "vectors" => Some(Choice::Vectors {
-            file: text(inner, "file"),
-        }),
+        "show" => Some(Choice::Show(on_traces(alloc, inner)?)),
+        "join" => Some(Choice::Join(on_traces(alloc, inner)?)),
+        "normalise" => Some(Choice::Normalise(on_traces(alloc, inner)?)),
+        "audit" => Some(Choice::Audit(on_traces(alloc, inner)?)),
+        "receipts" => Some(Choice::Receipts(on_traces(alloc, inner)?)),
+        "vectors" => Some(Choice::Vectors(on_traces(alloc, inner)?)),
         "book" => book(inner),
         "loop" => Some(Choice::Loop {
             trace: text(inner, "trace"),
             book: text(inner, "book"),
-            steps: steps(alloc, inner)?,
+            steps: words(alloc, inner, "step")?,
         }),
         "till" => till(alloc, inner)?,
         "terminal" => terminal(inner),
         _ => None,
     })
+}
+
+/// The files and the options of a command on traces.
+fn on_traces<'a>(alloc: Global, inner: &ArgMatches<'a>) -> Result<TraceOptions<'a>, AllocError>
+    ensures { IfOk result (AreTraceOptionsOf (rows_of (found_of inner.now))) }
+{
+    Ok(TraceOptions {
+        files: words(alloc, inner, "file")?,
+        loose: flag(inner, "loose"),
+        check: flag(inner, "check"),
+        json: flag(inner, "json"),
+        follow: flag(inner, "follow"),
+    })
+}
+
+/// The options of a command that was given none.
+fn nothing<'a>(alloc: Global) -> TraceOptions<'a>
+    ensures { AreTraceOptionsOf [] result }
+{
+    TraceOptions {
+        files: Vec::new(alloc),
+        loose: false,
+        check: false,
+        json: false,
+        follow: false,
+    }
 }
 
 fn book<'a>(inner: &ArgMatches<'a>) -> Option<Choice<'a>>
@@ -134,7 +142,7 @@ fn till<'a>(alloc: Global, inner: &ArgMatches<'a>) -> Result<Option<Choice<'a>>,
     let Some(host) = text(inner, "host") else {
         return Ok(None);
     };
-    let steps = steps(alloc, inner)?;
+    let steps = words(alloc, inner, "step")?;
     Ok(Some(Choice::Till(TillOptions {
         port,
         host,
@@ -194,11 +202,12 @@ fn flag(inner: &ArgMatches<'_>, id: &str) -> bool
     inner.get_flag(id)
 }
 
-fn steps<'a>(alloc: Global, inner: &ArgMatches<'a>) -> Result<Vec<&'a str>, AllocError>
-    ensures { IfOk result (λ steps. map (λ step. step.now) steps.items ≡ unwrap_or (all_of (codes "step") (rows_of (found_of inner.now))) []) }
+/// The words of the argument of this name, in order.
+fn words<'a>(alloc: Global, inner: &ArgMatches<'a>, id: &str) -> Result<Vec<&'a str>, AllocError>
+    ensures { IfOk result (λ words. map (λ word. word.now) words.items ≡ words_of id.now (rows_of (found_of inner.now))) }
 {
-    match inner.get_strs("step") {
-        Some(steps) => Vec::from_slice(alloc, steps),
+    match inner.get_strs(id) {
+        Some(words) => Vec::from_slice(alloc, words),
         None => Ok(Vec::new(alloc)),
     }
 }

@@ -10,31 +10,15 @@ use thiserror::Error;
 /// Steps, hosts, codes, settings and files are the arguments as they were given. Their users check the form.
 #[derive(Debug, Drop)]
 pub enum Choice<'a> {
-    /// Also where no command is given. A file is named, or none or `-` for standard input. Where it is `loose`, here and
-    /// below, lengths are read in any form that holds them.
-    Show {
-        file: Option<&'a str>,
-        loose: bool,
-    },
-    Join {
-        file: Option<&'a str>,
-    },
+    /// Also where no command is given.
+    Show(TraceOptions<'a>),
+    Join(TraceOptions<'a>),
     /// Lengths are read in any form that holds them.
-    Normalise {
-        file: Option<&'a str>,
-    },
-    Audit {
-        file: Option<&'a str>,
-        loose: bool,
-    },
-    Receipts {
-        file: Option<&'a str>,
-        loose: bool,
-    },
-    /// Vectors are read from the file in place of a trace.
-    Vectors {
-        file: Option<&'a str>,
-    },
+    Normalise(TraceOptions<'a>),
+    Audit(TraceOptions<'a>),
+    Receipts(TraceOptions<'a>),
+    /// Vectors are read from the files in place of traces.
+    Vectors(TraceOptions<'a>),
     /// The till's book is kept in a file of this name.
     Book {
         file: &'a str,
@@ -46,6 +30,21 @@ pub enum Choice<'a> {
     },
     Till(TillOptions<'a>),
     Terminal(TerminalOptions<'a>),
+}
+
+/// The files and the options of a command on traces. A flag that the command doesn't have is not set.
+#[derive(Debug, Drop)]
+pub struct TraceOptions<'a> {
+    /// The traces, in order: standard input where none is named, and for `-`.
+    pub files: Vec<&'a str>,
+    /// Whether lengths are read in any form that holds them.
+    pub loose: bool,
+    /// Whether an unclear payment counts as bad.
+    pub check: bool,
+    /// Whether the output is JSON.
+    pub json: bool,
+    /// Whether each line is written as soon as it is read.
+    pub follow: bool,
 }
 
 /// The options and the steps of `till`.

@@ -2,7 +2,7 @@
 ghost use Rattle.std.specs.Prelude.{◌≡◌, IfOk, IsOkAnd, false};
 ghost use Rattle.clap.specs.Words.{App, Rule, app_of, new_app, rule_of, with_rule};
 ghost use Rattle.clap.specs.declared.builder.command.Command.TheViews.{out-Command as fields_of};
-ghost use Rattle.zvt_cli.specs.Commands.{IsLocalAppOf, book_app, loop_app, loose_trace_app, on_trace_app, program_app, terminal_app, till_app, trace_app, with_command, zvt_app};
+ghost use Rattle.zvt_cli.specs.Commands.{IsLocalAppOf, audit_app, book_app, join_app, loop_app, loose_trace_app, on_trace_app, program_app, terminal_app, till_app, trace_app, with_command, written_app, zvt_app};
 
 use crate::{help, options};
 use clap::{Arg, Command};
@@ -24,21 +24,19 @@ pub fn zvt<'a>(alloc: Global) -> Result<Command<'a>, AllocError>
 fn trace_commands<'a>(alloc: Global) -> Result<Command<'a>, AllocError>
     ensures { IfOk result (λ r. app_of r ≡ trace_app) }
 {
-    let show = loose_on_trace(alloc, "show", help::SHOW, help::SHOW_EXAMPLE);
+    let show = written(alloc, "show", help::SHOW, help::SHOW_EXAMPLE);
     let showing = with(program(alloc), show)?;
-    let join = on_trace(alloc, "join", help::JOIN, help::JOIN_EXAMPLE);
-    let joining = with(showing, join)?;
+    let joining = with(showing, join(alloc))?;
     let normalise = on_trace(alloc, "normalise", help::NORMALISE, help::NORMALISE_EXAMPLE);
     let normalising = with(joining, normalise)?;
-    let audit = loose_on_trace(alloc, "audit", help::AUDIT, help::AUDIT_EXAMPLE);
-    let auditing = with(normalising, audit)?;
-    let receipts = loose_on_trace(alloc, "receipts", help::RECEIPTS, help::RECEIPTS_EXAMPLE);
+    let auditing = with(normalising, audit(alloc))?;
+    let receipts = written(alloc, "receipts", help::RECEIPTS, help::RECEIPTS_EXAMPLE);
     let printing = with(auditing, receipts)?;
     let vectors = on_trace(alloc, "vectors", help::VECTORS, help::VECTORS_EXAMPLE);
     with(printing, vectors)
 }
 
-/// A command that reads a trace, with the texts before and after its usage.
+/// A command that reads traces, with the texts before and after its usage.
 fn on_trace<'a>(
     alloc: Global,
     name: &'a str,
@@ -49,10 +47,10 @@ fn on_trace<'a>(
     ensures local { IfOk result (λ r. (fields_of r).has_globals ≡ false) }
 {
     let named = Ok(plain(alloc, name, about, more));
-    and(named, options::file(alloc))
+    and(named, options::several(alloc, "file", "FILE", help::FILES))
 }
 
-/// A command that reads a trace with padded lengths too, where it is asked to.
+/// A command that reads traces with padded lengths too, where it is asked to.
 fn loose_on_trace<'a>(
     alloc: Global,
     name: &'a str,
@@ -63,8 +61,41 @@ fn loose_on_trace<'a>(
     ensures local { IfOk result (λ r. (fields_of r).has_globals ≡ false) }
 {
     let named = Ok(plain(alloc, name, about, more));
-    let read = and(named, options::file(alloc));
-    and(read, options::loose(alloc, help::LOOSE))
+    let read = and(named, options::several(alloc, "file", "FILE", help::FILES));
+    and(read, options::flag(alloc, "loose", help::LOOSE))
+}
+
+/// A command that writes what traces have, also as JSON, and line by line.
+fn written<'a>(
+    alloc: Global,
+    name: &'a str,
+    about: &'a str,
+    more: &'a str,
+) -> Result<Command<'a>, AllocError>
+    ensures app { IfOk result (λ r. app_of r ≡ written_app name.entry.now) }
+    ensures local { IfOk result (λ r. (fields_of r).has_globals ≡ false) }
+{
+    let loose = loose_on_trace(alloc, name, about, more);
+    let spoken = and(loose, options::flag(alloc, "json", help::JSON));
+    and(spoken, options::flag(alloc, "follow", help::FOLLOW))
+}
+
+fn join<'a>(alloc: Global) -> Result<Command<'a>, AllocError>
+    ensures app { IfOk result (λ r. app_of r ≡ join_app) }
+    ensures local { IfOk result (λ r. (fields_of r).has_globals ≡ false) }
+{
+    let read = on_trace(alloc, "join", help::JOIN, help::JOIN_EXAMPLE);
+    and(read, options::flag(alloc, "follow", help::FOLLOW))
+}
+
+fn audit<'a>(alloc: Global) -> Result<Command<'a>, AllocError>
+    ensures app { IfOk result (λ r. app_of r ≡ audit_app) }
+    ensures local { IfOk result (λ r. (fields_of r).has_globals ≡ false) }
+{
+    let loose = loose_on_trace(alloc, "audit", help::AUDIT, help::AUDIT_EXAMPLE);
+    let checked = and(loose, options::flag(alloc, "check", help::CHECK));
+    let spoken = and(checked, options::flag(alloc, "json", help::JSON));
+    and(spoken, options::flag(alloc, "follow", help::AUDIT_FOLLOW))
 }
 
 /// The program without a command.
@@ -124,7 +155,10 @@ fn looping<'a>(alloc: Global) -> Result<Command<'a>, AllocError>
         traced,
         options::text(alloc, "book", "FILE", help::KEEP_BOOK),
     );
-    and(keeping, options::step(alloc, help::LOOP_STEP))
+    and(
+        keeping,
+        options::several(alloc, "step", "STEP", help::LOOP_STEP),
+    )
 }
 
 fn till<'a>(alloc: Global) -> Result<Command<'a>, AllocError>
@@ -148,8 +182,11 @@ fn till<'a>(alloc: Global) -> Result<Command<'a>, AllocError>
         traced,
         options::text(alloc, "book", "FILE", help::KEEP_BOOK),
     );
-    let reading = and(keeping, options::loose(alloc, help::TILL_LOOSE));
-    and(reading, options::step(alloc, help::TILL_STEP))
+    let reading = and(keeping, options::flag(alloc, "loose", help::TILL_LOOSE));
+    and(
+        reading,
+        options::several(alloc, "step", "STEP", help::TILL_STEP),
+    )
 }
 
 fn terminal<'a>(alloc: Global) -> Result<Command<'a>, AllocError>
@@ -166,5 +203,5 @@ fn terminal<'a>(alloc: Global) -> Result<Command<'a>, AllocError>
         options::text(alloc, "decline", "XX", help::DECLINE),
     );
     let traced = and(decided, options::text(alloc, "trace", "FILE", help::TRACE));
-    and(traced, options::loose(alloc, help::TERMINAL_LOOSE))
+    and(traced, options::flag(alloc, "loose", help::TERMINAL_LOOSE))
 }

@@ -30,14 +30,15 @@ pub const TERMINAL: &str =
 pub const VECTORS: &str =
     "Check the reader of messages against test vectors, and write those that differ";
 
-pub const FILE: &str = "The trace to read; standard input without it, or with '-'";
+pub const FILES: &str = "The files to read, in order; standard input without one, or for '-'";
 
 /// The names of the commands, as a usage line shows them.
 pub const NAMES: &str = "show|join|normalise|audit|receipts|vectors|book|loop|till|terminal";
 
 /// What follows the commands.
 pub const MORE: &str =
-    "show, join, normalise, audit and receipts read a trace from FILE, or from standard input without FILE or with '-'.
+    "show, join, normalise, audit and receipts read a trace from each FILE, or from standard input without FILE or for '-'.
+Of several files each line begins with the name of its file. 'zvt FILE' shows FILE where its name has a dot or a slash.
 
 Steps run in the order given:
   register      Register the till at the terminal
@@ -56,7 +57,7 @@ Lines of a trace:
 
 Exit status:
   0  Done, or help was asked for
-  1  A stream of the trace was refused or cut off
+  1  A stream of a trace was refused or cut off, or 'audit --check' found an unclear payment
   2  The command line or a step is wrong
   3  The input is no trace or no book, or is too long
   4  A read, a write, the line or the connection failed
@@ -77,8 +78,11 @@ pub const NORMALISE_EXAMPLE: &str =
 Example:
   zvt normalise padded.trace";
 
-pub const AUDIT_EXAMPLE: &str = "Example:
-  zvt audit payment.trace";
+pub const AUDIT_EXAMPLE: &str =
+    "Give each terminal a trace of its own: two in one make each other's trace numbers used.
+
+Example:
+  zvt audit --check shop1.trace shop2.trace";
 
 pub const RECEIPTS_EXAMPLE: &str = "Example:
   zvt receipts payment.trace";
@@ -145,6 +149,16 @@ pub const TILL_LOOSE: &str =
     "Accept non-minimal length encodings. Use only with terminals known to send them.";
 
 pub const TERMINAL_LOOSE: &str = "Accept non-minimal length encodings, as some tills send them";
+
+pub const JSON: &str = "Write JSON, one object a line";
+
+pub const FOLLOW: &str =
+    "Read FILE as it comes, of any size, and write the text of each line at once";
+
+pub const AUDIT_FOLLOW: &str =
+    "Read FILE as it comes, of any size; the books are written at its end";
+
+pub const CHECK: &str = "End with status 1 where a payment is unclear";
 
 pub const TID: &str = "The terminal's number, at most 99999999";
 

@@ -1,5 +1,5 @@
 //! The command line of the program `zvt`, read by `clap`. [`arguments::choice`] answers the command that the
-//! arguments name, with its options and steps.
+//! arguments name, with its options and steps. [`with_show`] adds the command to arguments that name a file alone.
 #![tactic(auto)]
 
 pub mod arguments;
@@ -7,5 +7,7 @@ mod choice;
 mod command;
 mod help;
 mod options;
+mod paths;
 
-pub use choice::{Choice, ChoiceFault, TerminalOptions, TillOptions};
+pub use choice::{Choice, ChoiceFault, TerminalOptions, TillOptions, TraceOptions};
+pub use paths::with_show;

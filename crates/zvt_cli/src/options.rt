@@ -1,27 +1,21 @@
 //! The options and steps of the commands.
 ghost use Rattle.std.specs.Prelude.{◌≡◌, false};
 ghost use Rattle.clap.specs.Words.{rule_of};
-ghost use Rattle.zvt_cli.specs.Commands.{book_file_rule, connections_rule, file_rule, host_rule, loose_rule, option_rule, port_rule, step_rule, tid_rule};
+ghost use Rattle.zvt_cli.specs.Commands.{book_file_rule, connections_rule, flag_rule, host_rule, option_rule, port_rule, several_rule, tid_rule};
 
 use crate::help;
 use clap::{Arg, ArgAction, value_parser};
 use std::alloc::Global;
 
-pub fn step<'a>(alloc: Global, text: &'a str) -> Arg<'a>
-    ensures rule { rule_of result ≡ step_rule }
+/// Any number of words of this name, where `value` is what help calls one.
+pub fn several<'a>(alloc: Global, name: &'a str, value: &'a str, text: &'a str) -> Arg<'a>
+    ensures rule { rule_of result ≡ several_rule name.entry.now }
     ensures local { result.global ≡ false }
 {
-    Arg::new(alloc, "step")
+    Arg::new(alloc, name)
         .action(ArgAction::Append)
-        .value_name("STEP")
+        .value_name(value)
         .help(text)
-}
-
-pub fn file<'a>(alloc: Global) -> Arg<'a>
-    ensures rule { rule_of result ≡ file_rule }
-    ensures local { result.global ≡ false }
-{
-    Arg::new(alloc, "file").value_name("FILE").help(help::FILE)
 }
 
 pub fn book_file<'a>(alloc: Global) -> Arg<'a>
@@ -81,12 +75,13 @@ pub fn connections<'a>(alloc: Global) -> Arg<'a>
         .help(help::CONNECTIONS)
 }
 
-pub fn loose<'a>(alloc: Global, text: &'a str) -> Arg<'a>
-    ensures rule { rule_of result ≡ loose_rule }
+/// An option of this name that has no value.
+pub fn flag<'a>(alloc: Global, name: &'a str, text: &'a str) -> Arg<'a>
+    ensures rule { rule_of result ≡ flag_rule name.entry.now }
     ensures local { result.global ≡ false }
 {
-    Arg::new(alloc, "loose")
-        .long("loose")
+    Arg::new(alloc, name)
+        .long(name)
         .action(ArgAction::SetTrue)
         .help(text)
 }

@@ -1,3 +1,5 @@
 pub mod AddLemmas
 pub mod BlockLemmas
+pub mod FollowLemmas
 pub mod PageLemmas
+pub mod TurnLemmas

@@ -30,7 +30,7 @@ use Rattle.zvt_show.proofs.BlockLemmas.{all_written, appends_none, after_nothing
 
 -- ---- a prefix of what a trace emits
 
-whole_so_far : {r : Reading} (scope : Scope) (lines : List (List ℕ)) (events : List At) → WholeTrace r scope lines events → EventsSoFar r scope lines events
+pub whole_so_far : {r : Reading} (scope : Scope) (lines : List (List ℕ)) (events : List At) → WholeTrace r scope lines events → EventsSoFar r scope lines events
 whole_so_far scope lines events whole = prefix_whole events (record {
   done = lines;
   later = [];
@@ -43,7 +43,7 @@ whole_so_far scope lines events whole = prefix_whole events (record {
   is_all = whole.is_all;
 })
 
-broken_so_far : {r : Reading} (scope : Scope) (lines : List (List ℕ)) (number : ℕ) (what : TraceLineError) (events : List At) → BrokenTrace r scope lines number what events → EventsSoFar r scope lines events
+pub broken_so_far : {r : Reading} (scope : Scope) (lines : List (List ℕ)) (number : ℕ) (what : TraceLineError) (events : List At) → BrokenTrace r scope lines number what events → EventsSoFar r scope lines events
 broken_so_far scope lines number what events broken = prefix_whole events (record {
   done = broken.done;
   later = broken.line ∷ broken.later;
@@ -86,26 +86,26 @@ none_so_far {r = r} scope lines = by lines
       is_all = refl;
     })
 
-prefix_fewer : {Emit : List At → Type 0} (events more : List At) → PrefixOf Emit (events ++ more) → PrefixOf Emit events
+pub prefix_fewer : {Emit : List At → Type 0} (events more : List At) → PrefixOf Emit (events ++ more) → PrefixOf Emit events
 prefix_fewer events more prefix = record { all = prefix.all; later = more ++ prefix.later; emit = prefix.emit; is_prefix = prefix.is_prefix ∙ append_assoc events more prefix.later }
 
 -- ---- what is written
 
 abbrev pub writes : {S : Type 0} → (S → Page) → Hears S
-writes view old event new = WritesEvent event.trace_event (view old) (view new)
+writes view old event new = WritesEvent event (view old) (view new)
 
 abbrev pub fails : {S : Type 0} → (S → Page) → Fails S
 fails view old event why new = FailsEvent why (view old) (view new)
 
 -- the text of the events comes after what was to be written
-record Shows (style : Style) (events : List At) (old new : Page) : Type 0 where
+pub record Shows (style : Style) (events : List At) (old new : Page) : Type 0 where
   pub text : List ℕ
   pub says : EventsText style events text
   pub appended : Appends (all_of old) (all_of new) text
   pub extends : Extends old.written new.written
   pub failures : new.failures ≡ old.failures
 
-shown : {S : Type 0} (view : S → Page) (events : List At) (old new : S) → HearsAll (writes view) old events new → Shows (view old).style events (view old) (view new)
+pub shown : {S : Type 0} (view : S → Page) (events : List At) (old new : S) → HearsAll (writes view) old events new → Shows (view old).style events (view old) (view new)
 shown {S = S} view [] old new same = subst (λ (s : S). Shows (view old).style [] (view old) (view s)) (sym same) (record {
   text = [];
   says = refl;
@@ -135,7 +135,7 @@ record Wrote (r : Reading) (style : Style) (lines : List (List ℕ)) (old new : 
   pub extends : Extends old.written new.written
   pub least : old.failures ≤ new.failures
 
-started : (old : Page) (new : Option (List ℕ)) (text : List ℕ) → old.block ≡ [] → Appends (all_of old) new text → Appends old.written new text
+pub started : (old : Page) (new : Option (List ℕ)) (text : List ℕ) → old.block ≡ [] → Appends (all_of old) new text → Appends old.written new text
 started old new text empty appended = subst (λ (o : Option (List ℕ)). Appends o new text) (after_nothing old.written old.block empty) appended
 
 wrote_all : {S : Type 0} {r : Reading} (view : S → Page) (lines : List (List ℕ)) (events : List At) (old new : S) → (view old).block ≡ [] → EventsSoFar r OneSide lines events → HearsAll (writes view) old events new → Wrote r (view old).style lines (view old) (view new)

@@ -1,3 +1,4 @@
+pub mod Followed
 pub mod Lines
 pub mod Text
 pub mod Written

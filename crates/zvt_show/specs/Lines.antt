@@ -6,13 +6,15 @@ use Rattle.zvt_grammar.specs.declared.why.Why.{Why}
 use Rattle.zvt_trace.specs.Lines.{direction_text}
 use Rattle.zvt_trace.specs.declared.direction.Direction.{Direction}
 use Rattle.zvt_show.specs.declared.render.Style.{Style}
-use Rattle.zvt_show.specs.declared.render.Style.TheVariants.{Join, Receipts, Show}
+use Rattle.zvt_show.specs.declared.render.Style.TheVariants.{Join, Json, JsonReceipts, Receipts, Show}
 
 -- what comes before a line that is no part of a trace, where such lines are written at all
 abbrev pub mark_of : Style → Option (List ℕ)
 mark_of Show = Some []
 mark_of Join = Some (codes "# ")
 mark_of Receipts = None
+mark_of Json = None
+mark_of JsonReceipts = None
 
 abbrev pub marked : Option (List ℕ) → List ℕ → List ℕ
 marked None text = []
@@ -33,3 +35,5 @@ abbrev pub lost_text : Style → List ℕ
 lost_text Show = codes "! line lost" ++ 10 ∷ []
 lost_text Join = codes "!" ++ 10 ∷ []
 lost_text Receipts = []
+lost_text Json = []
+lost_text JsonReceipts = []

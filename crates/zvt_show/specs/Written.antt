@@ -16,7 +16,7 @@ use Rattle.zvt_trace.specs.declared.fault.TraceFault.TheVariants.{Memory, Read, 
 use Rattle.zvt_trace.specs.declared.listener.ListenerError.{ListenerError}
 use Rattle.zvt_trace.specs.declared.listener.ListenerError.TheVariants as failure
 use Rattle.zvt_trace.specs.declared.listener.Scope.TheVariants.{OneSide}
-use Rattle.zvt_show.specs.Text.{EventText, EventsText, MessageText}
+use Rattle.zvt_show.specs.Text.{EventText, EventsText, MessageText, PlainText}
 use Rattle.zvt_show.specs.declared.render.Style.{Style}
 
 -- ---- what the functions add to the text
@@ -27,10 +27,16 @@ pub record AddsMessage (style : Style) (from : Direction) (message : Message) (o
   pub says : MessageText style from message one
   pub grown : new ≡ old ++ one
 
--- the text grew by that of the events
-pub record AddsEvent (style : Style) (trace_event : TraceEvent) (old new : List ℕ) : Type 0 where
+-- the text grew by that of an event, in a style that writes no JSON
+pub record AddsPlain (style : Style) (trace_event : TraceEvent) (old new : List ℕ) : Type 0 where
   pub one : List ℕ
-  pub says : EventText style trace_event one
+  pub says : PlainText style trace_event one
+  pub grown : new ≡ old ++ one
+
+-- the text grew by that of the event
+pub record AddsEvent (style : Style) (event : At) (old new : List ℕ) : Type 0 where
+  pub one : List ℕ
+  pub says : EventText style event one
   pub grown : new ≡ old ++ one
 
 -- ---- what a device has that failed
@@ -66,9 +72,9 @@ abbrev pub all_of : Page → Option (List ℕ)
 all_of page = after page.written page.block
 
 -- the text of the events comes after the block, or the block's does on the device
-pub record WritesEvent (trace_event : TraceEvent) (old new : Page) : Type 0 where
+pub record WritesEvent (event : At) (old new : Page) : Type 0 where
   pub text : List ℕ
-  pub says : EventText old.style trace_event text
+  pub says : EventText old.style event text
   pub appended : Appends (all_of old) (all_of new) text
   pub extends : Extends old.written new.written
   pub failures : new.failures ≡ old.failures

@@ -1,10 +1,13 @@
 //! The text of traces of the line between a till and its terminal.
 //!
 //! [`render_trace`] writes the text of a trace in memory in a [`Style`], and takes the lengths that the trace may have.
+//! [`follow_trace`] writes the text of a trace while it comes.
 #![tactic(auto)]
 
+mod follow;
 mod pages;
 mod render;
 
+pub use follow::{Follower, follow_trace};
 pub use pages::render_trace;
 pub use render::Style;

@@ -19,7 +19,8 @@ use zvt_trace::{Listener, ListenerError, Scope, Tally, TraceEvent, TraceFault, w
 const BLOCK: usize = 65_536;
 
 /// Writes the text of a trace in this style: the text of each message, and of what becomes of its side and of the line. It
-/// goes out in blocks, the last one also where the walk fails.
+/// goes out in blocks, the last one also where the walk fails. In the styles `Json` and `JsonReceipts` each line of the text is
+/// one JSON value.
 ///
 /// The trace may have such lengths. In the style `Join` each whole message is written in its one strict spelling. A stream
 /// that is refused or cut off counts as bad.
@@ -42,15 +43,15 @@ pub fn render_trace<W: Sink>(
 
 /// Writes the text of events. The text of each event joins the block whole or not at all.
 #[derive(Drop)]
-struct Pages {
+pub(crate) struct Pages {
     alloc: Global,
     style: Style,
-    block: Text,
+    pub(crate) block: Text,
 }
 
 impl Pages {
     /// Pages of this style, without text.
-    fn new(alloc: Global, style: Style) -> Pages
+    pub(crate) fn new(alloc: Global, style: Style) -> Pages
         ensures style { result.style ≡ style }
         ensures empty { result.block ≡ [] }
     {
@@ -65,7 +66,7 @@ impl Pages {
 impl<W: Sink> Listener<W> for Pages {
     ghost use Rattle.zvt_show.specs.Written.{FailsEvent, WritesEvent, page};
 
-    ghost hears = { λ old event new. WritesEvent event.trace_event (page old.0.style (W.written old.1) old.0.block (W.failures old.1)) (page new.0.style (W.written new.1) new.0.block (W.failures new.1)) };
+    ghost hears = { λ old event new. WritesEvent event (page old.0.style (W.written old.1) old.0.block (W.failures old.1)) (page new.0.style (W.written new.1) new.0.block (W.failures new.1)) };
 
     ghost fails = { λ old event failure new. FailsEvent failure (page old.0.style (W.written old.1) old.0.block (W.failures old.1)) (page new.0.style (W.written new.1) new.0.block (W.failures new.1)) };
 
@@ -73,11 +74,11 @@ impl<W: Sink> Listener<W> for Pages {
     fn hear(
         &mut self,
         device: &mut W,
-        _line: u64,
+        line: u64,
         trace_event: &TraceEvent<'_>,
     ) -> Result<(), ListenerError> {
         flush_full(&mut self.block, device)?;
-        render_event(&mut self.block, self.alloc, self.style, trace_event)?;
+        render_event(&mut self.block, self.alloc, self.style, line, trace_event)?;
         Ok(())
     }
 }
@@ -98,7 +99,7 @@ fn flush_full<W: Sink>(block: &mut Text, writer: &mut W) -> Result<(), ListenerE
 }
 
 /// Writes the block to the device and empties it, also where the write fails.
-fn flush<W: Sink>(block: &mut Text, writer: &mut W) -> Result<(), ListenerError>
+pub(crate) fn flush<W: Sink>(block: &mut Text, writer: &mut W) -> Result<(), ListenerError>
     ensures bytes { OnOk result (Appends (W.written writer.old) (W.written writer.new) block.old) }
     ensures fault { IfErr result (λ failure. failure ≡ ListenerError.Write) }
     ensures failures { CountsFailure (W.failures writer.old) (W.failures writer.new) result }

@@ -1,14 +1,15 @@
 //! The text of an event.
-ghost use Rattle.std.specs.Prelude.{◌≡◌, ◌++◌, ◌∷◌, [], IfOk, OnErr, OnOk};
+ghost use Rattle.std.specs.Prelude.{◌≡◌, ◌++◌, ◌∷◌, [], IfOk, OnErr, OnOk, is_some};
 ghost use Rattle.zvt_grammar.specs.Lengths.{reading_of};
 ghost use Rattle.zvt_apdu.specs.Grammar.{Spells};
 ghost use Rattle.zvt_text.specs.Writing.{Adds};
 ghost use Rattle.zvt_trace.specs.Lines.{direction_text};
-ghost use Rattle.zvt_trace.specs.TraceEvent.{HasItsBytes, event_of};
+ghost use Rattle.zvt_trace.specs.TraceEvent.{HasItsBytes, event_of, on};
+ghost use Rattle.zvt_json.specs.Events.{AddsLine};
 ghost use Rattle.zvt_show.specs.Lines.{lost_text, refused_text, stopped_text, truncated_text};
-ghost use Rattle.zvt_show.specs.Text.{joined, receipt, shown};
-ghost use Rattle.zvt_show.specs.Written.{AddsEvent, AddsMessage};
-ghost use Rattle.zvt_show.specs.declared.render.Style.TheVariants.{Join};
+ghost use Rattle.zvt_show.specs.Text.{joined, printed_in, receipt, shown};
+ghost use Rattle.zvt_show.specs.Written.{AddsEvent, AddsMessage, AddsPlain};
+ghost use Rattle.zvt_show.specs.declared.render.Style.TheVariants.{Join, JsonReceipts};
 
 use std::alloc::{AllocError, Global};
 use zvt_apdu::{ApduView, encode, owned};
@@ -25,6 +26,10 @@ pub enum Style {
     Join,
     /// The text of the terminal's print lines, and nothing else.
     Receipts,
+    /// Each event as a line of JSON.
+    Json,
+    /// The terminal's print lines, each as a line of JSON, and nothing else.
+    JsonReceipts,
 }
 
 impl Style {
@@ -38,21 +43,88 @@ impl Style {
         match self {
             Style::Show => Some(""),
             Style::Join => Some("# "),
-            Style::Receipts => None,
+            Style::Receipts | Style::Json | Style::JsonReceipts => None,
         }
     }
 }
 
-/// Adds the text of an event. Where memory is refused the text stays as it is.
+/// Adds the text of an event that is at a line of the trace. Where memory is refused the text stays as it is.
 #[inline(always)]
 pub(crate) fn render_event(
+    text: &mut Text,
+    alloc: Global,
+    style: Style,
+    line: u64,
+    trace_event: &TraceEvent<'_>,
+) -> Result<(), AllocError>
+    requires { HasItsBytes trace_event.now }
+    ensures adds { OnOk result (AddsEvent style (on line (event_of trace_event.now)) text.old text.new) }
+    ensures keeps { OnErr result (text.new ≡ text.old) }
+{
+    match style {
+        Style::Json => json(text, alloc, line, trace_event),
+        Style::JsonReceipts => json_receipt(text, alloc, line, trace_event),
+        Style::Show | Style::Join | Style::Receipts => plain(text, alloc, style, trace_event),
+    }
+}
+
+/// Adds an event as a line of JSON.
+#[inline(never)]
+fn json(
+    text: &mut Text,
+    alloc: Global,
+    line: u64,
+    trace_event: &TraceEvent<'_>,
+) -> Result<(), AllocError>
+    requires { HasItsBytes trace_event.now }
+    ensures adds { OnOk result (AddsLine (on line (event_of trace_event.now)) text.old text.new) }
+    ensures keeps { OnErr result (text.new ≡ text.old) }
+{
+    zvt_json::event(text, alloc, line, trace_event)
+}
+
+/// Adds a print line of the terminal as a line of JSON, and nothing of another event.
+fn json_receipt(
+    text: &mut Text,
+    alloc: Global,
+    line: u64,
+    trace_event: &TraceEvent<'_>,
+) -> Result<(), AllocError>
+    requires { HasItsBytes trace_event.now }
+    ensures adds { OnOk result (AddsEvent JsonReceipts (on line (event_of trace_event.now)) text.old text.new) }
+    ensures keeps { OnErr result (text.new ≡ text.old) }
+{
+    if is_receipt(trace_event) {
+        json(text, alloc, line, trace_event)
+    } else {
+        Ok(())
+    }
+}
+
+/// Whether an event is a print line of the terminal.
+fn is_receipt(trace_event: &TraceEvent<'_>) -> bool
+    ensures { result ≡ is_some (printed_in (event_of trace_event.now)) }
+{
+    match trace_event {
+        TraceEvent::Message {
+            from: Direction::FromTerminal,
+            apdu,
+            ..
+        } => apdu.text().is_some(),
+        _ => false,
+    }
+}
+
+/// Adds the text of an event in a style that writes no JSON.
+#[inline(always)]
+fn plain(
     text: &mut Text,
     alloc: Global,
     style: Style,
     trace_event: &TraceEvent<'_>,
 ) -> Result<(), AllocError>
     requires { HasItsBytes trace_event.now }
-    ensures adds { OnOk result (AddsEvent style (event_of trace_event.now) text.old text.new) }
+    ensures adds { OnOk result (AddsPlain style (event_of trace_event.now) text.old text.new) }
     ensures keeps { OnErr result (text.new ≡ text.old) }
 {
     match trace_event {
@@ -65,6 +137,7 @@ pub(crate) fn render_event(
             Style::Show => show(text, *from, apdu),
             Style::Join => join(text, alloc, *from, apdu, bytes, *lengths),
             Style::Receipts => receipt(text, *from, apdu),
+            Style::Json | Style::JsonReceipts => Ok(()),
         },
         TraceEvent::Refused { from, refusal } => {
             let Refusal { place, why, .. } = *refusal;
@@ -211,7 +284,7 @@ fn lost(text: &mut Text, style: Style) -> Result<(), AllocError>
     match style {
         Style::Show => text.word(b"! line lost\n"),
         Style::Join => text.word(b"!\n"),
-        Style::Receipts => Ok(()),
+        Style::Receipts | Style::Json | Style::JsonReceipts => Ok(()),
     }
 }
 

@@ -1,19 +1,9 @@
 //! The text of bytes.
 ghost use Rattle.std.specs.Prelude.{◌≡◌, ◌≤◌, length, take};
 ghost use Rattle.zvt_text.specs.Writing.{Puts};
-ghost use Rattle.zvt_text.specs.Bytes.{escaped, escaped_text, hex_of, hex_or_dash, is_plain, quoted};
+ghost use Rattle.zvt_text.specs.Bytes.{escaped, escaped_text, hex_or_dash, is_plain, quoted};
 
-use crate::cursor::{Full, fixed, hexadecimal, push, word};
-use crate::digits::digits;
-
-/// One byte in hexadecimal.
-#[inline(always)]
-pub(crate) fn byte(buffer: &mut [u8], at: usize, byte: u8) -> Result<usize, Full>
-    requires { at ≤ length buffer.old }
-    ensures { Puts result at buffer.old buffer.new (hex_of byte) }
-{
-    word(buffer, at, &digits(byte))
-}
+use crate::cursor::{Full, byte, fixed, hexadecimal, push, word};
 
 /// The bytes in hexadecimal, or a dash.
 pub(crate) fn bytes_or_dash(buffer: &mut [u8], at: usize, bytes: &[u8]) -> Result<usize, Full>
@@ -54,9 +44,9 @@ pub(crate) fn escape_all(buffer: &mut [u8], at: usize, bytes: &[u8]) -> Result<u
     }
 }
 
-/// How many of the first bytes are as they are.
+/// How many of the first bytes of a text have no escape.
 #[inline(always)]
-fn plain_first(bytes: &[u8]) -> usize
+pub fn plain_first(bytes: &[u8]) -> usize
     ensures few { result ≤ length bytes.now }
     ensures plain { escaped_text (take result bytes.now) ≡ take result bytes.now }
 {
@@ -78,8 +68,8 @@ fn escape(buffer: &mut [u8], at: usize, character: u8) -> Result<usize, Full>
     byte(buffer, at, character)
 }
 
-/// Whether the byte is as it is.
-fn is_plain(character: u8) -> bool
+/// Whether a byte of a text has no escape.
+pub fn is_plain(character: u8) -> bool
     ensures { result ≡ is_plain character }
 {
     character >= 0x20 && character <= 0x7E && character != b'"' && character != b'\\'

@@ -1,12 +1,12 @@
 //! What a head says after the name of a message: each part that the message has.
-ghost use Rattle.std.specs.Prelude.{◌≤◌, ◌+◌, ◌∷◌, [], length};
+ghost use Rattle.std.specs.Prelude.{◌≤◌, ◌∷◌, length};
 ghost use Rattle.std.specs.Option.{option_copied};
 ghost use Rattle.hex.specs.Hex.{encode_upper};
-ghost use Rattle.zvt_text.specs.MessageTexts.{config_text, data_text, four_digits, hex_part, named_currency, part_text, quoted_part, words_part};
+ghost use Rattle.zvt_text.specs.MessageTexts.{config_text, data_text, hex_part, named_currency, part_text, quoted_part, words_part};
 ghost use Rattle.zvt_text.specs.Writing.{Puts};
 
-use crate::bytes::{byte, quote};
-use crate::cursor::{Full, fixed, hexadecimal, push};
+use crate::bytes::quote;
+use crate::cursor::{Full, byte, fixed, four_digits, hexadecimal, push};
 use crate::write::put_result;
 use zvt_bcd::Currency;
 
@@ -104,25 +104,5 @@ pub(crate) fn currency(
         return Ok(at);
     };
     let at = fixed(buffer, at, *b" currency ")?;
-    four(buffer, at, currency.get())
-}
-
-/// Four decimal digits.
-fn four(buffer: &mut [u8], at: usize, number: u16) -> Result<usize, Full>
-    requires digits { number ≤ 9999 }
-    requires inside { at ≤ length buffer.old }
-    ensures { Puts result at buffer.old buffer.new (four_digits number) }
-{
-    let at = digit(buffer, at, number / 1000 % 10)?;
-    let at = digit(buffer, at, number / 100 % 10)?;
-    let at = digit(buffer, at, number / 10 % 10)?;
-    digit(buffer, at, number % 10)
-}
-
-fn digit(buffer: &mut [u8], at: usize, value: u16) -> Result<usize, Full>
-    requires digit { value ≤ 9 }
-    requires inside { at ≤ length buffer.old }
-    ensures { Puts result at buffer.old buffer.new ((48 + value) ∷ []) }
-{
-    push(buffer, at, b'0' + value as u8)
+    four_digits(buffer, at, currency.get())
 }

@@ -2,7 +2,7 @@
 #![tactic(auto)]
 
 mod bytes;
-mod cursor;
+pub mod cursor;
 mod details;
 mod digits;
 mod heads;
@@ -13,6 +13,7 @@ mod text;
 mod values;
 mod write;
 
+pub use bytes::{is_plain, plain_first};
 pub use heads::kind_name;
-pub use text::Text;
-pub use write::{escaped_line, hexadecimal, line, message, numbers, result_words};
+pub use text::{Says, Text};
+pub use write::{escaped_line, hexadecimal, line, meaning, message, numbers, result_words};

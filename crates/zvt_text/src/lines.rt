@@ -5,8 +5,7 @@ ghost use Rattle.zvt_field.specs.Names.{name_of};
 ghost use Rattle.zvt_text.specs.Lines.{field_line, field_lines, named_text};
 ghost use Rattle.zvt_text.specs.Writing.{Puts};
 
-use crate::bytes::byte;
-use crate::cursor::{Full, fixed, push, word};
+use crate::cursor::{Full, byte, fixed, push, word};
 use crate::objects::object_lines;
 use crate::values::value;
 use zvt_field::{FieldView, FieldsView, name};

@@ -98,9 +98,9 @@ impl Text {
         self.word(Buffer::new().format(number).as_bytes())
     }
 
-    /// Writes what is said.
+    /// Writes what is said, whole or not at all.
     #[inline(always)]
-    pub(crate) fn add<S: Says>(&mut self, what: &S) -> Result<(), AllocError>
+    pub fn add<S: Says>(&mut self, what: &S) -> Result<(), AllocError>
         ensures { Adds result self.old self.new (S.said what.now) }
     {
         'tries: loop {
@@ -113,8 +113,8 @@ impl Text {
     }
 }
 
-/// What can be written whole.
-pub(crate) trait Says {
+/// What can be written into a [`Text`], whole or not at all.
+pub trait Says {
     ghost said: { Self → List ℕ };
 
     /// Writes it at the start of the buffer, and answers its size.

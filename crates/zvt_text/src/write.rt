@@ -7,8 +7,8 @@ ghost use Rattle.zvt_text.specs.Results.{meaning_of, result_words};
 ghost use Rattle.zvt_text.specs.MessageTexts.{said};
 ghost use Rattle.zvt_text.specs.Writing.{Adds, Puts};
 
-use crate::bytes::{byte, bytes_or_dash, escape_all};
-use crate::cursor::{self, Full, fixed, push, repeat, word};
+use crate::bytes::{bytes_or_dash, escape_all};
+use crate::cursor::{self, Full, byte, fixed, push, repeat, word};
 use crate::heads::head;
 use crate::lines::field_lines;
 use crate::text::{Says, Text};
@@ -129,7 +129,7 @@ pub(crate) fn put_result(buffer: &mut [u8], at: usize, code: u8) -> Result<usize
 }
 
 /// The meaning of a result code, if it has one of its own.
-fn meaning(code: u8) -> Option<&'static str>
+pub fn meaning(code: u8) -> Option<&'static str>
     ensures { option_map (λ meaning. meaning.now) result ≡ meaning_of code }
 {
     Some(match code {

@@ -1,8 +1,9 @@
 //! The library of the program `zvt`: all that the program calls, by its name at this root.
 //!
-//! - The command line: [`arguments::choice`] answers a [`Choice`].
+//! - The command line: [`arguments::choice`] answers a [`Choice`], and [`with_show`] adds the command to a file alone.
 //! - The commands on a trace: [`show`], [`join`], [`audit`], [`receipts`] and [`vectors`]. [`write_notes`] reports what is
-//!   bad in a trace, and [`hint_on`] why a line can't be read.
+//!   bad in a trace, and [`hint_on`] why a line can't be read. [`follow_trace`] and [`follow_audit`] work on a trace while it
+//!   comes.
 //! - The runs over TCP: [`plan`] reads the steps, and [`run_loop`], [`run_till`] and [`run_terminal`] make them.
 //! - The faults: [`ChoiceFault`] of the arguments, [`TraceFault`] of a command on a trace, and [`EndFault`] of a run. A
 //!   [`ToolFault`] is one of the last two.
@@ -15,8 +16,10 @@ pub use fault::ToolFault;
 pub use traces::{
     audit, audit_loose, join, normalise_trace, receipts, receipts_loose, show, show_loose,
 };
-pub use zvt_audit::{AuditSummary, audit_trace};
-pub use zvt_cli::{Choice, ChoiceFault, TerminalOptions, TillOptions, arguments};
+pub use zvt_audit::{AuditSummary, Form, Sum, audit_trace, follow_audit};
+pub use zvt_cli::{
+    Choice, ChoiceFault, TerminalOptions, TillOptions, TraceOptions, arguments, with_show,
+};
 pub use zvt_diagnostics::{hint_on, write_notes};
 pub use zvt_grammar::Lengths;
 pub use zvt_journal::{DeviceError, FileDevice, JournalFileError, Opened, open_file, read_book};
@@ -27,7 +30,7 @@ pub use zvt_session::{
     result_code, run_both_ends, run_both_ends_kept, run_loop, run_loop_kept, run_terminal,
     run_till, run_till_end, run_till_end_kept, run_till_kept, serve, step_of, write_book,
 };
-pub use zvt_show::{Style, render_trace};
+pub use zvt_show::{Style, follow_trace, render_trace};
 pub use zvt_till::TillSettings;
 pub use zvt_trace::{
     ListenerError, Scope, Tally, TraceFault, TraceLineError, next_line, read_trace,

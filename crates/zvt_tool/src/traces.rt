@@ -7,7 +7,7 @@ ghost use Rattle.zvt_show.specs.Written.{AnswersTrace, AnswersTraceBy};
 ghost use Rattle.zvt_show.specs.declared.render.Style.TheVariants.{Join, Receipts, Show};
 
 use std::alloc::Global;
-use zvt_audit::audit_trace;
+use zvt_audit::{Form, audit_trace};
 use zvt_grammar::Lengths;
 use zvt_io::{Sink, Source};
 use zvt_show::{Style, render_trace};
@@ -148,6 +148,6 @@ fn read_and_audit<R: Source, W: Sink>(
     ensures write { result ≡ Err TraceFault.Write → W.failures writer.old < W.failures writer.new }
 {
     let trace = read_trace(alloc, reader)?;
-    let audited = audit_trace(alloc, lengths, trace.as_slice(), writer)?;
+    let audited = audit_trace(alloc, Form::Text, lengths, trace.as_slice(), writer)?;
     Ok(audited.tally)
 }

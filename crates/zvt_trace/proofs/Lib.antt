@@ -1,5 +1,8 @@
 pub mod AfterLemmas
+pub mod ChunkLemmas
+mod ChunkRows
 pub mod EventLemmas
+pub mod FeedLemmas
 pub mod InputLemmas
 mod JournalRows
 pub mod LineLemmas
@@ -11,3 +14,4 @@ pub mod SpelledLemmas
 pub mod StartLemmas
 pub mod EmitLemmas
 pub mod WalkedLemmas
+pub mod WalkerLemmas

@@ -1,13 +1,17 @@
 -- What the lines of a trace emit, one after another.
-use Rattle.std.proofs.Common.{◌≡◌, inl, inr, ℕ, ◌+◌, List, [], ◌∷◌, ◌++◌, Ok, Err, length, refl, sym, ◌∙◌, ap, subst, arith, append_assoc, append-nil, length-append}
+use Rattle.std.proofs.Common.{◌≡◌, inl, inr, ℕ, ◌+◌, List, [], ◌∷◌, ◌++◌, Result, Ok, Err, length, refl, sym, ◌∙◌, ap, subst, arith, append_assoc, append-nil, length-append}
 use Rattle.std.specs.Str.Lines.{lines}
+use Rattle.zvt_grammar.specs.Lengths.{reading_of}
 use Rattle.zvt_grammar.specs.Reading.{Reading}
-use Rattle.zvt_trace.specs.Listening.{AnswersWalk, Fails, FailsIn, FollowBoth, Hears, HearsAll, HearsEnd, WalksLine, fault_of}
+use Rattle.zvt_grammar.specs.declared.lengths.Lengths.{Lengths}
+use Rattle.zvt_trace.specs.Listening.{AnswersFrom, AnswersWalk, Fails, FailsIn, FaultsFrom, FollowBoth, HasWalked, Hears, HearsAll, HearsEnd, WalksLine, WalksOn, fault_of, reading_by, scope_of}
 use Rattle.zvt_trace.specs.Meanings.{Meaning, meaning_of}
 use Rattle.zvt_trace.specs.TraceEvent.{At, Tallies}
-use Rattle.zvt_trace.specs.Emitting.{PrefixOf, LineEnds, LineSoFar, LineEmits, LinesEmit, MeaningBegins, EventsSoFar}
+use Rattle.zvt_trace.specs.Emitting.{BrokenTrace, PrefixOf, WholeTrace, LineEnds, LineSoFar, LineEmits, LinesEmit, MeaningBegins, EventsSoFar}
 use Rattle.zvt_trace.specs.Trace.{Sides, new_line}
 use Rattle.zvt_trace.specs.declared.walker.BothSides.{BothSides}
+use Rattle.zvt_trace.specs.declared.walker.Progress.{Progress}
+use Rattle.zvt_trace.specs.declared.walker.WalkOptions.{WalkOptions}
 use Rattle.zvt_trace.specs.declared.fault.Tally.{Tally}
 use Rattle.zvt_trace.specs.declared.fault.TraceFault.{TraceFault}
 use Rattle.zvt_trace.specs.declared.fault.TraceFault.TheVariants.{Memory, Read, TooLong, Trace, Write}
@@ -44,148 +48,247 @@ LinesEmit-push r scope count start middle after (first ∷ done) line all own me
 
 -- ---- the lines so far
 
--- of the trace all lines but those of the rest were read, and what they emit was heard
-pub record Walked {S : Type 0} (r : Reading) (hears : Hears S) (scope : Scope) (trace rest : List ℕ) (number : ℕ) (state : BothSides) (tally : Tally) (old now : S) : Type 0 where
+-- of all lines those before the rest were read, and after the earlier events what they emit was heard
+pub record Walked {S : Type 0} (r : Reading) (hears : Hears S) (scope : Scope) (goal : List (List ℕ)) (earlier : List At) (rest : List ℕ) (number : ℕ) (state : BothSides) (tally : Tally) (old now : S) : Type 0 where
   pub done : List (List ℕ)
   pub all : List At
   pub sides : Sides
-  pub cut : lines trace ≡ done ++ lines rest
-  pub trace_event : LinesEmit r scope 0 new_line done all sides
+  pub cut : goal ≡ done ++ lines rest
+  pub trace_event : LinesEmit r scope 0 new_line done (earlier ++ all) sides
   pub count : number ≡ length done
   pub heard : HearsAll hears old all now
   pub follow : FollowBoth r state sides
-  pub counts : Tallies tally all
+  pub counts : Tallies tally (earlier ++ all)
 
-pub none_walked : {S : Type 0} {r : Reading} (hears : Hears S) (scope : Scope) (trace : List ℕ) (state : BothSides) (tally : Tally) (old : S) → FollowBoth r state new_line → tally.messages ≡ 0 → tally.bad ≡ 0 → Walked r hears scope trace trace 0 state tally old old
-none_walked hears scope trace state tally old follow messages bad = record {
-  done = [];
-  all = [];
+pub none_read : {r : Reading} (scope : Scope) (progress : Progress) → FollowBoth r progress.sides new_line → progress.tally.messages ≡ 0 → progress.tally.bad ≡ 0 → progress.number ≡ 0 → HasWalked r scope [] [] progress
+none_read scope progress follow messages bad number = record {
   sides = new_line;
-  cut = refl;
-  trace_event = (refl, refl);
-  count = refl;
-  heard = refl;
+  emit = (refl, refl);
+  count = number;
   follow = follow;
   counts = record { messages = messages; bad = bad };
 }
 
-pub one_walked : {S : Type 0} {r : Reading} (hears : Hears S) (fails : Fails S) (scope : Scope) (trace rest content after : List ℕ) (number : ℕ) (state next : BothSides) (tally counted grown : Tally) (old now new : S)
-    → (so : Walked r hears scope trace rest number state tally old now) → lines rest ≡ content ∷ lines after → WalksLine r hears fails scope (number + 1) content so.sides next now new (Ok counted)
-    → grown.messages ≡ tally.messages + counted.messages → grown.bad ≡ tally.bad + counted.bad → Walked r hears scope trace after (number + 1) next grown old new
-one_walked {r = r} hears fails scope trace rest content after number state next tally counted grown old now new so first walks messages bad =
+pub none_walked : {S : Type 0} {r : Reading} (hears : Hears S) (scope : Scope) (before : List (List ℕ)) (earlier : List At) (text : List ℕ) (progress : Progress) (old : S) → HasWalked r scope before earlier progress → Walked r hears scope (before ++ lines text) earlier text progress.number progress.sides progress.tally old old
+none_walked {r = r} hears scope before earlier text progress old has = record {
+  done = before;
+  all = [];
+  sides = has.sides;
+  cut = refl;
+  trace_event = subst (λ (es : List At). LinesEmit r scope 0 new_line before es has.sides) (sym (append-nil earlier)) has.emit;
+  count = has.count;
+  heard = refl;
+  follow = has.follow;
+  counts = subst (λ (es : List At). Tallies progress.tally es) (sym (append-nil earlier)) has.counts;
+}
+
+pub one_walked : {S : Type 0} {r : Reading} (hears : Hears S) (fails : Fails S) (scope : Scope) (goal : List (List ℕ)) (earlier : List At) (rest content after : List ℕ) (number : ℕ) (state next : BothSides) (tally counted grown : Tally) (old now new : S)
+    → (so : Walked r hears scope goal earlier rest number state tally old now) → lines rest ≡ content ∷ lines after → WalksLine r hears fails scope (number + 1) content so.sides next now new (Ok counted)
+    → grown.messages ≡ tally.messages + counted.messages → grown.bad ≡ tally.bad + counted.bad → Walked r hears scope goal earlier after (number + 1) next grown old new
+one_walked {r = r} hears fails scope goal earlier rest content after number state next tally counted grown old now new so first walks messages bad =
     let line = walks.2 in
-    let here : number + 1 ≡ 0 + length so.done + 1 = omega (arith, so.count) in record {
+    let here : number + 1 ≡ 0 + length so.done + 1 = omega (arith, so.count) in
+    let joined = append_assoc earlier so.all line.events in
+    let emits = LinesEmit-push r scope 0 new_line so.sides line.after so.done content (earlier ++ so.all) line.events walks.0 so.trace_event walks.1 (subst (λ (n : ℕ). LineEmits r scope n walks.0 so.sides line.events line.after) here line.emits) in record {
       done = so.done ++ content ∷ [];
       all = so.all ++ line.events;
       sides = line.after;
       cut = so.cut ∙ ap (λ (ls : List (List ℕ)). so.done ++ ls) first ∙ sym (append_assoc so.done (content ∷ []) (lines after));
-      trace_event = LinesEmit-push r scope 0 new_line so.sides line.after so.done content so.all line.events walks.0 so.trace_event walks.1 (subst (λ (n : ℕ). LineEmits r scope n walks.0 so.sides line.events line.after) here line.emits);
+      trace_event = subst (λ (es : List At). LinesEmit r scope 0 new_line (so.done ++ content ∷ []) es line.after) joined emits;
       count = omega (arith, so.count, length-append so.done (content ∷ []));
       heard = hears_append hears so.all line.events old now new so.heard line.heard;
       follow = line.follow;
-      counts = tallies_both tally counted grown so.all line.events so.counts line.counts messages bad;
+      counts = subst (λ (es : List At). Tallies grown es) joined (tallies_both tally counted grown (earlier ++ so.all) line.events so.counts line.counts messages bad);
     }
 
--- no line is left, and what is cut off was heard
-pub closed : {S : Type 0} {r : Reading} (hears : Hears S) (fails : Fails S) (scope : Scope) (trace rest : List ℕ) (number : ℕ) (state : BothSides) (tally grown : Tally) (bad : ℕ) (old now new : S) → length rest ≡ 0
-    → (so : Walked r hears scope trace rest number state tally old now) → HearsEnd hears (LineEnds r number so.sides) bad now new
-    → grown.messages ≡ tally.messages → grown.bad ≡ tally.bad + bad → AnswersWalk r hears fails scope (lines trace) old new (Ok grown)
-closed hears fails scope trace (byte ∷ rest) number state tally grown bad old now new none so last messages bads = absurd (omega (arith, none))
-closed {r = r} hears fails scope trace [] number state tally grown bad old now new none so last messages bads =
-    let all : lines trace ≡ so.done = so.cut ∙ append-nil so.done in
-    let count : number ≡ length (lines trace) = so.count ∙ ap (λ (ls : List (List ℕ)). length ls) (sym all) in (
-      so.all ++ last.events,
+-- no line is left
+pub all_walked : {S : Type 0} {r : Reading} (hears : Hears S) (fails : Fails S) (scope : Scope) (goal : List (List ℕ)) (earlier : List At) (rest : List ℕ) (progress : Progress) (number : ℕ) (state : BothSides) (tally : Tally) (old now : S) → length rest ≡ 0
+    → (so : Walked r hears scope goal earlier rest number state tally old now) → progress.number ≡ number → progress.sides ≡ state → progress.tally ≡ tally → WalksOn r hears fails scope goal earlier progress old now (Ok tt)
+all_walked hears fails scope goal earlier (byte ∷ rest) progress number state tally old now none so is_number is_state is_tally = absurd (omega (arith, none))
+all_walked {r = r} hears fails scope goal earlier [] progress number state tally old now none so is_number is_state is_tally =
+    let all : goal ≡ so.done = so.cut ∙ append-nil so.done in (
+      so.all,
       record {
-        body = so.all;
-        after = so.sides;
-        last = last.events;
-        emit = subst (λ (ls : List (List ℕ)). LinesEmit r scope 0 new_line ls so.all so.sides) (sym all) so.trace_event;
-        ends = subst (λ (n : ℕ). LineEnds r n so.sides last.events) count last.ends;
-        is_all = refl;
+        sides = so.sides;
+        emit = subst (λ (ls : List (List ℕ)). LinesEmit r scope 0 new_line ls (earlier ++ so.all) so.sides) (sym all) so.trace_event;
+        count = is_number ∙ so.count ∙ ap (λ (ls : List (List ℕ)). length ls) (sym all);
+        follow = subst (λ (s : BothSides). FollowBoth r s so.sides) (sym is_state) so.follow;
+        counts = subst (λ (t : Tally). Tallies t (earlier ++ so.all)) (sym is_tally) so.counts;
       },
-      hears_append hears so.all last.events old now new so.heard last.heard,
-      tallies_both tally (record { messages = 0; bad = bad }) grown so.all last.events so.counts last.counts (omega (arith, messages)) bads,
+      so.heard,
     )
 
 -- so much of the next line
-next_reaches : {S : Type 0} {r : Reading} (hears : Hears S) (scope : Scope) (trace rest content after : List ℕ) (number : ℕ) (state : BothSides) (tally : Tally) (old now : S) (events : List At)
-    → (so : Walked r hears scope trace rest number state tally old now) → lines rest ≡ content ∷ lines after → LineSoFar r scope (number + 1) content so.sides events → EventsSoFar r scope (lines trace) (so.all ++ events)
-next_reaches hears scope trace rest content after number state tally old now events so first (inl none) =
-    prefix_whole (so.all ++ events) (record {
+next_reaches : {S : Type 0} {r : Reading} (hears : Hears S) (scope : Scope) (goal others : List (List ℕ)) (earlier : List At) (rest content after : List ℕ) (number : ℕ) (state : BothSides) (tally : Tally) (old now : S) (events : List At)
+    → (so : Walked r hears scope goal earlier rest number state tally old now) → goal ++ others ≡ so.done ++ content ∷ (lines after ++ others) → LineSoFar r scope (number + 1) content so.sides events → EventsSoFar r scope (goal ++ others) ((earlier ++ so.all) ++ events)
+next_reaches hears scope goal others earlier rest content after number state tally old now events so cut (inl none) =
+    prefix_whole ((earlier ++ so.all) ++ events) (record {
       done = so.done;
-      later = content ∷ lines after;
-      before = so.all;
+      later = content ∷ (lines after ++ others);
+      before = earlier ++ so.all;
       next = events;
       after = so.sides;
-      cut = so.cut ∙ ap (λ (ls : List (List ℕ)). so.done ++ ls) first;
+      cut = cut;
       emit = so.trace_event;
       emits = inl none;
       is_all = refl;
     })
-next_reaches {r = r} hears scope trace rest content after number state tally old now events so first (inr (meaning, means, so_far)) =
-    prefix_after so.all events so_far.emits (λ all emits. record {
+next_reaches {r = r} hears scope goal others earlier rest content after number state tally old now events so cut (inr (meaning, means, so_far)) =
+    prefix_after (earlier ++ so.all) events so_far.emits (λ all emits. record {
       done = so.done;
-      later = content ∷ lines after;
-      before = so.all;
+      later = content ∷ (lines after ++ others);
+      before = earlier ++ so.all;
       next = all;
       after = so.sides;
-      cut = so.cut ∙ ap (λ (ls : List (List ℕ)). so.done ++ ls) first;
+      cut = cut;
       emit = so.trace_event;
       emits = inr (meaning, so_far.prefix, so_far.after, means, so_far.begins, subst (λ (n : ℕ). LineEmits r scope (n + 1) so_far.prefix so.sides all so_far.after) so.count emits);
       is_all = refl;
     })
 
-next_so_far : {S : Type 0} {r : Reading} (hears : Hears S) (fails : Fails S) (why : ListenerError) (scope : Scope) (trace rest content after : List ℕ) (number : ℕ) (state : BothSides) (tally : Tally) (old now new : S)
-    → (so : Walked r hears scope trace rest number state tally old now) → lines rest ≡ content ∷ lines after → FailsIn hears fails why (LineSoFar r scope (number + 1) content so.sides) now new
-    → FailsIn hears fails why (EventsSoFar r scope (lines trace)) old new
-next_so_far hears fails why scope trace rest content after number state tally old now new so first failed =
-    fails_after hears fails why so.all old now new so.heard failed (λ events next. next_reaches hears scope trace rest content after number state tally old now events so first next)
+next_so_far : {S : Type 0} {r : Reading} (hears : Hears S) (fails : Fails S) (why : ListenerError) (scope : Scope) (goal others : List (List ℕ)) (earlier : List At) (rest content after : List ℕ) (number : ℕ) (state : BothSides) (tally : Tally) (old now new : S)
+    → (so : Walked r hears scope goal earlier rest number state tally old now) → goal ++ others ≡ so.done ++ content ∷ (lines after ++ others) → FailsIn hears fails why (LineSoFar r scope (number + 1) content so.sides) now new
+    → FailsIn hears fails why (λ events. EventsSoFar r scope (goal ++ others) (earlier ++ events)) old new
+next_so_far {r = r} hears fails why scope goal others earlier rest content after number state tally old now new so cut failed =
+    fails_after hears fails why so.all old now new so.heard failed (λ events next.
+    subst (λ (es : List At). EventsSoFar r scope (goal ++ others) es) (append_assoc earlier so.all events) (next_reaches hears scope goal others earlier rest content after number state tally old now events so cut next))
 
--- the next line could not be emitted
-pub failed : {S : Type 0} {r : Reading} (hears : Hears S) (fails : Fails S) (scope : Scope) (trace rest content after : List ℕ) (number : ℕ) (state next : BothSides) (tally : Tally) (fault : TraceFault) (old now new : S)
-    → (so : Walked r hears scope trace rest number state tally old now) → lines rest ≡ content ∷ lines after → WalksLine r hears fails scope (number + 1) content so.sides next now new (Err fault)
-    → AnswersWalk r hears fails scope (lines trace) old new (Err fault)
-failed {S = S} hears fails scope trace rest content after number state next tally (Trace line what) old now new so first wrong = (
-  so.all,
+-- the next line could not be emitted, whatever others follow
+pub failed : {S : Type 0} {r : Reading} (hears : Hears S) (fails : Fails S) (scope : Scope) (goal : List (List ℕ)) (earlier : List At) (rest content after : List ℕ) (number : ℕ) (state next : BothSides) (tally : Tally) (fault : TraceFault) (old now new : S)
+    → (so : Walked r hears scope goal earlier rest number state tally old now) → lines rest ≡ content ∷ lines after → WalksLine r hears fails scope (number + 1) content so.sides next now new (Err fault)
+    → (others : List (List ℕ)) → FaultsFrom r hears fails scope (goal ++ others) earlier old new fault
+failed {S = S} {r = r} hears fails scope goal earlier rest content after number state next tally fault old now new so first wrong others = by fault wrong
+  where
+    cut : goal ++ others ≡ so.done ++ content ∷ (lines after ++ others)
+    cut = ap (λ (ls : List (List ℕ)). ls ++ others) (so.cut ∙ ap (λ (ls : List (List ℕ)). so.done ++ ls) first) ∙ append_assoc so.done (content ∷ lines after) others
+
+    by : (fault : TraceFault) → WalksLine r hears fails scope (number + 1) content so.sides next now new (Err fault) → FaultsFrom r hears fails scope (goal ++ others) earlier old new fault
+    by (Trace line what) wrong = (
+      so.all,
+      record {
+        done = so.done;
+        line = content;
+        later = lines after ++ others;
+        after = so.sides;
+        cut = cut;
+        emit = so.trace_event;
+        wrong = wrong.1;
+        is_number = wrong.0 ∙ ap (λ n. n + 1) so.count;
+      },
+      subst (λ (s : S). HearsAll hears old so.all s) (sym wrong.2) so.heard,
+    )
+    by Memory fault = next_so_far hears fails failure.Memory scope goal others earlier rest content after number state tally old now new so cut fault
+    by Write fault = next_so_far hears fails failure.Write scope goal others earlier rest content after number state tally old now new so cut fault
+    by TooLong never = absurd never
+    by Read never = absurd never
+
+-- ---- the end
+
+-- what is cut off was heard
+pub closed : {S : Type 0} {r : Reading} (hears : Hears S) (fails : Fails S) (scope : Scope) (before : List (List ℕ)) (earlier : List At) (progress : Progress) (grown : Tally) (bad : ℕ) (now new : S)
+    → (has : HasWalked r scope before earlier progress) → HearsEnd hears (LineEnds r progress.number has.sides) bad now new
+    → grown.messages ≡ progress.tally.messages → grown.bad ≡ progress.tally.bad + bad → AnswersFrom r hears fails scope before earlier now new (Ok grown)
+closed {r = r} hears fails scope before earlier progress grown bad now new has last messages bads = (
+  last.events,
   record {
-    done = so.done;
-    line = content;
-    later = lines after;
-    after = so.sides;
-    cut = so.cut ∙ ap (λ (ls : List (List ℕ)). so.done ++ ls) first;
-    emit = so.trace_event;
-    wrong = wrong.1;
-    is_number = wrong.0 ∙ ap (λ n. n + 1) so.count;
+    body = earlier;
+    after = has.sides;
+    last = last.events;
+    emit = has.emit;
+    ends = subst (λ (n : ℕ). LineEnds r n has.sides last.events) has.count last.ends;
+    is_all = refl;
   },
-  subst (λ (s : S). HearsAll hears old so.all s) (sym wrong.2) so.heard,
+  last.heard,
+  tallies_both progress.tally (record { messages = 0; bad = bad }) grown earlier last.events has.counts last.counts (omega (arith, messages)) bads,
 )
-failed hears fails scope trace rest content after number state next tally Memory old now new so first fault = next_so_far hears fails failure.Memory scope trace rest content after number state tally old now new so first fault
-failed hears fails scope trace rest content after number state next tally Write old now new so first fault = next_so_far hears fails failure.Write scope trace rest content after number state tally old now new so first fault
-failed hears fails scope trace rest content after number state next tally TooLong old now new so first never = absurd never
-failed hears fails scope trace rest content after number state next tally Read old now new so first never = absurd never
 
 -- so much of the end
-end_so_far : {S : Type 0} {r : Reading} (hears : Hears S) (fails : Fails S) (why : ListenerError) (scope : Scope) (trace rest : List ℕ) (number : ℕ) (state : BothSides) (tally : Tally) (old now new : S) → length rest ≡ 0
-    → (so : Walked r hears scope trace rest number state tally old now) → FailsIn hears fails why (PrefixOf (LineEnds r number so.sides)) now new → FailsIn hears fails why (EventsSoFar r scope (lines trace)) old new
-end_so_far hears fails why scope trace (byte ∷ rest) number state tally old now new none so fails_there = absurd (omega (arith, none))
-end_so_far {r = r} hears fails why scope trace [] number state tally old now new none so fails_there =
-    fails_after hears fails why so.all old now new so.heard fails_there (λ events prefix. prefix_after so.all events prefix (λ all ended. record {
-      done = so.done;
+end_so_far : {S : Type 0} {r : Reading} (hears : Hears S) (fails : Fails S) (why : ListenerError) (scope : Scope) (before : List (List ℕ)) (earlier : List At) (progress : Progress) (now new : S)
+    → (has : HasWalked r scope before earlier progress) → FailsIn hears fails why (PrefixOf (LineEnds r progress.number has.sides)) now new → FailsIn hears fails why (λ events. EventsSoFar r scope before (earlier ++ events)) now new
+end_so_far {r = r} hears fails why scope before earlier progress now new has fails_there =
+    fails_as hears fails why now new fails_there (λ events prefix. prefix_after earlier events prefix (λ all ended. record {
+      done = before;
       later = [];
-      before = so.all;
+      before = earlier;
       next = all;
-      after = so.sides;
-      cut = so.cut;
-      emit = so.trace_event;
-      emits = subst (λ (n : ℕ). LineEnds r n so.sides all) so.count ended;
+      after = has.sides;
+      cut = sym (append-nil before);
+      emit = has.emit;
+      emits = subst (λ (n : ℕ). LineEnds r n has.sides all) has.count ended;
       is_all = refl;
     }))
 
 -- what is cut off could not be emitted
-pub end_failed : {S : Type 0} {r : Reading} (hears : Hears S) (fails : Fails S) (why : ListenerError) (scope : Scope) (trace rest : List ℕ) (number : ℕ) (state : BothSides) (tally : Tally) (old now new : S) → length rest ≡ 0
-    → (so : Walked r hears scope trace rest number state tally old now) → FailsIn hears fails why (PrefixOf (LineEnds r number so.sides)) now new → AnswersWalk r hears fails scope (lines trace) old new (Err (fault_of why))
-end_failed hears fails failure.Memory scope trace rest number state tally old now new none so fault = end_so_far hears fails failure.Memory scope trace rest number state tally old now new none so fault
-end_failed hears fails failure.Write scope trace rest number state tally old now new none so fault = end_so_far hears fails failure.Write scope trace rest number state tally old now new none so fault
+pub end_failed : {S : Type 0} {r : Reading} (hears : Hears S) (fails : Fails S) (why : ListenerError) (scope : Scope) (before : List (List ℕ)) (earlier : List At) (progress : Progress) (now new : S)
+    → (has : HasWalked r scope before earlier progress) → FailsIn hears fails why (PrefixOf (LineEnds r progress.number has.sides)) now new → AnswersFrom r hears fails scope before earlier now new (Err (fault_of why))
+end_failed hears fails failure.Memory scope before earlier progress now new has fault = end_so_far hears fails failure.Memory scope before earlier progress now new has fault
+end_failed hears fails failure.Write scope before earlier progress now new has fault = end_so_far hears fails failure.Write scope before earlier progress now new has fault
+
+-- ---- what was heard before
+
+-- the answer, from before some events
+pub from_before : {S : Type 0} (r : Reading) (hears : Hears S) (fails : Fails S) (scope : Scope) (lines : List (List ℕ)) (earlier own : List At) (answer : Result Tally TraceFault) (old middle new : S) → HearsAll hears old own middle
+    → AnswersFrom r hears fails scope lines (earlier ++ own) middle new answer → AnswersFrom r hears fails scope lines earlier old new answer
+from_before {S = S} r hears fails scope lines earlier own answer old middle new heard there = by answer there
+  where
+    joined : (events : List At) → (earlier ++ own) ++ events ≡ earlier ++ (own ++ events)
+    joined events = append_assoc earlier own events
+
+    so_far : (events : List At) → EventsSoFar r scope lines ((earlier ++ own) ++ events) → EventsSoFar r scope lines (earlier ++ (own ++ events))
+    so_far events so = subst (λ (es : List At). EventsSoFar r scope lines es) (joined events) so
+
+    by : (answer : Result Tally TraceFault) → AnswersFrom r hears fails scope lines (earlier ++ own) middle new answer → AnswersFrom r hears fails scope lines earlier old new answer
+    by (Ok tally) done = (
+      own ++ done.0,
+      subst (λ (es : List At). WholeTrace r scope lines es) (joined done.0) done.1,
+      hears_append hears own done.0 old middle new heard done.2,
+      subst (λ (es : List At). Tallies tally es) (joined done.0) done.3,
+    )
+    by (Err (Trace number what)) broken = (
+      own ++ broken.0,
+      subst (λ (es : List At). BrokenTrace r scope lines number what es) (joined broken.0) broken.1,
+      hears_append hears own broken.0 old middle new heard broken.2,
+    )
+    by (Err Memory) failed = fails_after hears fails failure.Memory own old middle new heard failed so_far
+    by (Err Write) failed = fails_after hears fails failure.Write own old middle new heard failed so_far
+    by (Err TooLong) never = absurd never
+    by (Err Read) never = absurd never
+
+-- a walk from the beginning
+pub whole_walk : {S : Type 0} (r : Reading) (hears : Hears S) (fails : Fails S) (scope : Scope) (lines : List (List ℕ)) (answer : Result Tally TraceFault) (old new : S) → AnswersFrom r hears fails scope lines [] old new answer → AnswersWalk r hears fails scope lines old new answer
+whole_walk r hears fails scope lines (Ok tally) old new there = there
+whole_walk r hears fails scope lines (Err (Trace number what)) old new there = there
+whole_walk r hears fails scope lines (Err Memory) old new there = there
+whole_walk r hears fails scope lines (Err Write) old new there = there
+whole_walk r hears fails scope lines (Err TooLong) old new there = there
+whole_walk r hears fails scope lines (Err Read) old new there = there
+
+-- what holds at some options holds at equal ones
+pub at_options : (P : Lengths → Scope → Type 0) (a b : Lengths) (s t : Scope) → a ≡ b → s ≡ t → P a s → P b t
+at_options P a b s t same_lengths same_scope p = subst (λ (x : Scope). P b x) same_scope (subst (λ (l : Lengths). P l s) same_lengths p)
+
+-- a walk of which a line failed
+pub walk_failed : {S : Type 0} (hears : Hears S) (fails : Fails S) (lengths : Lengths) (scope : Scope) (start next : Progress) (text : List ℕ) (fault : TraceFault) (old new : S) → start.options.lengths ≡ lengths → start.options.scope ≡ scope
+    → HasWalked (reading_of lengths) scope [] [] start
+    → ((before : List (List ℕ)) (earlier : List At) → HasWalked (reading_by start) (scope_of start) before earlier start → WalksOn (reading_by start) hears fails (scope_of start) (before ++ lines text) earlier next old new (Err fault))
+    → AnswersWalk (reading_of lengths) hears fails scope (lines text) old new (Err fault)
+walk_failed hears fails lengths scope start next text fault old new same_lengths same_scope has walks =
+    at_options (λ l s. HasWalked (reading_of l) s [] [] start → AnswersWalk (reading_of l) hears fails s (lines text) old new (Err fault)) start.options.lengths lengths start.options.scope scope same_lengths same_scope
+    (λ has. whole_walk _ hears fails _ (lines text) (Err fault) old new (subst (λ (ls : List (List ℕ)). FaultsFrom (reading_by start) hears fails (scope_of start) ls [] old new fault) (append-nil (lines text)) (walks [] [] has []))) has
+
+-- a walk that came to the end of the trace
+pub walk_ended : {S : Type 0} (hears : Hears S) (fails : Fails S) (lengths : Lengths) (scope : Scope) (start next : Progress) (text : List ℕ) (answer : Result Tally TraceFault) (old middle new : S) → start.options.lengths ≡ lengths → start.options.scope ≡ scope
+    → next.options ≡ start.options → HasWalked (reading_of lengths) scope [] [] start
+    → ((before : List (List ℕ)) (earlier : List At) → HasWalked (reading_by start) (scope_of start) before earlier start → WalksOn (reading_by start) hears fails (scope_of start) (before ++ lines text) earlier next old middle (Ok tt))
+    → ((before : List (List ℕ)) (earlier : List At) → HasWalked (reading_by next) (scope_of next) before earlier next → AnswersFrom (reading_by next) hears fails (scope_of next) before earlier middle new answer)
+    → AnswersWalk (reading_of lengths) hears fails scope (lines text) old new answer
+walk_ended hears fails lengths scope start next text answer old middle new same_lengths same_scope same has walks ends =
+    at_options (λ l s. HasWalked (reading_of l) s [] [] start → AnswersWalk (reading_of l) hears fails s (lines text) old new answer) start.options.lengths lengths start.options.scope scope same_lengths same_scope
+    (λ has.
+    let walked = walks [] [] has in
+    let last = at_options (λ l s. HasWalked (reading_of l) s (lines text) walked.0 next → AnswersFrom (reading_of l) hears fails s (lines text) walked.0 middle new answer) next.options.lengths start.options.lengths next.options.scope start.options.scope
+    (ap (λ (o : WalkOptions). o.lengths) same) (ap (λ (o : WalkOptions). o.scope) same) (ends (lines text) walked.0) walked.1 in
+    whole_walk _ hears fails _ (lines text) answer old new (from_before _ hears fails _ (lines text) [] walked.0 answer old middle new walked.2 last)) has
 
 -- the line could be read, and not be emitted
 pub line_failed : {S : Type 0} {r : Reading} (hears : Hears S) (fails : Fails S) (why : ListenerError) (scope : Scope) (number : ℕ) (line : List ℕ) (meaning : Meaning) (sides : Sides) (state : BothSides) (old new : S) → meaning_of line ≡ Ok meaning

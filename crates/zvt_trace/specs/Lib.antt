@@ -1,3 +1,4 @@
+pub mod Chunks
 pub mod Journal
 pub mod Lines
 pub mod Listening

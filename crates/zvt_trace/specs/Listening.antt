@@ -1,13 +1,15 @@
 -- The events that a listener hears, and what becomes of it.
-use Rattle.std.specs.Prelude.{◌≡◌, ◌⊎◌, ℕ, Bool, true, false, List, [], ◌∷◌, ◌++◌, Result, Ok, Err}
+use Rattle.std.specs.Prelude.{◌≡◌, ◌≤◌, ◌*◌, ◌^◌, ◌⊎◌, ℕ, Bool, true, false, List, [], ◌∷◌, ◌++◌, length, Result, Ok, Err}
 use Rattle.zvt_grammar.specs.Reading.{Reading}
+use Rattle.zvt_grammar.specs.Lengths.{reading_of}
 use Rattle.zvt_stream.specs.StreamState.{StreamState}
 use Rattle.zvt_trace.specs.Meanings.{Meaning, meaning_of}
 use Rattle.zvt_trace.specs.TraceEvent.{At, Tallies}
-use Rattle.zvt_trace.specs.Emitting.{BrokenTrace, PrefixOf, LineSoFar, LineEmits, MeaningBegins, PieceEmits, EmitsBeside, EventsSoFar, WholeTrace}
-use Rattle.zvt_trace.specs.Trace.{Side, Sides, running, stopped}
+use Rattle.zvt_trace.specs.Emitting.{BrokenTrace, PrefixOf, LineSoFar, LineEmits, LinesEmit, MeaningBegins, PieceEmits, EmitsBeside, EventsSoFar, WholeTrace}
+use Rattle.zvt_trace.specs.Trace.{Side, Sides, new_line, running, stopped}
 use Rattle.zvt_trace.specs.Written.{Follows}
 use Rattle.zvt_trace.specs.declared.walker.BothSides.{BothSides}
+use Rattle.zvt_trace.specs.declared.walker.Progress.{Progress}
 use Rattle.zvt_trace.specs.declared.direction.Direction.{Direction}
 use Rattle.zvt_trace.specs.declared.fault.Tally.{Tally}
 use Rattle.zvt_trace.specs.declared.fault.TraceFault.{TraceFault}
@@ -149,7 +151,53 @@ WalksLine r hears fails scope number line sides state old new (Err Write) = Fail
 WalksLine r hears fails scope number line sides state old new (Err TooLong) = ⊥
 WalksLine r hears fails scope number line sides state old new (Err Read) = ⊥
 
+-- ---- lines, one after another
+
+-- the most bytes that a walk takes: no trace in memory or of a device has so many
+abbrev pub most : ℕ
+most = 2 ^ 62
+
+abbrev pub reading_by : Progress → Reading
+reading_by progress = reading_of progress.options.lengths
+
+abbrev pub scope_of : Progress → Scope
+scope_of progress = progress.options.scope
+
+-- the streams take lengths as the options say, and the counts are small
+pub record IsSound (progress : Progress) : Type 0 where
+  pub reading : TakeBy (reading_by progress) progress.sides
+  pub lines : progress.number ≤ progress.size
+  pub messages : progress.tally.messages ≤ progress.size
+  pub bad : progress.tally.bad ≤ 2 * progress.number
+  pub size : progress.size ≤ most
+
+-- these lines were read, and they emit these events
+pub record HasWalked (r : Reading) (scope : Scope) (lines : List (List ℕ)) (events : List At) (progress : Progress) : Type 0 where
+  pub sides : Sides
+  pub emit : LinesEmit r scope 0 new_line lines events sides
+  pub count : progress.number ≡ length lines
+  pub follow : FollowBoth r progress.sides sides
+  pub counts : Tallies progress.tally events
+
 -- ---- the trace
+
+-- A walk failed that goes on after these earlier events: the events of the lines before were heard, and a prefix of those that came next.
+abbrev pub FaultsFrom : {S : Type 0} → Reading → Hears S → Fails S → Scope → List (List ℕ) → (earlier : List At) → (old new : S) → TraceFault → Type 0
+FaultsFrom r hears fails scope lines earlier old new (Trace number what) = (events : List At) × BrokenTrace r scope lines number what (earlier ++ events) × HearsAll hears old events new
+FaultsFrom r hears fails scope lines earlier old new Memory = FailsIn hears fails failure.Memory (λ events. EventsSoFar r scope lines (earlier ++ events)) old new
+FaultsFrom r hears fails scope lines earlier old new Write = FailsIn hears fails failure.Write (λ events. EventsSoFar r scope lines (earlier ++ events)) old new
+FaultsFrom r hears fails scope lines earlier old new TooLong = ⊥
+FaultsFrom r hears fails scope lines earlier old new Read = ⊥
+
+-- these lines were read, after some of them emitted the earlier events; or one could not be, whatever others follow them
+abbrev pub WalksOn : {S : Type 0} → Reading → Hears S → Fails S → Scope → List (List ℕ) → (earlier : List At) → Progress → (old new : S) → Result Unit TraceFault → Type 0
+WalksOn r hears fails scope lines earlier progress old new (Ok done) = (events : List At) × HasWalked r scope lines (earlier ++ events) progress × HearsAll hears old events new
+WalksOn r hears fails scope lines earlier progress old new (Err fault) = (others : List (List ℕ)) → FaultsFrom r hears fails scope (lines ++ others) earlier old new fault
+
+-- What a walk over lines answers that goes on after these earlier events.
+abbrev pub AnswersFrom : {S : Type 0} → Reading → Hears S → Fails S → Scope → List (List ℕ) → (earlier : List At) → (old new : S) → Result Tally TraceFault → Type 0
+AnswersFrom r hears fails scope lines earlier old new (Ok tally) = (events : List At) × WholeTrace r scope lines (earlier ++ events) × HearsAll hears old events new × Tallies tally (earlier ++ events)
+AnswersFrom r hears fails scope lines earlier old new (Err fault) = FaultsFrom r hears fails scope lines earlier old new fault
 
 -- What a walk over lines answers, by that reading of lengths. Where it fails, the events of the lines before were heard, and a prefix of those that came next.
 abbrev pub AnswersWalk : {S : Type 0} → Reading → Hears S → Fails S → Scope → List (List ℕ) → (old new : S) → Result Tally TraceFault → Type 0

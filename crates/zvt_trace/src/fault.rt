@@ -59,7 +59,7 @@ pub enum TraceFault {
     #[error("line {line} of the trace: {what}")]
     Trace { line: u64, what: TraceLineError },
     /// Nothing was written.
-    #[error("the trace has more than 16777216 bytes: split it at the end of a line, and run the command on each part")]
+    #[error("the trace has more than 16777216 bytes: split it after a line '!', or read it with --follow")]
     TooLong,
     /// Nothing was written.
     #[error("the trace can't be read to its end: check the file, or the program that writes the trace")]
@@ -68,7 +68,7 @@ pub enum TraceFault {
     #[error("the output can't be written: check where standard output goes, and whether the device is full")]
     Write,
     /// The text of the lines before the one that was being read was written.
-    #[error("out of memory: split the trace at the end of a line, and run the command on each part")]
+    #[error("out of memory: split the trace after a line '!', or read it with --follow")]
     Memory,
 }
 

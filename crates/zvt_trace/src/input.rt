@@ -1,6 +1,7 @@
-//! A trace is read whole.
+//! A trace is read whole, or chunk by chunk.
 ghost use Rattle.std.specs.Prelude.{◌≡◌, ◌<◌, ◌≤◌, ◌+◌, ℕ, List, length, Err, IfOk, vec_len};
 ghost use Rattle.std.specs.Io.KnownBytes.{Consumes};
+ghost use Rattle.zvt_trace.specs.Chunks.{ReadsChunk};
 ghost use Rattle.zvt_trace.specs.Written.{limit, ReadsPiece, ReadsTrace};
 
 use crate::fault::TraceFault;
@@ -8,7 +9,7 @@ use std::alloc::Global;
 use zvt_io::{Failed, Source};
 
 /// The most bytes of a trace.
-const LIMIT: usize = 16_777_216;
+pub(crate) const LIMIT: usize = 16_777_216;
 
 /// All that the reader gives, which is read to its end or to the first byte past the limit.
 pub fn read_trace<R: Source>(alloc: Global, reader: &mut R) -> Result<Vec<u8>, TraceFault>
@@ -49,4 +50,18 @@ fn read_piece<R: Source>(
     };
     trace.extend_from_slice(&buffer[..taken])?;
     Ok(taken)
+}
+
+/// Reads a chunk of a trace into the buffer, and answers how many bytes came: 0 at the end.
+pub fn read_chunk<R: Source>(reader: &mut R, buffer: &mut [u8]) -> Result<usize, TraceFault>
+    requires { 0 < length buffer.old }
+    ensures chunk { ReadsChunk (R.remaining reader.old) (R.remaining reader.new) result buffer.new }
+    ensures failed { result ≡ Err TraceFault.Read → R.failures reader.old < R.failures reader.new }
+    ensures counted { IfOk result (λ _. R.failures reader.new ≡ R.failures reader.old) }
+    ensures size { length buffer.new ≡ length buffer.old }
+{
+    match reader.read(buffer) {
+        Ok(taken) => Ok(taken),
+        Err(Failed) => Err(TraceFault::Read),
+    }
 }

@@ -17,14 +17,14 @@ pub fn readable(bytes: &[u8]) -> &[u8]
 }
 
 /// Whether the bytes begin as a journal does.
-fn is_journal(bytes: &[u8]) -> bool
+pub(crate) fn is_journal(bytes: &[u8]) -> bool
     ensures { result ≡ is_journal bytes.now }
 {
     bytes.starts_with(b"# zvt journal 1")
 }
 
 /// The bytes before the first empty line, or all where no line is empty.
-fn before_empty_line(bytes: &[u8]) -> &[u8]
+pub(crate) fn before_empty_line(bytes: &[u8]) -> &[u8]
     ensures value { result.now ≡ before_empty_line 10 bytes.now }
     ensures shorter { length result.now ≤ length bytes.now }
 {

@@ -1,9 +1,10 @@
 //! Traces of the line between a till and its terminal.
 //!
 //! [`read_trace`] reads one whole. [`walk`] emits to a [`Listener`] all that it says, line by line. A journal ends at its
-//! first empty line ([`readable`]).
+//! first empty line ([`readable`]). A [`Walker`] is fed a trace chunk by chunk, as [`read_chunk`] brings it.
 #![tactic(auto)]
 
+mod chunks;
 mod direction;
 mod emit;
 mod event;
@@ -16,10 +17,11 @@ mod listener;
 mod spelled;
 mod walker;
 
+pub use chunks::Walker;
 pub use direction::Direction;
 pub use event::{Refusal, TraceEvent};
 pub use fault::{Tally, TraceFault, TraceLineError};
-pub use input::read_trace;
+pub use input::{read_chunk, read_trace};
 pub use journal::readable;
 pub use lines::next_line;
 pub use listener::{Listener, ListenerError, Scope};

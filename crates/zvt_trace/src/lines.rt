@@ -1,7 +1,8 @@
 //! The lines of a trace.
-ghost use Rattle.std.specs.Prelude.{◌∷◌, ◌==◌, ◌≡◌, ◌<◌, ◌≤◌, ◌+◌, length};
+ghost use Rattle.std.specs.Prelude.{◌∷◌, ◌==◌, ◌≡◌, ◌<◌, ◌≤◌, ◌+◌, length, MatchOption};
 ghost use Rattle.std.specs.List.{position};
 ghost use Rattle.std.specs.Str.Lines.{lines, strip_carriage_return};
+ghost use Rattle.zvt_trace.specs.Chunks.{EndsAt, EndsFirst, HasNoEnd};
 
 /// The first line, and what follows it.
 #[inline(always)]
@@ -19,10 +20,18 @@ pub fn next_line(rest: &[u8]) -> (&[u8], &[u8])
 
 /// Where the first line feed stands.
 #[inline(always)]
-fn newline(bytes: &[u8]) -> Option<usize>
-    ensures { result ≡ position (λ byte. byte == 10) bytes.now }
+pub(crate) fn newline(bytes: &[u8]) -> Option<usize>
+    ensures place { result ≡ position (λ byte. byte == 10) bytes.now }
+    ensures ends { MatchOption result (HasNoEnd bytes.now) (EndsFirst bytes.now) }
 {
     memchr::memchr(b'\n', bytes)
+}
+
+/// Where the last line feed stands.
+pub(crate) fn last_newline(bytes: &[u8]) -> Option<usize>
+    ensures { MatchOption result (HasNoEnd bytes.now) (EndsAt bytes.now) }
+{
+    memchr::memrchr(b'\n', bytes)
 }
 
 /// The line without one carriage return at its end.

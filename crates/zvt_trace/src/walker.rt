@@ -1,5 +1,5 @@
 //! The walk over a whole trace, and both sides of its line.
-ghost use Rattle.std.specs.Prelude.{◌≡◌, ◌≤◌, ℕ, List, length, IfOk, OnOk};
+ghost use Rattle.std.specs.Prelude.{◌≡◌, ◌≤◌, ◌+◌, ◌++◌, [], ℕ, List, length, IfOk, OnOk};
 ghost use Rattle.std.specs.Str.Lines.{lines};
 ghost use Rattle.zvt_grammar.specs.Reading.{Reading};
 ghost use Rattle.zvt_grammar.specs.Lengths.{reading_of};
@@ -8,7 +8,8 @@ ghost use Rattle.zvt_trace.specs.Meanings as meaning;
 ghost use Rattle.zvt_trace.specs.Journal.{readable};
 ghost use Rattle.zvt_trace.specs.Trace.{Sides, new_line};
 ghost use Rattle.zvt_trace.specs.Emitting.{LineEnds};
-ghost use Rattle.zvt_trace.specs.Listening.{AnswersWalk, EmitsEnd, EmitsLine, FollowBoth, TakeBy, WalksLine};
+ghost use Rattle.zvt_trace.specs.TraceEvent.{At};
+ghost use Rattle.zvt_trace.specs.Listening.{AnswersFrom, AnswersWalk, EmitsEnd, EmitsLine, FollowBoth, HasWalked, IsSound, TakeBy, WalksLine, WalksOn, most, reading_by, scope_of};
 ghost use Rattle.zvt_trace.specs.Written.{limit};
 
 use crate::direction::Direction;
@@ -39,41 +40,99 @@ pub fn walk<D, L: Listener<D>>(
     requires { length trace.now ≤ limit }
     ensures { AnswersWalk (reading_of lengths) L.hears L.fails scope (lines (readable trace.now)) (listener.old, device.old) (listener.new, device.new) result }
 {
-    walk_lines(listener, device, alloc, scope, lengths, readable(trace))
+    let mut progress = Progress::new(alloc, scope, lengths);
+    progress.read_lines(listener, device, readable(trace))?;
+    progress.finish(listener, device)
 }
 
-/// Emits all that these lines say to the listener, and what is cut off at their end.
-fn walk_lines<D, L: Listener<D>>(
-    listener: &mut L,
-    device: &mut D,
-    alloc: Global,
-    scope: Scope,
-    lengths: Lengths,
-    trace: &[u8],
-) -> Result<Tally, TraceFault>
-    requires { length trace.now ≤ limit }
-    ensures { AnswersWalk (reading_of lengths) L.hears L.fails scope (lines trace.now) (listener.old, device.old) (listener.new, device.new) result }
-{
-    let mut tally = Tally::none();
-    let mut sides = BothSides::new(alloc, lengths);
-    let mut buffer = [0; CHUNK];
-    let mut rest = trace;
-    let mut number = 0;
-    'lines: while !rest.is_empty() {
-        let (read, after) = first_line(&mut buffer, rest);
-        number += 1;
-        let options = WalkOptions {
-            alloc,
-            scope,
-            lengths,
-        };
-        let counted = emit_line(listener, device, options, &mut sides, number, read)?;
-        tally.messages += counted.messages;
-        tally.bad += counted.bad;
-        rest = after;
+/// What a walk has read of a trace: both sides as they are now, the number of the last line, the tally of all lines, and how
+/// many bytes they took.
+#[derive(Drop)]
+pub(crate) struct Progress {
+    options: WalkOptions,
+    sides: BothSides,
+    number: u64,
+    tally: Tally,
+    size: u64,
+}
+
+impl Progress {
+    /// No line was read.
+    pub(crate) fn new(alloc: Global, scope: Scope, lengths: Lengths) -> Progress
+        ensures walked { HasWalked (reading_of lengths) scope [] [] result }
+        ensures sound { IsSound result }
+        ensures reading { result.options.lengths ≡ lengths }
+        ensures scope { result.options.scope ≡ scope }
+        ensures size { result.size ≡ 0 }
+    {
+        Progress {
+            options: WalkOptions {
+                alloc,
+                scope,
+                lengths,
+            },
+            sides: BothSides::new(alloc, lengths),
+            number: 0,
+            tally: Tally::none(),
+            size: 0,
+        }
     }
-    tally.bad += sides.emit_end(listener, device, number)?;
-    Ok(tally)
+
+    /// How many bytes the lines took.
+    pub(crate) fn size(&self) -> u64
+        ensures { result ≡ self.now.size }
+    {
+        self.size
+    }
+
+    /// Emits all that the lines of this text say to the listener.
+    pub(crate) fn read_lines<D, L: Listener<D>>(
+        &mut self,
+        listener: &mut L,
+        device: &mut D,
+        text: &[u8],
+    ) -> Result<(), TraceFault>
+        requires sound { IsSound self.old }
+        requires fits { self.old.size + length text.now ≤ most }
+        ensures walks { (before : List (List ℕ)) (earlier : List At) → HasWalked (reading_by self.old) (scope_of self.old) before earlier self.old → WalksOn (reading_by self.old) L.hears L.fails (scope_of self.old) (before ++ lines text.now) earlier self.new (listener.old, device.old) (listener.new, device.new) result }
+        ensures sound { OnOk result (IsSound self.new) }
+        ensures size { OnOk result (self.new.size ≡ self.old.size + length text.now) }
+        ensures options { self.new.options ≡ self.old.options }
+    {
+        let options = self.options;
+        let mut number = self.number;
+        let mut tally = self.tally;
+        let mut buffer = [0; CHUNK];
+        let mut rest = text;
+        'lines: while !rest.is_empty() {
+            let (read, after) = first_line(&mut buffer, rest);
+            number += 1;
+            let counted = emit_line(listener, device, options, &mut self.sides, number, read)?;
+            tally.messages += counted.messages;
+            tally.bad += counted.bad;
+            rest = after;
+        }
+        self.number = number;
+        self.tally = tally;
+        self.size += text.len() as u64;
+        Ok(())
+    }
+
+    /// Emits what is cut off at the end of the trace, and answers the tally.
+    pub(crate) fn finish<D, L: Listener<D>>(
+        self,
+        listener: &mut L,
+        device: &mut D,
+    ) -> Result<Tally, TraceFault>
+        requires sound { IsSound self }
+        ensures { (before : List (List ℕ)) (earlier : List At) → HasWalked (reading_by self) (scope_of self) before earlier self → AnswersFrom (reading_by self) L.hears L.fails (scope_of self) before earlier (listener.old, device.old) (listener.new, device.new) result }
+    {
+        let bad = self.sides.emit_end(listener, device, self.number)?;
+        Ok(Tally {
+            messages: self.tally.messages,
+            bad: self.tally.bad + bad,
+        })
+    }
 }
 
 /// Emits the events of the line of that number, where it could be read.

@@ -1,4 +1,4 @@
-use Rattle.std.proofs.Common.{◌≡◌, ◌∙◌, sym, subst, refl, List, ℕ, Option, None, Some, map, Bor, false}
+use Rattle.std.proofs.Common.{◌≡◌, ◌∙◌, sym, subst, refl, List, ℕ, Option, None, Some, map, Bor}
 use Rattle.clap.specs.Matches.{found_of}
 use Rattle.clap.specs.Words.{Row, Text, rows_of, subcommand_rows_of}
 use Rattle.clap.specs.declared.parser.matches.ArgMatches.TheViews.{out-ArgMatches}
@@ -12,7 +12,7 @@ pub returns-in-None-clause-chosen : goal.returns-in-None-clause-chosen
 returns-in-None-clause-chosen c =
     let m = c.in_ok-matches.matches in
     let none : subcommand_rows_of m ≡ None = no_rows (out-ArgMatches m).subcommand (sym c.in-None.ensures.name) in
-    subst (λ (o : Option (Text × List Row)). IsChoiceOf o (Show None false)) (sym none ∙ c.in_ok-matches.ensures.read) (refl, refl, (λ e. refl, λ e. cc, λ e. refl))
+    subst (λ (o : Option (Text × List Row)). IsChoiceOf o (Show c.nothing.result)) (sym none ∙ c.in_ok-matches.ensures.read) (refl, c.nothing.ensures)
 
 pub returns-in-Some-2-clause-chosen : goal.returns-in-Some-2-clause-chosen
 returns-in-Some-2-clause-chosen c =

@@ -1,7 +1,7 @@
 use Rattle.std.proofs.Common.{codes, IfOk}
 use Rattle.std.proofs.lemmas.Result.{IfOk-weaker}
 use Rattle.clap.specs.Simple.{new_app, with_rule}
-use Rattle.zvt_cli.specs.Commands.{IsLocalAppOf, connections_rule, host_rule, loose_rule, option_rule, port_rule, tid_rule}
+use Rattle.zvt_cli.specs.Commands.{IsLocalAppOf, connections_rule, flag_rule, host_rule, option_rule, port_rule, tid_rule}
 use Rattle.zvt_cli.proofs.command.terminal.Goals as goal
 
 pub returns : goal.returns
@@ -19,8 +19,8 @@ returns c =
     let has_4 : IfOk c.and-counted.result (IsLocalAppOf app_4) = c.and-counted.ensures app_3 connections_rule c.connections.ensures.rule has_3 in
     let has_5 : IfOk c.and-decided.result (IsLocalAppOf app_5) = c.and-decided.ensures app_4 (option_rule (codes "decline")) c.text.ensures.rule has_4 in
     let has_6 : IfOk c.and-traced.result (IsLocalAppOf app_6) = c.and-traced.ensures app_5 (option_rule (codes "trace")) c.text-2.ensures.rule has_5 in
-    let app_7 = with_rule app_6 loose_rule in
-    let has_7 : IfOk c.and.result (IsLocalAppOf app_7) = c.and.ensures app_6 loose_rule c.loose.ensures.rule has_6 in
+    let app_7 = with_rule app_6 (flag_rule (codes "loose")) in
+    let has_7 : IfOk c.and.result (IsLocalAppOf app_7) = c.and.ensures app_6 (flag_rule (codes "loose")) c.flag.ensures.rule has_6 in
     record {
       app = IfOk-weaker c.and.result _ _ (λ r h. h.0) has_7;
       local = IfOk-weaker c.and.result _ _ (λ r h. h.1) has_7;

@@ -1,0 +1,56 @@
+//! How far a long command over several files is, for a person who waits.
+use std::io::{self, IsTerminal};
+use std::time::Instant;
+
+/// How long a command runs before it reports how far it is.
+const SECONDS: u64 = 1;
+
+/// The files that are done, on a line of a terminal device that the next text writes over. Nothing is reported in the first second,
+/// nor where standard error is no terminal device, nor where standard output is one: there the output tells enough.
+#[derive(Drop)]
+pub struct Progress {
+    files: usize,
+    done: usize,
+    started: Option<Instant>,
+    is_shown: bool,
+}
+
+impl Progress {
+    /// No file is done yet, of so many.
+    pub fn new(rt: &HostRuntime, files: usize) -> Progress {
+        let is_wanted = rt.stderr().is_terminal() && !rt.stdout().is_terminal();
+        Progress {
+            files,
+            done: 0,
+            started: if is_wanted {
+                Instant::now(rt).ok()
+            } else {
+                None
+            },
+            is_shown: false,
+        }
+    }
+
+    /// One more file is done.
+    pub fn step(&mut self, rt: &HostRuntime) -> io::Result<()> {
+        self.done = self.done.saturating_add(1);
+        let Some(started) = self.started else {
+            return Ok(());
+        };
+        if started.elapsed(rt)?.as_secs() < SECONDS {
+            return Ok(());
+        }
+        self.is_shown = true;
+        let (done, files) = (self.done, self.files);
+        eprint!(rt; "zvt: {done} of {files} files\x1b[K\r")
+    }
+
+    /// Clears the line.
+    pub fn clear(&mut self, rt: &HostRuntime) -> io::Result<()> {
+        if !self.is_shown {
+            return Ok(());
+        }
+        self.is_shown = false;
+        eprint!(rt; "\x1b[K")
+    }
+}

@@ -1,0 +1,62 @@
+-- The books of a trace as JSON. The members of an object come in the order of their names.
+use Rattle.std.specs.Prelude.{ℕ, List, [], ◌∷◌, ◌++◌, Option, Some, None, codes}
+use Rattle.std.specs.List.{flat_map}
+use Rattle.std.specs.Fmt.{decimal}
+use Rattle.hex.specs.Hex.{encode_upper}
+use Rattle.json.specs.Print.{escape}
+use Rattle.serde_json.specs.Data.{Data, string, object, Members, no_members, member}
+use Rattle.zvt_json.specs.Strings.{count_value, hex_value, line_text}
+use Rattle.zvt_till.specs.Books.{Booked, Books}
+use Rattle.zvt_till.specs.Names.{cause_name}
+use Rattle.zvt_till.specs.declared.outcomes.Cause.{Cause}
+use Rattle.zvt_trace.specs.declared.fault.Tally.{Tally}
+use Rattle.zvt_audit.specs.Booked.{books_text, total}
+use Rattle.zvt_audit.specs.declared.form.Form.{Form}
+use Rattle.zvt_audit.specs.declared.form.Form.TheVariants.{Text, Json}
+
+-- the receipt number, where the payment has one, and what comes after it
+abbrev pub with_receipt : Option (List ℕ) → Members → Members
+with_receipt None later = later
+with_receipt (Some receipt) later = member (codes "receipt") (hex_value receipt) later
+
+abbrev pub payment_value : Booked → Data
+payment_value row = object (member (codes "amount") (count_value row.amount) (with_receipt row.receipt (member (codes "trace") (count_value row.trace) no_members)))
+
+abbrev pub booked_value : Booked → Data
+booked_value row = object (member (codes "booked") (payment_value row) no_members)
+
+abbrev pub doubt_value : ℕ × Cause → Data
+doubt_value row = object (member (codes "amount") (count_value row.0) (member (codes "cause") (string (cause_name row.1)) no_members))
+
+abbrev pub unclear_value : ℕ × Cause → Data
+unclear_value row = object (member (codes "unclear") (doubt_value row) no_members)
+
+-- what the whole trace has
+abbrev pub summary_value : Tally → (total : ℕ) → Data
+summary_value tally total = object (member (codes "bad") (count_value tally.bad) (member (codes "messages") (count_value tally.messages) (member (codes "total") (count_value total) no_members)))
+
+-- a line for each payment that was completed, for each of which it is not known whether it happened, and for the whole trace
+abbrev pub books_json : Tally → Books → List ℕ
+books_json tally books =
+    flat_map (λ row. line_text (booked_value row)) books.booked ++ flat_map (λ row. line_text (unclear_value row)) books.unclear
+    ++ line_text (summary_value tally (total books.booked))
+
+-- the books in that form
+abbrev pub books_in : Form → Tally → Books → List ℕ
+books_in Text tally books = books_text books
+books_in Json tally books = books_json tally books
+
+-- ---- the same texts, as they are written
+
+abbrev pub receipt_part : Option (List ℕ) → List ℕ
+receipt_part None = []
+receipt_part (Some receipt) = codes ",\"receipt\":\"" ++ escape (encode_upper receipt) ++ 34 ∷ []
+
+unfoldable pub booked_text : Booked → List ℕ
+booked_text row = codes "{\"booked\":{\"amount\":" ++ decimal row.amount ++ receipt_part row.receipt ++ codes ",\"trace\":" ++ decimal row.trace ++ (codes "}}" ++ 10 ∷ [])
+
+unfoldable pub unclear_text : ℕ × Cause → List ℕ
+unclear_text row = codes "{\"unclear\":{\"amount\":" ++ decimal row.0 ++ codes ",\"cause\":\"" ++ cause_name row.1 ++ (codes "\"}}" ++ 10 ∷ [])
+
+abbrev pub summary_text : Tally → (total : ℕ) → List ℕ
+summary_text tally total = codes "{\"bad\":" ++ decimal tally.bad ++ codes ",\"messages\":" ++ decimal tally.messages ++ codes ",\"total\":" ++ decimal total ++ (codes "}" ++ 10 ∷ [])

@@ -1,0 +1,34 @@
+//! The forms in which books are written.
+ghost use Rattle.std.specs.Prelude.{◌≡◌, ◌++◌, OnOk};
+ghost use Rattle.zvt_till.specs.Judging.{books_value};
+ghost use Rattle.zvt_audit.specs.Json.{books_in};
+
+use crate::{booked, objects};
+use std::alloc::AllocError;
+use zvt_text::Text;
+use zvt_till::Books;
+use zvt_trace::Tally;
+
+/// How books are written.
+#[derive(Clone, Copy, Debug, PartialEq, Eq)]
+pub enum Form {
+    /// A line for each payment, for people.
+    Text,
+    /// A JSON object a line. The file docs/JSON.md has their members.
+    Json,
+}
+
+/// Writes the books of a trace in this form.
+pub(crate) fn write(
+    text: &mut Text,
+    form: Form,
+    tally: Tally,
+    books: &Books,
+) -> Result<(), AllocError>
+    ensures { OnOk result (text.new ≡ text.old ++ books_in form tally (books_value books.now)) }
+{
+    match form {
+        Form::Text => booked::write(text, books),
+        Form::Json => objects::write(text, tally, books),
+    }
+}

@@ -1,0 +1,84 @@
+//! The books of a trace as JSON objects, one a line.
+ghost use Rattle.std.specs.Prelude.{◌≡◌, ◌++◌, OnOk};
+ghost use Rattle.hex.specs.Hex.{encode_upper};
+ghost use Rattle.json.specs.Print.{escape};
+ghost use Rattle.zvt_text.specs.Writing.{Adds};
+ghost use Rattle.zvt_till.specs.Judging.{books_value, row_value};
+ghost use Rattle.zvt_audit.specs.Json.{booked_text, books_json, receipt_part, summary_text, unclear_text};
+
+use crate::booked::total;
+use std::alloc::AllocError;
+use zvt_bcd::Amount;
+use zvt_text::Text;
+use zvt_till::{Booked, Books, Cause};
+use zvt_trace::Tally;
+
+/// An object for each payment that was completed, then for each of which it is not known whether it happened, and at last
+/// for the whole trace.
+pub(crate) fn write(text: &mut Text, tally: Tally, books: &Books) -> Result<(), AllocError>
+    ensures { OnOk result (text.new ≡ text.old ++ books_json tally (books_value books.now)) }
+{
+    for row in &books.booked {
+        booked_row(text, row)?;
+    }
+    for row in &books.unclear {
+        unclear_row(text, row)?;
+    }
+    summary(text, tally, total(books.booked.as_slice()))
+}
+
+/// The line of a payment that was completed.
+fn booked_row(text: &mut Text, row: &Booked) -> Result<(), AllocError>
+    ensures { OnOk result (text.new ≡ text.old ++ booked_text (row_value row.now)) }
+{
+    text.word(b"{\"booked\":{\"amount\":")?;
+    text.number(row.amount.get())?;
+    receipt(text, row.receipt)?;
+    text.word(b",\"trace\":")?;
+    text.number(row.trace.get())?;
+    text.word(b"}}\n")
+}
+
+/// The receipt number, where the payment has one.
+fn receipt(text: &mut Text, receipt: Option<[u8; 2]>) -> Result<(), AllocError>
+    ensures { OnOk result (text.new ≡ text.old ++ receipt_part receipt) }
+{
+    let Some(number) = receipt else {
+        return Ok(());
+    };
+    text.word(b",\"receipt\":\"")?;
+    digits(text, number.as_slice())?;
+    text.push(b'"')
+}
+
+/// Bytes in hexadecimal, of which JSON escapes no digit.
+fn digits(text: &mut Text, bytes: &[u8]) -> Result<(), AllocError>
+    ensures { Adds result text.old text.new (escape (encode_upper bytes.now)) }
+{
+    zvt_text::hexadecimal(text, bytes)
+}
+
+/// The line of a payment of which it is not known whether it happened.
+fn unclear_row(text: &mut Text, row: &(Amount, Cause)) -> Result<(), AllocError>
+    ensures { OnOk result (text.new ≡ text.old ++ unclear_text row.now) }
+{
+    let (amount, cause) = row;
+    text.word(b"{\"unclear\":{\"amount\":")?;
+    text.number(amount.get())?;
+    text.word(b",\"cause\":\"")?;
+    text.word(cause.name().as_bytes())?;
+    text.word(b"\"}}\n")
+}
+
+/// The line of the whole trace.
+fn summary(text: &mut Text, tally: Tally, total: u128) -> Result<(), AllocError>
+    ensures { OnOk result (text.new ≡ text.old ++ summary_text tally total) }
+{
+    text.word(b"{\"bad\":")?;
+    text.number(tally.bad)?;
+    text.word(b",\"messages\":")?;
+    text.number(tally.messages)?;
+    text.word(b",\"total\":")?;
+    text.number(total)?;
+    text.word(b"}\n")
+}

@@ -1,0 +1,18 @@
+use Rattle.std.proofs.Common.{codes, IfOk}
+use Rattle.std.proofs.lemmas.Result.{IfOk-weaker}
+use Rattle.clap.specs.Simple.{with_rule}
+use Rattle.zvt_cli.specs.Commands.{IsLocalAppOf, flag_rule, loose_trace_app, written_app}
+use Rattle.zvt_cli.proofs.Commands.{is_local}
+use Rattle.zvt_cli.proofs.command.written.Goals as goal
+
+pub returns : goal.returns
+returns c =
+    let app_0 = loose_trace_app c.args.name.now in
+    let app_1 = with_rule app_0 (flag_rule (codes "json")) in
+    let has_0 : IfOk c.loose_on_trace-loose.result (IsLocalAppOf app_0) = is_local c.loose_on_trace-loose.result app_0 c.loose_on_trace-loose.ensures.app c.loose_on_trace-loose.ensures.local in
+    let has_1 : IfOk c.and-spoken.result (IsLocalAppOf app_1) = c.and-spoken.ensures app_0 (flag_rule (codes "json")) c.flag.ensures.rule has_0 in
+    let has : IfOk c.and.result (IsLocalAppOf (written_app c.args.name.now)) = c.and.ensures app_1 (flag_rule (codes "follow")) c.flag-2.ensures.rule has_1 in
+    record {
+      app = IfOk-weaker c.and.result _ _ (λ r h. h.0) has;
+      local = IfOk-weaker c.and.result _ _ (λ r h. h.1) has;
+    }

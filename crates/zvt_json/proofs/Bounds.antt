@@ -1,0 +1,82 @@
+-- The numbers of what a message says are small, and its objects nest little.
+use Rattle.std.proofs.Common.{◌≡◌, ℕ, ◌+◌, ◌^◌, ◌<◌, ◌≤◌, ◌==◌, ◌&&◌, if◌then◌else◌, Bool, true, false, Some, None, Option, List, [], ◌∷◌, length, refl, ◌∙◌, ap, subst, arith, length-append}
+use Rattle.std.proofs.lemmas.Bool.{and_from, eqb-true, lt-ltb}
+use Rattle.std.proofs.lemmas.List.Elements.{All-head, All-tail}
+use Rattle.serde_json.specs.Data.{Data}
+use Rattle.zvt_bcd.specs.Digits.{AreDigits, IsDigitPair, number_of}
+use Rattle.zvt_grammar.specs.Reading.{shortest}
+use Rattle.zvt_tlv.specs.Grammar.{Objects, none, primitive, constructed}
+use Rattle.zvt_field.specs.Grammar.{Field, plain, tree, FieldList, Plain}
+use Rattle.zvt_field.proofs.ViewLemmas.{amount_parts}
+use Rattle.zvt_text.specs.Lines.{is_hidden, is_quoted}
+use Rattle.zvt_text.specs.Results.{meaning_of}
+use Rattle.zvt_json.specs.Fields.{amount_value, content_value, field_values, hidden_value, object_values, plain_value, quoted_value, result_value}
+use Rattle.zvt_json.specs.Reading.{fits, items_fit}
+
+-- ---- numbers
+
+amount_small : (digits : List ℕ) → AreDigits digits → length digits ≡ 6 → number_of digits < 2 ^ 64
+amount_small [] h six = absurd (omega arith)
+amount_small (a ∷ []) h six = absurd (omega arith)
+amount_small (a ∷ b ∷ []) h six = absurd (omega arith)
+amount_small (a ∷ b ∷ c ∷ []) h six = absurd (omega arith)
+amount_small (a ∷ b ∷ c ∷ d ∷ []) h six = absurd (omega arith)
+amount_small (a ∷ b ∷ c ∷ d ∷ e ∷ []) h six = absurd (omega arith)
+amount_small (a ∷ b ∷ c ∷ d ∷ e ∷ f ∷ []) h six =
+    let t1 = All-tail IsDigitPair a (b ∷ c ∷ d ∷ e ∷ f ∷ []) h in
+    let t2 = All-tail IsDigitPair b (c ∷ d ∷ e ∷ f ∷ []) t1 in
+    let t3 = All-tail IsDigitPair c (d ∷ e ∷ f ∷ []) t2 in
+    let t4 = All-tail IsDigitPair d (e ∷ f ∷ []) t3 in
+    let t5 = All-tail IsDigitPair e (f ∷ []) t4 in
+    let pa = All-head IsDigitPair a (b ∷ c ∷ d ∷ e ∷ f ∷ []) h in
+    let pb = All-head IsDigitPair b (c ∷ d ∷ e ∷ f ∷ []) t1 in
+    let pc = All-head IsDigitPair c (d ∷ e ∷ f ∷ []) t2 in
+    let pd = All-head IsDigitPair d (e ∷ f ∷ []) t3 in
+    let pe = All-head IsDigitPair e (f ∷ []) t4 in
+    let pf = All-head IsDigitPair f [] t5 in
+    omega (arith, pa.0, pa.1, pb.0, pb.1, pc.0, pc.1, pd.0, pd.1, pe.0, pe.1, pf.0, pf.1)
+amount_small (a ∷ b ∷ c ∷ d ∷ e ∷ f ∷ g ∷ more) h six = absurd (omega arith)
+
+objects_fit : (f : Objects) → items_fit (object_values f) ≡ true
+objects_fit none = refl
+objects_fit (primitive tag content rest) = objects_fit rest
+objects_fit (constructed tag inner rest) = ap (λ (b : Bool). (b && true) && items_fit (object_values rest)) (objects_fit inner) ∙ objects_fit rest
+
+coded_fits : (bmp code : ℕ) (meaning : Option (List ℕ)) → meaning ≡ meaning_of code → fits (result_value bmp (code ∷ [])) ≡ true
+coded_fits bmp code None is = rw (← is) refl
+coded_fits bmp code (Some meaning) is = rw (← is) refl
+
+result_fits : (bmp : ℕ) (content : List ℕ) → fits (result_value bmp content) ≡ true
+result_fits bmp [] = refl
+result_fits bmp (code ∷ []) = coded_fits bmp code (meaning_of code) refl
+result_fits bmp (a ∷ b ∷ more) = refl
+
+-- one of two values
+either_fits : (b : Bool) (x y : Data) → (b ≡ true → fits x ≡ true) → fits y ≡ true → fits (if b then x else y) ≡ true
+either_fits true x y p q = p refl
+either_fits false x y p q = q
+
+amount_fits : (bmp : ℕ) (content : List ℕ) (one : List ℕ) → Plain bmp content one → bmp ≡ 0x04 → fits (amount_value bmp content) ≡ true
+amount_fits bmp content one spelled is =
+    let parts = amount_parts content (subst (λ (n : ℕ). ∥ ((one : List ℕ) × Plain n content one) ∥₁) is ∣ (one, spelled) ∣₁) in
+    ap (λ (b : Bool). b && true) (lt-ltb (number_of content) (2 ^ 64) (amount_small content parts.0 parts.1))
+
+content_short : (bmp : ℕ) (content one : List ℕ) → Plain bmp content one → length content ≤ length one
+content_short bmp content one spelled = omega (arith, ap length spelled.whole, length-append spelled.size content)
+
+plain_fits : (bmp : ℕ) (content one : List ℕ) → Plain bmp content one → length one < 2 ^ 64 → fits (plain_value bmp content) ≡ true
+plain_fits bmp content one spelled small =
+    let short = content_short bmp content one spelled in
+    let hidden : fits (hidden_value bmp (length content)) ≡ true = ap (λ (b : Bool). b && true) (lt-ltb (length content) (2 ^ 64) (omega (arith, short, small))) in
+    either_fits (bmp == 0x04) (amount_value bmp content) _ (λ is. amount_fits bmp content one spelled (eqb-true bmp 0x04 is))
+    (either_fits (bmp == 0x27) (result_value bmp content) _ (λ is. result_fits bmp content)
+    (either_fits (is_quoted bmp) (quoted_value bmp content) _ (λ is. refl) (either_fits (is_hidden bmp) (hidden_value bmp (length content)) (content_value bmp content) (λ is. hidden) refl)))
+
+pub fields_fit : (fields : List Field) (bytes : List ℕ) → FieldList shortest fields bytes → length bytes < 2 ^ 64 → items_fit (field_values fields) ≡ true
+fields_fit [] bytes spelled small = refl
+fields_fit (plain bmp content ∷ fields) bytes (one, after, whole, spelled, more) small =
+    let sizes : length bytes ≡ length one + length after = ap length whole ∙ length-append one after in
+    and_from (fits (plain_value bmp content)) (items_fit (field_values fields)) (plain_fits bmp content one spelled (omega (arith, sizes, small))) (fields_fit fields after more (omega (arith, sizes, small)))
+fields_fit (tree bmp objects ∷ fields) bytes (one, after, whole, spelled, more) small =
+    let sizes : length bytes ≡ length one + length after = ap length whole ∙ length-append one after in
+    ap (λ (b : Bool). (b && true) && items_fit (field_values fields)) (objects_fit objects) ∙ fields_fit fields after more (omega (arith, sizes, small))

@@ -1,0 +1,11 @@
+pub mod EscapeLemmas
+pub mod TextLemmas
+pub mod ObjectLemmas
+pub mod MessageLemmas
+pub mod EventLemmas
+pub mod Rows
+pub mod Secrets
+pub mod ReadBack
+pub mod Order
+pub mod Bounds
+pub mod Depths

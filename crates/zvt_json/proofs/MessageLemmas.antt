@@ -1,0 +1,148 @@
+-- The text of a message is that of its value.
+use Rattle.std.proofs.Common.{◌≡◌, ℕ, true, false, Some, None, Option, List, [], ◌∷◌, ◌++◌, codes, refl, sym, ◌∙◌, ap, append_assoc}
+use Rattle.std.specs.Fmt.{decimal}
+use Rattle.hex.specs.Hex.{encode_upper}
+use Rattle.json.specs.Print.{escape_byte}
+use Rattle.serde_json.specs.Data.{Data, Members, member}
+use Rattle.serde_json.specs.Written.{compact_text, items_text, members_text}
+use Rattle.zvt_field.specs.Grammar.{Field}
+use Rattle.zvt_apdu.specs.Kinds.{kind_of}
+use Rattle.zvt_apdu.specs.declared.kinds.Kind.{Kind}
+use Rattle.zvt_apdu.specs.declared.kinds.Kind.TheVariants as kind
+use Rattle.zvt_apdu.specs.Message.{Message, ack, nack, registration, authorisation, reversal, end_of_day, abort_order, status, intermediate, print_line, text_block, completion, abort, other}
+use Rattle.zvt_apdu.specs.Views.{config_in, control_of, currency_in, fields_in, payload_in}
+use Rattle.zvt_text.specs.Bytes.{hex_of}
+use Rattle.zvt_text.specs.MessageTexts.{four_digits, kind_name, part_text}
+use Rattle.zvt_text.specs.Results.{meaning_of}
+use Rattle.zvt_trace.specs.declared.direction.Direction.{Direction}
+use Rattle.zvt_trace.specs.declared.direction.Direction.TheVariants.{FromTill, FromTerminal}
+use Rattle.zvt_json.specs.Fields.{field_values}
+use Rattle.zvt_json.specs.Messages.{about, first_members, last_members, message_value, with_currency, with_data, with_fields}
+use Rattle.zvt_json.specs.Texts.{about_text, config_led, control_led, currency_led, data_led, fields_led, first_text, from_text, kind_led, last_text, message_text, registered_led, shut}
+use Rattle.zvt_json.proofs.EscapeLemmas.{four_plain, kind_plain}
+use Rattle.zvt_json.proofs.TextLemmas.{words_said}
+
+-- ---- the parts that a view gives
+
+pub registration_first : (m : Message) (config currency : Option ℕ) (fields : Option (List Field)) → kind_of m ≡ kind.Registration → config ≡ config_in m → currency ≡ currency_in m → fields ≡ fields_in m →
+    part_text config_led config ++ (part_text currency_led currency ++ part_text fields_led fields) ≡ first_text m
+registration_first (registration w g None) config currency fields k a b c = rw (a, b, c) refl
+registration_first (registration w g (Some s)) config currency fields k a b c = rw (a, b, c) refl
+registration_first m config currency fields k a b c = absurd (cc (k))
+
+pub other_first : (m : Message) (control : List ℕ) (payload : Option (List ℕ)) → kind.Other ≡ kind_of m → control ≡ control_of m → payload ≡ payload_in m → control_led control ++ part_text data_led payload ≡ first_text m
+other_first (other high low x) control payload k a b = rw (a, b) refl
+other_first m control payload k a b = absurd (cc (k))
+
+-- ---- the first members
+
+-- a member and its comma
+led_before : (key text later : List ℕ) → (key ++ (text ++ 44 ∷ [])) ++ later ≡ key ++ (text ++ 44 ∷ later)
+led_before key text later = append_assoc key (text ++ 44 ∷ []) later ∙ ap (λ (l : List ℕ). key ++ l) (append_assoc text (44 ∷ []) later)
+
+data_said : (payload : List ℕ) (key : List ℕ) (value : Data) (later : Members) → data_led payload ++ members_text false (member key value later) ≡ members_text false (with_data payload (member key value later))
+unfolding escape_byte
+data_said [] key value later = refl
+data_said (byte ∷ bytes) key value later = led_before (codes "\"data\":\"") (shut (encode_upper (byte ∷ bytes))) (members_text false (member key value later))
+
+-- the payload has a comma before it
+data_later : (payload : List ℕ) (key : List ℕ) (value : Data) (later : Members) → 44 ∷ members_text false (with_data payload (member key value later)) ≡ members_text true (with_data payload (member key value later))
+data_later [] key value later = refl
+data_later (byte ∷ bytes) key value later = refl
+
+fields_said : (fields : List Field) (key : List ℕ) (value : Data) (later : Members) → fields_led fields ++ members_text false (member key value later) ≡ members_text false (with_fields fields (member key value later))
+unfolding escape_byte
+fields_said fields key value later = led_before (codes "\"fields\":[") (items_text false (field_values fields)) (members_text false (member key value later))
+
+-- a member before the payload
+with_payload : (name text payload key : List ℕ) (value : Data) (later : Members) →
+    (name ++ (text ++ 44 ∷ []) ++ data_led payload) ++ members_text false (member key value later) ≡ name ++ (text ++ members_text true (with_data payload (member key value later)))
+with_payload name text payload key value later =
+    append_assoc (name ++ (text ++ 44 ∷ [])) (data_led payload) (members_text false (member key value later))
+    ∙ ap (λ (l : List ℕ). (name ++ (text ++ 44 ∷ [])) ++ l) (data_said payload key value later)
+    ∙ led_before name text (members_text false (with_data payload (member key value later)))
+    ∙ ap (λ (l : List ℕ). name ++ (text ++ l)) (data_later payload key value later)
+
+currency_said : (currency : ℕ) (later : List ℕ) → (codes "\"currency\":\"" ++ (four_digits currency ++ codes "\",")) ++ later ≡ codes "\"currency\":\"" ++ (shut (four_digits currency) ++ 44 ∷ later)
+currency_said currency later =
+    ap (λ (l : List ℕ). codes "\"currency\":\"" ++ l) (append_assoc (four_digits currency) (34 ∷ 44 ∷ []) later ∙ sym (append_assoc (four_digits currency) (34 ∷ []) (44 ∷ later)))
+    ∙ ap (λ (l : List ℕ). codes "\"currency\":\"" ++ ((l ++ 34 ∷ []) ++ 44 ∷ later)) (sym (four_plain currency))
+
+registered_said : (rest : Option (ℕ × List Field)) (key : List ℕ) (value : Data) (later : Members) → registered_led rest ++ members_text false (member key value later) ≡ members_text false (with_currency rest (member key value later))
+unfolding escape_byte
+registered_said None key value later = refl
+registered_said (Some rest) key value later =
+    append_assoc (currency_led rest.0) (fields_led rest.1) (members_text false (member key value later))
+    ∙ ap (λ (l : List ℕ). currency_led rest.0 ++ l) (fields_said rest.1 key value later)
+    ∙ currency_said rest.0 (members_text false (with_fields rest.1 (member key value later)))
+
+registered_later : (rest : Option (ℕ × List Field)) (key : List ℕ) (value : Data) (later : Members) → 44 ∷ members_text false (with_currency rest (member key value later)) ≡ members_text true (with_currency rest (member key value later))
+registered_later None key value later = refl
+registered_later (Some rest) key value later = refl
+
+pub first_said : (m : Message) (key : List ℕ) (value : Data) (later : Members) → first_text m ++ members_text false (member key value later) ≡ members_text false (first_members m (member key value later))
+unfolding escape_byte
+first_said (ack payload) key value later = data_said payload key value later
+first_said (nack code payload) key value later = with_payload (codes "\"code\":\"") (shut (hex_of code)) payload key value later
+first_said (registration password config rest) key value later =
+    append_assoc (config_led config) (registered_led rest) (members_text false (member key value later))
+    ∙ ap (λ (l : List ℕ). config_led config ++ l) (registered_said rest key value later)
+    ∙ led_before (codes "\"config\":\"") (shut (hex_of config)) (members_text false (with_currency rest (member key value later)))
+    ∙ ap (λ (l : List ℕ). codes "\"config\":\"" ++ (shut (hex_of config) ++ l)) (registered_later rest key value later)
+first_said (authorisation fields) key value later = fields_said fields key value later
+first_said (reversal password fields) key value later = fields_said fields key value later
+first_said (end_of_day password fields) key value later = fields_said fields key value later
+first_said (abort_order fields) key value later = fields_said fields key value later
+first_said (status fields) key value later = fields_said fields key value later
+first_said (intermediate step payload) key value later = data_said payload key value later
+first_said (print_line attribute text) key value later = led_before (codes "\"attribute\":\"") (shut (hex_of attribute)) (members_text false (member key value later))
+first_said (text_block fields) key value later = fields_said fields key value later
+first_said (completion fields) key value later = fields_said fields key value later
+first_said (abort code payload) key value later = with_payload (codes "\"code\":\"") (shut (hex_of code)) payload key value later
+first_said (other high low payload) key value later = with_payload (codes "\"control\":\"") (shut (encode_upper (high ∷ low ∷ []))) payload key value later
+
+-- ---- the members that each has
+
+-- a number, and what comes after it
+about_before : (kind line size later : List ℕ) → (codes ",\"kind\":\"" ++ kind ++ (codes ",\"line\":" ++ (line ++ (codes ",\"size\":" ++ size)))) ++ later ≡ codes ",\"kind\":\"" ++ (kind ++ (codes ",\"line\":" ++ (line ++ (codes ",\"size\":" ++ (size ++ later)))))
+about_before kind line size later =
+    ap (λ (l : List ℕ). codes ",\"kind\":\"" ++ l) (append_assoc kind (codes ",\"line\":" ++ (line ++ (codes ",\"size\":" ++ size))) later)
+    ∙ ap (λ (l : List ℕ). codes ",\"kind\":\"" ++ (kind ++ (codes ",\"line\":" ++ l))) (append_assoc line (codes ",\"size\":" ++ size) later)
+
+named_kind : (k : Kind) (line size : ℕ) (later : List ℕ) → (kind_led k ++ (codes ",\"line\":" ++ (decimal line ++ (codes ",\"size\":" ++ decimal size)))) ++ later
+    ≡ codes ",\"kind\":\"" ++ (shut (kind_name k) ++ (codes ",\"line\":" ++ (decimal line ++ (codes ",\"size\":" ++ (decimal size ++ later)))))
+named_kind k line size later =
+    about_before (kind_name k ++ 34 ∷ []) (decimal line) (decimal size) later
+    ∙ ap (λ (l : List ℕ). codes ",\"kind\":\"" ++ ((l ++ 34 ∷ []) ++ (codes ",\"line\":" ++ (decimal line ++ (codes ",\"size\":" ++ (decimal size ++ later)))))) (sym (kind_plain k))
+
+pub about_said : (from : Direction) (m : Message) (line size : ℕ) (later : Members) → about_text from (kind_of m) line size ++ members_text true later ≡ members_text false (about from m line size later)
+unfolding escape_byte
+about_said FromTill m line size later = ap (λ (l : List ℕ). from_text FromTill ++ l) (named_kind (kind_of m) line size (members_text true later))
+about_said FromTerminal m line size later = ap (λ (l : List ℕ). from_text FromTerminal ++ l) (named_kind (kind_of m) line size (members_text true later))
+
+-- ---- the last member
+
+pub last_said : (m : Message) → last_text m ≡ members_text true (last_members m)
+unfolding escape_byte
+last_said (ack payload) = refl
+last_said (nack code payload) = refl
+last_said (registration password config rest) = refl
+last_said (authorisation fields) = refl
+last_said (reversal password fields) = refl
+last_said (end_of_day password fields) = refl
+last_said (abort_order fields) = refl
+last_said (status fields) = refl
+last_said (intermediate step payload) = refl
+last_said (print_line attribute text) = refl
+last_said (text_block fields) = refl
+last_said (completion fields) = refl
+last_said (abort code payload) = words_said code (meaning_of code) refl
+last_said (other high low payload) = refl
+
+-- ---- a message
+
+pub message_said : (from : Direction) (line size : ℕ) (m : Message) → message_text from line size m ≡ compact_text (message_value from line size m)
+message_said from line size m =
+    ap (λ (l : List ℕ). 123 ∷ (first_text m ++ (about_text from (kind_of m) line size ++ l))) (last_said m)
+    ∙ ap (λ (l : List ℕ). 123 ∷ (first_text m ++ l)) (about_said from m line size (last_members m))
+    ∙ ap (λ (l : List ℕ). 123 ∷ l) (first_said m _ _ _)

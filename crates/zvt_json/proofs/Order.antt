@@ -1,0 +1,88 @@
+-- The members of what is written come in the order of their names.
+use Rattle.std.proofs.Common.{◌≡◌, ℕ, ◌==◌, ◌&&◌, if◌then◌else◌, Bool, true, false, Some, None, Option, List, [], ◌∷◌, length, refl, ◌∙◌, ap}
+use Rattle.std.proofs.lemmas.Bool.{and_from}
+use Rattle.serde_json.specs.Data.{Data}
+use Rattle.zvt_tlv.specs.Grammar.{Objects, none, primitive, constructed}
+use Rattle.zvt_field.specs.Grammar.{Field, plain, tree}
+use Rattle.zvt_apdu.specs.Message.{Message, ack, nack, registration, authorisation, reversal, end_of_day, abort_order, status, intermediate, print_line, text_block, completion, abort, other}
+use Rattle.zvt_text.specs.Lines.{is_hidden, is_quoted}
+use Rattle.zvt_text.specs.Results.{meaning_of}
+use Rattle.zvt_trace.specs.declared.direction.Direction.{Direction}
+use Rattle.zvt_trace.specs.TraceEvent as trace_event
+use Rattle.zvt_trace.specs.TraceEvent.{TraceEvent}
+use Rattle.zvt_json.specs.Fields.{amount_value, content_value, field_value, field_values, hidden_value, object_values, quoted_value, result_value}
+use Rattle.zvt_json.specs.Messages.{message_value}
+use Rattle.zvt_json.specs.Events.{EventValue}
+use Rattle.zvt_json.specs.Reading.{items_ordered, ordered}
+
+objects_ordered : (f : Objects) → items_ordered (object_values f) ≡ true
+objects_ordered none = refl
+objects_ordered (primitive tag content rest) = objects_ordered rest
+objects_ordered (constructed tag inner rest) = ap (λ (b : Bool). (b && true) && items_ordered (object_values rest)) (objects_ordered inner) ∙ objects_ordered rest
+
+coded_ordered : (bmp code : ℕ) (meaning : Option (List ℕ)) → meaning ≡ meaning_of code → ordered (result_value bmp (code ∷ [])) ≡ true
+coded_ordered bmp code None is = rw (← is) refl
+coded_ordered bmp code (Some meaning) is = rw (← is) refl
+
+result_ordered : (bmp : ℕ) (content : List ℕ) → ordered (result_value bmp content) ≡ true
+result_ordered bmp [] = refl
+result_ordered bmp (code ∷ []) = coded_ordered bmp code (meaning_of code) refl
+result_ordered bmp (a ∷ b ∷ more) = refl
+
+-- one of two values
+either : (b : Bool) (x y : Data) → ordered x ≡ true → ordered y ≡ true → ordered (if b then x else y) ≡ true
+either true x y p q = p
+either false x y p q = q
+
+field_ordered : (f : Field) → ordered (field_value f) ≡ true
+field_ordered (plain bmp content) =
+    either (bmp == 0x04) (amount_value bmp content) _ refl
+    (either (bmp == 0x27) (result_value bmp content) _ (result_ordered bmp content)
+    (either (is_quoted bmp) (quoted_value bmp content) _ refl (either (is_hidden bmp) (hidden_value bmp (length content)) (content_value bmp content) refl refl)))
+field_ordered (tree bmp objects) = ap (λ (b : Bool). b && true) (objects_ordered objects)
+
+fields_ordered : (fields : List Field) → items_ordered (field_values fields) ≡ true
+fields_ordered [] = refl
+fields_ordered (field ∷ fields) = and_from (ordered (field_value field)) (items_ordered (field_values fields)) (field_ordered field) (fields_ordered fields)
+
+-- fields, and what comes after them
+listed : (fields : List Field) → items_ordered (field_values fields) && true ≡ true
+listed fields = ap (λ (b : Bool). b && true) (fields_ordered fields)
+
+given_up : (from : Direction) (line size code : ℕ) (payload : List ℕ) (meaning : Option (List ℕ)) → meaning ≡ meaning_of code → ordered (message_value from line size (abort code payload)) ≡ true
+given_up from line size code [] None is = rw (← is) refl
+given_up from line size code [] (Some meaning) is = rw (← is) refl
+given_up from line size code (byte ∷ bytes) None is = rw (← is) refl
+given_up from line size code (byte ∷ bytes) (Some meaning) is = rw (← is) refl
+
+message_ordered : (from : Direction) (line size : ℕ) (m : Message) → ordered (message_value from line size m) ≡ true
+message_ordered from line size (ack []) = refl
+message_ordered from line size (ack (byte ∷ bytes)) = refl
+message_ordered from line size (nack code []) = refl
+message_ordered from line size (nack code (byte ∷ bytes)) = refl
+message_ordered from line size (registration password config None) = refl
+message_ordered from line size (registration password config (Some rest)) = listed rest.1
+message_ordered from line size (authorisation fields) = listed fields
+message_ordered from line size (reversal password fields) = listed fields
+message_ordered from line size (end_of_day password fields) = listed fields
+message_ordered from line size (abort_order fields) = listed fields
+message_ordered from line size (status fields) = listed fields
+message_ordered from line size (intermediate step []) = refl
+message_ordered from line size (intermediate step (byte ∷ bytes)) = refl
+message_ordered from line size (print_line attribute text) = refl
+message_ordered from line size (text_block fields) = listed fields
+message_ordered from line size (completion fields) = listed fields
+message_ordered from line size (abort code payload) = given_up from line size code payload (meaning_of code) refl
+message_ordered from line size (other high low []) = refl
+message_ordered from line size (other high low (byte ∷ bytes)) = refl
+
+-- the same value, by other words
+along : (a b : Data) → a ≡ b → ordered b ≡ true → ordered a ≡ true
+along a b same h = ap ordered same ∙ h
+
+pub event_ordered : (line : ℕ) (event : TraceEvent) (value : Data) → EventValue line event value → ordered value ≡ true
+event_ordered line (trace_event.message from m) value is = along value _ is.2 (message_ordered from line (length is.0) m)
+event_ordered line (trace_event.refused from head byte place why) value is = along value _ is refl
+event_ordered line (trace_event.unread from) value is = along value _ is refl
+event_ordered line (trace_event.cut_off from head have) value is = along value _ is refl
+event_ordered line trace_event.lost value is = along value _ is refl

@@ -1,0 +1,61 @@
+-- Lines worked by hand.
+use Rattle.std.proofs.Common.{◌≡◌, [], ◌∷◌, Some, refl, codes}
+use Rattle.std.specs.Fmt.{digits}
+use Rattle.hex.specs.Hex.{encode_with}
+use Rattle.json.specs.Print.{escape_byte}
+use Rattle.zvt_grammar.specs.declared.why.Why.TheVariants.{UnknownField}
+use Rattle.zvt_tlv.specs.Grammar.{none, primitive, constructed}
+use Rattle.zvt_field.specs.Grammar.{plain, tree}
+use Rattle.zvt_apdu.specs.Message.{abort, intermediate, print_line, registration, status}
+use Rattle.zvt_trace.specs.declared.direction.Direction.TheVariants.{FromTill, FromTerminal}
+use Rattle.zvt_json.specs.Strings.{line_text}
+use Rattle.zvt_json.specs.Messages.{message_value}
+use Rattle.zvt_json.specs.Events.{lost_value, refused_value, stopped_value, truncated_value}
+
+-- 04 0F 1C, 27 00, 04 00 00 00 00 12 34, 22 F1 F0 and ten bytes, 06 04 25 02 07 00
+pub paid : line_text (message_value FromTerminal 3 31 (status (plain 0x27 (0x00 ∷ []) ∷ plain 0x04 (0x00 ∷ 0x00 ∷ 0x00 ∷ 0x00 ∷ 0x12 ∷ 0x34 ∷ [])
+    ∷ plain 0x22 (1 ∷ 2 ∷ 3 ∷ 4 ∷ 5 ∷ 6 ∷ 7 ∷ 8 ∷ 9 ∷ 10 ∷ []) ∷ tree 0x06 (constructed (0x25 ∷ []) (primitive (0x07 ∷ []) [] none) none) ∷ [])))
+    ≡ codes "{\"fields\":[{\"bmp\":\"27\",\"code\":\"00\",\"name\":\"result\",\"words\":\"success\"},{\"bmp\":\"04\",\"name\":\"amount\",\"value\":1234},{\"bmp\":\"22\",\"hidden\":10,\"name\":\"pan\"},{\"bmp\":\"06\",\"name\":\"container\",\"objects\":[{\"objects\":[{\"content\":\"\",\"tag\":\"07\"}],\"tag\":\"25\"}]}],\"from\":\"terminal\",\"kind\":\"Status\",\"line\":3,\"size\":31}\n"
+unfolding encode_with digits escape_byte
+paid = refl
+
+-- 06 D1 04 00 41 84 22
+pub printed : line_text (message_value FromTerminal 12 7 (print_line 0x00 (0x41 ∷ 0x84 ∷ 0x22 ∷ []))) ≡ codes "{\"attribute\":\"00\",\"from\":\"terminal\",\"kind\":\"PrintLine\",\"line\":12,\"size\":7,\"text\":\"A\\\\x84\\\\x22\"}\n"
+unfolding encode_with digits escape_byte
+printed = refl
+
+-- 06 00 08 01 02 03 BE 09 78 03 01
+pub registered : line_text (message_value FromTill 1 11 (registration (0x01 ∷ 0x02 ∷ 0x03 ∷ []) 0xBE (Some (978, plain 0x03 (0x01 ∷ []) ∷ []))))
+    ≡ codes "{\"config\":\"BE\",\"currency\":\"0978\",\"fields\":[{\"bmp\":\"03\",\"content\":\"01\",\"name\":\"service\"}],\"from\":\"till\",\"kind\":\"Registration\",\"line\":1,\"size\":11}\n"
+unfolding encode_with digits escape_byte
+registered = refl
+
+-- 06 1E 01 6C, and 06 1E 01 99
+pub given_up : line_text (message_value FromTerminal 2 4 (abort 0x6C [])) ≡ codes "{\"code\":\"6C\",\"from\":\"terminal\",\"kind\":\"Abort\",\"line\":2,\"size\":4,\"words\":\"abort by time-out or abort key\"}\n"
+unfolding encode_with digits escape_byte
+given_up = refl
+
+pub unnamed : line_text (message_value FromTerminal 2 4 (abort 0x99 [])) ≡ codes "{\"code\":\"99\",\"from\":\"terminal\",\"kind\":\"Abort\",\"line\":2,\"size\":4}\n"
+unfolding encode_with digits escape_byte
+unnamed = refl
+
+-- 04 FF 02 0A 01
+pub waiting : line_text (message_value FromTerminal 5 5 (intermediate 0x0A (0x01 ∷ []))) ≡ codes "{\"data\":\"01\",\"from\":\"terminal\",\"kind\":\"Intermediate\",\"line\":5,\"size\":5,\"status\":\"0A\"}\n"
+unfolding encode_with digits escape_byte
+waiting = refl
+
+pub refused : line_text (refused_value FromTerminal 4 0xD0 3 UnknownField) ≡ codes "{\"from\":\"terminal\",\"line\":4,\"refused\":{\"byte\":\"D0\",\"place\":3,\"reason\":\"UnknownField\"}}\n"
+unfolding encode_with digits escape_byte
+refused = refl
+
+pub stopped : line_text (stopped_value FromTerminal 5) ≡ codes "{\"from\":\"terminal\",\"line\":5,\"stopped\":true}\n"
+unfolding digits escape_byte
+stopped = refl
+
+pub truncated : line_text (truncated_value FromTill 6 10) ≡ codes "{\"from\":\"till\",\"line\":6,\"truncated\":{\"after\":10}}\n"
+unfolding digits escape_byte
+truncated = refl
+
+pub lost : line_text (lost_value 7) ≡ codes "{\"line\":7,\"lost\":true}\n"
+unfolding digits escape_byte
+lost = refl

@@ -1,0 +1,89 @@
+-- The texts of fields and objects are those of their values.
+use Rattle.std.proofs.Common.{◌≡◌, ℕ, true, false, Some, None, Option, List, [], ◌∷◌, ◌++◌, length, codes, refl, sym, ◌∙◌, ap}
+use Rattle.std.specs.Fmt.{decimal}
+use Rattle.std.proofs.lemmas.Bool.{ne_eqb}
+use Rattle.hex.specs.Hex.{encode_upper, encode_with}
+use Rattle.json.specs.Print.{escape_byte}
+use Rattle.serde_json.specs.Data.{Items, no_members}
+use Rattle.serde_json.specs.Written.{compact_text, items_text, members_text}
+use Rattle.zvt_bcd.specs.Digits.{number_of}
+use Rattle.zvt_tlv.specs.Grammar.{Objects}
+use Rattle.zvt_text.specs.Bytes.{escaped_text, hex_of}
+use Rattle.zvt_text.specs.Lines.{is_hidden}
+use Rattle.zvt_text.specs.Results.{meaning_of}
+use Rattle.zvt_json.specs.Fields.{amount_value, constructed_value, content_value, field_name, hidden_value, named, object_values, plain_value, primitive_value, quoted_value, result_value, tag_member, tree_value, words_of}
+use Rattle.zvt_json.specs.Texts.{amount_text, code_text, content_text, hidden_text, name_text, opened_text, primitive_text, quoted_text, result_text, shut, tag_text, tree_text, words_text}
+use Rattle.zvt_json.proofs.EscapeLemmas.{meaning_plain, name_plain}
+
+pub words_said : (code : ℕ) (meaning : Option (List ℕ)) → meaning ≡ meaning_of code → words_text meaning ≡ members_text true (words_of meaning)
+unfolding escape_byte
+words_said code None is = refl
+words_said code (Some meaning) is = let same = meaning_plain code meaning is in rw same refl
+
+-- a name, and the end of the object
+name_said : (bmp : ℕ) → name_text bmp ++ codes "}" ≡ members_text true (named bmp no_members)
+unfolding escape_byte
+name_said bmp = ap (λ (l : List ℕ). codes ",\"name\":\"" ++ (l ++ 34 ∷ []) ++ codes "}") (sym (name_plain bmp))
+
+-- a name, and what comes after it
+name_before : (bmp : ℕ) (later : List ℕ) → name_text bmp ++ later ≡ codes ",\"name\":\"" ++ (shut (field_name bmp) ++ later)
+name_before bmp later = ap (λ (l : List ℕ). codes ",\"name\":\"" ++ (l ++ 34 ∷ []) ++ later) (sym (name_plain bmp))
+
+pub content_said : (bmp : ℕ) (content : List ℕ) → content_text bmp content ≡ compact_text (content_value bmp content)
+unfolding escape_byte
+content_said bmp content = ap (λ (l : List ℕ). opened_text bmp ++ (codes ",\"content\":\"" ++ (shut (encode_upper content) ++ l))) (name_said bmp)
+
+of_result : codes "27\"" ≡ shut (hex_of 0x27)
+unfolding escape_byte encode_with
+of_result = refl
+
+pub code_said : (code : ℕ) → code_text code ≡ compact_text (result_value 0x27 (code ∷ []))
+unfolding escape_byte
+code_said code =
+    ap (λ (l : List ℕ). codes "{\"bmp\":\"" ++ (l ++ (codes ",\"code\":\"" ++ (shut (hex_of code) ++ (codes ",\"name\":\"result\"" ++ words_text (meaning_of code)))))) of_result
+    ∙ ap (λ (l : List ℕ). opened_text 0x27 ++ (codes ",\"code\":\"" ++ (shut (hex_of code) ++ (codes ",\"name\":\"result\"" ++ l)))) (words_said code (meaning_of code) refl)
+
+pub result_said : (content : List ℕ) → result_text content ≡ compact_text (result_value 0x27 content)
+result_said [] = content_said 0x27 []
+result_said (code ∷ []) = code_said code
+result_said (a ∷ b ∷ more) = content_said 0x27 (a ∷ b ∷ more)
+
+pub amount_said : (digits : List ℕ) → amount_text (number_of digits) ≡ compact_text (amount_value 0x04 digits)
+unfolding escape_byte encode_with
+amount_said digits = refl
+
+pub quoted_said : (bmp : ℕ) (content : List ℕ) → quoted_text bmp content ≡ compact_text (quoted_value bmp content)
+unfolding escape_byte
+quoted_said bmp content = ap (λ (l : List ℕ). opened_text bmp ++ l) (name_before bmp (codes ",\"text\":\"" ++ (shut (escaped_text content) ++ codes "}")))
+
+pub hidden_said : (bmp size : ℕ) → hidden_text bmp size ≡ compact_text (hidden_value bmp size)
+unfolding escape_byte
+hidden_said bmp size = ap (λ (l : List ℕ). opened_text bmp ++ (codes ",\"hidden\":" ++ (decimal size ++ l))) (name_said bmp)
+
+pub tree_said : (bmp : ℕ) (objects : Objects) → tree_text bmp objects ≡ compact_text (tree_value bmp objects)
+unfolding escape_byte
+tree_said bmp objects = ap (λ (l : List ℕ). opened_text bmp ++ l) (name_before bmp (codes ",\"objects\":[" ++ (items_text false (object_values objects) ++ codes "}")))
+
+pub tag_said : (tag : List ℕ) → tag_text tag ≡ members_text true (tag_member tag)
+unfolding escape_byte
+tag_said tag = refl
+
+pub primitive_said : (tag content : List ℕ) → primitive_text tag content ≡ compact_text (primitive_value tag content)
+unfolding escape_byte
+primitive_said tag content = refl
+
+pub constructed_said : (tag : List ℕ) (inner : Items) → compact_text (constructed_value tag inner) ≡ codes "{\"objects\":[" ++ (items_text false inner ++ tag_text tag)
+unfolding escape_byte
+constructed_said tag inner = refl
+
+-- a field that is shown as bytes
+pub content_plain : (bmp : ℕ) (content : List ℕ) → (bmp ≡ 0x04 → ⊥) → (bmp ≡ 0x27 → ⊥) → (bmp ≡ 0x2A → ⊥) → (bmp ≡ 0x8B → ⊥) → is_hidden bmp ≡ false → content_text bmp content ≡ compact_text (plain_value bmp content)
+content_plain bmp content a b c d hidden =
+    let other : plain_value bmp content ≡ content_value bmp content = rw (ne_eqb bmp 0x04 a, ne_eqb bmp 0x27 b, ne_eqb bmp 0x2A c, ne_eqb bmp 0x8B d, hidden) refl in
+    content_said bmp content ∙ ap compact_text (sym other)
+
+-- a field of which the size alone is shown
+pub hidden_plain : (bmp : ℕ) (content : List ℕ) → (bmp ≡ 0x04 → ⊥) → (bmp ≡ 0x27 → ⊥) → (bmp ≡ 0x2A → ⊥) → (bmp ≡ 0x8B → ⊥) → is_hidden bmp ≡ true → hidden_text bmp (length content) ≡ compact_text (plain_value bmp content)
+hidden_plain bmp content a b c d hidden =
+    let other : plain_value bmp content ≡ hidden_value bmp (length content) = rw (ne_eqb bmp 0x04 a, ne_eqb bmp 0x27 b, ne_eqb bmp 0x2A c, ne_eqb bmp 0x8B d, hidden) refl in
+    hidden_said bmp (length content) ∙ ap compact_text (sym other)

@@ -1,0 +1,80 @@
+-- The JSON of fields, and of the objects of a container. The members of an object come in the order of their names.
+use Rattle.std.specs.Prelude.{ℕ, ◌==◌, List, [], ◌∷◌, length, if◌then◌else◌, Option, Some, None, unwrap_or, codes}
+use Rattle.serde_json.specs.Data.{Data, string, array, object, Items, no_items, item, Members, no_members, member}
+use Rattle.zvt_bcd.specs.Digits.{number_of}
+use Rattle.zvt_tlv.specs.Grammar.{Objects, none, primitive, constructed}
+use Rattle.zvt_field.specs.Grammar.{Field, plain, tree}
+use Rattle.zvt_field.specs.Names.{name_of}
+use Rattle.zvt_text.specs.Lines.{is_hidden, is_quoted}
+use Rattle.zvt_text.specs.Results.{meaning_of}
+use Rattle.zvt_json.specs.Strings.{byte_value, count_value, hex_value, text_value}
+
+-- the last member of an object
+abbrev pub tag_member : List ℕ → Members
+tag_member tag = member (codes "tag") (hex_value tag) no_members
+
+abbrev pub primitive_value : (tag content : List ℕ) → Data
+primitive_value tag content = object (member (codes "content") (hex_value content) (tag_member tag))
+
+abbrev pub constructed_value : List ℕ → Items → Data
+constructed_value tag inner = object (member (codes "objects") (array inner) (tag_member tag))
+
+-- an object for each object, in order
+abbrev pub object_values : Objects → Items
+object_values none = no_items
+object_values (primitive tag content rest) = item (primitive_value tag content) (object_values rest)
+object_values (constructed tag inner rest) = item (constructed_value tag (object_values inner)) (object_values rest)
+
+-- what a code means, where it has a meaning of its own
+abbrev pub words_of : Option (List ℕ) → Members
+words_of None = no_members
+words_of (Some meaning) = member (codes "words") (string meaning) no_members
+
+abbrev pub field_name : ℕ → List ℕ
+field_name bmp = unwrap_or (name_of bmp) []
+
+-- the name of a field, and what comes after it
+abbrev pub named : ℕ → Members → Members
+named bmp later = member (codes "name") (string (field_name bmp)) later
+
+-- a field of that BMP
+abbrev pub of_bmp : ℕ → Members → Data
+of_bmp bmp later = object (member (codes "bmp") (byte_value bmp) later)
+
+abbrev pub content_value : ℕ → List ℕ → Data
+content_value bmp content = of_bmp bmp (member (codes "content") (hex_value content) (named bmp no_members))
+
+abbrev pub result_value : ℕ → List ℕ → Data
+result_value bmp (code ∷ []) = of_bmp bmp (member (codes "code") (byte_value code) (named bmp (words_of (meaning_of code))))
+result_value bmp content = content_value bmp content
+
+abbrev pub amount_value : ℕ → List ℕ → Data
+amount_value bmp digits = of_bmp bmp (named bmp (member (codes "value") (count_value (number_of digits)) no_members))
+
+abbrev pub quoted_value : ℕ → List ℕ → Data
+quoted_value bmp content = of_bmp bmp (named bmp (member (codes "text") (text_value content) no_members))
+
+-- of what is hidden the size alone
+abbrev pub hidden_value : ℕ → ℕ → Data
+hidden_value bmp size = of_bmp bmp (member (codes "hidden") (count_value size) (named bmp no_members))
+
+-- a field whose content is bytes
+abbrev pub plain_value : ℕ → List ℕ → Data
+plain_value bmp content =
+    if bmp == 0x04 then amount_value bmp content
+    else if bmp == 0x27 then result_value bmp content
+    else if is_quoted bmp then quoted_value bmp content
+    else if is_hidden bmp then hidden_value bmp (length content)
+    else content_value bmp content
+
+abbrev pub tree_value : ℕ → Objects → Data
+tree_value bmp objects = of_bmp bmp (named bmp (member (codes "objects") (array (object_values objects)) no_members))
+
+abbrev pub field_value : Field → Data
+field_value (plain bmp content) = plain_value bmp content
+field_value (tree bmp objects) = tree_value bmp objects
+
+-- an object for each field, in order
+abbrev pub field_values : List Field → Items
+field_values [] = no_items
+field_values (field ∷ fields) = item (field_value field) (field_values fields)

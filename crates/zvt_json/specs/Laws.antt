@@ -1,0 +1,42 @@
+-- What no JSON says.
+use Rattle.std.specs.Prelude.{◌≡◌, ◌<◌, ◌^◌, ℕ, Option, Some, List, ◌∷◌, ◌++◌, length}
+use Rattle.serde_json.specs.Data.{Data}
+use Rattle.serde_json.specs.Read.{read}
+use Rattle.serde_json.specs.Written.{compact_text}
+use Rattle.zvt_field.specs.Grammar.{Field, plain}
+use Rattle.zvt_apdu.specs.Message.{registration, reversal, end_of_day}
+use Rattle.zvt_trace.specs.declared.direction.Direction.{Direction}
+use Rattle.zvt_trace.specs.TraceEvent.{TraceEvent, message, refused, unread, cut_off, lost}
+use Rattle.zvt_json.specs.Events.{EventValue}
+use Rattle.zvt_json.specs.Fields.{field_values}
+use Rattle.zvt_json.specs.Messages.{message_value}
+
+-- Two messages that differ in their passwords alone have one value.
+abbrev pub PasswordsStayHidden : Type 0
+PasswordsStayHidden =
+    (from : Direction) (line size : ℕ) (one other : List ℕ) (config : ℕ) (rest : Option (ℕ × List Field)) (fields : List Field) →
+    (message_value from line size (registration one config rest) ≡ message_value from line size (registration other config rest))
+    × (message_value from line size (reversal one fields) ≡ message_value from line size (reversal other fields))
+    × (message_value from line size (end_of_day one fields) ≡ message_value from line size (end_of_day other fields))
+
+-- Two contents of one size have one value, wherever they are among other fields.
+abbrev pub StaysHidden : (bmp : ℕ) → Type 0
+StaysHidden bmp =
+    (before after : List Field) (one other : List ℕ) → length one ≡ length other → field_values (before ++ plain bmp one ∷ after) ≡ field_values (before ++ plain bmp other ∷ after)
+
+-- The card number, the three tracks, the verification value and the password.
+abbrev pub SecretsStayHidden : Type 0
+SecretsStayHidden = StaysHidden 0x22 × StaysHidden 0x23 × StaysHidden 0x24 × StaysHidden 0x2D × StaysHidden 0x3A × StaysHidden 0x3D
+
+-- A place and a count fit 64 bits, as the program's do.
+abbrev pub NumbersFit : TraceEvent → Type 0
+NumbersFit (message from m) = Unit {0}
+NumbersFit (refused from head byte place why) = place < 2 ^ 64
+NumbersFit (unread from) = Unit {0}
+NumbersFit (cut_off from head have) = have < 2 ^ 64
+NumbersFit lost = Unit {0}
+
+-- The reader of the kit's crate `serde_json` gives the value of each event back from its text.
+abbrev pub EventsReadBack : Type 0
+EventsReadBack =
+    (line : ℕ) (event : TraceEvent) (value : Data) → EventValue line event value → line < 2 ^ 64 → NumbersFit event → read (compact_text value) ≡ Some value

@@ -1,0 +1,7 @@
+pub mod Strings
+pub mod Fields
+pub mod Messages
+pub mod Events
+pub mod Texts
+pub mod Reading
+pub mod Laws

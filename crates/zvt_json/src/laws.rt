@@ -1,0 +1,15 @@
+//! Laws of the JSON, each the contract of a function that does nothing.
+
+ghost use Rattle.zvt_json.specs.Laws.{EventsReadBack, PasswordsStayHidden, SecretsStayHidden};
+
+/// No JSON depends on the password of a message; and of a card number (22), a track (23, 24, 2D), a verification value
+/// (3A) or a password (3D) in a field it says the size alone.
+pub fn secrets_stay_hidden()
+    ensures passwords { PasswordsStayHidden }
+    ensures fields { SecretsStayHidden }
+{}
+
+/// The text of each event is read back as its value by the crate `serde_json` of the kit.
+pub fn events_read_back()
+    ensures { EventsReadBack }
+{}

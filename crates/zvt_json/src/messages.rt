@@ -1,0 +1,261 @@
+//! The JSON of messages.
+ghost use Rattle.std.specs.Prelude.{◌≡◌, ◌≤◌, length};
+ghost use Rattle.std.specs.Option.{option_copied};
+ghost use Rattle.zvt_apdu.specs.Kinds.{kind_of};
+ghost use Rattle.zvt_text.specs.MessageTexts.{part_text};
+ghost use Rattle.zvt_text.specs.Writing.{Puts};
+ghost use Rattle.zvt_json.specs.Texts.{about_text, attribute_led, code_led, coded_text, config_led, control_led, currency_led, data_led, ended, fields_led, first_text, from_text, kind_led, last_text, message_text, printed_text, status_text};
+
+use crate::fields::fields;
+use crate::parts::words;
+use crate::strings::{byte, bytes, text};
+use zvt_apdu::{ApduView, Kind};
+use zvt_bcd::Currency;
+use zvt_field::FieldsView;
+use zvt_text::cursor::{Full, decimal, fixed, four_digits, push, word};
+use zvt_text::kind_name;
+use zvt_trace::Direction;
+
+/// Who sent a message, at which line of the trace it ends, and its size with the shortest lengths.
+#[derive(Clone, Copy, Debug, Drop)]
+pub(crate) struct Origin {
+    pub from: Direction,
+    pub line: u64,
+    pub size: usize,
+}
+
+/// A message.
+pub(crate) fn message(
+    buffer: &mut [u8],
+    at: usize,
+    origin: Origin,
+    message: &ApduView<'_>,
+) -> Result<usize, Full>
+    requires { at ≤ length buffer.old }
+    ensures { Puts result at buffer.old buffer.new (message_text origin.from origin.line origin.size message.now) }
+{
+    let kind = message.kind();
+    let at = push(buffer, at, b'{')?;
+    let at = first(buffer, at, message)?;
+    let at = about(buffer, at, origin, kind)?;
+    last(buffer, at, message)
+}
+
+/// The members that each message has.
+#[inline(always)]
+fn about(buffer: &mut [u8], at: usize, origin: Origin, kind: Kind) -> Result<usize, Full>
+    requires { at ≤ length buffer.old }
+    ensures { Puts result at buffer.old buffer.new (about_text origin.from kind origin.line origin.size) }
+{
+    let at = sender(buffer, at, origin.from)?;
+    let at = called(buffer, at, kind)?;
+    let at = fixed(buffer, at, *b",\"line\":")?;
+    let at = decimal(buffer, at, origin.line)?;
+    let at = fixed(buffer, at, *b",\"size\":")?;
+    decimal(buffer, at, origin.size as u64)
+}
+
+/// Who sends.
+#[inline(always)]
+pub(crate) fn sender(buffer: &mut [u8], at: usize, from: Direction) -> Result<usize, Full>
+    requires { at ≤ length buffer.old }
+    ensures { Puts result at buffer.old buffer.new (from_text from) }
+{
+    match from {
+        Direction::FromTill => fixed(buffer, at, *b"\"from\":\"till\""),
+        Direction::FromTerminal => fixed(buffer, at, *b"\"from\":\"terminal\""),
+    }
+}
+
+/// The name of a message.
+#[inline(always)]
+fn called(buffer: &mut [u8], at: usize, kind: Kind) -> Result<usize, Full>
+    requires { at ≤ length buffer.old }
+    ensures { Puts result at buffer.old buffer.new (kind_led kind) }
+{
+    let at = fixed(buffer, at, *b",\"kind\":\"")?;
+    let at = word(buffer, at, kind_name(kind).as_bytes())?;
+    push(buffer, at, b'"')
+}
+
+/// The members that come first, each with a comma after it.
+fn first(buffer: &mut [u8], at: usize, message: &ApduView<'_>) -> Result<usize, Full>
+    requires { at ≤ length buffer.old }
+    ensures { Puts result at buffer.old buffer.new (first_text message.now) }
+{
+    match message.kind() {
+        Kind::Ack | Kind::Intermediate => data(buffer, at, message.payload()),
+        Kind::Nack | Kind::Abort => {
+            let at = code(buffer, at, message.code())?;
+            data(buffer, at, message.payload())
+        }
+        Kind::Registration => registration(buffer, at, message),
+        Kind::PrintLine => attribute(buffer, at, message.attribute()),
+        Kind::Other => {
+            let at = control(buffer, at, message.control())?;
+            data(buffer, at, message.payload())
+        }
+        _ => listed(buffer, at, message.fields()),
+    }
+}
+
+/// The first members of a registration.
+fn registration(buffer: &mut [u8], at: usize, message: &ApduView<'_>) -> Result<usize, Full>
+    requires kind { kind_of message.now ≡ Kind.Registration }
+    requires inside { at ≤ length buffer.old }
+    ensures { Puts result at buffer.old buffer.new (first_text message.now) }
+{
+    let at = config(buffer, at, message.config())?;
+    let at = currency(buffer, at, message.currency())?;
+    listed(buffer, at, message.fields())
+}
+
+/// The payload, if there is any.
+#[inline(always)]
+fn data(buffer: &mut [u8], at: usize, payload: Option<&[u8]>) -> Result<usize, Full>
+    requires { at ≤ length buffer.old }
+    ensures { Puts result at buffer.old buffer.new (part_text data_led (option_copied payload.entry)) }
+{
+    match payload {
+        Some(payload) => payload_data(buffer, at, payload),
+        None => Ok(at),
+    }
+}
+
+fn payload_data(buffer: &mut [u8], at: usize, payload: &[u8]) -> Result<usize, Full>
+    requires { at ≤ length buffer.old }
+    ensures { Puts result at buffer.old buffer.new (data_led payload.now) }
+{
+    if payload.is_empty() {
+        return Ok(at);
+    }
+    let at = fixed(buffer, at, *b"\"data\":\"")?;
+    let at = bytes(buffer, at, payload)?;
+    push(buffer, at, b',')
+}
+
+/// A code.
+fn code(buffer: &mut [u8], at: usize, code: Option<u8>) -> Result<usize, Full>
+    requires { at ≤ length buffer.old }
+    ensures { Puts result at buffer.old buffer.new (part_text code_led code) }
+{
+    let Some(code) = code else {
+        return Ok(at);
+    };
+    let at = fixed(buffer, at, *b"\"code\":\"")?;
+    let at = byte(buffer, at, code)?;
+    push(buffer, at, b',')
+}
+
+/// The configuration of a registration.
+fn config(buffer: &mut [u8], at: usize, config: Option<u8>) -> Result<usize, Full>
+    requires { at ≤ length buffer.old }
+    ensures { Puts result at buffer.old buffer.new (part_text config_led config) }
+{
+    let Some(config) = config else {
+        return Ok(at);
+    };
+    let at = fixed(buffer, at, *b"\"config\":\"")?;
+    let at = byte(buffer, at, config)?;
+    push(buffer, at, b',')
+}
+
+/// The attribute of a line to print.
+fn attribute(buffer: &mut [u8], at: usize, attribute: Option<u8>) -> Result<usize, Full>
+    requires { at ≤ length buffer.old }
+    ensures { Puts result at buffer.old buffer.new (part_text attribute_led attribute) }
+{
+    let Some(attribute) = attribute else {
+        return Ok(at);
+    };
+    let at = fixed(buffer, at, *b"\"attribute\":\"")?;
+    let at = byte(buffer, at, attribute)?;
+    push(buffer, at, b',')
+}
+
+/// The control bytes.
+fn control(buffer: &mut [u8], at: usize, control: [u8; 2]) -> Result<usize, Full>
+    requires { at ≤ length buffer.old }
+    ensures { Puts result at buffer.old buffer.new (control_led control) }
+{
+    let at = fixed(buffer, at, *b"\"control\":\"")?;
+    let at = bytes(buffer, at, control.as_slice())?;
+    push(buffer, at, b',')
+}
+
+/// The currency of a registration.
+fn currency(buffer: &mut [u8], at: usize, currency: Option<Currency>) -> Result<usize, Full>
+    requires { at ≤ length buffer.old }
+    ensures { Puts result at buffer.old buffer.new (part_text currency_led currency) }
+{
+    let Some(currency) = currency else {
+        return Ok(at);
+    };
+    let at = fixed(buffer, at, *b"\"currency\":\"")?;
+    let at = four_digits(buffer, at, currency.get())?;
+    fixed(buffer, at, *b"\",")
+}
+
+/// The fields, where the message has fields.
+#[inline(always)]
+fn listed(buffer: &mut [u8], at: usize, list: Option<FieldsView<'_>>) -> Result<usize, Full>
+    requires { at ≤ length buffer.old }
+    ensures { Puts result at buffer.old buffer.new (part_text fields_led list.entry) }
+{
+    let Some(list) = list else {
+        return Ok(at);
+    };
+    let at = fixed(buffer, at, *b"\"fields\":[")?;
+    let at = fields(buffer, at, list)?;
+    push(buffer, at, b',')
+}
+
+/// The last member, if there is one, and the end of the object.
+fn last(buffer: &mut [u8], at: usize, message: &ApduView<'_>) -> Result<usize, Full>
+    requires { at ≤ length buffer.old }
+    ensures { Puts result at buffer.old buffer.new (last_text message.now) }
+{
+    match message.kind() {
+        Kind::Intermediate => status(buffer, at, message.status()),
+        Kind::PrintLine => printed(buffer, at, message.text()),
+        Kind::Abort => meaning(buffer, at, message.code()),
+        _ => push(buffer, at, b'}'),
+    }
+}
+
+/// What the terminal is at.
+fn status(buffer: &mut [u8], at: usize, status: Option<u8>) -> Result<usize, Full>
+    requires { at ≤ length buffer.old }
+    ensures { Puts result at buffer.old buffer.new (ended status_text status) }
+{
+    let Some(status) = status else {
+        return push(buffer, at, b'}');
+    };
+    let at = fixed(buffer, at, *b",\"status\":\"")?;
+    let at = byte(buffer, at, status)?;
+    push(buffer, at, b'}')
+}
+
+/// A line to print.
+fn printed(buffer: &mut [u8], at: usize, line: Option<&[u8]>) -> Result<usize, Full>
+    requires { at ≤ length buffer.old }
+    ensures { Puts result at buffer.old buffer.new (ended printed_text (option_copied line.entry)) }
+{
+    let Some(line) = line else {
+        return push(buffer, at, b'}');
+    };
+    let at = fixed(buffer, at, *b",\"text\":\"")?;
+    let at = text(buffer, at, line)?;
+    push(buffer, at, b'}')
+}
+
+/// What a code means.
+fn meaning(buffer: &mut [u8], at: usize, code: Option<u8>) -> Result<usize, Full>
+    requires { at ≤ length buffer.old }
+    ensures { Puts result at buffer.old buffer.new (ended coded_text code) }
+{
+    match code {
+        Some(code) => words(buffer, at, code),
+        None => push(buffer, at, b'}'),
+    }
+}

@@ -1,0 +1,61 @@
+//! The JSON of a container's objects.
+ghost use Rattle.std.specs.Prelude.{◌≡◌, ◌≤◌, false, true, length};
+ghost use Rattle.serde_json.specs.Written.{items_text};
+ghost use Rattle.zvt_tlv.specs.Checks.{is_shallow};
+ghost use Rattle.zvt_text.specs.Writing.{Puts};
+ghost use Rattle.zvt_json.specs.Fields.{object_values};
+ghost use Rattle.zvt_json.specs.Texts.{primitive_text, tag_text};
+
+use crate::parts::comma;
+use crate::strings::bytes;
+use zvt_text::cursor::{Full, fixed, push};
+use zvt_tlv::ForestView;
+
+/// An object for each object that is at a depth, and the end of the array.
+pub(crate) fn objects(
+    buffer: &mut [u8],
+    at: usize,
+    forest: ForestView<'_>,
+    depth: usize,
+) -> Result<usize, Full>
+    requires shallow { is_shallow depth forest ≡ true }
+    requires most { depth ≤ 6 }
+    requires inside { at ≤ length buffer.old }
+    ensures { Puts result at buffer.old buffer.new (items_text false (object_values forest.entry)) }
+{
+    let mut end = at;
+    let mut later = false;
+    for object in forest {
+        let at = comma(buffer, end, later)?;
+        end = match object.children() {
+            None => primitive(buffer, at, object.tag, object.content)?,
+            Some(inner) => {
+                let at = fixed(buffer, at, *b"{\"objects\":[")?;
+                let at = objects(buffer, at, inner, depth + 1)?;
+                tag(buffer, at, object.tag)?
+            }
+        };
+        later = true;
+    }
+    push(buffer, end, b']')
+}
+
+/// An object whose content is bytes.
+fn primitive(buffer: &mut [u8], at: usize, name: &[u8], content: &[u8]) -> Result<usize, Full>
+    requires { at ≤ length buffer.old }
+    ensures { Puts result at buffer.old buffer.new (primitive_text name.now content.now) }
+{
+    let at = fixed(buffer, at, *b"{\"content\":\"")?;
+    let at = bytes(buffer, at, content)?;
+    tag(buffer, at, name)
+}
+
+/// The tag of an object, which is its last member.
+fn tag(buffer: &mut [u8], at: usize, tag: &[u8]) -> Result<usize, Full>
+    requires { at ≤ length buffer.old }
+    ensures { Puts result at buffer.old buffer.new (tag_text tag.now) }
+{
+    let at = fixed(buffer, at, *b",\"tag\":\"")?;
+    let at = bytes(buffer, at, tag)?;
+    push(buffer, at, b'}')
+}

@@ -1,0 +1,66 @@
+//! Parts of arrays and objects.
+ghost use Rattle.std.specs.Prelude.{◌≡◌, ◌≤◌, length};
+ghost use Rattle.serde_json.specs.Written.{comma_if};
+ghost use Rattle.zvt_json.specs.Fields.{field_name};
+ghost use Rattle.zvt_text.specs.Results.{meaning_of};
+ghost use Rattle.zvt_text.specs.Writing.{Puts};
+ghost use Rattle.zvt_json.specs.Texts.{name_text, opened_text, words_text};
+
+use crate::strings::byte;
+use zvt_text::cursor::{Full, fixed, push, word};
+use zvt_text::meaning;
+
+/// A comma, where something stands before.
+#[inline(always)]
+pub(crate) fn comma(buffer: &mut [u8], at: usize, later: bool) -> Result<usize, Full>
+    requires { at ≤ length buffer.old }
+    ensures { Puts result at buffer.old buffer.new (comma_if later) }
+{
+    if later {
+        return push(buffer, at, b',');
+    }
+    Ok(at)
+}
+
+/// What a code means, where it has a meaning of its own, and the end of the object.
+pub(crate) fn words(buffer: &mut [u8], at: usize, code: u8) -> Result<usize, Full>
+    requires { at ≤ length buffer.old }
+    ensures { Puts result at buffer.old buffer.new (words_text (meaning_of code)) }
+{
+    match meaning(code) {
+        Some(meaning) => {
+            let at = fixed(buffer, at, *b",\"words\":\"")?;
+            let at = word(buffer, at, meaning.as_bytes())?;
+            fixed(buffer, at, *b"\"}")
+        }
+        None => push(buffer, at, b'}'),
+    }
+}
+
+/// The first member of a field.
+#[inline(always)]
+pub(crate) fn opened(buffer: &mut [u8], at: usize, bmp: u8) -> Result<usize, Full>
+    requires { at ≤ length buffer.old }
+    ensures { Puts result at buffer.old buffer.new (opened_text bmp) }
+{
+    let at = fixed(buffer, at, *b"{\"bmp\":\"")?;
+    byte(buffer, at, bmp)
+}
+
+/// The name of a field.
+#[inline(always)]
+pub(crate) fn name(buffer: &mut [u8], at: usize, bmp: u8) -> Result<usize, Full>
+    requires { at ≤ length buffer.old }
+    ensures { Puts result at buffer.old buffer.new (name_text bmp) }
+{
+    let at = fixed(buffer, at, *b",\"name\":\"")?;
+    let at = word(buffer, at, name_or_nothing(bmp).as_bytes())?;
+    push(buffer, at, b'"')
+}
+
+/// The name of a BMP, or nothing.
+fn name_or_nothing(bmp: u8) -> &'static str
+    ensures { result.now ≡ field_name bmp }
+{
+    zvt_field::name(bmp).unwrap_or("")
+}

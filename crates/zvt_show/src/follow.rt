@@ -1,0 +1,108 @@
+//! The text of a trace that comes piece by piece, as from a pipe or a file that grows.
+ghost use Rattle.std.specs.Prelude.{[], ◌≡◌, ◌<◌, ◌≤◌, ◌++◌, ℕ, List, Option, length, Err, OnOk, false, true};
+ghost use Rattle.std.specs.Io.KnownBytes.{Consumes};
+ghost use Rattle.std.specs.Str.Lines.{lines};
+ghost use Rattle.zvt_grammar.specs.Lengths.{reading_of};
+ghost use Rattle.zvt_grammar.specs.Reading.{Reading};
+ghost use Rattle.zvt_trace.specs.Chunks.{IsOver, IsTaken};
+ghost use Rattle.zvt_trace.specs.Journal.{readable};
+ghost use Rattle.zvt_trace.specs.Written.{limit};
+ghost use Rattle.zvt_show.specs.Followed.{AnswersFollow, AnswersTurn, CountsWrites, HasWritten, IsFollowing};
+ghost use Rattle.zvt_show.specs.Written.{AnswersLinesBy};
+ghost use Rattle.zvt_show.specs.declared.render.Style.{Style};
+
+use crate::pages::{Pages, flush};
+use crate::render::Style;
+use std::alloc::Global;
+use zvt_grammar::Lengths;
+use zvt_io::{Sink, Source};
+use zvt_trace::{Scope, Tally, TraceFault, Walker, read_chunk};
+
+/// How many bytes are read at once.
+const CHUNK: usize = 65_536;
+
+/// Writes the text of a trace in this style, as [`render_trace`] does, while the trace comes.
+///
+/// After each read the text of all lines that have ended is written, before the next read. The trace may have any length;
+/// a line has at most as many bytes as a trace in memory. A journal is read to its first empty line, and no read follows.
+///
+/// [`render_trace`]: crate::render_trace
+pub fn follow_trace<R: Source, W: Sink>(
+    alloc: Global,
+    style: Style,
+    lengths: Lengths,
+    reader: &mut R,
+    writer: &mut W,
+) -> Result<Tally, TraceFault>
+    ensures follows { (taken : List ℕ) × Consumes (R.remaining reader.old) (R.remaining reader.new) taken × IsTaken taken × AnswersFollow (reading_of lengths) style taken (R.remaining reader.new) (W.written writer.old) (W.written writer.new) result }
+    ensures read { result ≡ Err TraceFault.Read → R.failures reader.old < R.failures reader.new }
+    ensures write { result ≡ Err TraceFault.Write → W.failures writer.old < W.failures writer.new }
+{
+    let mut follower = Follower::new(alloc, style, lengths);
+    let mut buffer = [0; CHUNK];
+    for _turn in 0..u64::MAX {
+        let taken = read_chunk(reader, &mut buffer)?;
+        if taken == 0 {
+            return follower.finish(writer);
+        }
+        follower.feed(writer, &buffer[..taken])?;
+        if follower.is_over() {
+            return follower.finish(writer);
+        }
+    }
+    Err(TraceFault::TooLong)
+}
+
+/// Writes the text of a trace turn by turn: at each turn that of the lines which end in a chunk.
+#[derive(Drop)]
+pub struct Follower {
+    pages: Pages,
+    walker: Walker,
+}
+
+impl Follower {
+    /// A follower that has read nothing.
+    pub fn new(alloc: Global, style: Style, lengths: Lengths) -> Follower
+        ensures written { (held : Option (List ℕ)) → HasWritten (reading_of lengths) style [] held held result }
+        ensures following { IsFollowing result }
+        ensures reads_on { ¬ IsOver result.walker }
+    {
+        Follower {
+            pages: Pages::new(alloc, style),
+            walker: Walker::new(alloc, Scope::OneSide, lengths),
+        }
+    }
+
+    /// Whether nothing more is read, since the trace is a journal and its first empty line has come.
+    pub fn is_over(&self) -> bool
+        ensures yes { result ≡ true → IsOver self.now.walker }
+        ensures no { result ≡ false → ¬ IsOver self.now.walker }
+    {
+        self.walker.is_over()
+    }
+
+    /// Writes the text of all lines that end in this chunk, also of those before a fault.
+    pub fn feed<W: Sink>(&mut self, writer: &mut W, chunk: &[u8]) -> Result<(), TraceFault>
+        requires following { IsFollowing self.old }
+        requires few { length chunk.now ≤ limit }
+        ensures writes { (r : Reading) (style : Style) (bytes : List ℕ) (first : Option (List ℕ)) → HasWritten r style bytes first (W.written writer.old) self.old → AnswersTurn r style (bytes ++ chunk.now) first (W.written writer.new) self.new result }
+        ensures following { OnOk result (IsFollowing self.new) }
+        ensures counts { (r : Reading) (style : Style) (bytes : List ℕ) (first : Option (List ℕ)) → HasWritten r style bytes first (W.written writer.old) self.old → CountsWrites (W.failures writer.old) (W.failures writer.new) result }
+    {
+        let answer = self.walker.feed(&mut self.pages, writer, chunk);
+        flush(&mut self.pages.block, writer)?;
+        answer
+    }
+
+    /// Writes the text of a last line without a line feed, and of what is cut off.
+    pub fn finish<W: Sink>(self, writer: &mut W) -> Result<Tally, TraceFault>
+        requires following { IsFollowing self }
+        ensures writes { (r : Reading) (style : Style) (bytes : List ℕ) (first : Option (List ℕ)) → HasWritten r style bytes first (W.written writer.old) self → AnswersLinesBy r style (lines (readable bytes)) first (W.written writer.new) result }
+        ensures counts { (r : Reading) (style : Style) (bytes : List ℕ) (first : Option (List ℕ)) → HasWritten r style bytes first (W.written writer.old) self → CountsWrites (W.failures writer.old) (W.failures writer.new) result }
+    {
+        let Follower { mut pages, walker } = self;
+        let answer = walker.finish(&mut pages, writer);
+        flush(&mut pages.block, writer)?;
+        answer
+    }
+}

@@ -1,0 +1,154 @@
+#!/usr/bin/env python3
+"""A model of what `audit` and `audit --json` write, after docs/FORMAT.md, docs/JSON.md and the tables of the till's machine in
+docs/ARCHITECTURE.md alone: no code of the program was looked at.
+
+`Audit` goes over the bytes of a trace with the reader of `json_model.py` and has the books: what is booked, what is unclear
+and why, how many messages were read, and how many streams are bad. With files as arguments it writes the JSON of each.
+"""
+import sys
+
+import json_model
+
+ORDERS = ("Registration", "Authorisation", "Reversal", "EndOfDay", "Other")
+RESULT, AMOUNT, TRACE, CURRENCY, RECEIPT, ORIGINAL = "27", "04", "0B", "49", "87", "37"
+DECLINING = ("declines", None)
+
+
+def all_of(message, bmp):
+    """The contents of a field, wherever it appears in a message."""
+    found = [field for field in message.get("fields", ()) if field["bmp"] == bmp]
+    return [field.get("value", field.get("code", field.get("content"))) for field in found]
+
+
+def only(message, bmp):
+    """What is said of a field: it appears exactly once, else nothing is."""
+    found = all_of(message, bmp)
+    return found[0] if len(found) == 1 else None
+
+
+def amount_of(message):
+    return only(message, AMOUNT) or None
+
+
+class Audit:
+    def __init__(self, trace, loose=False):
+        self.booked, self.unclear, self.messages, self.bad = [], [], 0, 0
+        self.amount, self.statuses, self.taken_up, self.currency = None, [], False, None
+        self.sides = {sign: json_model.Side(name, loose) for sign, name in json_model.SIDES.items()}
+        self.malformed = False
+        for number, row in json_model.lines_of(trace):
+            if row == b"!":
+                self.cut()
+                self.ends("Line")
+                self.malformed = False
+            elif row[:1] in self.sides:
+                self.feed(row[:1], json_model.bytes_of(number, row), number)
+            elif row and row[:1] != b"#":
+                raise json_model.Fault(number)
+        self.cut()
+        self.ends("Unfinished")
+
+    def feed(self, sign, piece, number):
+        if self.malformed:
+            return
+        for event in self.sides[sign].feed(piece, number):
+            if "refused" in event:
+                self.malformed = True
+                self.bad += 1
+                self.cut()
+                self.ends("Malformed")
+            else:
+                self.messages += 1
+                (self.sent if sign == b">" else self.heard)(event)
+
+    def cut(self):
+        """Both streams start anew."""
+        self.bad += sum(1 for side in self.sides.values() for _ in side.cut(0))
+
+    def sent(self, message):
+        if message["kind"] not in ORDERS:
+            return
+        self.ends("Unfinished")
+        if message["kind"] == "Authorisation":
+            self.amount, self.statuses, self.taken_up = amount_of(message), [], False
+        if message["kind"] == "Registration":
+            self.currency = message.get("currency")
+
+    def heard(self, message):
+        if self.amount is None:
+            return
+        kind = "Ack" if message["kind"] == "Nack" and message["code"] == "00" else message["kind"]
+        if kind == "Status":
+            self.statuses.append(self.class_of(message))
+        elif kind == "Ack":
+            self.taken_up = True
+        elif kind == "Completion":
+            self.completed()
+        elif kind == "Abort" or kind == "Nack" and not self.taken_up:
+            self.ends(None if set(self.statuses) <= {DECLINING} else "AbortAfterApproval")
+
+    def class_of(self, status):
+        """What a status says of the payment that runs: that it declines it, a cause, or the trace and receipt numbers."""
+        named = all_of(status, CURRENCY)
+        if only(status, RESULT) not in (None, "00"):
+            return DECLINING
+        if only(status, RESULT) is None or all_of(status, ORIGINAL):
+            return "Conflict"
+        if len(named) > 1 or self.currency and named and named[0] != self.currency:
+            return "WrongCurrency"
+        if only(status, AMOUNT) != self.amount:
+            return "AmountDiffers"
+        return "NoTrace" if only(status, TRACE) is None else (int(only(status, TRACE)), only(status, RECEIPT))
+
+    def completed(self):
+        """The payment that runs was completed: it is booked, declined or unclear."""
+        fault = self.fault()
+        if fault is None and self.statuses[0] != DECLINING:
+            self.booked.append((self.amount, *self.statuses[0]))
+        self.ends(fault)
+
+    def fault(self):
+        """What is wrong with the statuses: they agree where all decline, or all are good under one trace number."""
+        if not self.statuses:
+            return "NoStatus"
+        for one in self.statuses:
+            if isinstance(one, str):
+                return one
+            if one[0] != self.statuses[0][0]:
+                return "Conflict"
+        return "TraceUsed" if self.statuses[0][0] in [trace for _, trace, _ in self.booked] else None
+
+    def ends(self, cause):
+        """The payment that runs, if one does, is over, and unclear where there is a cause."""
+        if self.amount and cause:
+            self.unclear.append((self.amount, cause))
+        self.amount = None
+
+    def total(self):
+        return sum(amount for amount, _, _ in self.booked)
+
+    def objects(self):
+        for amount, trace, receipt in self.booked:
+            yield {"booked": {"amount": amount, "trace": trace, **({"receipt": receipt} if receipt else {})}}
+        for amount, cause in self.unclear:
+            yield {"unclear": {"amount": amount, "cause": cause}}
+        yield {"bad": self.bad, "messages": self.messages, "total": self.total()}
+
+
+def text_of(said):
+    """The line of `audit` for an object."""
+    if "booked" in said:
+        return "booked {amount} trace {trace:06} receipt {receipt}".format(**{"receipt": "-", **said["booked"]})
+    return "unclear {amount} {cause}".format(**said["unclear"]) if "unclear" in said else f"total {said['total']}"
+
+
+def main():
+    for path in sys.argv[1:]:
+        with open(path, "rb") as file:
+            for said in Audit(file.read()).objects():
+                print(json_model.json_of(said))
+    return 0
+
+
+if __name__ == "__main__":
+    sys.exit(main())

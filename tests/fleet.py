@@ -1,0 +1,229 @@
+#!/usr/bin/env python3
+"""Runs the recipes of docs/FLEETS.md on 200 traces, and compares with the model of `audit_model.py`.
+
+    tests/fleet.py [PROGRAM]
+
+PROGRAM is the one that `rt ci` built, unless another is named. The commands are taken out of the document. Two days of ten
+shops with ten tills each are audited by `xargs`, by `parallel`, and by `examples/fleet.py` with two Dask workers, one of which
+is killed in the middle: nothing is missing, and nothing counts twice. `sqlite3` answers the document's queries. One trace
+can't be read, and some streams are bad. What is not installed is said and left out. The status is 1 where anything is not as
+expected. It takes some twenty seconds.
+"""
+import collections
+import json
+import os
+import pathlib
+import random
+import re
+import shutil
+import subprocess
+import sys
+import tempfile
+import time
+
+import audit_model
+import audit_output
+
+HERE = pathlib.Path(__file__).resolve().parent
+TOP = HERE.parent
+PROGRAM = os.path.abspath(sys.argv[1]) if len(sys.argv) > 1 else str(TOP / "crates/zvt/out/zvt")
+DEBIAN_PYTHON = "/usr/bin/python3"
+DAYS, SHOPS, TILLS, BATCH = ("2026-11-24", "2026-11-25"), 10, 10, 5
+SECONDS = 120
+UNREADABLE = "traces/2026-11-25/shop-03/till-07.trace"
+# The program, with a note of each run and a pause, so that a worker can be killed in the middle.
+SLOW = "#!/bin/sh\necho run >> '{calls}'\nsleep 0.2\nexec '{program}' \"$@\"\n"
+failed, said = [], []
+
+
+def check(name, found, wanted):
+    if found != wanted:
+        failed.append(name)
+        print(f"NOT AS EXPECTED: {name}: {found!r:.1000} instead of {wanted!r:.1000}")
+
+
+def commands():
+    """The code blocks of the document, in order."""
+    text = (TOP / "docs/FLEETS.md").read_text()
+    blocks = re.findall(r"\n\n((?:    .*\n)+)", text)
+    return [re.sub(r"^    ", "", block, flags=re.M) for block in blocks]
+
+
+def command(*words):
+    """The one block with all of these words."""
+    found = [block for block in commands() if all(word in block for word in words)]
+    if len(found) != 1:
+        sys.exit(f"fleet: docs/FLEETS.md has {len(found)} blocks with {words}")
+    return found[0]
+
+
+def make(folder):
+    """Traces of two days, and the audit of each that can be read. The second day has numbers of the first."""
+    chance, audits = random.Random(20261126), {}
+    for day, first in zip(DAYS, (0, 3)):
+        for shop in range(SHOPS):
+            for till in range(TILLS):
+                name = f"traces/{day}/shop-{shop:02}/till-{till:02}.trace"
+                text = audit_output.Dialogue(chance, first).text()
+                if name == UNREADABLE:
+                    text += b"this is none\n"
+                else:
+                    audits[name] = audit_model.Audit(text)
+                (folder / name).parent.mkdir(parents=True, exist_ok=True)
+                (folder / name).write_bytes(text)
+    return audits
+
+
+class Fleet:
+    def __init__(self, folder):
+        self.folder, self.audits = folder, make(folder)
+        (folder / "bin").mkdir()
+        (folder / "bin/zvt").symlink_to(PROGRAM)
+        (folder / "examples").symlink_to(TOP / "examples")
+        self.environment = {**os.environ, "PATH": f"{folder}/bin:{os.environ['PATH']}"}
+
+    def run(self, block):
+        """What the commands write, whatever their status: a trace that is bad has one."""
+        done = subprocess.run(["sh", "-c", block], cwd=self.folder, env=self.environment, capture_output=True, text=True, timeout=SECONDS)
+        return done.stdout
+
+    def holds_books(self, name):
+        """books.json has each audit's objects, in their order."""
+        found = collections.defaultdict(list)
+        for row in map(json.loads, (self.folder / "books.json").read_text().splitlines()):
+            found[row.pop("file", None)].append(row)
+        found.pop("/dev/null", None)
+        sums = found.pop(None)
+        check(f"{name}: the sums", sum(row["total"] for row in sums), sum(audit.total() for audit in self.audits.values()))
+        check(name, dict(found), {file: list(audit.objects()) for file, audit in self.audits.items()})
+        said.append(name)
+
+    def one_machine(self):
+        self.run(command("xargs", "books/XXXXXXXX"))
+        self.holds_books("xargs")
+        wanted = {file for file, audit in self.audits.items() if audit.unclear or audit.bad} | {UNREADABLE}
+        check("what a person has to look at", sorted(self.run(command("--check")).splitlines()), sorted(wanted))
+        if installed("parallel"):
+            (self.folder / "books.json").unlink()
+            self.run(command("parallel"))
+            self.holds_books("parallel")
+        if installed("jq"):
+            check("what is missing", self.run(command("comm -23")).split(), [UNREADABLE])
+            wanted = [f"{file}\t{amount}\t{cause}" for file, audit in self.audits.items() for amount, cause in audit.unclear]
+            check("what is unclear", sorted(self.run(command("@tsv")).splitlines()), sorted(wanted))
+            said.append("jq")
+
+    def database(self):
+        if not installed("sqlite3"):
+            return
+        self.run(command("fleet.sql"))
+        unclear, days, numbers = collections.defaultdict(list), collections.Counter(), collections.Counter()
+        for file, audit in self.audits.items():
+            _, day, shop, till = file.removesuffix(".trace").split("/")
+            unclear[shop] += [amount for amount, _ in audit.unclear]
+            days[day] += audit.total()
+            numbers.update((shop, till, number) for _, number, _ in audit.booked)
+        rows = [f"{shop}|{len(amounts)}|{sum(amounts)}" for shop, amounts in sorted(unclear.items()) if amounts]
+        check("unclear by shop", self.run(command("FROM unclear")).splitlines(), rows)
+        check("totals by day", self.run(command("FROM audited")).splitlines(), [f"{day}|{total}" for day, total in sorted(days.items())])
+        rows = [f"{shop}|{till}|{number}|{count}" for (shop, till, number), count in sorted(numbers.items()) if count > 1]
+        check("numbers seen twice", self.run(command("FROM booked")).splitlines(), rows)
+        check("there are such numbers", bool(rows), True)
+        said.append("sqlite3")
+
+    def sums(self):
+        """The lines that examples/fleet.py must write."""
+        shops = collections.defaultdict(lambda: [0] * 6)
+        for file, audit in self.audits.items():
+            row = (1, len(audit.booked), audit.total(), len(audit.unclear), sum(amount for amount, _ in audit.unclear), audit.bad)
+            for shop in (file.split("/")[2], "~all"):
+                shops[shop] = [one + other for one, other in zip(shops[shop], row)]
+        return ["shop\ttraces\tbooked\ttotal\tunclear\tamount\tbad",
+                *("\t".join([shop.strip("~"), *map(str, row)]) for shop, row in sorted(shops.items()))]
+
+    def many_machines(self):
+        if not installed("dask-scheduler") or not installed("dask-worker"):
+            return
+        calls, slow = self.folder / "calls", self.folder / "slow"
+        slow.write_text(SLOW.format(calls=calls, program=PROGRAM))
+        slow.chmod(0o755)
+        with Dask(self.folder) as dask:
+            words = command("fleet.py --scheduler").replace("tcp://head:8786", f"{dask.address} --batch {BATCH} --zvt {slow}")
+            run = subprocess.Popen(["sh", "-c", f"exec {words}"], cwd=self.folder, stdout=subprocess.PIPE, stderr=subprocess.PIPE, text=True)
+            batches = -(-(len(self.audits) + 1) // BATCH)
+            wait_for(lambda: runs_in(calls) >= batches // 3 or run.poll() is not None)
+            before = runs_in(calls)
+            dask.kill_worker()
+            written, errors = run.communicate(timeout=SECONDS)
+        check("the killed worker was in the middle", before < batches, True)
+        check("a task ran again", runs_in(calls) > batches, True)
+        check("the sums by shop", written.splitlines(), self.sums())
+        check("the status, and what is not audited", (run.returncode, re.findall(r"fleet: '([^']*)' is not audited", errors)), (1, [UNREADABLE]))
+        done = subprocess.run([DEBIAN_PYTHON, TOP / "examples/fleet.py", self.folder / "bin"], capture_output=True, text=True, timeout=SECONDS)
+        check("a folder without traces", (done.returncode, done.stdout, "there is no FILE.trace" in done.stderr), (4, "", True))
+        said.append(f"dask: a worker of two killed after {before} of {batches} tasks, {runs_in(calls)} runs in all")
+
+
+class Dask:
+    """A scheduler and two workers on this machine, which end with the block."""
+
+    def __init__(self, folder):
+        self.folder = folder
+
+    def start(self, *words):
+        with open(self.folder / "dask.log", "ab") as log:
+            return subprocess.Popen(words, cwd=self.folder, stdout=log, stderr=log)
+
+    def __enter__(self):
+        at = self.folder / "scheduler.json"
+        self.processes = [self.start("dask-scheduler", "--host", "127.0.0.1", "--port", "0", "--no-dashboard", "--scheduler-file", str(at))]
+        wait_for(lambda: at.exists() and at.read_text().endswith("}"))
+        self.address = json.loads(at.read_text())["address"]
+        words = ["--nthreads", "1", "--no-nanny", "--no-dashboard", "--local-directory", str(self.folder)]
+        self.processes += [self.start("dask-worker", self.address, *words) for _ in range(2)]
+        wait_for(lambda: (self.folder / "dask.log").read_text().count("Registered to") == 2)
+        return self
+
+    def kill_worker(self):
+        self.processes[-1].kill()
+
+    def __exit__(self, *_):
+        for process in self.processes:
+            process.kill()
+            process.wait()
+
+
+def runs_in(calls):
+    return calls.read_text().count("\n") if calls.exists() else 0
+
+
+def wait_for(holds):
+    end = time.monotonic() + SECONDS
+    while not holds():
+        if time.monotonic() > end:
+            sys.exit("fleet: what was awaited did not come")
+        time.sleep(0.02)
+
+
+def installed(program):
+    found = shutil.which(program) is not None
+    if not found:
+        print(f"fleet: {program} is missing: its recipe was not run")
+    return found
+
+
+def main():
+    if not os.access(PROGRAM, os.X_OK):
+        print(f"fleet: no program at {PROGRAM}: build it by 'rt run' in crates/zvt, or by 'rt ci'", file=sys.stderr)
+        return 2
+    with tempfile.TemporaryDirectory() as folder:
+        fleet = Fleet(pathlib.Path(folder))
+        fleet.one_machine()
+        fleet.database()
+        fleet.many_machines()
+    print(f"{'NOT AS EXPECTED' if failed else 'ok'}: {len(fleet.audits) + 1} traces by {', '.join(said)}: {len(failed)} wrong")
+    return 1 if failed else 0
+
+
+if __name__ == "__main__":
+    sys.exit(main())
