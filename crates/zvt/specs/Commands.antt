@@ -7,9 +7,9 @@ use Rattle.zvt_grammar.specs.declared.lengths.Lengths.{Lengths}
 use Rattle.zvt_grammar.specs.declared.lengths.Lengths.TheVariants.{Shortest, Padded}
 use Rattle.zvt_show.specs.declared.render.Style.{Style}
 use Rattle.zvt_show.specs.declared.render.Style.TheVariants.{Show, Join, Receipts, Json, JsonReceipts}
-use Rattle.zvt_audit.specs.declared.form.Form.{Form}
-use Rattle.zvt_audit.specs.declared.form.Form.TheVariants.{Text}
-use Rattle.zvt_audit.specs.declared.form.Form.TheVariants as form
+use Rattle.zvt_json.specs.declared.form.Form.{Form}
+use Rattle.zvt_json.specs.declared.form.Form.TheVariants.{Text}
+use Rattle.zvt_json.specs.declared.form.Form.TheVariants as form
 use Rattle.zvt.specs.declared.command.Command.{Command}
 use Rattle.zvt.specs.declared.command.Command.TheVariants.{OnTraces, Book, Loop, Till, Terminal}
 use Rattle.zvt.specs.declared.command.TraceCommand.{TraceCommand}

@@ -22,8 +22,8 @@ use Rattle.zvt_trace.specs.declared.listener.ListenerError.TheVariants as failur
 use Rattle.zvt_trace.specs.declared.listener.Scope.TheVariants.{WholeLine}
 use Rattle.zvt_audit.specs.Audited.{AnswersAuditBy, AnswersBooks, AnswersReadBy, SumsUp, Takes, has_swapped}
 use Rattle.zvt_audit.specs.Json.{books_in}
-use Rattle.zvt_audit.specs.declared.form.Form.{Form}
-use Rattle.zvt_audit.specs.declared.form.Form.TheVariants.{Text}
+use Rattle.zvt_json.specs.declared.form.Form.{Form}
+use Rattle.zvt_json.specs.declared.form.Form.TheVariants.{Text}
 use Rattle.zvt_audit.specs.Happened.{happenings_of, log_of}
 use Rattle.zvt_audit.specs.Orders.{are_swapped, is_order_from, noticed, orders_from}
 use Rattle.zvt_audit.specs.declared.summary.AuditSummary.{AuditSummary}

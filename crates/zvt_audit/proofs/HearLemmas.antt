@@ -20,7 +20,7 @@ use Rattle.zvt_trace.proofs.WalkedLemmas.{from_before, whole_walk}
 use Rattle.zvt_trace.proofs.WalkerLemmas.{fault_before, still_read, too_long}
 use Rattle.zvt_audit.specs.Audited.{AnswersFollowed, AnswersHearing, AnswersReadBy, hears, wants_memory}
 use Rattle.zvt_audit.specs.declared.auditor.Auditor.{Auditor}
-use Rattle.zvt_audit.specs.declared.form.Form.{Form as Written}
+use Rattle.zvt_json.specs.declared.form.Form.{Form as Written}
 use Rattle.zvt_audit.specs.declared.summary.AuditSummary.{AuditSummary}
 use Rattle.zvt_audit.proofs.AuditLemmas.{keeps_same, no_write}
 

@@ -6,11 +6,11 @@ ghost use Rattle.zvt_trace.specs.Chunks.{IsTaken};
 ghost use Rattle.zvt_audit.specs.Audited.{AnswersFollowed, AnswersHearing};
 
 use crate::auditor::Auditor;
-use crate::form::Form;
 use crate::summary::{AuditSummary, connected, write_books};
 use std::alloc::Global;
 use zvt_grammar::Lengths;
 use zvt_io::{Sink, Source};
+use zvt_json::Form;
 use zvt_trace::{Scope, Tally, TraceFault, Walker, read_chunk};
 
 /// How many bytes are read at once.

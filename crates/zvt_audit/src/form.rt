@@ -1,22 +1,14 @@
-//! The forms in which books are written.
+//! The books of a trace in either form.
 ghost use Rattle.std.specs.Prelude.{◌≡◌, ◌++◌, OnOk};
 ghost use Rattle.zvt_till.specs.Judging.{books_value};
 ghost use Rattle.zvt_audit.specs.Json.{books_in};
 
 use crate::{booked, objects};
 use std::alloc::AllocError;
+use zvt_json::Form;
 use zvt_text::Text;
 use zvt_till::Books;
 use zvt_trace::Tally;
-
-/// How books are written.
-#[derive(Clone, Copy, Debug, PartialEq, Eq)]
-pub enum Form {
-    /// A line for each payment, for people.
-    Text,
-    /// A JSON object a line. The file docs/JSON.md has their members.
-    Json,
-}
 
 /// Writes the books of a trace in this form.
 pub(crate) fn write(

@@ -12,6 +12,5 @@ mod sum;
 mod summary;
 
 pub use follow::follow_audit;
-pub use form::Form;
 pub use sum::Sum;
 pub use summary::{AuditSummary, audit_trace};

@@ -2,9 +2,9 @@
 ghost use Rattle.std.specs.Prelude.{◌≡◌, ◌+◌, ◌++◌, ◌^◌, ◌<◌, OnOk};
 ghost use Rattle.zvt_audit.specs.Sums.{sum_in, sum_json, sum_text};
 
-use crate::form::Form;
 use crate::summary::AuditSummary;
 use std::alloc::AllocError;
+use zvt_json::Form;
 use zvt_text::Text;
 
 /// What the audits of several traces add up to.

@@ -8,11 +8,12 @@ ghost use Rattle.zvt_audit.specs.Audited.{AnswersBooks, AnswersReadBy, IsConnect
 
 use crate::auditor::Auditor;
 use crate::booked;
-use crate::form::{self, Form};
+use crate::form;
 use crate::orders::Orders;
 use std::alloc::{AllocError, Global};
 use zvt_grammar::Lengths;
 use zvt_io::Sink;
+use zvt_json::Form;
 use zvt_text::Text;
 use zvt_till::Happening;
 use zvt_till::books::Bookkeeping;

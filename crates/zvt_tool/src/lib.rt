@@ -16,13 +16,14 @@ pub use fault::ToolFault;
 pub use traces::{
     audit, audit_loose, join, normalise_trace, receipts, receipts_loose, show, show_loose,
 };
-pub use zvt_audit::{AuditSummary, Form, Sum, audit_trace, follow_audit};
+pub use zvt_audit::{AuditSummary, Sum, audit_trace, follow_audit};
 pub use zvt_cli::{
     Choice, ChoiceFault, TerminalOptions, TillOptions, TraceOptions, arguments, with_show,
 };
 pub use zvt_diagnostics::{hint_on, write_notes};
 pub use zvt_grammar::Lengths;
 pub use zvt_journal::{DeviceError, FileDevice, JournalFileError, Opened, open_file, read_book};
+pub use zvt_json::Form;
 pub use zvt_kept::{KeptTill, RecoveryError, recover};
 pub use zvt_session::{
     BookRun, BothEnds, EndFault, Endpoint, Ends, LineEnd, LoopRun, NetFault, Planned, Recorded,

@@ -7,9 +7,10 @@ ghost use Rattle.zvt_show.specs.Written.{AnswersTrace, AnswersTraceBy};
 ghost use Rattle.zvt_show.specs.declared.render.Style.TheVariants.{Join, Receipts, Show};
 
 use std::alloc::Global;
-use zvt_audit::{Form, audit_trace};
+use zvt_audit::audit_trace;
 use zvt_grammar::Lengths;
 use zvt_io::{Sink, Source};
+use zvt_json::Form;
 use zvt_show::{Style, render_trace};
 use zvt_trace::{Tally, TraceFault, read_trace};
 
