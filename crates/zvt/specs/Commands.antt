@@ -37,7 +37,8 @@ is_json (Render Json) = true
 is_json (Render JsonReceipts) = true
 is_json (Audit Text) = false
 is_json (Audit form.Json) = true
-is_json Vectors = false
+is_json (Vectors Text) = false
+is_json (Vectors form.Json) = true
 
 abbrev pub working : TraceWork → Lengths → TraceOptions → Option TraceCommand
 working work lengths options = Some (record { work = work; lengths = lengths; check = options.check; follow = options.follow })
@@ -49,15 +50,15 @@ chosen_on_trace (choice.Join options) = working (Render Join) Shortest options
 chosen_on_trace (choice.Normalise options) = working (Render Join) Padded options
 chosen_on_trace (choice.Audit options) = working (Audit (form_by options.json)) (lengths_by options.loose) options
 chosen_on_trace (choice.Receipts options) = working (Render (style_by Receipts JsonReceipts options.json)) (lengths_by options.loose) options
-chosen_on_trace (choice.Vectors options) = working Vectors Shortest options
-chosen_on_trace (choice.Book file) = None
-chosen_on_trace (choice.Loop trace book steps) = None
+chosen_on_trace (choice.Vectors options) = working (Vectors (form_by options.json)) Shortest options
+chosen_on_trace (choice.Book file objects) = None
+chosen_on_trace (choice.Loop trace book objects steps) = None
 chosen_on_trace (choice.Till options) = None
 chosen_on_trace (choice.Terminal options) = None
 
 abbrev pub on_trace : Command → Option TraceCommand
 on_trace (OnTraces command files) = Some command
-on_trace (Book file) = None
+on_trace (Book file written) = None
 on_trace (Loop options) = None
 on_trace (Till options) = None
 on_trace (Terminal options) = None
@@ -65,7 +66,7 @@ on_trace (Terminal options) = None
 -- a terminal's number has eight digits at most
 abbrev pub HasTerminalNumber : Command → Type 0
 HasTerminalNumber (OnTraces command files) = Unit {0}
-HasTerminalNumber (Book file) = Unit {0}
+HasTerminalNumber (Book file written) = Unit {0}
 HasTerminalNumber (Loop options) = Unit {0}
 HasTerminalNumber (Till options) = Unit {0}
 HasTerminalNumber (Terminal options) = options.now.tid ≤ 99999999

@@ -12,7 +12,7 @@ use Rattle.zvt.specs.declared.command.TraceWork.TheVariants.{Render, Audit, Vect
 abbrev pub scope_by : TraceWork → Option Scope
 scope_by (Render style) = Some OneSide
 scope_by (Audit form) = Some WholeLine
-scope_by Vectors = None
+scope_by (Vectors written) = None
 
 -- what is not read after a refusal: its side, or for the books the whole line
 abbrev pub scope_of : TraceCommand → Option Scope

@@ -10,15 +10,15 @@ use zvt_bcd::Currency;
 use zvt_io::Counted;
 use zvt_till::Till;
 use zvt_tool::{
-    FileDevice, JournalFileError, KeptTill, Opened, RecoveryError, TillSettings, next_line,
+    FileDevice, Form, JournalFileError, KeptTill, Opened, RecoveryError, TillSettings, next_line,
     open_file, read_book, recover, write_book,
 };
 
 /// What the first line of a book says before the number of its currency.
 const OPENING: [u8; 26] = *b"# zvt journal 1, currency ";
 
-/// Writes what the book in this file has, and answers the exit status.
-pub fn show(rt: &HostRuntime, path: &str) -> io::Result<u8> {
+/// Writes what the book in this file has in this form, and answers the exit status.
+pub fn show(rt: &HostRuntime, path: &str, form: Form) -> io::Result<u8> {
     let text = match read_book(rt, rt.alloc(), path) {
         Ok(text) => text,
         Err(error) => return unopened(rt, path, &error),
@@ -28,7 +28,7 @@ pub fn show(rt: &HostRuntime, path: &str) -> io::Result<u8> {
         Err(error) => return unrecovered(rt, path, error),
     };
     let mut writer = Counted::new(Output::new(io::writer(rt)));
-    let answer = write_book(rt.alloc(), &till, &mut writer);
+    let answer = write_book(rt.alloc(), form, &till, &mut writer);
     finish_run(rt, writer.inner.broken_pipe, answer)
 }
 

@@ -2,7 +2,7 @@
 ghost use Rattle.std.specs.Prelude.{◌≡◌, Option, List};
 ghost use Rattle.clap.specs.Words.{Row, Text};
 ghost use Rattle.zvt_cli.specs.Chosen.{IsChoiceOf};
-ghost use Rattle.zvt.specs.Commands.{HasTerminalNumber, chosen_on_trace, is_json, lengths_by, on_trace, style_by, working};
+ghost use Rattle.zvt.specs.Commands.{HasTerminalNumber, chosen_on_trace, form_by, is_json, lengths_by, on_trace, style_by, working};
 ghost use Rattle.zvt.specs.declared.command.TraceWork.TheVariants.{Render};
 
 use zvt_tool::{Choice, Form, Lengths, Style, TerminalOptions, TillOptions, TraceOptions};
@@ -14,8 +14,8 @@ pub enum TraceWork {
     Render(Style),
     /// The books of its payments, in this form.
     Audit(Form),
-    /// The vectors to which the reader of messages gives another answer.
-    Vectors,
+    /// The vectors to which the reader of messages gives another answer, in this form.
+    Vectors(Form),
 }
 
 /// A command on traces: what it writes, the lengths that it reads, whether an unclear payment counts as bad, and whether
@@ -35,16 +35,20 @@ impl TraceCommand {
     {
         matches!(
             self.work,
-            TraceWork::Render(Style::Json | Style::JsonReceipts) | TraceWork::Audit(Form::Json)
+            TraceWork::Render(Style::Json | Style::JsonReceipts)
+                | TraceWork::Audit(Form::Json)
+                | TraceWork::Vectors(Form::Json)
         )
     }
 }
 
-/// A run of both ends in this process: the files of its trace and of its till's book, if they are named, and its steps.
+/// A run of both ends in this process: the files of its trace and of its till's book, if they are named, the form of its
+/// lines, and its steps.
 #[derive(Clone, Copy)]
 pub struct LoopOptions<'a> {
     pub trace: Option<&'a str>,
     pub book: Option<&'a str>,
+    pub form: Form,
     pub steps: &'a [&'a str],
 }
 
@@ -52,8 +56,8 @@ pub struct LoopOptions<'a> {
 #[derive(Clone, Copy)]
 pub enum Command<'a> {
     OnTraces(TraceCommand, &'a [&'a str]),
-    /// What a book has, by its file.
-    Book(&'a str),
+    /// What a book has, by its file, in this form.
+    Book(&'a str, Form),
     Loop(LoopOptions<'a>),
     Till(&'a TillOptions<'a>),
     Terminal(&'a TerminalOptions<'a>),
@@ -68,6 +72,13 @@ pub fn lengths_by(loose: bool) -> Lengths
     } else {
         Lengths::Shortest
     }
+}
+
+/// The form of what a command writes, where it writes JSON or does not.
+pub fn form_by(json: bool) -> Form
+    ensures { result ≡ form_by json }
+{
+    if json { Form::Json } else { Form::Text }
 }
 
 /// A command that does this with the traces, by those lengths.
@@ -108,15 +119,24 @@ pub fn command_of<'a>(chosen: &'a Choice<'a>) -> Command<'a>
             working(TraceWork::Render(Style::Join), Lengths::Padded, options)
         }
         Choice::Audit(options) => {
-            let form = if options.json { Form::Json } else { Form::Text };
-            working(TraceWork::Audit(form), lengths_by(options.loose), options)
+            let work = TraceWork::Audit(form_by(options.json));
+            working(work, lengths_by(options.loose), options)
         }
         Choice::Receipts(options) => rendering(Style::Receipts, Style::JsonReceipts, options),
-        Choice::Vectors(options) => working(TraceWork::Vectors, Lengths::Shortest, options),
-        Choice::Book { file } => Command::Book(file),
-        Choice::Loop { trace, book, steps } => Command::Loop(LoopOptions {
+        Choice::Vectors(options) => {
+            let work = TraceWork::Vectors(form_by(options.json));
+            working(work, Lengths::Shortest, options)
+        }
+        Choice::Book { file, json } => Command::Book(file, form_by(*json)),
+        Choice::Loop {
+            trace,
+            book,
+            json,
+            steps,
+        } => Command::Loop(LoopOptions {
             trace: *trace,
             book: *book,
+            form: form_by(*json),
             steps: steps.as_slice(),
         }),
         Choice::Till(options) => Command::Till(options),

@@ -1,7 +1,7 @@
 //! The runs of either end of a line, as the command line asks for them.
 ghost use Rattle.std.specs.Prelude.{◌≤◌};
 
-use crate::command::{LoopOptions, lengths_by};
+use crate::command::{LoopOptions, form_by, lengths_by};
 use crate::finish::{finish_plan, finish_run};
 use crate::output::Output;
 use crate::settings::{settings, verdict};
@@ -30,14 +30,16 @@ pub fn both_ends(rt: &HostRuntime, options: &LoopOptions<'_>) -> io::Result<u8> 
         Ok(file) => file,
         Err(status) => return Ok(status),
     };
-    let plan = plan.as_slice();
-    let trace = file.as_ref();
+    let run = LoopRun {
+        trace: file.as_ref(),
+        plan: plan.as_slice(),
+        form: options.form,
+    };
     let mut writer = Counted::new(Output::new(io::writer(rt)));
     let mut report = Counted::new(rt.stderr());
     let answer = match kept {
-        None => run_loop(rt, rt.alloc(), plan, trace, &mut writer, &mut report),
+        None => run_loop(rt, rt.alloc(), &run, &mut writer, &mut report),
         Some(mut kept) => {
-            let run = LoopRun { trace, plan };
             run_loop_kept(rt, rt.alloc(), &run, &mut kept, &mut writer, &mut report)
         }
     };
@@ -67,6 +69,7 @@ pub fn till(rt: &HostRuntime, options: &TillOptions<'_>) -> io::Result<u8> {
     };
     let trace = file.as_ref();
     let plan = plan.as_slice();
+    let form = form_by(options.json);
     match kept {
         None => {
             let run = TillRun {
@@ -75,6 +78,7 @@ pub fn till(rt: &HostRuntime, options: &TillOptions<'_>) -> io::Result<u8> {
                 settings,
                 lengths: lengths_by(options.loose),
                 trace,
+                form,
             };
             till_alone(rt, &run, plan)
         }
@@ -85,6 +89,7 @@ pub fn till(rt: &HostRuntime, options: &TillOptions<'_>) -> io::Result<u8> {
                 lengths: lengths_by(options.loose),
                 trace,
                 plan,
+                form,
             };
             till_with_book(rt, &run, kept)
         }
@@ -111,7 +116,8 @@ fn till_with_book(
     finish_run(rt, writer.inner.broken_pipe, answer)
 }
 
-/// Serves tills as a simulated terminal, and answers the exit status.
+/// Serves tills as a simulated terminal, and answers the exit status. What it reports is text on standard error, or JSON on
+/// standard output.
 pub fn terminal(rt: &HostRuntime, options: &TerminalOptions<'_>) -> io::Result<u8>
     requires { options.now.tid ≤ 99999999 }
 {
@@ -135,7 +141,13 @@ pub fn terminal(rt: &HostRuntime, options: &TerminalOptions<'_>) -> io::Result<u
         lengths: lengths_by(options.loose),
         connections: options.connections,
         trace,
+        form: form_by(options.json),
     };
+    if options.json {
+        let mut report = Counted::new(io::writer(rt));
+        let answer = run_terminal(rt, rt.alloc(), &run, &mut report);
+        return finish_run(rt, false, answer);
+    }
     let mut report = Counted::new(rt.stderr());
     let answer = run_terminal(rt, rt.alloc(), &run, &mut report);
     finish_run(rt, false, answer)

@@ -99,7 +99,7 @@ fn scope_of(command: &TraceCommand) -> Option<Scope>
     match command.work {
         TraceWork::Render(_) => Some(Scope::OneSide),
         TraceWork::Audit(_) => Some(Scope::WholeLine),
-        TraceWork::Vectors => None,
+        TraceWork::Vectors(_) => None,
     }
 }
 

@@ -25,7 +25,7 @@ pub fn work_on_trace<W: Sink>(
     match command.work {
         TraceWork::Render(style) => found(render_trace(alloc, style, lengths, trace, writer)),
         TraceWork::Audit(form) => audit_trace(alloc, form, lengths, trace, writer),
-        TraceWork::Vectors => found(vectors(alloc, &mut Counted::new(trace), writer)),
+        TraceWork::Vectors(form) => found(vectors(alloc, form, &mut Counted::new(trace), writer)),
     }
 }
 
@@ -44,7 +44,7 @@ pub fn follow_work<R: Source, W: Sink>(
     match command.work {
         TraceWork::Render(style) => found(follow_trace(alloc, style, lengths, reader, writer)),
         TraceWork::Audit(form) => follow_audit(alloc, form, lengths, reader, writer),
-        TraceWork::Vectors => found(vectors(alloc, reader, writer)),
+        TraceWork::Vectors(form) => found(vectors(alloc, form, reader, writer)),
     }
 }
 

@@ -20,8 +20,8 @@ till_has rows (Normalise options) said lacks = other_first (codes "till") (codes
 till_has rows (Audit options) said lacks = other_first (codes "till") (codes "audit") (λ e. omega (arith, e)) said.0
 till_has rows (Receipts options) said lacks = other_first (codes "till") (codes "receipts") (λ e. omega (arith, e)) said.0
 till_has rows (Vectors options) said lacks = other_first (codes "till") (codes "vectors") (λ e. omega (arith, e)) said.0
-till_has rows (Book file) said lacks = other_first (codes "till") (codes "book") (λ e. omega (arith, e)) said.0
-till_has rows (Loop trace book steps) said lacks = other_first (codes "till") (codes "loop") (λ e. omega (arith, e)) said.0
+till_has rows (Book file json) said lacks = other_first (codes "till") (codes "book") (λ e. omega (arith, e)) said.0
+till_has rows (Loop trace book json steps) said lacks = other_first (codes "till") (codes "loop") (λ e. omega (arith, e)) said.0
 till_has rows (Till options) said lacks = lacks options.port said.1
 till_has rows (Terminal options) said lacks = other_second (codes "till") (codes "terminal") (λ e. omega (arith, e)) said.0
 
@@ -32,8 +32,8 @@ till_has_host rows (Normalise options) said lacks = other_first (codes "till") (
 till_has_host rows (Audit options) said lacks = other_first (codes "till") (codes "audit") (λ e. omega (arith, e)) said.0
 till_has_host rows (Receipts options) said lacks = other_first (codes "till") (codes "receipts") (λ e. omega (arith, e)) said.0
 till_has_host rows (Vectors options) said lacks = other_first (codes "till") (codes "vectors") (λ e. omega (arith, e)) said.0
-till_has_host rows (Book file) said lacks = other_first (codes "till") (codes "book") (λ e. omega (arith, e)) said.0
-till_has_host rows (Loop trace book steps) said lacks = other_first (codes "till") (codes "loop") (λ e. omega (arith, e)) said.0
+till_has_host rows (Book file json) said lacks = other_first (codes "till") (codes "book") (λ e. omega (arith, e)) said.0
+till_has_host rows (Loop trace book json steps) said lacks = other_first (codes "till") (codes "loop") (λ e. omega (arith, e)) said.0
 till_has_host rows (Till options) said lacks = let bad : Some options.host.now ≡ None = sym said.2 ∙ lacks in cc
 till_has_host rows (Terminal options) said lacks = other_second (codes "till") (codes "terminal") (λ e. omega (arith, e)) said.0
 
@@ -44,8 +44,8 @@ terminal_has_host rows (Normalise options) said lacks = other_first (codes "term
 terminal_has_host rows (Audit options) said lacks = other_first (codes "terminal") (codes "audit") (λ e. omega (arith, e)) said.0
 terminal_has_host rows (Receipts options) said lacks = other_first (codes "terminal") (codes "receipts") (λ e. omega (arith, e)) said.0
 terminal_has_host rows (Vectors options) said lacks = other_first (codes "terminal") (codes "vectors") (λ e. omega (arith, e)) said.0
-terminal_has_host rows (Book file) said lacks = other_first (codes "terminal") (codes "book") (λ e. omega (arith, e)) said.0
-terminal_has_host rows (Loop trace book steps) said lacks = other_first (codes "terminal") (codes "loop") (λ e. omega (arith, e)) said.0
+terminal_has_host rows (Book file json) said lacks = other_first (codes "terminal") (codes "book") (λ e. omega (arith, e)) said.0
+terminal_has_host rows (Loop trace book json steps) said lacks = other_first (codes "terminal") (codes "loop") (λ e. omega (arith, e)) said.0
 terminal_has_host rows (Till options) said lacks = other_second (codes "terminal") (codes "till") (λ e. omega (arith, e)) said.0
 terminal_has_host rows (Terminal options) said lacks = let bad : Some options.host.now ≡ None = sym said.2 ∙ lacks in cc
 
@@ -57,8 +57,8 @@ terminal_has rows (Normalise options) said lacks = other_first (codes "terminal"
 terminal_has rows (Audit options) said lacks = other_first (codes "terminal") (codes "audit") (λ e. omega (arith, e)) said.0
 terminal_has rows (Receipts options) said lacks = other_first (codes "terminal") (codes "receipts") (λ e. omega (arith, e)) said.0
 terminal_has rows (Vectors options) said lacks = other_first (codes "terminal") (codes "vectors") (λ e. omega (arith, e)) said.0
-terminal_has rows (Book file) said lacks = other_first (codes "terminal") (codes "book") (λ e. omega (arith, e)) said.0
-terminal_has rows (Loop trace book steps) said lacks = other_first (codes "terminal") (codes "loop") (λ e. omega (arith, e)) said.0
+terminal_has rows (Book file json) said lacks = other_first (codes "terminal") (codes "book") (λ e. omega (arith, e)) said.0
+terminal_has rows (Loop trace book json steps) said lacks = other_first (codes "terminal") (codes "loop") (λ e. omega (arith, e)) said.0
 terminal_has rows (Till options) said lacks = other_second (codes "terminal") (codes "till") (λ e. omega (arith, e)) said.0
 terminal_has rows (Terminal options) said lacks = lacks options.port options.tid options.connections said.1 said.3 said.4
 
@@ -69,10 +69,10 @@ book_has rows (Normalise options) said lacks = other_first (codes "book") (codes
 book_has rows (Audit options) said lacks = other_first (codes "book") (codes "audit") (λ e. omega (arith, e)) said.0
 book_has rows (Receipts options) said lacks = other_first (codes "book") (codes "receipts") (λ e. omega (arith, e)) said.0
 book_has rows (Vectors options) said lacks = other_first (codes "book") (codes "vectors") (λ e. omega (arith, e)) said.0
-book_has rows (Loop trace book steps) said lacks = other_first (codes "book") (codes "loop") (λ e. omega (arith, e)) said.0
+book_has rows (Loop trace book json steps) said lacks = other_first (codes "book") (codes "loop") (λ e. omega (arith, e)) said.0
 book_has rows (Till options) said lacks = other_first (codes "book") (codes "till") (λ e. omega (arith, e)) said.0
 book_has rows (Terminal options) said lacks = other_first (codes "book") (codes "terminal") (λ e. omega (arith, e)) said.0
-book_has rows (Book file) said lacks = let bad : Some file.now ≡ None = sym said.1 ∙ lacks in cc
+book_has rows (Book file json) said lacks = let bad : Some file.now ≡ None = sym said.1 ∙ lacks in cc
 
 pub till_without_port : (rows : List Row) → IsNumberOf (codes "port") rows 65535 None → HasNoChoice (Some (codes "till", rows))
 till_without_port rows lacks = λ choice said. till_has rows choice said lacks
@@ -108,7 +108,7 @@ no_command name rows show join normalise audit receipts vectors book loop till t
     no (Audit options) said = audit said.0
     no (Receipts options) said = receipts said.0
     no (Vectors options) said = vectors said.0
-    no (Book file) said = book said.0
-    no (Loop trace book steps) said = loop said.0
+    no (Book file json) said = book said.0
+    no (Loop trace book json steps) said = loop said.0
     no (Till options) said = till said.0
     no (Terminal options) said = terminal said.0

@@ -60,10 +60,11 @@ IsCommandOf name rows (Normalise options) = (name ≡ codes "normalise") × AreT
 IsCommandOf name rows (Audit options) = (name ≡ codes "audit") × AreTraceOptionsOf rows options
 IsCommandOf name rows (Receipts options) = (name ≡ codes "receipts") × AreTraceOptionsOf rows options
 IsCommandOf name rows (Vectors options) = (name ≡ codes "vectors") × AreTraceOptionsOf rows options
-IsCommandOf name rows (Book file) = (name ≡ codes "book") × (first_of (codes "file") rows ≡ Some file.now)
-IsCommandOf name rows (Loop trace book steps) =
+IsCommandOf name rows (Book file json) = (name ≡ codes "book") × (first_of (codes "file") rows ≡ Some file.now) × IsFlagOf (codes "json") rows json
+IsCommandOf name rows (Loop trace book json steps) =
     (name ≡ codes "loop") × IsTextOf (codes "trace") rows trace
     × IsTextOf (codes "book") rows book
+    × IsFlagOf (codes "json") rows json
     × (map (λ step. step.now) steps.items ≡ words_of (codes "step") rows)
 IsCommandOf name rows (Till options) =
     (name ≡ codes "till") × GivesNumber (codes "port") rows 65535 options.port
@@ -74,6 +75,7 @@ IsCommandOf name rows (Till options) =
     × IsTextOf (codes "trace") rows options.trace
     × IsTextOf (codes "book") rows options.book
     × IsFlagOf (codes "loose") rows options.loose
+    × IsFlagOf (codes "json") rows options.json
     × (map (λ step. step.now) options.steps.items ≡ words_of (codes "step") rows)
 IsCommandOf name rows (Terminal options) =
     (name ≡ codes "terminal") × GivesNumber (codes "port") rows 65535 options.port
@@ -83,6 +85,7 @@ IsCommandOf name rows (Terminal options) =
     × IsTextOf (codes "decline") rows options.decline
     × IsTextOf (codes "trace") rows options.trace
     × IsFlagOf (codes "loose") rows options.loose
+    × IsFlagOf (codes "json") rows options.json
 
 -- no command is `show`
 abbrev pub IsChoiceOf : Option (Text × List Row) → Choice → Type 0

@@ -49,22 +49,22 @@ abbrev pub plain_option : App → Text → App
 plain_option app name = with_rule app (option_rule name)
 
 abbrev pub book_app : App
-book_app = with_rule (new_app (codes "book")) book_file_rule
+book_app = with_rule (with_rule (new_app (codes "book")) book_file_rule) (flag_rule (codes "json"))
 
 abbrev pub loop_app : App
-loop_app = with_rule (plain_option (plain_option (new_app (codes "loop")) (codes "trace")) (codes "book")) (several_rule (codes "step"))
+loop_app = with_rule (with_rule (plain_option (plain_option (new_app (codes "loop")) (codes "trace")) (codes "book")) (flag_rule (codes "json"))) (several_rule (codes "step"))
 
 abbrev pub till_app : App
 till_app =
-    with_rule (with_rule (plain_option (plain_option (plain_option (plain_option
+    with_rule (with_rule (with_rule (plain_option (plain_option (plain_option (plain_option
     (plain_option (with_rule (with_rule (new_app (codes "till")) port_rule) host_rule) (codes "password"))
-    (codes "config")) (codes "currency")) (codes "trace")) (codes "book")) (flag_rule (codes "loose"))) (several_rule (codes "step"))
+    (codes "config")) (codes "currency")) (codes "trace")) (codes "book")) (flag_rule (codes "loose"))) (flag_rule (codes "json"))) (several_rule (codes "step"))
 
 abbrev pub terminal_app : App
 terminal_app =
-    with_rule (plain_option (plain_option
+    with_rule (with_rule (plain_option (plain_option
     (with_rule (with_rule (with_rule (with_rule (new_app (codes "terminal")) port_rule) host_rule) tid_rule) connections_rule)
-    (codes "decline")) (codes "trace")) (flag_rule (codes "loose"))
+    (codes "decline")) (codes "trace")) (flag_rule (codes "loose"))) (flag_rule (codes "json"))
 
 -- a command of this line, whose options are its own
 abbrev pub IsLocalAppOf : App → Command → Type 0
@@ -93,6 +93,9 @@ written_app name = with_rule (with_rule (loose_trace_app name) (flag_rule (codes
 abbrev pub join_app : App
 join_app = with_rule (on_trace_app (codes "join")) (flag_rule (codes "follow"))
 
+abbrev pub vectors_app : App
+vectors_app = with_rule (on_trace_app (codes "vectors")) (flag_rule (codes "json"))
+
 abbrev pub audit_app : App
 audit_app = with_rule (with_rule (with_rule (loose_trace_app (codes "audit")) (flag_rule (codes "check"))) (flag_rule (codes "json"))) (flag_rule (codes "follow"))
 
@@ -102,7 +105,7 @@ trace_app =
     with_command (with_command (with_command (with_command
     (with_command (with_command program_app (written_app (codes "show"))) join_app)
     (on_trace_app (codes "normalise"))) audit_app) (written_app (codes "receipts")))
-    (on_trace_app (codes "vectors"))
+    vectors_app
 
 -- the program with its commands and their options
 abbrev pub zvt_app : App

@@ -92,6 +92,7 @@ fn chosen<'a>(
         "loop" => Some(Choice::Loop {
             trace: text(inner, "trace"),
             book: text(inner, "book"),
+            json: flag(inner, "json"),
             steps: words(alloc, inner, "step")?,
         }),
         "till" => till(alloc, inner)?,
@@ -130,7 +131,10 @@ fn book<'a>(inner: &ArgMatches<'a>) -> Option<Choice<'a>>
     ensures { MayBeChoiceOf (Some (codes "book", rows_of (found_of inner.now))) result }
 {
     let file = text(inner, "file")?;
-    Some(Choice::Book { file })
+    Some(Choice::Book {
+        file,
+        json: flag(inner, "json"),
+    })
 }
 
 fn till<'a>(alloc: Global, inner: &ArgMatches<'a>) -> Result<Option<Choice<'a>>, AllocError>
@@ -152,6 +156,7 @@ fn till<'a>(alloc: Global, inner: &ArgMatches<'a>) -> Result<Option<Choice<'a>>,
         trace: text(inner, "trace"),
         book: text(inner, "book"),
         loose: flag(inner, "loose"),
+        json: flag(inner, "json"),
         steps,
     })))
 }
@@ -171,6 +176,7 @@ fn terminal<'a>(inner: &ArgMatches<'a>) -> Option<Choice<'a>>
         decline: text(inner, "decline"),
         trace: text(inner, "trace"),
         loose: flag(inner, "loose"),
+        json: flag(inner, "json"),
     }))
 }
 

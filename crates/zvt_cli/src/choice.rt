@@ -22,10 +22,14 @@ pub enum Choice<'a> {
     /// The till's book is kept in a file of this name.
     Book {
         file: &'a str,
+        /// Whether the output is JSON.
+        json: bool,
     },
     Loop {
         trace: Option<&'a str>,
         book: Option<&'a str>,
+        /// Whether the output is JSON.
+        json: bool,
         steps: Vec<&'a str>,
     },
     Till(TillOptions<'a>),
@@ -60,6 +64,8 @@ pub struct TillOptions<'a> {
     pub book: Option<&'a str>,
     /// Whether lengths are read in any form that holds them.
     pub loose: bool,
+    /// Whether the output is JSON.
+    pub json: bool,
     pub steps: Vec<&'a str>,
 }
 
@@ -77,6 +83,8 @@ pub struct TerminalOptions<'a> {
     pub trace: Option<&'a str>,
     /// Whether lengths are read in any form that holds them.
     pub loose: bool,
+    /// Whether the reports are JSON, on standard output.
+    pub json: bool,
 }
 
 /// Why a command line names no command.

@@ -2,7 +2,7 @@
 ghost use Rattle.std.specs.Prelude.{◌≡◌, IfOk, IsOkAnd, false};
 ghost use Rattle.clap.specs.Words.{App, Rule, app_of, new_app, rule_of, with_rule};
 ghost use Rattle.clap.specs.declared.builder.command.Command.TheViews.{out-Command as fields_of};
-ghost use Rattle.zvt_cli.specs.Commands.{IsLocalAppOf, audit_app, book_app, join_app, loop_app, loose_trace_app, on_trace_app, program_app, terminal_app, till_app, trace_app, with_command, written_app, zvt_app};
+ghost use Rattle.zvt_cli.specs.Commands.{IsLocalAppOf, audit_app, book_app, join_app, loop_app, loose_trace_app, on_trace_app, program_app, terminal_app, till_app, trace_app, vectors_app, with_command, written_app, zvt_app};
 
 use crate::{help, options};
 use clap::{Arg, Command};
@@ -32,8 +32,7 @@ fn trace_commands<'a>(alloc: Global) -> Result<Command<'a>, AllocError>
     let auditing = with(normalising, audit(alloc))?;
     let receipts = written(alloc, "receipts", help::RECEIPTS, help::RECEIPTS_EXAMPLE);
     let printing = with(auditing, receipts)?;
-    let vectors = on_trace(alloc, "vectors", help::VECTORS, help::VECTORS_EXAMPLE);
-    with(printing, vectors)
+    with(printing, vectors(alloc))
 }
 
 /// A command that reads traces, with the texts before and after its usage.
@@ -86,6 +85,14 @@ fn join<'a>(alloc: Global) -> Result<Command<'a>, AllocError>
 {
     let read = on_trace(alloc, "join", help::JOIN, help::JOIN_EXAMPLE);
     and(read, options::flag(alloc, "follow", help::FOLLOW))
+}
+
+fn vectors<'a>(alloc: Global) -> Result<Command<'a>, AllocError>
+    ensures app { IfOk result (λ r. app_of r ≡ vectors_app) }
+    ensures local { IfOk result (λ r. (fields_of r).has_globals ≡ false) }
+{
+    let read = on_trace(alloc, "vectors", help::VECTORS, help::VECTORS_EXAMPLE);
+    and(read, options::flag(alloc, "json", help::JSON))
 }
 
 fn audit<'a>(alloc: Global) -> Result<Command<'a>, AllocError>
@@ -142,7 +149,8 @@ fn book<'a>(alloc: Global) -> Result<Command<'a>, AllocError>
     ensures local { IfOk result (λ r. (fields_of r).has_globals ≡ false) }
 {
     let named = Ok(plain(alloc, "book", help::BOOK, help::BOOK_EXAMPLE));
-    and(named, options::book_file(alloc))
+    let read = and(named, options::book_file(alloc));
+    and(read, options::flag(alloc, "json", help::JSON))
 }
 
 fn looping<'a>(alloc: Global) -> Result<Command<'a>, AllocError>
@@ -155,8 +163,9 @@ fn looping<'a>(alloc: Global) -> Result<Command<'a>, AllocError>
         traced,
         options::text(alloc, "book", "FILE", help::KEEP_BOOK),
     );
+    let spoken = and(keeping, options::flag(alloc, "json", help::JSON));
     and(
-        keeping,
+        spoken,
         options::several(alloc, "step", "STEP", help::LOOP_STEP),
     )
 }
@@ -183,8 +192,9 @@ fn till<'a>(alloc: Global) -> Result<Command<'a>, AllocError>
         options::text(alloc, "book", "FILE", help::KEEP_BOOK),
     );
     let reading = and(keeping, options::flag(alloc, "loose", help::TILL_LOOSE));
+    let spoken = and(reading, options::flag(alloc, "json", help::JSON));
     and(
-        reading,
+        spoken,
         options::several(alloc, "step", "STEP", help::TILL_STEP),
     )
 }
@@ -203,5 +213,9 @@ fn terminal<'a>(alloc: Global) -> Result<Command<'a>, AllocError>
         options::text(alloc, "decline", "XX", help::DECLINE),
     );
     let traced = and(decided, options::text(alloc, "trace", "FILE", help::TRACE));
-    and(traced, options::flag(alloc, "loose", help::TERMINAL_LOOSE))
+    let reading = and(traced, options::flag(alloc, "loose", help::TERMINAL_LOOSE));
+    and(
+        reading,
+        options::flag(alloc, "json", help::TERMINAL_JSON),
+    )
 }

@@ -152,6 +152,9 @@ pub const TERMINAL_LOOSE: &str = "Accept non-minimal length encodings, as some t
 
 pub const JSON: &str = "Write JSON, one object a line";
 
+pub const TERMINAL_JSON: &str =
+    "Write JSON on standard output, one object a line, in place of the reports on standard error";
+
 pub const FOLLOW: &str =
     "Read FILE as it comes, of any size, and write the text of each line at once";
 

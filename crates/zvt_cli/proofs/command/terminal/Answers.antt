@@ -20,8 +20,10 @@ returns c =
     let has_5 : IfOk c.and-decided.result (IsLocalAppOf app_5) = c.and-decided.ensures app_4 (option_rule (codes "decline")) c.text.ensures.rule has_4 in
     let has_6 : IfOk c.and-traced.result (IsLocalAppOf app_6) = c.and-traced.ensures app_5 (option_rule (codes "trace")) c.text-2.ensures.rule has_5 in
     let app_7 = with_rule app_6 (flag_rule (codes "loose")) in
-    let has_7 : IfOk c.and.result (IsLocalAppOf app_7) = c.and.ensures app_6 (flag_rule (codes "loose")) c.flag.ensures.rule has_6 in
+    let app_8 = with_rule app_7 (flag_rule (codes "json")) in
+    let has_7 : IfOk c.and-reading.result (IsLocalAppOf app_7) = c.and-reading.ensures app_6 (flag_rule (codes "loose")) c.flag.ensures.rule has_6 in
+    let has : IfOk c.and.result (IsLocalAppOf app_8) = c.and.ensures app_7 (flag_rule (codes "json")) c.flag-2.ensures.rule has_7 in
     record {
-      app = IfOk-weaker c.and.result _ _ (λ r h. h.0) has_7;
-      local = IfOk-weaker c.and.result _ _ (λ r h. h.1) has_7;
+      app = IfOk-weaker c.and.result _ _ (λ r h. h.0) has;
+      local = IfOk-weaker c.and.result _ _ (λ r h. h.1) has;
     }

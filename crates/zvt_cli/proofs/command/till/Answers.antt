@@ -15,6 +15,7 @@ returns c =
     let app_6 = with_rule app_5 (option_rule (codes "trace")) in
     let app_7 = with_rule app_6 (option_rule (codes "book")) in
     let app_8 = with_rule app_7 (flag_rule (codes "loose")) in
+    let app_9 = with_rule app_8 (flag_rule (codes "json")) in
     let has_1 : IfOk c.and-at_port.result (IsLocalAppOf app_1) = c.and-at_port.ensures app_0 port_rule c.port.ensures.rule (c.plain.ensures.app, c.plain.ensures.local) in
     let has_2 : IfOk c.and-at_host.result (IsLocalAppOf app_2) = c.and-at_host.ensures app_1 host_rule c.host.ensures.rule has_1 in
     let has_3 : IfOk c.and-known.result (IsLocalAppOf app_3) = c.and-known.ensures app_2 (option_rule (codes "password")) c.text.ensures.rule has_2 in
@@ -23,7 +24,8 @@ returns c =
     let has_6 : IfOk c.and-traced.result (IsLocalAppOf app_6) = c.and-traced.ensures app_5 (option_rule (codes "trace")) c.text-4.ensures.rule has_5 in
     let has_7 : IfOk c.and-keeping.result (IsLocalAppOf app_7) = c.and-keeping.ensures app_6 (option_rule (codes "book")) c.text-5.ensures.rule has_6 in
     let has_8 : IfOk c.and-reading.result (IsLocalAppOf app_8) = c.and-reading.ensures app_7 (flag_rule (codes "loose")) c.flag.ensures.rule has_7 in
-    let has : IfOk c.and.result (IsLocalAppOf till_app) = c.and.ensures app_8 (several_rule (codes "step")) c.several.ensures.rule has_8 in
+    let has_9 : IfOk c.and-spoken.result (IsLocalAppOf app_9) = c.and-spoken.ensures app_8 (flag_rule (codes "json")) c.flag-2.ensures.rule has_8 in
+    let has : IfOk c.and.result (IsLocalAppOf till_app) = c.and.ensures app_9 (several_rule (codes "step")) c.several.ensures.rule has_9 in
     record {
       app = IfOk-weaker c.and.result _ _ (λ r h. h.0) has;
       local = IfOk-weaker c.and.result _ _ (λ r h. h.1) has;

@@ -1,6 +1,6 @@
 use Rattle.std.proofs.Common.{codes}
 use Rattle.std.proofs.lemmas.Result.{IfOk-weaker}
-use Rattle.zvt_cli.specs.Commands.{audit_app, join_app, on_trace_app, program_app, with_command, written_app}
+use Rattle.zvt_cli.specs.Commands.{audit_app, join_app, on_trace_app, program_app, vectors_app, with_command, written_app}
 use Rattle.zvt_cli.proofs.Commands.{added}
 use Rattle.zvt_cli.proofs.command.trace_commands.Goals as goal
 
@@ -17,5 +17,5 @@ returns c =
     let audit = added c.audit.result c.in_ok-auditing.auditing c.in_ok-normalising.normalising third audit_app normalise c.audit.ensures.app c.in_ok-auditing.ensures in
     let receipts = added c.written-receipts.result c.in_ok-printing.printing c.in_ok-auditing.auditing fourth (written_app (codes "receipts")) audit c.written-receipts.ensures.app c.in_ok-printing.ensures in
     IfOk-weaker c.with-6.result _ _
-    (λ r is. added c.on_trace-vectors.result r c.in_ok-printing.printing fifth (on_trace_app (codes "vectors")) receipts c.on_trace-vectors.ensures.app is)
+    (λ r is. added c.vectors.result r c.in_ok-printing.printing fifth vectors_app receipts c.vectors.ensures.app is)
     c.with-6.ensures

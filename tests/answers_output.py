@@ -1,0 +1,302 @@
+#!/usr/bin/env python3
+"""Compares what `vectors`, `book`, `loop`, `till` and `terminal` write with `--json` with models, byte for byte.
+
+    tests/answers_output.py [PROGRAM]
+
+PROGRAM is the one that `rt ci` built, unless another is named. A book's objects are those of the model of `journal_model.py`,
+of the journals of thirteen dialogues, whole and cut after each record. Of a run and of vectors the text is read by a parser of
+its own, and says what the objects have to be: over examples/vectors.txt with answers changed, over random lists of steps, and
+over TCP with terminals that approve, decline, abort, and break the line. Exit statuses and standard error are those of the
+text. The objects of docs/JSON.md are among those that are seen. Each line is held against docs/zvt.schema.json where python3
+has jsonschema. The status is 1 where anything differs. It takes seconds.
+"""
+import contextlib
+import json
+import os
+import pathlib
+import random
+import re
+import socket
+import subprocess
+import sys
+import tempfile
+import threading
+import warnings
+
+import journal_dialogues
+import journal_model
+
+HERE = pathlib.Path(__file__).resolve().parent
+EXAMPLES = HERE.parent / "examples"
+PROGRAM = os.path.abspath(sys.argv[1]) if len(sys.argv) > 1 else str(HERE.parent / "crates/zvt/out/zvt")
+SEED, RUNS, VECTORS, SECONDS = 20261126, 150, 40, 60
+# The sections of docs/JSON.md whose objects are seen here.
+SECTIONS = ("Steps", "Books of a till", "Terminals", "Vectors")
+REGISTERED = bytes.fromhex("80 00 00 06 0F 00")
+# What a terminal sends for a payment of 1000, if it is connected to one, and then closes the line.
+ANSWERS = [
+    REGISTERED, REGISTERED + bytes.fromhex("80 00 00 06 0F 00"), REGISTERED + bytes.fromhex("84 83 00"), REGISTERED + bytes.fromhex("80 00"),
+    REGISTERED + bytes.fromhex("80 00 00 06 D0 00 01"), bytes.fromhex("84 83 00"), bytes.fromhex("80 00 00 06 1E 01 6F"), b"", bytes.fromhex("80 00 00 06 0F 02 D0"),
+]
+failed, seen = [], []
+
+
+def fault(name, *what):
+    failed.append(name)
+    if len(failed) <= 20:
+        print(f"NOT AS EXPECTED: {name}:", *what)
+
+
+def check(name, found, wanted):
+    if found != wanted:
+        fault(name, f"{found} instead of {wanted}")
+
+
+def text_of(value):
+    """The line of an object."""
+    return json.dumps(value, sort_keys=True, separators=(",", ":"))
+
+
+def run(words, given=b"", folder="."):
+    done = subprocess.run([PROGRAM, *words], input=given, cwd=folder, capture_output=True, timeout=SECONDS)
+    return done.returncode, done.stdout.decode(), done.stderr.decode()
+
+
+def lines_of(text, parse):
+    return "".join(text_of(parse(line)) + "\n" for line in text.splitlines())
+
+
+def hold(name, found, wanted):
+    """What was written with `--json`, beside the objects that were to be written."""
+    check(name, found, wanted)
+    for line in found.splitlines():
+        seen.append(line)
+
+
+# ---- vectors
+
+def vector_object(line):
+    number, answer = re.fullmatch(r"line (\d+): got (.*)", line).groups()
+    return {"line": int(number), "got": answer}
+
+
+def vectors(chance):
+    """Vectors whose answers are those of other vectors, with comments and empty lines between them."""
+    rows = [line for line in (EXAMPLES / "vectors.txt").read_text().splitlines() if line and line[0] != "#"]
+    for _ in range(VECTORS):
+        lines = []
+        for row in chance.sample(rows, chance.randint(1, 60)):
+            spelled = row.split(" = ")[0]
+            answer = chance.choice(rows).split(" = ")[1] if chance.random() < 0.5 else row.split(" = ")[1]
+            lines += [f"{spelled} = {answer}", *chance.choice(([], [], ["# a comment"], [""]))]
+        yield "\n".join(lines).encode()
+    yield b""
+    yield b"80 00 00 = more\n80 0 = more\n"
+
+
+def hold_vectors(chance):
+    for given in vectors(chance):
+        status, text, errors = run(["vectors"], given)
+        found = run(["vectors", "--json"], given)
+        hold("vectors", found[1], lines_of(text, vector_object))
+        check("the end of vectors", (found[0], found[2]), (status, errors))
+
+
+# ---- the book of a till
+
+def entry_object(entry):
+    booked = {"amount": entry.amount, "trace": entry.trace}
+    if entry.receipt is not None:
+        booked["receipt"] = entry.receipt.hex().upper()
+    if entry.reversed:
+        booked["reversed"] = True
+    if entry.doubt == "B4":
+        booked["taken_back"] = True
+    elif entry.doubt is not None:
+        booked["reversal_unclear"] = entry.doubt
+    return {"booked": booked}
+
+
+def book_objects(book):
+    yield from map(entry_object, book.entries)
+    yield from ({"unclear": {"amount": amount, "cause": cause}} for amount, cause in book.unclear)
+    yield {"total": book.total()}
+
+
+def hold_books(folder):
+    path = os.path.join(folder, "day.book")
+    for dialogue in journal_dialogues.ALL:
+        writer = journal_dialogues.written(dialogue)
+        for count in range(len(writer.records) + 1):
+            file = writer.file(count)
+            with open(path, "wb") as book:
+                book.write(file)
+            wanted = "".join(text_of(value) + "\n" for value in book_objects(journal_model.book_of(file)))
+            status, found, errors = run(["book", "--json", path])
+            hold(f"the book of {dialogue.__name__}, {count} records", found, wanted)
+            check(f"the end of {dialogue.__name__}", (status, errors), (0, ""))
+
+
+# ---- steps
+
+def step_object(line):
+    if line.startswith("total "):
+        return {"total": int(line.removeprefix("total "))}
+    word, ending = line.split(" ->", 1)
+    return {"step": word, **outcome(ending.removeprefix(" "))}
+
+
+def outcome(ending):
+    """The members that an outcome has, from its words."""
+    if not ending:
+        return {}
+    if ending in ("registered", "reversed", "day closed"):
+        return {"outcome": ending}
+    if found := re.fullmatch(r"paid trace (\d{6}) receipt (\S+)", ending):
+        receipt = {} if found[2] == "-" else {"receipt": found[2]}
+        return {"outcome": "paid", "trace": int(found[1]), **receipt}
+    if found := re.fullmatch(r"unclear (\w+)", ending):
+        return {"outcome": "unclear", "cause": found[1]}
+    if found := re.fullmatch(r"not sent: (\w+)", ending):
+        return {"outcome": "not sent", "reason": found[1]}
+    found = re.fullmatch(r"(declined|refused|aborted) (?:code )?([0-9A-F]{2})(?: (.+))?", ending)
+    words = {"words": found[3]} if found[3] else {}
+    return {"outcome": found[1], "code": found[2], **words}
+
+
+def steps(chance):
+    """A list of steps, in any order."""
+    kinds = ["pay:{}", "pay:{}", "pay:{}", "decline:{}:{:02X}", "reverse:{place}", "reverse:{place}", "close", "register"]
+    first = [] if chance.random() < 0.1 else ["register"]
+    return first + [
+        chance.choice(kinds).format(chance.choice((1, 1000, chance.randint(1, 10**12 - 1), 10**12 - 1)), chance.choice((0x6C, 0x6F, 0x05, 0xFF, chance.randint(1, 255))),
+                                    place=chance.choice((1, 1, 2, 3, 99)))
+        for _ in range(chance.randint(0, 8))
+    ]
+
+
+def hold_loops(chance, folder):
+    for number in range(RUNS):
+        words = steps(chance)
+        book = ["--book", os.path.join(folder, f"{number}.book")] if number % 3 == 0 else []
+        again = ["--book", os.path.join(folder, f"{number}.again")] if book else []
+        status, text, errors = run(["loop", *book, *words])
+        found = run(["loop", "--json", *again, *words])
+        hold(f"loop {words}", found[1], lines_of(text, step_object))
+        check(f"the end of loop {words}", (found[0], found[2].replace(".again'", ".book'")), (status, errors))
+
+
+# ---- a till and a terminal
+
+@contextlib.contextmanager
+def answering(answer):
+    """A port at which this is sent for each till that connects; its line is closed once the till was read from."""
+    with socket.create_server(("127.0.0.1", 0)) as door:
+        def serve():
+            with contextlib.suppress(OSError):
+                while True:
+                    line, _ = door.accept()
+                    with line:
+                        line.settimeout(SECONDS)
+                        with contextlib.suppress(OSError):
+                            line.recv(4096)
+                            line.sendall(answer)
+                            line.shutdown(socket.SHUT_WR)
+                            while line.recv(4096):
+                                pass
+        threading.Thread(target=serve, daemon=True).start()
+        yield door.getsockname()[1]
+
+
+def hold_lines():
+    """Tills at terminals that end the line at odd places."""
+    for answer in ANSWERS:
+        with answering(answer) as port:
+            words = ["--port", str(port), "register", "pay:1000", "close"]
+            status, text, errors = run(["till", *words])
+            found = run(["till", "--json", *words])
+            hold(f"till at {answer.hex()}", found[1], lines_of(text, step_object))
+            check(f"the end of a till at {answer.hex()}", (found[0], found[2]), (status, errors))
+
+
+def serving(words):
+    """A terminal that writes JSON, and its port."""
+    terminal = subprocess.Popen([PROGRAM, "terminal", "--json", "--port", "0", *words], stdout=subprocess.PIPE, stderr=subprocess.PIPE, text=True)
+    first = terminal.stdout.readline()
+    return terminal, first, int(json.loads(first)["listening"].rsplit(":", 1)[1])
+
+
+def hold_terminals():
+    """Tills one after another, of which the second breaks its line within a message."""
+    for options, words, approvals in ((["--decline", "6C"], ["register", "pay:500"], 0), ([], ["register", "pay:1000", "pay:20", "reverse:1"], 2)):
+        terminal, first, port = serving(["--connections", "3", *options])
+        till = run(["till", "--port", str(port), "--json", *words])
+        with socket.create_connection(("127.0.0.1", port), timeout=SECONDS) as line:
+            line.sendall(bytes.fromhex("06 00 06 00 00 00 BE 09 78 06 01 0A 04"))
+            line.shutdown(socket.SHUT_WR)
+            while line.recv(4096):
+                pass
+        run(["till", "--port", str(port)])
+        written, errors = terminal.communicate(timeout=SECONDS)
+        cause = "the other end closed the connection after 4 bytes of a message"
+        rows = [{"listening": f"127.0.0.1:{port}"}, {"approvals": approvals, "till": 1}, {"approvals": approvals, "failed": cause, "till": 2}, {"approvals": approvals, "till": 3}]
+        hold(f"terminal {options}", first + written, "".join(text_of(row) + "\n" for row in rows))
+        check(f"the end of terminal {options}", (terminal.returncode, errors), (4, f"zvt: connection failed: {cause}\n"))
+        alone = run(["loop", *(f"decline:{word[4:]}:6C" if options and word.startswith("pay") else word for word in words)])
+        wanted = lines_of(alone[1], step_object).replace("decline:500:6C", "pay:500")
+        hold(f"till {words}", till[1], wanted)
+        check(f"the end of till {words}", (till[0], till[2]), (0, ""))
+
+
+# ---- documents
+
+def documented():
+    """Each object of these sections of docs/JSON.md is among those that were seen."""
+    text = (HERE.parent / "docs/JSON.md").read_text()
+    for section in SECTIONS:
+        part = re.search(rf"^## {section}\n(.*?)(?=^## |\Z)", text, re.M | re.S)
+        shown = re.findall(r"`(\{.*?\})`", part[1]) if part else []
+        if not shown:
+            fault("docs/JSON.md", f"no object under '{section}'")
+        kinds = {re.sub(r"\d+", "0", line) for line in seen}
+        for line in shown:
+            if re.sub(r"\d+", "0", line) not in kinds:
+                fault("docs/JSON.md", f"no command wrote {line}")
+
+
+def fits_schema():
+    """How many lines were held against the schema, or why none."""
+    with warnings.catch_warnings():
+        warnings.simplefilter("ignore")
+        try:
+            import jsonschema
+        except ImportError:
+            return "no schema held, since python3 has no jsonschema"
+    checker = jsonschema.Draft202012Validator(json.loads((HERE.parent / "docs/zvt.schema.json").read_text()))
+    some = sorted(set(seen))
+    for line in some:
+        if not checker.is_valid(json.loads(line)):
+            fault("docs/zvt.schema.json", f"it refuses {line}")
+    return f"{len(some)} held against the schema"
+
+
+def main():
+    if not os.access(PROGRAM, os.X_OK):
+        print(f"answers_output: no program at {PROGRAM}: build it by 'rt run' in crates/zvt, or by 'rt ci'", file=sys.stderr)
+        return 2
+    chance = random.Random(SEED)
+    with tempfile.TemporaryDirectory() as folder:
+        hold_vectors(chance)
+        hold_books(folder)
+        hold_loops(chance, folder)
+    hold_lines()
+    hold_terminals()
+    documented()
+    said = fits_schema()
+    outcomes = {json.loads(line).get("outcome") for line in seen} - {None}
+    print(f"{'NOT AS EXPECTED' if failed else 'ok'}: {len(seen)} lines of vectors, books and runs, {len(outcomes)} outcomes, {said}: {len(failed)} wrong")
+    return 1 if failed else 0
+
+
+if __name__ == "__main__":
+    sys.exit(main())
