@@ -14,10 +14,11 @@ _zvt() {
     show | receipts) options='--loose --json --follow' ;;
     join) options='--follow' ;;
     audit) options='--loose --check --json --follow' ;;
-    normalise | vectors | book) ;;
-    loop) options='--trace --book' steps='register pay: decline: reverse: close' ;;
-    till) options='--port --host --password --config --currency --trace --book --loose' steps='register pay: reverse: close' ;;
-    terminal) options='--port --host --tid --connections --decline --trace --loose' ;;
+    normalise) ;;
+    vectors | book) options='--json' ;;
+    loop) options='--trace --book --json' steps='register pay: decline: reverse: close' ;;
+    till) options='--port --host --password --config --currency --trace --book --loose --json' steps='register pay: reverse: close' ;;
+    terminal) options='--port --host --tid --connections --decline --trace --loose --json' ;;
     '') options='--version -V' words='show join normalise audit receipts vectors book loop till terminal help' ;;
     help)
         [ "$COMP_CWORD" -ne $((position + 1)) ] || COMPREPLY=($(compgen -W 'show join normalise audit receipts vectors book loop till terminal' -- "$word"))

@@ -18,7 +18,7 @@ complete -c zvt -s h -l help -d 'Print help'
 complete -c zvt -n __fish_use_subcommand -s V -l version -d 'Print the version'
 
 complete -c zvt -n '__fish_seen_subcommand_from show audit receipts' -l loose -d 'Also read lengths in longer forms than they need'
-complete -c zvt -n '__fish_seen_subcommand_from show audit receipts' -l json -d 'Write JSON, one object a line'
+complete -c zvt -n '__fish_seen_subcommand_from show audit receipts vectors book loop till terminal' -l json -d 'Write JSON, one object a line'
 complete -c zvt -n '__fish_seen_subcommand_from show join audit receipts' -l follow -d 'Read a trace as it comes'
 complete -c zvt -n '__fish_seen_subcommand_from audit' -l check -d 'End with status 1 where a payment is unclear'
 complete -c zvt -n '__fish_seen_subcommand_from show join normalise audit receipts vectors book' -F

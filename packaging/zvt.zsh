@@ -33,18 +33,25 @@ _zvt() {
             '--follow[read a trace as it comes]' \
             '*:trace:_files'
         ;;
-    normalise|vectors)
+    normalise)
         _arguments $help \
             '*:trace:_files'
         ;;
+    vectors)
+        _arguments $help \
+            '--json[write JSON, one object a line]' \
+            '*:vectors:_files'
+        ;;
     book)
         _arguments $help \
+            '--json[write JSON, one object a line]' \
             '1:book:_files'
         ;;
     loop)
         _arguments $help \
             '--trace[write a trace of the line to this file]:file:_files' \
             '--book[keep the book in this file]:file:_files' \
+            '--json[write JSON, one object a line]' \
             '*:step:(register pay\:1000 decline\:500\:6C reverse\:1 close)'
         ;;
     till)
@@ -57,6 +64,7 @@ _zvt() {
             '--trace[write a trace of the line to this file]:file:_files' \
             '--book[keep the book in this file]:file:_files' \
             '--loose[also read lengths in longer forms than they need]' \
+            '--json[write JSON, one object a line]' \
             '*:step:(register pay\:1000 reverse\:1 close)'
         ;;
     terminal)
@@ -67,7 +75,8 @@ _zvt() {
             '--connections[serve so many tills one after another]:number:' \
             '--decline[decline every payment with this code]:code:' \
             '--trace[write a trace of the line to this file]:file:_files' \
-            '--loose[also read lengths in longer forms than they need]'
+            '--loose[also read lengths in longer forms than they need]' \
+            '--json[write JSON, one object a line, on standard output]'
         ;;
     help)
         _arguments '1:command:_zvt_commands'

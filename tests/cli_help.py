@@ -23,7 +23,7 @@ REFUSED = [
     ("--port 1", "error: unexpected argument '--port' found\n"),
     ("join --loose", "error: unexpected argument '--loose' found\n"),
     ("book", "error: the following required arguments were not provided:\n  <FILE>\n"),
-    ("book x y", "error: unexpected argument 'y' found\n\nUsage: zvt book <FILE>\n"),
+    ("book x y", "error: unexpected argument 'y' found\n\nUsage: zvt book [OPTIONS] <FILE>\n"),
     ("loop --book", "error: a value is required for '--book <FILE>' but none was supplied\n"),
     ("till close", "error: the following required arguments were not provided:\n  --port <PORT>\n"),
     ("terminal", "error: the following required arguments were not provided:\n  --port <PORT>\n"),
