@@ -33,7 +33,7 @@ def amount_of(message):
 class Audit:
     def __init__(self, trace, loose=False):
         self.booked, self.unclear, self.messages, self.bad = [], [], 0, 0
-        self.amount, self.statuses, self.taken_up, self.currency = None, [], False, None
+        self.amount, self.statuses, self.taken_up, self.currency, self.named = None, [], False, None, set()
         self.sides = {sign: json_model.Side(name, loose) for sign, name in json_model.SIDES.items()}
         self.malformed = False
         for number, row in json_model.lines_of(trace):
@@ -73,6 +73,7 @@ class Audit:
             self.amount, self.statuses, self.taken_up = amount_of(message), [], False
         if message["kind"] == "Registration":
             self.currency = message.get("currency")
+            self.named |= {self.currency} - {None}
 
     def heard(self, message):
         if self.amount is None:
@@ -132,7 +133,8 @@ class Audit:
             yield {"booked": {"amount": amount, "trace": trace, **({"receipt": receipt} if receipt else {})}}
         for amount, cause in self.unclear:
             yield {"unclear": {"amount": amount, "cause": cause}}
-        yield {"bad": self.bad, "messages": self.messages, "total": self.total()}
+        currency = {"currency": min(self.named)} if len(self.named) == 1 else {}
+        yield {"bad": self.bad, **currency, "messages": self.messages, "total": self.total()}
 
 
 def text_of(said):

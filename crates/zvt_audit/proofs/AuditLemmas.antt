@@ -9,7 +9,7 @@ use Rattle.zvt_till.specs.Books.{books}
 use Rattle.zvt_till.specs.Judging.{BooksSoFar, HasJudged}
 use Rattle.zvt_till.specs.declared.happenings.Happening.{Happening}
 use Rattle.zvt_till.specs.declared.happenings.Happening.TheVariants.{Connected}
-use Rattle.zvt_trace.specs.Listening.{AnswersWalk, Fails, Hears, HearsAll, Stops}
+use Rattle.zvt_trace.specs.Listening.{AnswersWalk, HearsAll, Stops}
 use Rattle.zvt_trace.specs.TraceEvent.{At, Tallies}
 use Rattle.zvt_trace.specs.Emitting.{EventsSoFar}
 use Rattle.zvt_trace.specs.Journal.{readable}
@@ -20,14 +20,19 @@ use Rattle.zvt_trace.specs.declared.fault.TraceFault.{TraceFault}
 use Rattle.zvt_trace.specs.declared.fault.TraceFault.TheVariants.{Memory, Read, TooLong, Trace, Write}
 use Rattle.zvt_trace.specs.declared.listener.ListenerError.TheVariants as failure
 use Rattle.zvt_trace.specs.declared.listener.Scope.TheVariants.{WholeLine}
-use Rattle.zvt_audit.specs.Audited.{AnswersAuditBy, AnswersBooks, AnswersReadBy, SumsUp, Takes, has_swapped}
+use Rattle.zvt_audit.specs.Audited.{AnswersAuditBy, AnswersBooks, AnswersReadBy, Takes, has_swapped, hears, wants_memory}
+use Rattle.zvt_audit.specs.Currencies.{agreed, currencies_of, named_by, one_currency}
 use Rattle.zvt_audit.specs.Json.{books_in}
 use Rattle.zvt_json.specs.declared.form.Form.{Form}
 use Rattle.zvt_json.specs.declared.form.Form.TheVariants.{Text}
 use Rattle.zvt_audit.specs.Happened.{happenings_of, log_of}
-use Rattle.zvt_audit.specs.Orders.{are_swapped, is_order_from, noticed, orders_from}
+use Rattle.zvt_audit.specs.Orders.{are_swapped, is_order_from, orders_from}
+use Rattle.zvt_audit.specs.declared.auditor.Auditor.{Auditor}
+use Rattle.zvt_audit.specs.declared.currencies.NamedCurrency.{NamedCurrency}
+use Rattle.zvt_audit.specs.declared.currencies.NamedCurrency.TheVariants.{Absent}
 use Rattle.zvt_audit.specs.declared.summary.AuditSummary.{AuditSummary}
 use Rattle.zvt_audit.specs.declared.orders.Orders.{Orders}
+use Rattle.zvt_audit.proofs.CurrencyLemmas.{after_all, all_agreed, one_more}
 
 -- nothing happened
 takes_none : (books : BooksSoFar) → Takes books books []
@@ -39,23 +44,21 @@ takes_more a b c x y first second = λ log judged. subst (λ (l : List Happening
 
 -- ---- what is heard
 
-abbrev pub hears : {S : Type 0} → (S → BooksSoFar) → (S → Orders) → Hears S
-hears books orders old event new = Takes (books old) (books new) (happenings_of event.trace_event) × (orders new ≡ noticed (orders old) event.trace_event)
-
-abbrev pub wants_memory : {S : Type 0} → Fails S
-wants_memory old event why new = why ≡ failure.Memory
+-- an auditor, and the device to which it writes nothing
+abbrev pub Listening : Type 0
+Listening = Auditor × Unit {0}
 
 abbrev happened_by : List At → List Happening
 happened_by events = flat_map (λ (event : At). happenings_of event.trace_event) events
 
-taken : {S : Type 0} (books_of : S → BooksSoFar) (orders : S → Orders) (events : List At) (old new : S) → HearsAll (hears books_of orders) old events new → Takes (books_of old) (books_of new) (happened_by events)
-taken {S = S} books_of orders [] old new same = subst (λ (s : S). Takes (books_of old) (books_of s) []) (sym same) (takes_none (books_of old))
-taken books_of orders (event ∷ events) old new some =
-    takes_more (books_of old) (books_of some.0) (books_of new) (happenings_of event.trace_event) (happened_by events) some.1.0 (taken books_of orders events some.0 new some.2)
+taken : (events : List At) (old new : Listening) → HearsAll hears old events new → Takes old.0.books new.0.books (happened_by events)
+taken [] old new same = subst (λ (s : Listening). Takes old.0.books s.0.books []) (sym same) (takes_none old.0.books)
+taken (event ∷ events) old new some =
+    takes_more old.0.books some.0.0.books new.0.books (happenings_of event.trace_event) (happened_by events) some.1.0 (taken events some.0 new some.2)
 
 -- the books of the whole log, from the connection on
-log_judged : {S : Type 0} (books_of : S → BooksSoFar) (orders : S → Orders) (events : List At) (old new : S) → HasJudged (Connected ∷ []) (books_of old) → HearsAll (hears books_of orders) old events new → HasJudged (log_of events) (books_of new)
-log_judged books_of orders events old new start heard = taken books_of orders events old new heard (Connected ∷ []) start
+log_judged : (events : List At) (old new : Listening) → HasJudged (Connected ∷ []) old.0.books → HearsAll hears old events new → HasJudged (log_of events) new.0.books
+log_judged events old new start heard = taken events old new heard (Connected ∷ []) start
 
 -- ---- who sent orders
 
@@ -67,22 +70,33 @@ or_more : (a b c : Bool) → ((a || b) || c) ≡ (a || (b || c))
 or_more true b c = refl
 or_more false b c = refl
 
-till_noticed : {S : Type 0} (books_of : S → BooksSoFar) (orders : S → Orders) (events : List At) (old new : S) → HearsAll (hears books_of orders) old events new → (orders new).till ≡ ((orders old).till || orders_from FromTill events)
-till_noticed {S = S} books_of orders [] old new same = subst (λ (s : S). (orders s).till ≡ ((orders old).till || false)) (sym same) (sym (or_false (orders old).till))
-till_noticed books_of orders (event ∷ events) old new some =
-    till_noticed books_of orders events some.0 new some.2 ∙ ap (λ (o : Orders). o.till || orders_from FromTill events) some.1.1 ∙ or_more (orders old).till (is_order_from FromTill event.trace_event) (orders_from FromTill events)
+till_noticed : (events : List At) (old new : Listening) → HearsAll hears old events new → new.0.orders.till ≡ (old.0.orders.till || orders_from FromTill events)
+till_noticed [] old new same = subst (λ (s : Listening). s.0.orders.till ≡ (old.0.orders.till || false)) (sym same) (sym (or_false old.0.orders.till))
+till_noticed (event ∷ events) old new some =
+    till_noticed events some.0 new some.2 ∙ ap (λ (o : Orders). o.till || orders_from FromTill events) some.1.1 ∙ or_more old.0.orders.till (is_order_from FromTill event.trace_event) (orders_from FromTill events)
 
-terminal_noticed : {S : Type 0} (books_of : S → BooksSoFar) (orders : S → Orders) (events : List At) (old new : S) → HearsAll (hears books_of orders) old events new → (orders new).terminal ≡ ((orders old).terminal || orders_from FromTerminal events)
-terminal_noticed {S = S} books_of orders [] old new same = subst (λ (s : S). (orders s).terminal ≡ ((orders old).terminal || false)) (sym same) (sym (or_false (orders old).terminal))
-terminal_noticed books_of orders (event ∷ events) old new some =
-    terminal_noticed books_of orders events some.0 new some.2 ∙ ap (λ (o : Orders). o.terminal || orders_from FromTerminal events) some.1.1 ∙ or_more (orders old).terminal (is_order_from FromTerminal event.trace_event) (orders_from FromTerminal events)
+terminal_noticed : (events : List At) (old new : Listening) → HearsAll hears old events new → new.0.orders.terminal ≡ (old.0.orders.terminal || orders_from FromTerminal events)
+terminal_noticed [] old new same = subst (λ (s : Listening). s.0.orders.terminal ≡ (old.0.orders.terminal || false)) (sym same) (sym (or_false old.0.orders.terminal))
+terminal_noticed (event ∷ events) old new some =
+    terminal_noticed events some.0 new some.2 ∙ ap (λ (o : Orders). o.terminal || orders_from FromTerminal events) some.1.1 ∙ or_more old.0.orders.terminal (is_order_from FromTerminal event.trace_event) (orders_from FromTerminal events)
 
-swapped : {S : Type 0} (books_of : S → BooksSoFar) (orders : S → Orders) (events : List At) (old new : S) → (orders old).till ≡ false → (orders old).terminal ≡ false → HearsAll (hears books_of orders) old events new
-    → (not (orders new).till && (orders new).terminal) ≡ are_swapped events
-swapped books_of orders events old new till terminal heard =
-    let by_till = till_noticed books_of orders events old new heard ∙ ap (λ (b : Bool). b || orders_from FromTill events) till in
-    let by_terminal = terminal_noticed books_of orders events old new heard ∙ ap (λ (b : Bool). b || orders_from FromTerminal events) terminal in
-    ap (λ (b : Bool). not b && (orders new).terminal) by_till ∙ ap (λ (b : Bool). not (orders_from FromTill events) && b) by_terminal
+swapped : (events : List At) (old new : Listening) → old.0.orders.till ≡ false → old.0.orders.terminal ≡ false → HearsAll hears old events new
+    → (not new.0.orders.till && new.0.orders.terminal) ≡ are_swapped events
+swapped events old new till terminal heard =
+    let by_till = till_noticed events old new heard ∙ ap (λ (b : Bool). b || orders_from FromTill events) till in
+    let by_terminal = terminal_noticed events old new heard ∙ ap (λ (b : Bool). b || orders_from FromTerminal events) terminal in
+    ap (λ (b : Bool). not b && new.0.orders.terminal) by_till ∙ ap (λ (b : Bool). not (orders_from FromTill events) && b) by_terminal
+
+-- ---- which currency was named
+
+all_named : (events : List At) (old new : Listening) → HearsAll hears old events new → new.0.named ≡ after_all old.0.named (currencies_of events)
+all_named [] old new same = ap (λ (s : Listening). s.0.named) same
+all_named (event ∷ events) old new some =
+    all_named events some.0 new some.2 ∙ ap (λ (n : NamedCurrency). after_all n (currencies_of events)) some.1.2 ∙ one_more old.0.named (named_by event.trace_event) (currencies_of events)
+
+currency_heard : (events : List At) (old new : Listening) → old.0.named ≡ Absent → HearsAll hears old events new → agreed new.0.named ≡ one_currency (currencies_of events)
+currency_heard events old new unnamed heard =
+    ap agreed (all_named events old new heard ∙ ap (λ (n : NamedCurrency). after_all n (currencies_of events)) unnamed) ∙ all_agreed (currencies_of events)
 
 -- ---- what is written
 
@@ -90,18 +104,19 @@ pub keeps_same : (held : Option (List ℕ)) → Keeps held held
 keeps_same None = tt
 keeps_same (Some bytes) = refl
 
-pub audited : {S : Type 0} {r : Reading} (books_of : S → BooksSoFar) (orders : S → Orders) (trace : List ℕ) (form : Form) (tally : Tally) (answer : Result AuditSummary TraceFault) (old new : Option (List ℕ)) (connected closed : S)
-    → HasJudged (Connected ∷ []) (books_of connected) → (orders connected).till ≡ false → (orders connected).terminal ≡ false → AnswersWalk r (hears books_of orders) wants_memory WholeLine (lines (readable trace)) connected closed (Ok tally)
-    → ((log : List Happening) → HasJudged log (books_of closed) → AnswersBooks form log tally (has_swapped (orders closed)) old new answer) → AnswersReadBy r form trace old new answer
-audited {S = S} {r = r} books_of orders trace form tally answer old new connected closed start till terminal walked closes = by answer (closes (log_of walked.0) (log_judged books_of orders walked.0 connected closed start walked.2))
+pub audited : {r : Reading} (trace : List ℕ) (form : Form) (tally : Tally) (answer : Result AuditSummary TraceFault) (old new : Option (List ℕ)) (connected closed : Listening)
+    → HasJudged (Connected ∷ []) connected.0.books → connected.0.orders.till ≡ false → connected.0.orders.terminal ≡ false → connected.0.named ≡ Absent → AnswersWalk r hears wants_memory WholeLine (lines (readable trace)) connected closed (Ok tally)
+    → ((log : List Happening) → HasJudged log closed.0.books → AnswersBooks form log tally (has_swapped closed.0.orders) (agreed closed.0.named) old new answer) → AnswersReadBy r form trace old new answer
+audited {r = r} trace form tally answer old new connected closed start till terminal unnamed walked closes =
+    by answer (subst (λ (c : Option ℕ). AnswersBooks form (log_of walked.0) tally (has_swapped closed.0.orders) c old new answer) (currency_heard walked.0 connected closed unnamed walked.2) (closes (log_of walked.0) (log_judged walked.0 connected closed start walked.2)))
   where
-    by : (answer : Result AuditSummary TraceFault) → AnswersBooks form (log_of walked.0) tally (has_swapped (orders closed)) old new answer → AnswersReadBy r form trace old new answer
+    by : (answer : Result AuditSummary TraceFault) → AnswersBooks form (log_of walked.0) tally (has_swapped closed.0.orders) (one_currency (currencies_of walked.0)) old new answer → AnswersReadBy r form trace old new answer
     by (Ok audited) (appended, same, is_swapped, sums) = (
       walked.0,
       walked.1,
-      subst (λ (t : Tally). Appends old new (books_in form t (books (log_of walked.0)))) (sym same) appended,
+      subst (λ (t : Tally). Appends old new (books_in form t (one_currency (currencies_of walked.0)) (books (log_of walked.0)))) (sym same) appended,
       subst (λ (t : Tally). Tallies t walked.0) (sym same) walked.3,
-      is_swapped ∙ swapped books_of orders walked.0 connected closed till terminal walked.2,
+      is_swapped ∙ swapped walked.0 connected closed till terminal walked.2,
       sums,
     )
     by (Err Memory) kept = kept
@@ -113,23 +128,23 @@ audited {S = S} {r = r} books_of orders trace form tally answer old new connecte
 -- ---- where the walk fails
 
 -- an auditor writes nothing, so no write fails
-pub no_write : {S : Type 0} {r : Reading} (books_of : S → BooksSoFar) (orders : S → Orders) (lines : List (List ℕ)) (old new : S) → AnswersWalk r (hears books_of orders) wants_memory WholeLine lines old new (Err Write) → ⊥
-no_write {S = S} {r = r} books_of orders lines old new failed = by failed.stops
+pub no_write : {r : Reading} (lines : List (List ℕ)) (old new : Listening) → AnswersWalk r hears wants_memory WholeLine lines old new (Err Write) → ⊥
+no_write {r = r} lines old new failed = by failed.stops
   where
     differ : failure.Write ≡ failure.Memory → ⊥
     differ e = cc
 
-    by : Stops {S = S} wants_memory failure.Write (EventsSoFar r WholeLine lines) failed.events failed.middle new → ⊥
+    by : Stops {S = Listening} wants_memory failure.Write (EventsSoFar r WholeLine lines) failed.events failed.middle new → ⊥
     by (inl (is, so_far, same)) = differ is
     by (inr (event, so_far, left)) = differ left
 
-pub walk_failed : {S : Type 0} (r : Reading) (form : Form) (books_of : S → BooksSoFar) (orders : S → Orders) (trace : List ℕ) (fault : TraceFault) (held : Option (List ℕ)) (old new : S)
-    → AnswersWalk r (hears books_of orders) wants_memory WholeLine (lines (readable trace)) old new (Err fault) → AnswersReadBy r form trace held held (Err fault)
-walk_failed r form books_of orders trace (Trace number what) held old new walked = (walked.0, walked.1, keeps_same held)
-walk_failed r form books_of orders trace Memory held old new walked = keeps_same held
-walk_failed r form books_of orders trace Write held old new walked = absurd (no_write books_of orders (lines (readable trace)) old new walked)
-walk_failed r form books_of orders trace TooLong held old new never = absurd never
-walk_failed r form books_of orders trace Read held old new never = absurd never
+pub walk_failed : (r : Reading) (form : Form) (trace : List ℕ) (fault : TraceFault) (held : Option (List ℕ)) (old new : Listening)
+    → AnswersWalk r hears wants_memory WholeLine (lines (readable trace)) old new (Err fault) → AnswersReadBy r form trace held held (Err fault)
+walk_failed r form trace (Trace number what) held old new walked = (walked.0, walked.1, keeps_same held)
+walk_failed r form trace Memory held old new walked = keeps_same held
+walk_failed r form trace Write held old new walked = absurd (no_write (lines (readable trace)) old new walked)
+walk_failed r form trace TooLong held old new never = absurd never
+walk_failed r form trace Read held old new never = absurd never
 
 -- ---- a trace that is read first
 

@@ -65,7 +65,7 @@ turn_failed r bytes chunk rest start now next old new fault has feeds =
     by : (fault : TraceFault) → FeedFaults r hears wants_memory WholeLine (bytes ++ chunk) [] (start, tt) (next, tt) fault → AnswersHearing r (bytes ++ chunk) rest start next (Err fault) × (fault ≡ Read → ⊥)
     by (Trace number what) failed = (failed, λ is. cc is)
     by Memory failed = (failed, λ is. cc is)
-    by Write failed = absurd (no_write (λ s. s.0.books) (λ s. s.0.orders) (lines (readable (bytes ++ chunk))) (start, tt) (next, tt) failed)
+    by Write failed = absurd (no_write (lines (readable (bytes ++ chunk))) (start, tt) (next, tt) failed)
     by TooLong (events, long, heard) = ((events, long), λ is. cc is)
     by Read never = absurd never
 
@@ -82,7 +82,7 @@ all_heard r bytes rest start now next walker answer has end feeds = by answer (w
     by (Ok tally) walked = ((walked, end), λ is. cc is)
     by (Err (Trace number what)) walked = (walked, λ is. cc is)
     by (Err Memory) walked = (walked, λ is. cc is)
-    by (Err Write) walked = absurd (no_write (λ s. s.0.books) (λ s. s.0.orders) (lines (readable bytes)) (start, tt) (next, tt) walked)
+    by (Err Write) walked = absurd (no_write (lines (readable bytes)) (start, tt) (next, tt) walked)
     by (Err TooLong) never = absurd never
     by (Err Read) never = absurd never
 

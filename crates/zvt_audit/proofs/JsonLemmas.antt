@@ -5,6 +5,8 @@ use Rattle.std.specs.Fmt.{decimal}
 use Rattle.hex.specs.Hex.{encode_upper}
 use Rattle.json.specs.Print.{escape, escape_byte}
 use Rattle.zvt_json.specs.Strings.{line_text}
+use Rattle.zvt_json.proofs.EscapeLemmas.{four_plain}
+use Rattle.zvt_text.specs.MessageTexts.{four_digits}
 use Rattle.zvt_till.specs.Books.{Booked, Books}
 use Rattle.zvt_till.specs.Names.{cause_name}
 use Rattle.zvt_till.specs.declared.outcomes.Cause.{Cause}
@@ -68,9 +70,31 @@ unclear_said row =
     ap (λ (l : List ℕ). codes "{\"unclear\":{\"amount\":" ++ decimal row.0 ++ codes ",\"cause\":\"" ++ l ++ (codes "\"}}" ++ 10 ∷ [])) (sym (cause_plain row.1))
     ∙ unclear_escaped row.0 row.1
 
-pub summary_said : (tally : Tally) (total : ℕ) → summary_text tally total ≡ line_text (summary_value tally total)
+no_currency : (tally : Tally) (amount : ℕ) → summary_text tally None amount ≡ line_text (summary_value tally None amount)
 unfolding escape_byte
-summary_said tally total = simp append_assoc
+no_currency tally amount = simp append_assoc
+
+grouped_currency : (p a r e q t d u w z : List ℕ) → p ++ a ++ (r ++ e ++ q) ++ t ++ d ++ u ++ w ++ z ≡ p ++ (a ++ (r ++ (e ++ (q ++ (t ++ (d ++ (u ++ (w ++ z))))))))
+grouped_currency p a r e q t d u w z = simp append_assoc
+
+-- the text after a bad count, with a currency of these digits
+abbrev currency_tail : (tally : Tally) (amount : ℕ) (digits : List ℕ) → List ℕ
+currency_tail tally amount digits =
+    codes ",\"currency\":\"" ++ (digits ++ ((34 ∷ []) ++ (codes ",\"messages\":" ++ (decimal tally.messages ++ (codes ",\"total\":" ++ (decimal amount ++ (codes "}" ++ 10 ∷ [])))))))
+
+currency_nested : (tally : Tally) (currency amount : ℕ) → codes "{\"bad\":" ++ (decimal tally.bad ++ currency_tail tally amount (escape (four_digits currency))) ≡ line_text (summary_value tally (Some currency) amount)
+unfolding escape_byte
+currency_nested tally currency amount = simp append_assoc
+
+with_currency : (tally : Tally) (currency amount : ℕ) → summary_text tally (Some currency) amount ≡ line_text (summary_value tally (Some currency) amount)
+with_currency tally currency amount =
+    grouped_currency (codes "{\"bad\":") (decimal tally.bad) (codes ",\"currency\":\"") (four_digits currency) (34 ∷ []) (codes ",\"messages\":") (decimal tally.messages) (codes ",\"total\":") (decimal amount) (codes "}" ++ 10 ∷ [])
+    ∙ ap (λ (l : List ℕ). codes "{\"bad\":" ++ (decimal tally.bad ++ currency_tail tally amount l)) (sym (four_plain currency))
+    ∙ currency_nested tally currency amount
+
+pub summary_said : (tally : Tally) (currency : Option ℕ) (amount : ℕ) → summary_text tally currency amount ≡ line_text (summary_value tally currency amount)
+summary_said tally None amount = no_currency tally amount
+summary_said tally (Some currency) amount = with_currency tally currency amount
 
 pub sum_said : (sum : Sum) → sum_json sum ≡ line_text (sum_value sum)
 unfolding escape_byte
@@ -81,11 +105,11 @@ all_said : {A : Type 0} (f g : A → List ℕ) → ((x : A) → f x ≡ g x) →
 all_said f g same [] = refl
 all_said f g same (x ∷ xs) = ap₂ (λ (a b : List ℕ). a ++ b) (same x) (all_said f g same xs)
 
-pub books_said : (tally : Tally) (books : Books) → flat_map booked_text books.booked ++ flat_map unclear_text books.unclear ++ summary_text tally (total books.booked) ≡ books_json tally books
-books_said tally books =
+pub books_said : (tally : Tally) (currency : Option ℕ) (books : Books) → flat_map booked_text books.booked ++ flat_map unclear_text books.unclear ++ summary_text tally currency (total books.booked) ≡ books_json tally currency books
+books_said tally currency books =
     ap₂ (λ (a b : List ℕ). a ++ b)
     (ap₂ (λ (a b : List ℕ). a ++ b) (all_said booked_text (λ row. line_text (booked_value row)) booked_said books.booked) (all_said unclear_text (λ row. line_text (unclear_value row)) unclear_said books.unclear))
-    (summary_said tally (total books.booked))
+    (summary_said tally currency (total books.booked))
 
 -- ---- what is added one after another
 

@@ -1,3 +1,4 @@
 pub mod AuditLemmas
+pub mod CurrencyLemmas
 pub mod HearLemmas
 pub mod JsonLemmas

@@ -9,7 +9,7 @@ use Rattle.zvt_till.specs.declared.happenings.Happening.{Happening}
 use Rattle.zvt_till.specs.declared.happenings.Happening.TheVariants.{Connected}
 use Rattle.zvt_trace.specs.Chunks.{IsEnded, IsTooLong}
 use Rattle.zvt_trace.specs.Listening.{AnswersWalk, Fails, Hears}
-use Rattle.zvt_trace.specs.TraceEvent.{At, Tallies}
+use Rattle.zvt_trace.specs.TraceEvent.{At, TraceEvent, Tallies}
 use Rattle.zvt_trace.specs.Emitting.{BrokenTrace, WholeTrace}
 use Rattle.zvt_trace.specs.Journal.{readable}
 use Rattle.zvt_trace.specs.Written.{AppendsPrefix, limit}
@@ -19,11 +19,13 @@ use Rattle.zvt_trace.specs.declared.fault.TraceFault.TheVariants.{Memory, Read, 
 use Rattle.zvt_trace.specs.declared.listener.ListenerError.TheVariants as failure
 use Rattle.zvt_trace.specs.declared.listener.Scope.TheVariants.{WholeLine}
 use Rattle.zvt_audit.specs.Booked.{books_text, total}
+use Rattle.zvt_audit.specs.Currencies.{currencies_of, named_after, named_by, one_currency}
 use Rattle.zvt_audit.specs.Happened.{happenings_of, log_of}
 use Rattle.zvt_audit.specs.Json.{books_in}
 use Rattle.zvt_audit.specs.Orders.{are_swapped, noticed}
 use Rattle.zvt_json.specs.declared.form.Form.{Form}
 use Rattle.zvt_audit.specs.declared.auditor.Auditor.{Auditor}
+use Rattle.zvt_audit.specs.declared.currencies.NamedCurrency.TheVariants.{Absent}
 use Rattle.zvt_audit.specs.declared.orders.Orders.{Orders}
 use Rattle.zvt_audit.specs.declared.summary.AuditSummary.{AuditSummary}
 
@@ -33,7 +35,12 @@ Takes old new happened = (log : List Happening) → HasJudged log old → HasJud
 
 -- the auditor's till is connected, and nothing else happened at it
 abbrev pub IsConnected : Auditor → Type 0
-IsConnected auditor = HasJudged (Connected ∷ []) auditor.books × (auditor.orders.till ≡ false) × (auditor.orders.terminal ≡ false)
+IsConnected auditor = HasJudged (Connected ∷ []) auditor.books × (auditor.orders.till ≡ false) × (auditor.orders.terminal ≡ false) × (auditor.named ≡ Absent)
+
+-- what an auditor becomes by an event
+abbrev pub Becomes : Auditor → TraceEvent → Auditor → Type 0
+Becomes old event new =
+    Takes old.books new.books (happenings_of event) × (new.orders ≡ noticed old.orders event) × (new.named ≡ named_after old.named (named_by event))
 
 -- orders came from where the terminal is said to be, and none from where the till is
 abbrev pub has_swapped : Orders → Bool
@@ -45,19 +52,19 @@ pub record SumsUp (audited : AuditSummary) (found : Books) : Type 0 where
   pub unclear : audited.unclear ≡ length found.unclear
 
 -- What writing the books of a log in that form answers.
-abbrev pub AnswersBooks : Form → List Happening → Tally → Bool → (old new : Option (List ℕ)) → Result AuditSummary TraceFault → Type 0
-AnswersBooks form log tally swapped old new (Ok audited) = Appends old new (books_in form tally (books log)) × (audited.tally ≡ tally) × (audited.swapped ≡ swapped) × SumsUp audited (books log)
-AnswersBooks form log tally swapped old new (Err Memory) = Keeps old new
-AnswersBooks form log tally swapped old new (Err Write) = AppendsPrefix old new (books_in form tally (books log))
-AnswersBooks form log tally swapped old new (Err (Trace number what)) = ⊥
-AnswersBooks form log tally swapped old new (Err TooLong) = ⊥
-AnswersBooks form log tally swapped old new (Err Read) = ⊥
+abbrev pub AnswersBooks : Form → List Happening → Tally → Bool → (currency : Option ℕ) → (old new : Option (List ℕ)) → Result AuditSummary TraceFault → Type 0
+AnswersBooks form log tally swapped currency old new (Ok audited) = Appends old new (books_in form tally currency (books log)) × (audited.tally ≡ tally) × (audited.swapped ≡ swapped) × SumsUp audited (books log)
+AnswersBooks form log tally swapped currency old new (Err Memory) = Keeps old new
+AnswersBooks form log tally swapped currency old new (Err Write) = AppendsPrefix old new (books_in form tally currency (books log))
+AnswersBooks form log tally swapped currency old new (Err (Trace number what)) = ⊥
+AnswersBooks form log tally swapped currency old new (Err TooLong) = ⊥
+AnswersBooks form log tally swapped currency old new (Err Read) = ⊥
 
 -- ---- an auditor as a listener
 
 -- what it becomes by an event, and how it fails
 abbrev pub hears : Hears (Auditor × Unit {0})
-hears old event new = Takes old.0.books new.0.books (happenings_of event.trace_event) × (new.0.orders ≡ noticed old.0.orders event.trace_event)
+hears old event new = Becomes old.0 event.trace_event new.0
 
 abbrev pub wants_memory : Fails (Auditor × Unit {0})
 wants_memory old event why new = why ≡ failure.Memory
@@ -80,12 +87,12 @@ WritesBooks r trace tally old new =
 -- written, but of a write that failed a prefix of the text.
 abbrev pub AnswersReadBy : Reading → Form → (trace : List ℕ) → (old new : Option (List ℕ)) → Result AuditSummary TraceFault → Type 0
 AnswersReadBy r form trace old new (Ok audited) =
-    (events : List At) × WholeTrace r WholeLine (lines (readable trace)) events × Appends old new (books_in form audited.tally (books (log_of events))) × Tallies audited.tally events × (audited.swapped ≡ are_swapped events)
+    (events : List At) × WholeTrace r WholeLine (lines (readable trace)) events × Appends old new (books_in form audited.tally (one_currency (currencies_of events)) (books (log_of events))) × Tallies audited.tally events × (audited.swapped ≡ are_swapped events)
     × SumsUp audited (books (log_of events))
 AnswersReadBy r form trace old new (Err (Trace number what)) = (events : List At) × BrokenTrace r WholeLine (lines (readable trace)) number what events × Keeps old new
 AnswersReadBy r form trace old new (Err Memory) = Keeps old new
 AnswersReadBy r form trace old new (Err Write) =
-    (events : List At) × (tally : Tally) × WholeTrace r WholeLine (lines (readable trace)) events × AppendsPrefix old new (books_in form tally (books (log_of events))) × Tallies tally events
+    (events : List At) × (tally : Tally) × WholeTrace r WholeLine (lines (readable trace)) events × AppendsPrefix old new (books_in form tally (one_currency (currencies_of events)) (books (log_of events))) × Tallies tally events
 AnswersReadBy r form trace old new (Err TooLong) = ⊥
 AnswersReadBy r form trace old new (Err Read) = ⊥
 

@@ -6,6 +6,7 @@ use Rattle.hex.specs.Hex.{encode_upper}
 use Rattle.json.specs.Print.{escape}
 use Rattle.serde_json.specs.Data.{Data, string, object, Members, no_members, member}
 use Rattle.zvt_json.specs.Strings.{count_value, hex_value, line_text}
+use Rattle.zvt_text.specs.MessageTexts.{four_digits}
 use Rattle.zvt_till.specs.Books.{Booked, Books}
 use Rattle.zvt_till.specs.Names.{cause_name}
 use Rattle.zvt_till.specs.declared.outcomes.Cause.{Cause}
@@ -31,20 +32,25 @@ doubt_value row = object (member (codes "amount") (count_value row.0) (member (c
 abbrev pub unclear_value : ℕ × Cause → Data
 unclear_value row = object (member (codes "unclear") (doubt_value row) no_members)
 
+-- the currency, where the trace has one, and what comes after it
+abbrev pub with_currency : Option ℕ → Members → Members
+with_currency None later = later
+with_currency (Some currency) later = member (codes "currency") (string (four_digits currency)) later
+
 -- what the whole trace has
-abbrev pub summary_value : Tally → (total : ℕ) → Data
-summary_value tally total = object (member (codes "bad") (count_value tally.bad) (member (codes "messages") (count_value tally.messages) (member (codes "total") (count_value total) no_members)))
+abbrev pub summary_value : Tally → (currency : Option ℕ) → (total : ℕ) → Data
+summary_value tally currency total = object (member (codes "bad") (count_value tally.bad) (with_currency currency (member (codes "messages") (count_value tally.messages) (member (codes "total") (count_value total) no_members))))
 
 -- a line for each payment that was completed, for each of which it is not known whether it happened, and for the whole trace
-abbrev pub books_json : Tally → Books → List ℕ
-books_json tally books =
+abbrev pub books_json : Tally → (currency : Option ℕ) → Books → List ℕ
+books_json tally currency books =
     flat_map (λ row. line_text (booked_value row)) books.booked ++ flat_map (λ row. line_text (unclear_value row)) books.unclear
-    ++ line_text (summary_value tally (total books.booked))
+    ++ line_text (summary_value tally currency (total books.booked))
 
 -- the books in that form
-abbrev pub books_in : Form → Tally → Books → List ℕ
-books_in Text tally books = books_text books
-books_in Json tally books = books_json tally books
+abbrev pub books_in : Form → Tally → (currency : Option ℕ) → Books → List ℕ
+books_in Text tally currency books = books_text books
+books_in Json tally currency books = books_json tally currency books
 
 -- ---- the same texts, as they are written
 
@@ -58,5 +64,9 @@ booked_text row = codes "{\"booked\":{\"amount\":" ++ decimal row.amount ++ rece
 unfoldable pub unclear_text : ℕ × Cause → List ℕ
 unclear_text row = codes "{\"unclear\":{\"amount\":" ++ decimal row.0 ++ codes ",\"cause\":\"" ++ cause_name row.1 ++ (codes "\"}}" ++ 10 ∷ [])
 
-abbrev pub summary_text : Tally → (total : ℕ) → List ℕ
-summary_text tally total = codes "{\"bad\":" ++ decimal tally.bad ++ codes ",\"messages\":" ++ decimal tally.messages ++ codes ",\"total\":" ++ decimal total ++ (codes "}" ++ 10 ∷ [])
+abbrev pub currency_part : Option ℕ → List ℕ
+currency_part None = []
+currency_part (Some currency) = codes ",\"currency\":\"" ++ four_digits currency ++ 34 ∷ []
+
+abbrev pub summary_text : Tally → (currency : Option ℕ) → (total : ℕ) → List ℕ
+summary_text tally currency total = codes "{\"bad\":" ++ decimal tally.bad ++ currency_part currency ++ codes ",\"messages\":" ++ decimal tally.messages ++ codes ",\"total\":" ++ decimal total ++ (codes "}" ++ 10 ∷ [])

@@ -1,8 +1,9 @@
 //! The books of the events of a trace.
-ghost use Rattle.std.specs.Prelude.{◌≡◌, ◌∷◌, [], OnOk};
+ghost use Rattle.std.specs.Prelude.{◌∷◌, [], OnOk};
 ghost use Rattle.zvt_till.specs.declared.happenings.Happening.TheVariants.{Connected, Lost, Malformed};
 ghost use Rattle.zvt_audit.specs.Audited.{Takes};
 
+use crate::currencies::NamedCurrency;
 use crate::happened::ordered;
 use crate::orders::Orders;
 use std::alloc::AllocError;
@@ -11,20 +12,21 @@ use zvt_till::Happening;
 use zvt_till::books::Bookkeeping;
 use zvt_trace::{Direction, Listener, ListenerError, TraceEvent};
 
-/// Judges the events of a trace as happenings of a till, and notices who sends orders. It writes to no device.
+/// Judges the events of a trace as happenings of a till. It notices who sends orders, and which currencies the till names.
+/// It writes to no device.
 #[derive(Drop)]
 pub(crate) struct Auditor {
     pub(crate) books: Bookkeeping,
     pub(crate) orders: Orders,
+    pub(crate) named: NamedCurrency,
 }
 
 impl Listener<()> for Auditor {
-    ghost use Rattle.zvt_audit.specs.Audited.{Takes};
-    ghost use Rattle.zvt_audit.specs.Happened.{happenings_of};
-    ghost use Rattle.zvt_audit.specs.Orders.{noticed};
+    ghost use Rattle.std.specs.Prelude.{◌≡◌};
+    ghost use Rattle.zvt_audit.specs.Audited.{Becomes};
     ghost use Rattle.zvt_trace.specs.declared.listener.ListenerError.TheVariants.{Memory};
 
-    ghost hears = { λ old event new. Takes old.0.books new.0.books (happenings_of event.trace_event) × (new.0.orders ≡ noticed old.0.orders event.trace_event) };
+    ghost hears = { λ old event new. Becomes old.0 event.trace_event new.0 };
 
     ghost fails = { λ _ _ failure _. failure ≡ Memory };
 
@@ -49,17 +51,15 @@ impl Listener<()> for Auditor {
 }
 
 impl Auditor {
-    ghost use Rattle.std.specs.Prelude.{◌≡◌, OnOk};
-    ghost use Rattle.zvt_audit.specs.Audited.{Takes};
-    ghost use Rattle.zvt_audit.specs.Happened.{happenings_of};
-    ghost use Rattle.zvt_audit.specs.Orders.{noticed};
+    ghost use Rattle.std.specs.Prelude.{OnOk};
+    ghost use Rattle.zvt_audit.specs.Audited.{Becomes};
     ghost use Rattle.zvt_trace.specs.TraceEvent as trace_event;
     ghost use Rattle.zvt_trace.specs.declared.direction.Direction.TheVariants.{FromTill, FromTerminal};
 
     /// Hears a message of the till. Most acknowledge one of the terminal, and leave at once.
     #[inline(always)]
     fn hear_till(&mut self, apdu: &ApduView<'_>) -> Result<(), AllocError>
-        ensures { OnOk result (Takes self.old.books self.new.books (happenings_of (trace_event.message FromTill apdu.now)) × (self.new.orders ≡ noticed self.old.orders (trace_event.message FromTill apdu.now))) }
+        ensures { OnOk result (Becomes self.old (trace_event.message FromTill apdu.now) self.new) }
     {
         match apdu.kind() {
             Kind::Ack => Ok(()),
@@ -70,9 +70,10 @@ impl Auditor {
     /// Hears a message of the till that may be an order.
     #[inline(never)]
     fn hear_order(&mut self, apdu: &ApduView<'_>) -> Result<(), AllocError>
-        ensures { OnOk result (Takes self.old.books self.new.books (happenings_of (trace_event.message FromTill apdu.now)) × (self.new.orders ≡ noticed self.old.orders (trace_event.message FromTill apdu.now))) }
+        ensures { OnOk result (Becomes self.old (trace_event.message FromTill apdu.now) self.new) }
     {
         self.orders.notice(Direction::FromTill, apdu);
+        self.named.notice(apdu.currency());
         match ordered(apdu) {
             Some(order) => self.books.take(&Happening::Sent(order)),
             None => Ok(()),
@@ -82,7 +83,7 @@ impl Auditor {
     /// Hears a message of the terminal.
     #[inline(always)]
     fn hear_terminal(&mut self, apdu: &ApduView<'_>) -> Result<(), AllocError>
-        ensures { OnOk result (Takes self.old.books self.new.books (happenings_of (trace_event.message FromTerminal apdu.now)) × (self.new.orders ≡ noticed self.old.orders (trace_event.message FromTerminal apdu.now))) }
+        ensures { OnOk result (Becomes self.old (trace_event.message FromTerminal apdu.now) self.new) }
     {
         self.orders.notice(Direction::FromTerminal, apdu);
         self.books.hear(apdu)

@@ -5,22 +5,24 @@ ghost use Rattle.zvt_audit.specs.Json.{books_in};
 
 use crate::{booked, objects};
 use std::alloc::AllocError;
+use zvt_bcd::Currency;
 use zvt_json::Form;
 use zvt_text::Text;
 use zvt_till::Books;
 use zvt_trace::Tally;
 
-/// Writes the books of a trace in this form.
+/// Writes the books of a trace in this form. The currency of its till is in the JSON alone.
 pub(crate) fn write(
     text: &mut Text,
     form: Form,
     tally: Tally,
+    currency: Option<Currency>,
     books: &Books,
 ) -> Result<(), AllocError>
-    ensures { OnOk result (text.new ≡ text.old ++ books_in form tally (books_value books.now)) }
+    ensures { OnOk result (text.new ≡ text.old ++ books_in form tally currency (books_value books.now)) }
 {
     match form {
         Form::Text => booked::write(text, books),
-        Form::Json => objects::write(text, tally, books),
+        Form::Json => objects::write(text, tally, currency, books),
     }
 }

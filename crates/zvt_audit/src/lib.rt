@@ -3,6 +3,7 @@
 
 mod auditor;
 mod booked;
+mod currencies;
 mod follow;
 mod form;
 mod happened;

@@ -4,19 +4,25 @@ ghost use Rattle.hex.specs.Hex.{encode_upper};
 ghost use Rattle.json.specs.Print.{escape};
 ghost use Rattle.zvt_text.specs.Writing.{Adds};
 ghost use Rattle.zvt_till.specs.Judging.{books_value, row_value};
-ghost use Rattle.zvt_audit.specs.Json.{booked_text, books_json, receipt_part, summary_text, unclear_text};
+ghost use Rattle.zvt_audit.specs.Json.{booked_text, books_json, currency_part, receipt_part, summary_text, unclear_text};
 
 use crate::booked::total;
 use std::alloc::AllocError;
-use zvt_bcd::Amount;
-use zvt_text::Text;
+use zvt_bcd::{Amount, Currency};
+use zvt_text::cursor::{Full, four_digits};
+use zvt_text::{Says, Text};
 use zvt_till::{Booked, Books, Cause};
 use zvt_trace::Tally;
 
 /// An object for each payment that was completed, then for each of which it is not known whether it happened, and at last
 /// for the whole trace.
-pub(crate) fn write(text: &mut Text, tally: Tally, books: &Books) -> Result<(), AllocError>
-    ensures { OnOk result (text.new ≡ text.old ++ books_json tally (books_value books.now)) }
+pub(crate) fn write(
+    text: &mut Text,
+    tally: Tally,
+    currency: Option<Currency>,
+    books: &Books,
+) -> Result<(), AllocError>
+    ensures { OnOk result (text.new ≡ text.old ++ books_json tally currency (books_value books.now)) }
 {
     for row in &books.booked {
         booked_row(text, row)?;
@@ -24,7 +30,7 @@ pub(crate) fn write(text: &mut Text, tally: Tally, books: &Books) -> Result<(), 
     for row in &books.unclear {
         unclear_row(text, row)?;
     }
-    summary(text, tally, total(books.booked.as_slice()))
+    summary(text, tally, currency, total(books.booked.as_slice()))
 }
 
 /// The line of a payment that was completed.
@@ -71,14 +77,46 @@ fn unclear_row(text: &mut Text, row: &(Amount, Cause)) -> Result<(), AllocError>
 }
 
 /// The line of the whole trace.
-fn summary(text: &mut Text, tally: Tally, total: u128) -> Result<(), AllocError>
-    ensures { OnOk result (text.new ≡ text.old ++ summary_text tally total) }
+fn summary(
+    text: &mut Text,
+    tally: Tally,
+    currency: Option<Currency>,
+    total: u128,
+) -> Result<(), AllocError>
+    ensures { OnOk result (text.new ≡ text.old ++ summary_text tally currency total) }
 {
     text.word(b"{\"bad\":")?;
     text.number(tally.bad)?;
+    currency_member(text, currency)?;
     text.word(b",\"messages\":")?;
     text.number(tally.messages)?;
     text.word(b",\"total\":")?;
     text.number(total)?;
     text.word(b"}\n")
+}
+
+/// The currency, where the trace has one.
+fn currency_member(text: &mut Text, currency: Option<Currency>) -> Result<(), AllocError>
+    ensures { OnOk result (text.new ≡ text.old ++ currency_part currency) }
+{
+    let Some(currency) = currency else {
+        return Ok(());
+    };
+    text.word(b",\"currency\":\"")?;
+    text.add(&FourDigits(currency))?;
+    text.push(b'"')
+}
+
+/// The number of a currency in four digits.
+#[derive(Drop)]
+struct FourDigits(Currency);
+
+impl Says for FourDigits {
+    ghost use Rattle.zvt_text.specs.MessageTexts.{four_digits};
+
+    ghost said = { λ d. four_digits d.0 };
+
+    fn put(&self, buffer: &mut [u8]) -> Result<usize, Full> {
+        four_digits(buffer, 0, self.0.get())
+    }
 }

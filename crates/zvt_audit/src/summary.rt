@@ -5,11 +5,12 @@ ghost use Rattle.zvt_trace.specs.Written.{limit};
 ghost use Rattle.zvt_till.specs.Judging.{HasJudged};
 ghost use Rattle.zvt_till.specs.declared.happenings.Happening.{Happening};
 ghost use Rattle.zvt_audit.specs.Audited.{AnswersBooks, AnswersReadBy, IsConnected, has_swapped};
+ghost use Rattle.zvt_audit.specs.Currencies.{agreed};
 
 use crate::auditor::Auditor;
-use crate::booked;
-use crate::form;
+use crate::currencies::NamedCurrency;
 use crate::orders::Orders;
+use crate::{booked, form};
 use std::alloc::{AllocError, Global};
 use zvt_grammar::Lengths;
 use zvt_io::Sink;
@@ -64,7 +65,7 @@ pub fn audit_trace<W: Sink>(
     write_books(alloc, form, auditor, tally, writer)
 }
 
-/// An auditor of a till that is connected, and has not noticed an order.
+/// An auditor of a till that is connected, and has noticed neither an order nor a currency.
 pub(crate) fn connected(alloc: Global) -> Result<Auditor, AllocError>
     ensures { IfOk result IsConnected }
 {
@@ -73,6 +74,7 @@ pub(crate) fn connected(alloc: Global) -> Result<Auditor, AllocError>
     Ok(Auditor {
         books,
         orders: Orders::none(),
+        named: NamedCurrency::none(),
     })
 }
 
@@ -84,14 +86,15 @@ pub(crate) fn write_books<W: Sink>(
     tally: Tally,
     writer: &mut W,
 ) -> Result<AuditSummary, TraceFault>
-    ensures writes { (log : List Happening) → HasJudged log auditor.books → AnswersBooks form log tally (has_swapped auditor.orders) (W.written writer.old) (W.written writer.new) result }
+    ensures writes { (log : List Happening) → HasJudged log auditor.books → AnswersBooks form log tally (has_swapped auditor.orders) (agreed auditor.named) (W.written writer.old) (W.written writer.new) result }
     ensures write { result ≡ Err TraceFault.Write → W.failures writer.old < W.failures writer.new }
     ensures read { result ≡ Err TraceFault.Read → ⊥ }
 {
     let swapped = auditor.orders.are_swapped();
+    let currency = auditor.named.agreed();
     let found = auditor.books.close()?;
     let mut text = Text::new(alloc);
-    form::write(&mut text, form, tally, &found)?;
+    form::write(&mut text, form, tally, currency, &found)?;
     writer.write_all(text.bytes())?;
     Ok(AuditSummary {
         tally,

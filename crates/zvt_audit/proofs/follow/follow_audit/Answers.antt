@@ -1,6 +1,5 @@
 use Rattle.std.proofs.lemmas.Result.{err_from_is_err_and}
 use Rattle.zvt_grammar.specs.Lengths.{reading_of}
-use Rattle.zvt_audit.specs.declared.auditor.Auditor.{Auditor}
 use Rattle.zvt_audit.proofs.AuditLemmas.{audited}
 use Rattle.zvt_audit.proofs.HearLemmas.{books_followed, hearing_failed}
 use Rattle.zvt_audit.proofs.follow.follow_audit.Goals as goal
@@ -18,6 +17,6 @@ returns-clause-follows g c =
       heard.1,
       heard.2,
       books_followed (reading_of c.args.lengths) c.args.form heard.0 (g.R.Source.remaining c.hear_all.new.reader) (g.W.Sink.written c.args.writer.now) _ c.write_books.result
-          (audited {S = Auditor × Unit {0}} {r = reading_of c.args.lengths} (λ s. s.0.books) (λ s. s.0.orders) heard.0 c.args.form c.in_ok-tally.tally c.write_books.result _ _ (c.in_ok-auditor.auditor, tt) (c.hear_all.new.auditor, tt)
-          c.in_ok-auditor.ensures.0 c.in_ok-auditor.ensures.1 c.in_ok-auditor.ensures.2 heard.3.0 c.write_books.ensures.writes) heard.3.1,
+          (audited {r = reading_of c.args.lengths} heard.0 c.args.form c.in_ok-tally.tally c.write_books.result _ _ (c.in_ok-auditor.auditor, tt) (c.hear_all.new.auditor, tt)
+          c.in_ok-auditor.ensures.0 c.in_ok-auditor.ensures.1 c.in_ok-auditor.ensures.2 c.in_ok-auditor.ensures.3 heard.3.0 c.write_books.ensures.writes) heard.3.1,
     )

@@ -5,4 +5,4 @@ use Rattle.zvt_audit.proofs.JsonLemmas.{books_said}
 use Rattle.zvt_audit.proofs.objects.write.Goals as goal
 
 pub returns : goal.returns
-returns c = let h = books_said c.args.tally (books_value c.args.books.now) in grind (arith, common_steps, h)
+returns c = let h = books_said c.args.tally c.args.currency (books_value c.args.books.now) in grind (arith, common_steps, h)

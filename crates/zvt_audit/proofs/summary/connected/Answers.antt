@@ -2,4 +2,4 @@ use Rattle.std.proofs.Common.{[]}
 use Rattle.zvt_audit.proofs.summary.connected.Goals as goal
 
 pub returns : goal.returns
-returns c = (c.in_ok-take.ensures [] c.new-books.ensures, c.none.ensures.0, c.none.ensures.1)
+returns c = (c.in_ok-take.ensures [] c.new-books.ensures, c.none.ensures.0, c.none.ensures.1, c.none-2.ensures)
