@@ -10,6 +10,7 @@ use Rattle.zvt.specs.declared.command.TraceWork.TheVariants.{Render, Audit, Vect
 use Rattle.zvt_audit.specs.Audited.{AnswersFollowed, AnswersReadBy}
 use Rattle.zvt_audit.specs.declared.summary.AuditSummary.{AuditSummary}
 use Rattle.zvt_vectors.specs.Checked.{AnswersVectors}
+use Rattle.zvt_json.specs.declared.form.Form.TheVariants.{Text}
 use Rattle.zvt_show.specs.Followed.{AnswersFollow}
 use Rattle.zvt_show.specs.Written.{AnswersLinesBy}
 use Rattle.zvt_trace.specs.Chunks.{IsTaken}
@@ -25,7 +26,7 @@ tally_of (Err fault) = Err fault
 abbrev pub AnswersWork : TraceWork → Reading → (trace : List ℕ) → (old new : Option (List ℕ)) → Result AuditSummary TraceFault → Type 0
 AnswersWork (Render style) r trace old new result = AnswersLinesBy r style (lines (readable trace)) old new (tally_of result)
 AnswersWork (Audit form) r trace old new result = AnswersReadBy r form trace old new result
-AnswersWork Vectors r trace old new result = AnswersVectors trace old new (tally_of result)
+AnswersWork Vectors r trace old new result = AnswersVectors Text trace old new (tally_of result)
 
 -- what the command answers for a trace that was read
 abbrev pub AnswersOnTrace : TraceCommand → (trace : List ℕ) → (old new : Option (List ℕ)) → Result AuditSummary TraceFault → Type 0
@@ -35,7 +36,7 @@ AnswersOnTrace command trace old new result = AnswersWork command.work (reading_
 abbrev pub FollowsWork : TraceWork → Reading → (left rest old new : Option (List ℕ)) → Result AuditSummary TraceFault → Type 0
 FollowsWork (Render style) r left rest old new result = (taken : List ℕ) × Consumes left rest taken × AnswersFollow r style taken rest old new (tally_of result)
 FollowsWork (Audit form) r left rest old new result = (taken : List ℕ) × Consumes left rest taken × IsTaken taken × AnswersFollowed r form taken rest old new result
-FollowsWork Vectors r left rest old new result = IfSome left (λ text. AnswersVectors text old new (tally_of result))
+FollowsWork Vectors r left rest old new result = IfSome left (λ all. AnswersVectors Text all old new (tally_of result))
 
 -- what the command answers for a trace that comes
 abbrev pub FollowsTrace : TraceCommand → (left rest old new : Option (List ℕ)) → Result AuditSummary TraceFault → Type 0

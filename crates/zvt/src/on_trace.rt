@@ -7,7 +7,8 @@ use crate::command::{TraceCommand, TraceWork};
 use std::alloc::Global;
 use zvt_io::{Counted, Sink, Source};
 use zvt_tool::{
-    AuditSummary, Tally, TraceFault, audit_trace, follow_audit, follow_trace, render_trace, vectors,
+    AuditSummary, Form, Tally, TraceFault, audit_trace, follow_audit, follow_trace, render_trace,
+    vectors,
 };
 
 /// Does with the trace what the command says, and writes what comes of it.
@@ -25,7 +26,10 @@ pub fn work_on_trace<W: Sink>(
     match command.work {
         TraceWork::Render(style) => found(render_trace(alloc, style, lengths, trace, writer)),
         TraceWork::Audit(form) => audit_trace(alloc, form, lengths, trace, writer),
-        TraceWork::Vectors => found(vectors(alloc, &mut Counted::new(trace), writer)),
+        TraceWork::Vectors => {
+            let mut reader = Counted::new(trace);
+            found(vectors(alloc, Form::Text, &mut reader, writer))
+        }
     }
 }
 
@@ -44,7 +48,7 @@ pub fn follow_work<R: Source, W: Sink>(
     match command.work {
         TraceWork::Render(style) => found(follow_trace(alloc, style, lengths, reader, writer)),
         TraceWork::Audit(form) => follow_audit(alloc, form, lengths, reader, writer),
-        TraceWork::Vectors => found(vectors(alloc, reader, writer)),
+        TraceWork::Vectors => found(vectors(alloc, Form::Text, reader, writer)),
     }
 }
 
