@@ -5,35 +5,42 @@ ghost use Rattle.zvt_trace.specs.Written.{limit};
 ghost use Rattle.zvt_vectors.specs.Checked.{AnswersLines, AnswersVectors, ChecksLine, ChecksVector};
 
 use crate::answers::write_answer;
+use crate::got::got;
 use crate::line::{BadLine, VectorLine, read_line};
 use std::alloc::Global;
-use std::fmt::Write;
 use zvt_io::{Sink, Source};
+use zvt_json::Form;
 use zvt_trace::{Tally, TraceFault, next_line, read_trace};
 
-/// Writes each line of the vectors that the reader of messages (`zvt_apdu::scan`) answers otherwise, with its number and
-/// what the reader answers. Such lines count as bad; `messages` of the tally counts the vectors.
+/// Writes for each line of the vectors that the reader of messages (`zvt_apdu::scan`) answers otherwise a line in this form,
+/// with its number and what the reader answers. Such lines count as bad; `messages` of the tally counts the vectors.
 ///
 /// A line is bytes in hexadecimal, ` = `, and an answer: `whole N`, `more`, or `refused at P: R`, where R is the name of a
 /// reason. Spaces may be between the bytes; numbers have no zeros before them. Empty lines and lines that begin with `#`
 /// say nothing. What the lines before a fault caused to be written stays written.
 pub fn vectors<R: Source, W: Sink>(
     alloc: Global,
+    form: Form,
     reader: &mut R,
     writer: &mut W,
 ) -> Result<Tally, TraceFault>
-    ensures writes { IfSome (R.remaining reader.old) (λ text. AnswersVectors text (W.written writer.old) (W.written writer.new) result) }
+    ensures writes { IfSome (R.remaining reader.old) (λ text. AnswersVectors form text (W.written writer.old) (W.written writer.new) result) }
     ensures read { result ≡ Err TraceFault.Read → R.failures reader.old < R.failures reader.new }
     ensures write { result ≡ Err TraceFault.Write → W.failures writer.old < W.failures writer.new }
 {
     let text = read_trace(alloc, reader)?;
-    check_lines(alloc, text.as_slice(), writer)
+    check_lines(alloc, form, text.as_slice(), writer)
 }
 
 /// Checks the vectors up to the first line that can't be read.
-fn check_lines<W: Sink>(alloc: Global, text: &[u8], writer: &mut W) -> Result<Tally, TraceFault>
+fn check_lines<W: Sink>(
+    alloc: Global,
+    form: Form,
+    text: &[u8],
+    writer: &mut W,
+) -> Result<Tally, TraceFault>
     requires { length text.now ≤ limit }
-    ensures writes { AnswersLines (lines text.now) (W.written writer.old) (W.written writer.new) result }
+    ensures writes { AnswersLines form (lines text.now) (W.written writer.old) (W.written writer.new) result }
     ensures write { result ≡ Err TraceFault.Write → W.failures writer.old < W.failures writer.new }
 {
     let mut messages = 0;
@@ -43,7 +50,7 @@ fn check_lines<W: Sink>(alloc: Global, text: &[u8], writer: &mut W) -> Result<Ta
     'lines: while !rest.is_empty() {
         let (line, after) = next_line(rest);
         number += 1;
-        let counted = check_line(alloc, number, line, writer)?;
+        let counted = check_line(alloc, form, number, line, writer)?;
         messages += counted.messages;
         bad += counted.bad;
         rest = after;
@@ -54,11 +61,12 @@ fn check_lines<W: Sink>(alloc: Global, text: &[u8], writer: &mut W) -> Result<Ta
 /// Checks the line of that number.
 fn check_line<W: Sink>(
     alloc: Global,
+    form: Form,
     number: u64,
     line: &[u8],
     writer: &mut W,
 ) -> Result<Tally, TraceFault>
-    ensures checks { ChecksLine number line.now (W.written writer.old) (W.written writer.new) result }
+    ensures checks { ChecksLine form number line.now (W.written writer.old) (W.written writer.new) result }
     ensures one { IfOk result (λ tally. (tally.messages ≤ 1) × (tally.bad ≤ 1)) }
     ensures write { result ≡ Err TraceFault.Write → W.failures writer.old < W.failures writer.new }
     ensures count { IfOk result (λ _. W.failures writer.new ≡ W.failures writer.old) }
@@ -69,7 +77,7 @@ fn check_line<W: Sink>(
             bad: 0,
         }),
         Ok(VectorLine::Vector { bytes, claim }) => {
-            check_vector(alloc, number, bytes.as_slice(), claim, writer)
+            check_vector(alloc, form, number, bytes.as_slice(), claim, writer)
         }
         Err(BadLine::Wrong(what)) => Err(TraceFault::Trace { line: number, what }),
         Err(BadLine::Memory) => Err(TraceFault::Memory),
@@ -79,12 +87,13 @@ fn check_line<W: Sink>(
 /// Checks a vector, and writes the line of one that the reader answers otherwise.
 fn check_vector<W: Sink>(
     alloc: Global,
+    form: Form,
     number: u64,
     bytes: &[u8],
     claim: &[u8],
     writer: &mut W,
 ) -> Result<Tally, TraceFault>
-    ensures checks { ChecksVector number bytes.now claim.now (W.written writer.old) (W.written writer.new) result }
+    ensures checks { ChecksVector form number bytes.now claim.now (W.written writer.old) (W.written writer.new) result }
     ensures one { IfOk result (λ tally. (tally.messages ≤ 1) × (tally.bad ≤ 1)) }
     ensures write { result ≡ Err TraceFault.Write → W.failures writer.old < W.failures writer.new }
     ensures count { IfOk result (λ _. W.failures writer.new ≡ W.failures writer.old) }
@@ -97,8 +106,7 @@ fn check_vector<W: Sink>(
             bad: 0,
         });
     }
-    let mut text = String::new(alloc);
-    writeln!(text, "line {number}: got {answer}")?;
+    let text = got(alloc, form, number, answer.as_str())?;
     writer.write_all(text.as_bytes())?;
     Ok(Tally {
         messages: 1,

@@ -4,7 +4,7 @@ use Rattle.zvt_vectors.proofs.check.check_lines.Given as goal
 
 abbrev pub invariant-lines : goal.invariant-lines
 invariant-lines g l = record {
-  so_far : SoFar l.text l.rest l.number (record { messages = l.messages; bad = l.bad }) (g.W.Sink.written l.initial.writer) (g.W.Sink.written l.writer);
+  so_far : SoFar l.form l.text l.rest l.number (record { messages = l.messages; bad = l.bad }) (g.W.Sink.written l.initial.writer) (g.W.Sink.written l.writer);
   lines : l.number + length l.rest ≤ length l.text;
   messages : l.messages ≤ l.number;
   bad : l.bad ≤ l.number;
