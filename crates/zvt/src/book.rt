@@ -10,7 +10,7 @@ use zvt_bcd::Currency;
 use zvt_io::Counted;
 use zvt_till::Till;
 use zvt_tool::{
-    FileDevice, JournalFileError, KeptTill, Opened, RecoveryError, TillSettings, next_line,
+    FileDevice, Form, JournalFileError, KeptTill, Opened, RecoveryError, TillSettings, next_line,
     open_file, read_book, recover, write_book,
 };
 
@@ -28,7 +28,7 @@ pub fn show(rt: &HostRuntime, path: &str) -> io::Result<u8> {
         Err(error) => return unrecovered(rt, path, error),
     };
     let mut writer = Counted::new(Output::new(io::writer(rt)));
-    let answer = write_book(rt.alloc(), &till, &mut writer);
+    let answer = write_book(rt.alloc(), Form::Text, &till, &mut writer);
     finish_run(rt, writer.inner.broken_pipe, answer)
 }
 
