@@ -18,3 +18,5 @@ mod reported_runs;
 mod run_faults;
 #[cfg(test)]
 mod runs;
+#[cfg(test)]
+mod terminal_runs;
