@@ -3,6 +3,8 @@
 #![tactic(auto)]
 
 #[cfg(test)]
+mod book_lines;
+#[cfg(test)]
 mod devices;
 #[cfg(test)]
 mod followed;
@@ -16,3 +18,5 @@ mod reported_runs;
 mod run_faults;
 #[cfg(test)]
 mod runs;
+#[cfg(test)]
+mod terminal_runs;

@@ -8,9 +8,8 @@ use std::test::Fail;
 use zvt_grammar::{Lengths, Why};
 use zvt_io::{Counted, Sink, Source};
 use zvt_session::{
-    BothEnds, EndFault, Endpoint, Ends, NetFault, Recorded, TerminalRun, TillRun, Way, config_of,
-    currency_of, password_of, plan, run_both_ends, run_loop, run_terminal, run_till, run_till_end,
-    serve,
+    BothEnds, EndFault, Endpoint, Ends, NetFault, Recorded, TillRun, Way, config_of, currency_of,
+    password_of, plan, run_both_ends, run_loop, run_till, run_till_end, serve,
 };
 use zvt_stream::{LineFault, Stream};
 use zvt_term::{Served, Terminal, Verdict};
@@ -240,34 +239,8 @@ fn a_terminal_reports_how_its_line_broke(rt: HostRuntime) {
     assert!(rt; matches!(&ended, Err(found) if *found == fault));
 }
 
-/// A run of a terminal at this port, and what it tells.
-fn terminal_at(rt: &HostRuntime, port: u16) -> (Result<(), EndFault>, Vec<u8>) {
-    let mut report = Counted::new(Vec::new(rt.alloc()));
-    let run = TerminalRun {
-        host: "127.0.0.1",
-        port,
-        tid: 1,
-        verdict: Verdict::Approve,
-        lengths: Lengths::Shortest,
-        connections: 1,
-        trace: None,
-    };
-    let ended = run_terminal(rt, rt.alloc(), &run, &mut report);
-    (ended, report.inner)
-}
-
-#[test]
-fn no_till_connects(rt: HostRuntime) -> Result<(), Fail> {
-    let listener = TcpListener::bind(&rt, "127.0.0.1:0")?;
-    let port = listener.local_addr()?.port();
-    let (ended, reported) = terminal_at(&rt, port);
-    assert!(rt; matches!(ended, Err(EndFault::Net(NetFault::InUse))));
-    assert!(rt; reported.is_empty());
-    Ok(())
-}
-
 /// A port at which nobody listens.
-fn closed_port(rt: &HostRuntime) -> Result<u16, Fail> {
+pub(crate) fn closed_port(rt: &HostRuntime) -> Result<u16, Fail> {
     let listener = TcpListener::bind(rt, "127.0.0.1:0")?;
     Ok(listener.local_addr()?.port())
 }

@@ -1,11 +1,16 @@
 -- What is reported of a till that disconnected.
-use Rattle.std.proofs.Common.{◌≡◌, ◌∙◌, ℕ, List, [], ◌++◌, Option, Some, Result, Ok, Err, ap, subst, append_assoc}
+use Rattle.std.proofs.Common.{◌≡◌, ◌∙◌, ℕ, List, [], ◌∷◌, ◌++◌, Option, Some, Result, Ok, Err, ap, subst, append_assoc}
 use Rattle.std.specs.Fmt.{decimal}
 use Rattle.std.specs.Prelude.{codes, OnOk}
 use Rattle.std.specs.declared.alloc.AllocError.{AllocError}
 use Rattle.zvt_stream.specs.declared.line.LineFault.{LineFault}
 use Rattle.zvt_text.specs.Writing.{Adds}
-use Rattle.zvt_session.specs.Reporting.{SaysGone, Reports, ReportsGone, ledger_text}
+use Rattle.serde_json.specs.Data.{Data}
+use Rattle.serde_json.specs.Written.{compact_text}
+use Rattle.zvt_json.specs.Strings.{line_text}
+use Rattle.zvt_json.specs.declared.form.Form.{Form}
+use Rattle.zvt_json.specs.declared.form.Form.TheVariants as forms
+use Rattle.zvt_session.specs.Reporting.{IsReport, SaysGone, Reports, ReportsGone, ledger_text}
 
 pub two_parts : (r : Result (Unit {0}) AllocError) (old t new a b : List ℕ) → t ≡ old ++ a → Adds r t new b → OnOk r (new ≡ old ++ (a ++ b))
 two_parts (Ok done) old t new a b first second = second ∙ ap (λ l. l ++ b) first ∙ append_assoc old a b
@@ -22,11 +27,19 @@ says_broke (Ok done) till fault old t u v new why first second third fourth =
     (why, fourth ∙ ap (λ l. l ++ why) (third ∙ ap (λ l. l ++ codes " failed: ") (second ∙ ap (λ l. l ++ decimal till) first)))
 says_broke (Err refused) till fault old t u v new why first second third fourth = tt
 
--- the whole line
-pub reports_gone : (till : ℕ) (broke : Option LineFault) (count approved : ℕ) (start gone text : List ℕ) (old new : Option (List ℕ)) (before after : ℕ) → start ≡ [] → SaysGone till broke start gone → text ≡ gone ++ ledger_text count → count ≡ approved
-    → Reports text old new before after → ReportsGone till broke approved old new before after
-reports_gone till broke count approved start gone text old new before after empty says adds same reports = record {
-  gone = gone;
-  says = subst (λ (s : List ℕ). SaysGone till broke s gone) empty says;
-  reports = subst (λ (t : List ℕ). Reports t old new before after) (adds ∙ ap (λ (n : ℕ). gone ++ ledger_text n) same) reports;
+-- the whole line in words
+pub says_words : (till : ℕ) (broke : Option LineFault) (approved : ℕ) (start gone report : List ℕ) → start ≡ [] → SaysGone till broke start gone → report ≡ gone ++ ledger_text approved → IsReport forms.Text till broke approved report
+says_words till broke approved start gone report empty says adds = (gone, subst (λ (s : List ℕ). SaysGone till broke s gone) empty says, adds)
+
+-- what was to be reported was reported
+pub reports_gone : (form : Form) (till : ℕ) (broke : Option LineFault) (count approved : ℕ) (report : List ℕ) (old new : Option (List ℕ)) (before after : ℕ) → IsReport form till broke count report → count ≡ approved
+    → Reports report old new before after → ReportsGone form till broke approved old new before after
+reports_gone form till broke count approved report old new before after is same reports = record {
+  report = report;
+  is_report = subst (λ (n : ℕ). IsReport form till broke n report) same is;
+  reports = reports;
 }
+
+-- a line of JSON
+pub is_line : (line word spelled : List ℕ) (value told : Data) → line ≡ word ++ 10 ∷ [] → word ≡ spelled → spelled ≡ compact_text value → value ≡ told → line ≡ line_text told
+is_line line word spelled value told adds is spells same = adds ∙ ap (λ l. l ++ 10 ∷ []) (is ∙ spells ∙ ap compact_text same)

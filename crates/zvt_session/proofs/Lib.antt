@@ -9,3 +9,4 @@ pub mod Traced
 pub mod ManyTills
 pub mod Gone
 pub mod Unclear
+pub mod BookObjects

@@ -9,6 +9,7 @@ pub mod BothEnds
 pub mod Kept
 pub mod BothKept
 pub mod Books
+pub mod BookObjects
 pub mod Service
 pub mod Settings
 pub mod OverTcp

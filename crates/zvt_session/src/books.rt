@@ -1,31 +1,49 @@
-//! The text of a till's book.
+//! A till's book, and its text.
 ghost use Rattle.std.specs.Prelude.{◌≡◌, ◌<◌, ◌++◌, Err, OnOk};
+ghost use Rattle.zvt_session.specs.BookObjects.{book_lines};
 ghost use Rattle.zvt_session.specs.Books.{book_text, booked_text, doubt_text, entries_text, entry_text, reversed_text, unclear_reversal_text, unclear_text, unclears_text};
 ghost use Rattle.zvt_session.specs.Runs.{AnswersText};
 
+use crate::book_objects::say_objects;
 use crate::fault::EndFault;
 use crate::steps::say_total;
 use std::alloc::{AllocError, Global};
 use zvt_bcd::Amount;
 use zvt_io::Sink;
+use zvt_json::Form;
 use zvt_text::Text;
 use zvt_till::{Cause, Doubt, Entry, Till};
 
-/// Writes a till's book: a line for each entry with what became of its reversals, one for each payment of which it is not
-/// known whether it happened, and the sum of the entries that were not reversed.
+/// Writes a till's book in this form: a line for each entry with what became of its reversals, one for each payment of which
+/// it is not known whether it happened, and the sum of the entries that were not reversed.
 ///
 /// The text is written once. Where memory runs out nothing is written.
-pub fn write_book<W: Sink>(alloc: Global, till: &Till, writer: &mut W) -> Result<(), EndFault>
-    ensures text { AnswersText (book_text till.now.state) (W.written writer.old) (W.written writer.new) result }
+pub fn write_book<W: Sink>(
+    alloc: Global,
+    form: Form,
+    till: &Till,
+    writer: &mut W,
+) -> Result<(), EndFault>
+    ensures text { AnswersText (book_lines form till.now.state) (W.written writer.old) (W.written writer.new) result }
     ensures write { result ≡ Err EndFault.Write → W.failures writer.old < W.failures writer.new }
 {
     let mut text = Text::new(alloc);
-    say_book(&mut text, till)?;
+    say_lines(&mut text, form, till)?;
     writer.write_all(text.bytes())?;
     Ok(())
 }
 
-/// The lines of a book.
+/// The lines of a book in this form.
+fn say_lines(text: &mut Text, form: Form, till: &Till) -> Result<(), AllocError>
+    ensures { OnOk result (text.new ≡ text.old ++ book_lines form till.now.state) }
+{
+    match form {
+        Form::Text => say_book(text, till),
+        Form::Json => say_objects(text, till),
+    }
+}
+
+/// The lines of text of a book.
 fn say_book(text: &mut Text, till: &Till) -> Result<(), AllocError>
     ensures { OnOk result (text.new ≡ text.old ++ book_text till.now.state) }
 {

@@ -6,6 +6,7 @@
 #![tactic(auto)]
 
 mod arguments;
+mod book_objects;
 mod books;
 mod both_ends;
 mod connection;

@@ -2,6 +2,7 @@
 use crate::plans::Planned;
 use std::fs::File;
 use zvt_grammar::Lengths;
+use zvt_json::Form;
 use zvt_term::Verdict;
 use zvt_till::TillSettings;
 
@@ -44,7 +45,8 @@ pub struct LoopRun<'a, 'f> {
     pub plan: &'a [Planned],
 }
 
-/// The run of a simulated terminal: where it listens, what it answers, and how its lines are read and traced.
+/// The run of a simulated terminal: where it listens, what it answers, how its lines are read and traced, and the form of its
+/// reports.
 #[derive(Clone, Copy)]
 pub struct TerminalRun<'a, 'f> {
     /// The name or address that the terminal listens at.
@@ -61,4 +63,6 @@ pub struct TerminalRun<'a, 'f> {
     pub connections: u16,
     /// The file that the trace is written to.
     pub trace: Option<&'f File>,
+    /// The form of the reports.
+    pub form: Form,
 }

@@ -131,7 +131,7 @@ where
 /// trace can't be written, and `Memory` where a till can't be begun with or reported.
 ///
 /// The trace has what the terminal heard and answered, as the till sees it. `report` gets the address at which the terminal
-/// listens. For each till that disconnects it gets the number of approvals in the ledger.
+/// listens. For each till that disconnects it gets the number of approvals in the ledger. Both come in the form of the run.
 pub fn run_terminal<R, W>(
     rt: &R,
     alloc: Global,
@@ -148,7 +148,7 @@ where
         Ok(door) => door,
         Err(why) => return Err(EndFault::Net(why)),
     };
-    report_address(alloc, &door.listener, report)?;
+    report_address(alloc, run.form, &door.listener, report)?;
     let mut served = Served {
         terminal: Terminal::new(alloc, run.tid),
         verdict: run.verdict,
@@ -172,7 +172,7 @@ fn serve_tills<W: Sink>(
     'tills: for gone in 0..run.connections {
         let connection = door.next().map_err(EndFault::Net)?;
         let broke = serve_till(alloc, &connection, run.lengths, served, run.trace)?;
-        report_ledger(alloc, gone + 1, broke, &served.terminal, report)?;
+        report_ledger(alloc, run.form, gone + 1, broke, &served.terminal, report)?;
         if first.is_none() {
             first = broke;
         }

@@ -1,0 +1,107 @@
+//! A till's book as text and as JSON lines, each worked out by hand.
+use std::alloc::Global;
+use std::process::Abort;
+use std::test::Fail;
+use zvt_bcd::{Amount, Trace};
+use zvt_io::Counted;
+use zvt_json::Form;
+use zvt_session::{EndFault, write_book};
+use zvt_till::{CurrencyFact, Heard, Order, Original, StatusFacts, Till};
+
+const WORDS: &str = r#"booked 1000 trace 000001 receipt 0001
+booked 200 trace 000002 receipt 0012 reversed
+booked 30 trace 000003 receipt 0003 reversal unclear Line
+booked 4 trace 000004 receipt -
+booked 800 trace 000005 receipt 9999 taken back
+unclear 500 NoStatus
+total 1834
+"#;
+
+const OBJECTS: &str = r#"{"booked":{"amount":1000,"receipt":"0001","trace":1}}
+{"booked":{"amount":200,"receipt":"0012","reversed":true,"trace":2}}
+{"booked":{"amount":30,"receipt":"0003","reversal_unclear":"Line","trace":3}}
+{"booked":{"amount":4,"trace":4}}
+{"booked":{"amount":800,"receipt":"9999","taken_back":true,"trace":5}}
+{"unclear":{"amount":500,"cause":"NoStatus"}}
+{"total":1834}
+"#;
+
+/// An approval of that many cents under the trace number.
+fn status(units: u64, number: u32, receipt: Option<[u8; 2]>, original: Original) -> Heard {
+    Heard::Status(StatusFacts {
+        result: Some(0),
+        amount: Amount::new(units),
+        trace: Trace::new(number),
+        receipt,
+        original,
+        currency: CurrencyFact::Absent,
+    })
+}
+
+// This function and those below say nothing of what they answer: beside that each step of a caller's proof is dear.
+/// The till gives an order, which the terminal takes up, and hears these messages.
+fn orders(rt: &impl Abort, till: &mut Till, order: Order, coming: &[Heard]) {
+    assert!(rt; till.order(order).is_ok());
+    till.hear(Heard::Positive);
+    for heard in coming {
+        till.hear(*heard);
+    }
+}
+
+/// The till pays that many cents, and hears the status with these numbers.
+fn pays(rt: &impl Abort, till: &mut Till, units: u64, number: u32, receipt: Option<[u8; 2]>) {
+    let amount = Amount::new(units).expect(rt, "an amount");
+    let approval = status(units, number, receipt, Original::Absent);
+    orders(rt, till, Order::Pay(amount), &[approval, Heard::Completion]);
+}
+
+/// A till that has an entry of each kind, and an unclear payment.
+fn booked_till(rt: &impl Abort, alloc: Global) -> Till {
+    let mut till = Till::with_defaults(alloc);
+    till.connected();
+    orders(rt, &mut till, Order::Register, &[Heard::Completion]);
+    pays(rt, &mut till, 1000, 1, Some([0x00, 0x01]));
+    pays(rt, &mut till, 200, 2, Some([0x00, 0x12]));
+    pays(rt, &mut till, 30, 3, Some([0x00, 0x03]));
+    pays(rt, &mut till, 4, 4, None);
+    pays(rt, &mut till, 800, 5, Some([0x99, 0x99]));
+    let unclear = Order::Pay(Amount::new(500).expect(rt, "an amount"));
+    orders(rt, &mut till, unclear, &[Heard::Completion]);
+    let taken = status(200, 6, Some([0x00, 0x13]), Original::Once([0, 0, 2]));
+    orders(
+        rt,
+        &mut till,
+        Order::Reverse(1),
+        &[taken, Heard::Completion],
+    );
+    orders(rt, &mut till, Order::Reverse(4), &[Heard::Abort(0xB4)]);
+    orders(rt, &mut till, Order::Reverse(2), &[]);
+    till.lost();
+    till
+}
+
+fn written(alloc: Global, form: Form, till: &Till) -> Result<Vec<u8>, EndFault> {
+    let mut writer = Counted::new(Vec::new(alloc));
+    write_book(alloc, form, till, &mut writer)?;
+    Ok(writer.inner)
+}
+
+#[test]
+fn a_book_is_written_in_both_forms(rt: HostRuntime) -> Result<(), Fail> {
+    let till = booked_till(&rt, rt.alloc());
+    let words = written(rt.alloc(), Form::Text, &till)?;
+    assert_eq!(rt; words.as_slice(), WORDS.as_bytes());
+    let objects = written(rt.alloc(), Form::Json, &till)?;
+    assert_eq!(rt; objects.as_slice(), OBJECTS.as_bytes());
+    Ok(())
+}
+
+#[test]
+fn a_new_till_has_an_empty_book(rt: HostRuntime) -> Result<(), Fail> {
+    let till = Till::with_defaults(rt.alloc());
+    let words = written(rt.alloc(), Form::Text, &till)?;
+    assert_eq!(rt; words.as_slice(), b"total 0\n".as_slice());
+    let objects = written(rt.alloc(), Form::Json, &till)?;
+    assert_eq!(rt; objects.as_slice(), b"{\"total\":0}\n".as_slice());
+    Ok(())
+}
