@@ -10,7 +10,7 @@ use crate::{book, trace_file};
 use std::io;
 use zvt_io::Counted;
 use zvt_tool::{
-    BookRun, Ends, FileDevice, Form, KeptTill, LoopRun, Planned, TerminalOptions, TerminalRun,
+    BookRun, Ends, FileDevice, KeptTill, LoopRun, Planned, TerminalOptions, TerminalRun,
     TillOptions, TillRun, TillSettings, plan, run_loop, run_loop_kept, run_terminal, run_till,
     run_till_kept,
 };
