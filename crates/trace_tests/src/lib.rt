@@ -11,6 +11,8 @@ mod followed;
 #[cfg(test)]
 mod json_lines;
 #[cfg(test)]
+mod json_runs;
+#[cfg(test)]
 mod recorded_runs;
 #[cfg(test)]
 mod reported_runs;

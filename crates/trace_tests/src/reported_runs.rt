@@ -3,7 +3,8 @@ use std::alloc::Global;
 use std::io::{self, Read, Write};
 use std::test::Fail;
 use zvt_io::Counted;
-use zvt_session::{EndFault, Endpoint, Ends, plan, run_loop, run_till_end};
+use zvt_json::Form;
+use zvt_session::{EndFault, Endpoint, Ends, LoopRun, StepRun, plan, run_loop, run_till_end};
 use zvt_stream::{LineFault, Stream};
 use zvt_till::TillSettings;
 
@@ -26,17 +27,21 @@ fn a_text_that_cannot_be_written(rt: HostRuntime) -> Result<(), Fail> {
     let mut writer = Counted::new(Full);
     let mut report = Counted::new(Vec::new(rt.alloc()));
     let plan = plan(rt.alloc(), Ends::Both, ["close"].as_slice())?;
-    let steps = plan.as_slice();
-    let ended = run_loop(&rt, rt.alloc(), steps, None, &mut writer, &mut report);
+    let run = LoopRun {
+        trace: None,
+        plan: plan.as_slice(),
+        form: Form::Text,
+    };
+    let ended = run_loop(&rt, rt.alloc(), &run, &mut writer, &mut report);
     assert!(rt; matches!(ended, Err(EndFault::Write)));
     Ok(())
 }
 
 /// A reader that brings one chunk with each read.
 #[derive(Drop)]
-struct Chunks<'a> {
-    chunks: &'a [&'a [u8]],
-    next: usize,
+pub(crate) struct Chunks<'a> {
+    pub(crate) chunks: &'a [&'a [u8]],
+    pub(crate) next: usize,
 }
 
 impl Read for Chunks<'_> {
@@ -87,14 +92,11 @@ fn reverses<E: Write>(
     };
     let mut writer = Counted::new(Vec::new(alloc));
     let settings = TillSettings::default();
-    let ended = run_till_end(
-        alloc,
-        &mut line,
-        &settings,
-        plan.as_slice(),
-        &mut writer,
-        report,
-    );
+    let steps = StepRun {
+        plan: plan.as_slice(),
+        form: Form::Text,
+    };
+    let ended = run_till_end(alloc, &mut line, &settings, &steps, &mut writer, report);
     Ok((ended, writer.inner))
 }
 

@@ -7,9 +7,11 @@ use std::process::Abort;
 use std::test::Fail;
 use zvt_grammar::{Lengths, Why};
 use zvt_io::{Counted, Sink, Source};
+use zvt_json::Form;
 use zvt_session::{
-    BothEnds, EndFault, Endpoint, Ends, NetFault, Recorded, TillRun, Way, config_of, currency_of,
-    password_of, plan, run_both_ends, run_loop, run_till, run_till_end, serve,
+    BothEnds, EndFault, Endpoint, Ends, LoopRun, NetFault, Planned, Recorded, StepRun, TillRun, Way,
+    config_of, currency_of, password_of, plan, run_both_ends, run_loop, run_till, run_till_end,
+    serve,
 };
 use zvt_stream::{LineFault, Stream};
 use zvt_term::{Served, Terminal, Verdict};
@@ -37,6 +39,14 @@ pay:4 -> paid trace 000002 receipt 0002
 total 25
 "#;
 
+/// These steps, whose lines are text.
+fn as_text(plan: &[Planned]) -> StepRun<'_> {
+    StepRun {
+        plan,
+        form: Form::Text,
+    }
+}
+
 // This function and those below that call the library say nothing of what it answers: beside that each step of a
 // caller's proof is dear.
 fn looped(rt: &HostRuntime, words: &[&str]) -> (Result<(), EndFault>, Vec<u8>) {
@@ -46,8 +56,12 @@ fn looped(rt: &HostRuntime, words: &[&str]) -> (Result<(), EndFault>, Vec<u8>) {
         Ok(plan) => plan,
         Err(fault) => return (Err(fault), writer.inner),
     };
-    let steps = plan.as_slice();
-    let ended = run_loop(rt, rt.alloc(), steps, None, &mut writer, &mut report);
+    let run = LoopRun {
+        trace: None,
+        plan: plan.as_slice(),
+        form: Form::Text,
+    };
+    let ended = run_loop(rt, rt.alloc(), &run, &mut writer, &mut report);
     (ended, writer.inner)
 }
 
@@ -87,7 +101,7 @@ fn registers_and_pays(
         alloc,
         &mut line,
         &TillSettings::default(),
-        plan.as_slice(),
+        &as_text(plan.as_slice()),
         &mut writer,
         &mut report,
     );
@@ -176,7 +190,7 @@ fn registers_endlessly(
         alloc,
         &mut line,
         &settings,
-        plan.as_slice(),
+        &as_text(plan.as_slice()),
         &mut writer,
         &mut report,
     );
@@ -259,6 +273,7 @@ fn till_at(rt: &HostRuntime, port: u16, words: &[&str]) -> (Result<(), EndFault>
         settings: TillSettings::default(),
         lengths: Lengths::Shortest,
         trace: None,
+        form: Form::Text,
     };
     let steps = plan.as_slice();
     let ended = run_till(rt, rt.alloc(), &run, steps, &mut writer, &mut report);
@@ -306,7 +321,7 @@ fn registers_recorded(
         alloc,
         &mut line,
         settings,
-        plan.as_slice(),
+        &as_text(plan.as_slice()),
         &mut writer,
         &mut report,
     );

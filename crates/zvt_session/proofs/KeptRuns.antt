@@ -2,6 +2,7 @@
 use Rattle.std.proofs.Common.{◌≡◌, ℕ, List, Option, Bool, Result, sym, subst, inl, inr}
 use Rattle.zvt_grammar.specs.Reading.{Reading}
 use Rattle.zvt_journal.specs.declared.device.DeviceError.{DeviceError}
+use Rattle.zvt_json.specs.declared.form.Form.{Form}
 use Rattle.zvt_kept.specs.KeptTill.{KeptValue}
 use Rattle.zvt_till.specs.declared.entries.Entry.{Entry}
 use Rattle.zvt_session.specs.declared.fault.EndFault.{EndFault}
@@ -15,21 +16,21 @@ use Rattle.zvt_session.proofs.OverTcp.{answers_seen, by}
 
 -- a run on a line that contracts see as something else
 pub book_seen : {L S D : Type 0} (connects : KeptValue D → KeptValue D → Result Unit DeviceError → Type 0) (look : L → S) (law : Law S (KeptValue D)) (begins : S → Type 0) (start : L)
-    (plan : List Planned) (old new : KeptValue D) (first last : Option (List ℕ)) (Reported : List Entry → Type 0) (Quiet : Type 0) (result : Result Unit EndFault)
-    → begins (look start) → AnswersBook connects (by look law) (λ begun. begun ≡ start) plan old new first last Reported Quiet result
-    → AnswersBook connects law begins plan old new first last Reported Quiet result
-book_seen connects look law begins start plan old new first last Reported Quiet result begun (inl run) = inl (record {
+    (form : Form) (plan : List Planned) (old new : KeptValue D) (first last : Option (List ℕ)) (Reported : List Entry → Type 0) (Quiet : Type 0) (result : Result Unit EndFault)
+    → begins (look start) → AnswersBook connects (by look law) (λ begun. begun ≡ start) form plan old new first last Reported Quiet result
+    → AnswersBook connects law begins form plan old new first last Reported Quiet result
+book_seen connects look law begins start form plan old new first last Reported Quiet result begun (inl run) = inl (record {
   before = look run.before;
   after = look run.after;
   connected = run.connected;
   ended = run.ended;
   begun = subst (λ l. begins (look l)) (sym run.begun) begun;
   up = run.up;
-  answers = answers_seen till_of look law plan (standing run.before run.connected) (standing run.after new) first last run.ended run.answers;
+  answers = answers_seen till_of look law form plan (standing run.before run.connected) (standing run.after new) first last run.ended run.answers;
   reported = run.reported;
   is = run.is;
 })
-book_seen connects look law begins start plan old new first last Reported Quiet result begun (inr none) = inr (record {
+book_seen connects look law begins start form plan old new first last Reported Quiet result begun (inr none) = inr (record {
   why = none.why;
   broke = none.broke;
   unwritten = none.unwritten;
@@ -39,13 +40,13 @@ book_seen connects look law begins start plan old new first last Reported Quiet 
 
 -- a run over TCP, with a trace perhaps
 pub traced_book : {L D : Type 0} (connects : KeptValue D → KeptValue D → Result Unit DeviceError → Type 0) (makes : Law L (KeptValue D)) (begins : L → Type 0)
-    (plan : List Planned) (old new : KeptValue D) (first last : Option (List ℕ)) (Reported : List Entry → Type 0) (Quiet : Type 0) (lacks : Bool) (ended result : Result Unit EndFault)
-    → result ≡ by_trace lacks ended → AnswersBook connects makes begins plan old new first last Reported Quiet ended
-    → AnswersBookRun connects makes begins plan old new first last Reported Quiet result
-traced_book connects makes begins plan old new first last Reported Quiet lacks ended result is answers = inl (record { ended = ended; lacks = lacks; answers = answers; is = is })
+    (form : Form) (plan : List Planned) (old new : KeptValue D) (first last : Option (List ℕ)) (Reported : List Entry → Type 0) (Quiet : Type 0) (lacks : Bool) (ended result : Result Unit EndFault)
+    → result ≡ by_trace lacks ended → AnswersBook connects makes begins form plan old new first last Reported Quiet ended
+    → AnswersBookRun connects makes begins form plan old new first last Reported Quiet result
+traced_book connects makes begins form plan old new first last Reported Quiet lacks ended result is answers = inl (record { ended = ended; lacks = lacks; answers = answers; is = is })
 
 -- a run on a line whose stream has that reading
 pub begun_there : {D : Type 0} (connects : KeptValue D → KeptValue D → Result Unit DeviceError → Type 0) (makes : Law EndState (KeptValue D)) (r k : Reading)
-    (plan : List Planned) (old new : KeptValue D) (first last : Option (List ℕ)) (Reported : List Entry → Type 0) (Quiet : Type 0) (result : Result Unit EndFault)
-    → r ≡ k → AnswersBook connects makes (BeginsThere r) plan old new first last Reported Quiet result → AnswersBook connects makes (BeginsThere k) plan old new first last Reported Quiet result
-begun_there connects makes r k plan old new first last Reported Quiet result e = subst (λ (x : Reading). AnswersBook connects makes (BeginsThere x) plan old new first last Reported Quiet result) e
+    (form : Form) (plan : List Planned) (old new : KeptValue D) (first last : Option (List ℕ)) (Reported : List Entry → Type 0) (Quiet : Type 0) (result : Result Unit EndFault)
+    → r ≡ k → AnswersBook connects makes (BeginsThere r) form plan old new first last Reported Quiet result → AnswersBook connects makes (BeginsThere k) form plan old new first last Reported Quiet result
+begun_there connects makes r k form plan old new first last Reported Quiet result e = subst (λ (x : Reading). AnswersBook connects makes (BeginsThere x) form plan old new first last Reported Quiet result) e

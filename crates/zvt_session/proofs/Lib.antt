@@ -1,5 +1,6 @@
 pub mod Numbers
 pub mod Runs
+pub mod ObjectLemmas
 pub mod NamedSteps
 pub mod Turns
 pub mod TurnsKept

@@ -6,6 +6,7 @@ use Rattle.std.proofs.lemmas.Option.{same_Some}
 use Rattle.std.specs.Io.KnownBytes.{Appends}
 use Rattle.std.specs.String.{string_bytes}
 use Rattle.zvt_io.specs.Devices.{IsPrefix}
+use Rattle.zvt_json.specs.declared.form.Form.{Form}
 use Rattle.zvt_stream.proofs.HearingLemmas.{appends_none}
 use Rattle.std.proofs.KnownBytes.{Appends-trans}
 use Rattle.zvt_stream.specs.declared.line.LineFault.{LineFault}
@@ -17,37 +18,37 @@ use Rattle.zvt_till.specs.declared.outcomes.Outcome.{Outcome}
 use Rattle.zvt_session.specs.declared.fault.EndFault.{EndFault}
 use Rattle.zvt_session.specs.declared.fault.EndFault.TheVariants.{BadStep, Book, Line as LineBroke, Memory, Net, Trace, Write}
 use Rattle.zvt_session.specs.declared.plans.Planned.{Planned}
-use Rattle.zvt_session.specs.Outcomes.{ending_text, step_text, total_text}
+use Rattle.zvt_session.specs.Objects.{step_line, total_line}
 use Rattle.zvt_session.specs.Runs.{Answers, AnswersStep, AnswersText, BreaksIn, EndsEarly, GoesOn, IsMissing, Law, Makes, MakesAll, MakesTo, PartlySaid, Ran, Said, Standing, WritesPart, fault_of}
 
 -- one step more
-makes_one_more : {L T : Type 0} (seen : T → TillValue) (makes : Law L T) (plan : List Planned) (planned : Planned) (result : Result Outcome RunFault) (before middle after : Standing L T) (text last : List ℕ)
-    → MakesAll seen makes plan before middle text → Makes seen makes planned result middle after last → GoesOn result → MakesAll seen makes (plan ++ planned ∷ []) before after (text ++ last)
-makes_one_more {L} {T} seen makes [] planned result before middle after text last all one goes = (
+makes_one_more : {L T : Type 0} (seen : T → TillValue) (makes : Law L T) (form : Form) (plan : List Planned) (planned : Planned) (result : Result Outcome RunFault) (before middle after : Standing L T) (text last : List ℕ)
+    → MakesAll seen makes form plan before middle text → Makes seen makes form planned result middle after last → GoesOn result → MakesAll seen makes form (plan ++ planned ∷ []) before after (text ++ last)
+makes_one_more {L} {T} seen makes form [] planned result before middle after text last all one goes = (
   result,
   after,
   last,
   [],
-  subst (λ (s : Standing L T). Makes seen makes planned result s after last) all.0 one,
+  subst (λ (s : Standing L T). Makes seen makes form planned result s after last) all.0 one,
   goes,
   (refl, refl),
   ap (λ (t : List ℕ). t ++ last) all.1 ∙ sym (append-nil last),
 )
-makes_one_more seen makes (first ∷ plan) planned result before middle after text last all one goes = (
+makes_one_more seen makes form (first ∷ plan) planned result before middle after text last all one goes = (
   all.0,
   all.1,
   all.2,
   all.3 ++ last,
   all.4,
   all.5,
-  makes_one_more seen makes plan planned result all.1 middle after all.3 last all.6 one goes,
+  makes_one_more seen makes form plan planned result all.1 middle after all.3 last all.6 one goes,
   ap (λ (t : List ℕ). t ++ last) all.7 ∙ append_assoc all.2 all.3 last,
 )
 
 -- the steps so far
-pub record SoFar {L T : Type 0} (seen : T → TillValue) (makes : Law L T) (done : List Planned) (before now : Standing L T) (old new : Option (List ℕ)) : Type 0 where
+pub record SoFar {L T : Type 0} (seen : T → TillValue) (makes : Law L T) (form : Form) (done : List Planned) (before now : Standing L T) (old new : Option (List ℕ)) : Type 0 where
   pub said : List ℕ
-  pub all : MakesAll seen makes done before now said
+  pub all : MakesAll seen makes form done before now said
   pub appended : Appends old new said
 
 cut_at : {A : Type 0} (xs : List A) (i : ℕ) (x : A) → i < length xs → x ≡ get_or xs i x → xs ≡ take i xs ++ x ∷ drop (i + 1) xs
@@ -56,14 +57,14 @@ cut_at xs i x below is = rw add-one (sym (take-append-drop i xs) ∙ ap (λ (ys 
 pub taken : {A : Type 0} (xs : List A) (i : ℕ) (x : A) → i < length xs → x ≡ get_or xs i x → take (i + 1) xs ≡ take i xs ++ x ∷ []
 taken xs i x below is = rw add-one (take-suc xs i x below ∙ ap (λ y. take i xs ++ y ∷ []) (sym is))
 
-pub one_more : {L T : Type 0} (seen : T → TillValue) (makes : Law L T) (plan : List Planned) (i : ℕ) (planned : Planned) (broken : Option LineFault) (before middle after : Standing L T) (old now new : Option (List ℕ))
-    → i < length plan → planned ≡ get_or plan i planned → broken ≡ None → SoFar seen makes (take i plan) before middle old now → AnswersStep seen makes planned middle after now new (Ok broken)
-    → SoFar seen makes (take (i + 1) plan) before after old new
-one_more {L} {T} seen makes plan i planned broken before middle after old now new below is none so step =
+pub one_more : {L T : Type 0} (seen : T → TillValue) (makes : Law L T) (form : Form) (plan : List Planned) (i : ℕ) (planned : Planned) (broken : Option LineFault) (before middle after : Standing L T) (old now new : Option (List ℕ))
+    → i < length plan → planned ≡ get_or plan i planned → broken ≡ None → SoFar seen makes form (take i plan) before middle old now → AnswersStep seen makes form planned middle after now new (Ok broken)
+    → SoFar seen makes form (take (i + 1) plan) before after old new
+one_more {L} {T} seen makes form plan i planned broken before middle after old now new below is none so step =
     let e : take (i + 1) plan ≡ take i plan ++ planned ∷ [] = taken plan i planned below is in
     rw e (record {
       said = so.said ++ step.text;
-      all = makes_one_more seen makes (take i plan) planned step.result before middle after so.said step.text so.all step.made (step.ended ∙ none, step.not_wanting);
+      all = makes_one_more seen makes form (take i plan) planned step.result before middle after so.said step.text so.all step.made (step.ended ∙ none, step.not_wanting);
       appended = Appends-trans old now new so.said step.text so.appended step.appended;
     })
 
@@ -73,10 +74,10 @@ broken_by (Err (Order why)) fault h = absurd (cc)
 broken_by (Err (Line broken)) fault h = ap (λ (f : LineFault). Err (Line f)) (same_Some broken fault h)
 
 -- the step in which the line broke
-breaks_in : {L T : Type 0} (seen : T → TillValue) (makes : Law L T) (plan : List Planned) (i : ℕ) (planned : Planned) (broken : Option LineFault) (fault : LineFault) (before middle after : Standing L T) (old now next : Option (List ℕ))
-    → i < length plan → planned ≡ get_or plan i planned → broken ≡ Some fault → (so : SoFar seen makes (take i plan) before middle old now) → (step : Said seen makes planned broken middle after now next)
-    → BreaksIn seen makes plan fault before after (so.said ++ step.text)
-breaks_in {L} {T} seen makes plan i planned broken fault before middle after old now next below is some so step = record {
+breaks_in : {L T : Type 0} (seen : T → TillValue) (makes : Law L T) (form : Form) (plan : List Planned) (i : ℕ) (planned : Planned) (broken : Option LineFault) (fault : LineFault) (before middle after : Standing L T) (old now next : Option (List ℕ))
+    → i < length plan → planned ≡ get_or plan i planned → broken ≡ Some fault → (so : SoFar seen makes form (take i plan) before middle old now) → (step : Said seen makes form planned broken middle after now next)
+    → BreaksIn seen makes form plan fault before after (so.said ++ step.text)
+breaks_in {L} {T} seen makes form plan i planned broken fault before middle after old now next below is some so step = record {
   done = take i plan;
   planned = planned;
   later = drop (i + 1) plan;
@@ -85,17 +86,17 @@ breaks_in {L} {T} seen makes plan i planned broken fault before middle after old
   last = step.text;
   cut = cut_at plan i planned below is;
   all = so.all;
-  breaks = subst (λ (r : Result Outcome RunFault). Makes seen makes planned r middle after step.text) (broken_by step.result fault (step.ended ∙ some)) step.made;
+  breaks = subst (λ (r : Result Outcome RunFault). Makes seen makes form planned r middle after step.text) (broken_by step.result fault (step.ended ∙ some)) step.made;
   whole = refl;
 }
 
-pub broke : {L T : Type 0} (seen : T → TillValue) (makes : Law L T) (plan : List Planned) (i : ℕ) (planned : Planned) (broken : Option LineFault) (fault : LineFault) (before middle after : Standing L T) (old now next new : Option (List ℕ))
-    → i < length plan → planned ≡ get_or plan i planned → broken ≡ Some fault → SoFar seen makes (take i plan) before middle old now → AnswersStep seen makes planned middle after now next (Ok broken)
-    → Appends next new (total_text (total (seen after.till).state.book)) → Ran seen makes plan (Some fault) before after old new
-broke seen makes plan i planned broken fault before middle after old now next new below is some so step trailing = record {
+pub broke : {L T : Type 0} (seen : T → TillValue) (makes : Law L T) (form : Form) (plan : List Planned) (i : ℕ) (planned : Planned) (broken : Option LineFault) (fault : LineFault) (before middle after : Standing L T) (old now next new : Option (List ℕ))
+    → i < length plan → planned ≡ get_or plan i planned → broken ≡ Some fault → SoFar seen makes form (take i plan) before middle old now → AnswersStep seen makes form planned middle after now next (Ok broken)
+    → Appends next new (total_line form (total (seen after.till).state.book)) → Ran seen makes form plan (Some fault) before after old new
+broke seen makes form plan i planned broken fault before middle after old now next new below is some so step trailing = record {
   said = so.said ++ step.text;
-  made = breaks_in seen makes plan i planned broken fault before middle after old now next below is some so step;
-  appended = Appends-trans old next new (so.said ++ step.text) (total_text (total (seen after.till).state.book)) (Appends-trans old now next so.said step.text so.appended step.appended) trailing;
+  made = breaks_in seen makes form plan i planned broken fault before middle after old now next below is some so step;
+  appended = Appends-trans old next new (so.said ++ step.text) (total_line form (total (seen after.till).state.book)) (Appends-trans old now next so.said step.text so.appended step.appended) trailing;
 }
 
 -- ---- where a text could not be written whole
@@ -104,9 +105,9 @@ pub nothing_written : (text : List ℕ) (held : Option (List ℕ)) → WritesPar
 nothing_written text held = ([], refl, appends_none held)
 
 -- the line of the step that follows these
-stops_in_step : {L T : Type 0} (seen : T → TillValue) (makes : Law L T) (Part : List ℕ → List ℕ → Type 0) (plan : List Planned) (i : ℕ) (planned : Planned) (before middle after : Standing L T) (old now new : Option (List ℕ))
-    → i < length plan → planned ≡ get_or plan i planned → SoFar seen makes (take i plan) before middle old now → PartlySaid seen makes Part planned middle after now new → EndsEarly seen makes Part plan before after old new
-stops_in_step seen makes Part plan i planned before middle after old now new below is so step = inl (record {
+stops_in_step : {L T : Type 0} (seen : T → TillValue) (makes : Law L T) (form : Form) (Part : List ℕ → List ℕ → Type 0) (plan : List Planned) (i : ℕ) (planned : Planned) (before middle after : Standing L T) (old now new : Option (List ℕ))
+    → i < length plan → planned ≡ get_or plan i planned → SoFar seen makes form (take i plan) before middle old now → PartlySaid seen makes form Part planned middle after now new → EndsEarly seen makes form Part plan before after old new
+stops_in_step seen makes form Part plan i planned before middle after old now new below is so step = inl (record {
   done = take i plan;
   planned = planned;
   later = drop (i + 1) plan;
@@ -122,46 +123,46 @@ stops_in_step seen makes Part plan i planned before middle after old now new bel
   partly = step.partly;
 })
 
-pub step_stops : {L T : Type 0} (seen : T → TillValue) (makes : Law L T) (plan : List Planned) (i : ℕ) (planned : Planned) (before middle after : Standing L T) (old now new : Option (List ℕ)) (fault : EndFault)
-    → i < length plan → planned ≡ get_or plan i planned → SoFar seen makes (take i plan) before middle old now → AnswersStep seen makes planned middle after now new (Err fault) → Answers seen makes plan before after old new (Err fault)
-step_stops seen makes plan i planned before middle after old now new Write below is so step = stops_in_step seen makes IsPrefix plan i planned before middle after old now new below is so step
-step_stops seen makes plan i planned before middle after old now new Memory below is so step = stops_in_step seen makes IsMissing plan i planned before middle after old now new below is so step
-step_stops seen makes plan i planned before middle after old now new (LineBroke fault) below is so step = absurd step
-step_stops seen makes plan i planned before middle after old now new (BadStep at) below is so step = absurd step
-step_stops seen makes plan i planned before middle after old now new (Net why) below is so step = absurd step
-step_stops seen makes plan i planned before middle after old now new Trace below is so step = absurd step
-step_stops seen makes plan i planned before middle after old now new Book below is so step = absurd step
+pub step_stops : {L T : Type 0} (seen : T → TillValue) (makes : Law L T) (form : Form) (plan : List Planned) (i : ℕ) (planned : Planned) (before middle after : Standing L T) (old now new : Option (List ℕ)) (fault : EndFault)
+    → i < length plan → planned ≡ get_or plan i planned → SoFar seen makes form (take i plan) before middle old now → AnswersStep seen makes form planned middle after now new (Err fault) → Answers seen makes form plan before after old new (Err fault)
+step_stops seen makes form plan i planned before middle after old now new Write below is so step = stops_in_step seen makes form IsPrefix plan i planned before middle after old now new below is so step
+step_stops seen makes form plan i planned before middle after old now new Memory below is so step = stops_in_step seen makes form IsMissing plan i planned before middle after old now new below is so step
+step_stops seen makes form plan i planned before middle after old now new (LineBroke fault) below is so step = absurd step
+step_stops seen makes form plan i planned before middle after old now new (BadStep at) below is so step = absurd step
+step_stops seen makes form plan i planned before middle after old now new (Net why) below is so step = absurd step
+step_stops seen makes form plan i planned before middle after old now new Trace below is so step = absurd step
+step_stops seen makes form plan i planned before middle after old now new Book below is so step = absurd step
 
 -- the total
-stops_in_total : {L T : Type 0} (seen : T → TillValue) (makes : Law L T) (plan : List Planned) (broken : Option LineFault) (said : List ℕ) (before after : Standing L T) (old now new : Option (List ℕ)) (fault : EndFault)
-    → MakesTo seen makes plan broken before after said → Appends old now said → AnswersText (total_text (total (seen after.till).state.book)) now new (Err fault) → Answers seen makes plan before after old new (Err fault)
-stops_in_total seen makes plan broken said before after old now new Write made appended text = inr (record { broken = broken; said = said; between = now; made = made; appended = appended; partly = text })
-stops_in_total seen makes plan broken said before after old now new Memory made appended text = inr (record { broken = broken; said = said; between = now; made = made; appended = appended; partly = text })
-stops_in_total seen makes plan broken said before after old now new (LineBroke fault) made appended text = absurd text
-stops_in_total seen makes plan broken said before after old now new (BadStep at) made appended text = absurd text
-stops_in_total seen makes plan broken said before after old now new (Net why) made appended text = absurd text
-stops_in_total seen makes plan broken said before after old now new Trace made appended text = absurd text
-stops_in_total seen makes plan broken said before after old now new Book made appended text = absurd text
+stops_in_total : {L T : Type 0} (seen : T → TillValue) (makes : Law L T) (form : Form) (plan : List Planned) (broken : Option LineFault) (said : List ℕ) (before after : Standing L T) (old now new : Option (List ℕ)) (fault : EndFault)
+    → MakesTo seen makes form plan broken before after said → Appends old now said → AnswersText (total_line form (total (seen after.till).state.book)) now new (Err fault) → Answers seen makes form plan before after old new (Err fault)
+stops_in_total seen makes form plan broken said before after old now new Write made appended text = inr (record { broken = broken; said = said; between = now; made = made; appended = appended; partly = text })
+stops_in_total seen makes form plan broken said before after old now new Memory made appended text = inr (record { broken = broken; said = said; between = now; made = made; appended = appended; partly = text })
+stops_in_total seen makes form plan broken said before after old now new (LineBroke fault) made appended text = absurd text
+stops_in_total seen makes form plan broken said before after old now new (BadStep at) made appended text = absurd text
+stops_in_total seen makes form plan broken said before after old now new (Net why) made appended text = absurd text
+stops_in_total seen makes form plan broken said before after old now new Trace made appended text = absurd text
+stops_in_total seen makes form plan broken said before after old now new Book made appended text = absurd text
 
-pub broken_total_stops : {L T : Type 0} (seen : T → TillValue) (makes : Law L T) (plan : List Planned) (i : ℕ) (planned : Planned) (broken : Option LineFault) (fault : LineFault) (before middle after : Standing L T) (old now next new : Option (List ℕ)) (stop : EndFault)
-    → i < length plan → planned ≡ get_or plan i planned → broken ≡ Some fault → SoFar seen makes (take i plan) before middle old now → AnswersStep seen makes planned middle after now next (Ok broken)
-    → AnswersText (total_text (total (seen after.till).state.book)) next new (Err stop) → Answers seen makes plan before after old new (Err stop)
-broken_total_stops seen makes plan i planned broken fault before middle after old now next new stop below is some so step text =
-    stops_in_total seen makes plan (Some fault) (so.said ++ step.text) before after old next new stop (breaks_in seen makes plan i planned broken fault before middle after old now next below is some so step)
+pub broken_total_stops : {L T : Type 0} (seen : T → TillValue) (makes : Law L T) (form : Form) (plan : List Planned) (i : ℕ) (planned : Planned) (broken : Option LineFault) (fault : LineFault) (before middle after : Standing L T) (old now next new : Option (List ℕ)) (stop : EndFault)
+    → i < length plan → planned ≡ get_or plan i planned → broken ≡ Some fault → SoFar seen makes form (take i plan) before middle old now → AnswersStep seen makes form planned middle after now next (Ok broken)
+    → AnswersText (total_line form (total (seen after.till).state.book)) next new (Err stop) → Answers seen makes form plan before after old new (Err stop)
+broken_total_stops seen makes form plan i planned broken fault before middle after old now next new stop below is some so step text =
+    stops_in_total seen makes form plan (Some fault) (so.said ++ step.text) before after old next new stop (breaks_in seen makes form plan i planned broken fault before middle after old now next below is some so step)
     (Appends-trans old now next so.said step.text so.appended step.appended) text
 
 -- what the total after all steps answers is what the run answers
-pub ended : {L T : Type 0} (seen : T → TillValue) (makes : Law L T) (plan : List Planned) (before after : Standing L T) (old now new : Option (List ℕ)) (result : Result Unit EndFault)
-    → SoFar seen makes plan before after old now → AnswersText (total_text (total (seen after.till).state.book)) now new result → Answers seen makes plan before after old new result
-ended seen makes plan before after old now new (Ok done) so text = record {
+pub ended : {L T : Type 0} (seen : T → TillValue) (makes : Law L T) (form : Form) (plan : List Planned) (before after : Standing L T) (old now new : Option (List ℕ)) (result : Result Unit EndFault)
+    → SoFar seen makes form plan before after old now → AnswersText (total_line form (total (seen after.till).state.book)) now new result → Answers seen makes form plan before after old new result
+ended seen makes form plan before after old now new (Ok done) so text = record {
   said = so.said;
   made = so.all;
-  appended = Appends-trans old now new so.said (total_text (total (seen after.till).state.book)) so.appended text;
+  appended = Appends-trans old now new so.said (total_line form (total (seen after.till).state.book)) so.appended text;
 }
-ended seen makes plan before after old now new (Err fault) so text = stops_in_total seen makes plan None so.said before after old now new fault so.all so.appended text
+ended seen makes form plan before after old now new (Err fault) so text = stops_in_total seen makes form plan None so.said before after old now new fault so.all so.appended text
 
 -- the line of a step that was made could not be written whole
-pub partly_said : {L T : Type 0} (seen : T → TillValue) (makes : Law L T) (planned : Planned) (result : Result Outcome RunFault) (before after : Standing L T) (text : List ℕ) (old new : Option (List ℕ))
-    → makes before.line before.till planned.step result after.line after.till → text ≡ step_text (string_bytes planned.word) (ending_text result (seen after.till).state.last_outcome) → WritesPart IsPrefix text old new
-    → AnswersStep seen makes planned before after old new (Err Write)
-partly_said seen makes planned result before after text old new made is partly = record { result = result; text = text; made = record { made = made; said = is }; partly = partly }
+pub partly_said : {L T : Type 0} (seen : T → TillValue) (makes : Law L T) (form : Form) (planned : Planned) (result : Result Outcome RunFault) (before after : Standing L T) (text : List ℕ) (old new : Option (List ℕ))
+    → makes before.line before.till planned.step result after.line after.till → text ≡ step_line form (string_bytes planned.word) result (seen after.till).state.last_outcome → WritesPart IsPrefix text old new
+    → AnswersStep seen makes form planned before after old new (Err Write)
+partly_said seen makes form planned result before after text old new made is partly = record { result = result; text = text; made = record { made = made; said = is }; partly = partly }

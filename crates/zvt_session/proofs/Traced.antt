@@ -1,6 +1,7 @@
 -- A run whose trace broke, or did not.
 use Rattle.std.proofs.Common.{◌≡◌, ℕ, List, Option, Bool, true, false, Result, Ok, Err, inr, subst, sym}
 use Rattle.zvt_grammar.specs.Reading.{Reading}
+use Rattle.zvt_json.specs.declared.form.Form.{Form}
 use Rattle.zvt_till.specs.declared.entries.Entry.{Entry}
 use Rattle.zvt_till.specs.Sending.{Settings}
 use Rattle.zvt_session.specs.OverTcp.{AnswersRun, RunsPlan}
@@ -35,26 +36,26 @@ traced Answers true (Err (BadStep at)) never a = a
 traced Answers true (Err (Net why)) never a = a
 
 -- what a run of steps answers
-answers : {L : Type 0} (makes : Law L TillValue) (begins : L → Type 0) (settings : Settings) (plan : List Planned) (old new : Option (List ℕ)) (Reported : List Entry → Type 0) (Quiet : Type 0) (result : Result Unit EndFault)
-    → AnswersTraced (RunsPlan makes begins settings plan old new Reported) result → AnswersRun makes begins settings plan old new Reported Quiet result
-answers makes begins settings plan old new Reported Quiet (Ok done) runs = runs
-answers makes begins settings plan old new Reported Quiet (Err (Line fault)) runs = runs
-answers makes begins settings plan old new Reported Quiet (Err Trace) runs = runs
-answers makes begins settings plan old new Reported Quiet (Err Book) runs = absurd runs.answers
-answers makes begins settings plan old new Reported Quiet (Err Write) runs = runs
-answers makes begins settings plan old new Reported Quiet (Err Memory) runs = inr runs
-answers makes begins settings plan old new Reported Quiet (Err (BadStep at)) runs = absurd runs.answers
-answers makes begins settings plan old new Reported Quiet (Err (Net why)) runs = absurd runs.answers
+answers : {L : Type 0} (makes : Law L TillValue) (begins : L → Type 0) (settings : Settings) (form : Form) (plan : List Planned) (old new : Option (List ℕ)) (Reported : List Entry → Type 0) (Quiet : Type 0) (result : Result Unit EndFault)
+    → AnswersTraced (RunsPlan makes begins settings form plan old new Reported) result → AnswersRun makes begins settings form plan old new Reported Quiet result
+answers makes begins settings form plan old new Reported Quiet (Ok done) runs = runs
+answers makes begins settings form plan old new Reported Quiet (Err (Line fault)) runs = runs
+answers makes begins settings form plan old new Reported Quiet (Err Trace) runs = runs
+answers makes begins settings form plan old new Reported Quiet (Err Book) runs = absurd runs.answers
+answers makes begins settings form plan old new Reported Quiet (Err Write) runs = runs
+answers makes begins settings form plan old new Reported Quiet (Err Memory) runs = inr runs
+answers makes begins settings form plan old new Reported Quiet (Err (BadStep at)) runs = absurd runs.answers
+answers makes begins settings form plan old new Reported Quiet (Err (Net why)) runs = absurd runs.answers
 
 -- a run whose trace is whole, or broke
-pub traced_run : {L : Type 0} (makes : Law L TillValue) (begins : L → Type 0) (settings given : Settings) (plan : List Planned) (broken : Bool) (old new : Option (List ℕ)) (Reported : List Entry → Type 0) (Quiet : Type 0) (answer result : Result Unit EndFault)
-    → given ≡ settings → result ≡ by_trace broken answer → RunsPlan makes begins given plan old new Reported answer → AnswersRun makes begins settings plan old new Reported Quiet result
-traced_run makes begins settings given plan broken old new Reported Quiet answer result set is runs =
-    let run : RunsPlan makes begins settings plan old new Reported answer = subst (λ (s : Settings). RunsPlan makes begins s plan old new Reported answer) set runs in
-    subst (λ (r : Result Unit EndFault). AnswersRun makes begins settings plan old new Reported Quiet r) (sym is)
-    (answers makes begins settings plan old new Reported Quiet (by_trace broken answer) (traced (RunsPlan makes begins settings plan old new Reported) broken answer (λ r. r.answers) run))
+pub traced_run : {L : Type 0} (makes : Law L TillValue) (begins : L → Type 0) (settings given : Settings) (form : Form) (plan : List Planned) (broken : Bool) (old new : Option (List ℕ)) (Reported : List Entry → Type 0) (Quiet : Type 0) (answer result : Result Unit EndFault)
+    → given ≡ settings → result ≡ by_trace broken answer → RunsPlan makes begins given form plan old new Reported answer → AnswersRun makes begins settings form plan old new Reported Quiet result
+traced_run makes begins settings given form plan broken old new Reported Quiet answer result set is runs =
+    let run : RunsPlan makes begins settings form plan old new Reported answer = subst (λ (s : Settings). RunsPlan makes begins s form plan old new Reported answer) set runs in
+    subst (λ (r : Result Unit EndFault). AnswersRun makes begins settings form plan old new Reported Quiet r) (sym is)
+    (answers makes begins settings form plan old new Reported Quiet (by_trace broken answer) (traced (RunsPlan makes begins settings form plan old new Reported) broken answer (λ r. r.answers) run))
 
 -- a run on a line whose stream has that reading
-pub begun_by : {r k : Reading} {settings : Settings} {plan : List Planned} {old new : Option (List ℕ)} {Reported : List Entry → Type 0} {result : Result Unit EndFault} → r ≡ k → RunsPlan MakesThere (BeginsThere r) settings plan old new Reported result
-    → RunsPlan MakesThere (BeginsThere k) settings plan old new Reported result
-begun_by {settings = settings} {plan = plan} {old = old} {new = new} {Reported = Reported} {result = result} e = subst (λ (x : Reading). RunsPlan MakesThere (BeginsThere x) settings plan old new Reported result) e
+pub begun_by : {r k : Reading} {settings : Settings} {form : Form} {plan : List Planned} {old new : Option (List ℕ)} {Reported : List Entry → Type 0} {result : Result Unit EndFault} → r ≡ k → RunsPlan MakesThere (BeginsThere r) settings form plan old new Reported result
+    → RunsPlan MakesThere (BeginsThere k) settings form plan old new Reported result
+begun_by {settings = settings} {form = form} {plan = plan} {old = old} {new = new} {Reported = Reported} {result = result} e = subst (λ (x : Reading). RunsPlan MakesThere (BeginsThere x) settings form plan old new Reported result) e

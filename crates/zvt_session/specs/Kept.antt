@@ -2,6 +2,7 @@
 use Rattle.std.specs.Prelude.{◌≡◌, ◌⊎◌, ◌≤◌, ◌+◌, ℕ, Bool, List, Option, Result, Ok, Err}
 use Rattle.std.specs.Io.KnownBytes.{Keeps}
 use Rattle.zvt_journal.specs.declared.device.DeviceError.{DeviceError}
+use Rattle.zvt_json.specs.declared.form.Form.{Form}
 use Rattle.zvt_kept.specs.KeptTill.{KeptValue}
 use Rattle.zvt_kept.specs.Runs.{RanKept}
 use Rattle.zvt_kept.specs.declared.run.KeptFault.{KeptFault}
@@ -48,14 +49,14 @@ module _ {D : Type 0} (seen : D → List ℕ) (may_leave : D → List ℕ → Ty
 
 module _ {L D : Type 0} (connects : KeptValue D → KeptValue D → Result Unit DeviceError → Type 0) (makes : Law L (KeptValue D)) (begins : L → Type 0) where
   -- That the line is up was durable, the steps were made, and this was reported of the book.
-  pub record RunsBook (plan : List Planned) (old new : KeptValue D) (first last : Option (List ℕ)) (Reported : List Entry → Type 0) (result : Result Unit EndFault) : Type 0 where
+  pub record RunsBook (form : Form) (plan : List Planned) (old new : KeptValue D) (first last : Option (List ℕ)) (Reported : List Entry → Type 0) (result : Result Unit EndFault) : Type 0 where
     pub before : L
     pub after : L
     pub connected : KeptValue D
     pub ended : Result Unit EndFault
     pub begun : begins before
     pub up : connects old connected (Ok tt)
-    pub answers : Answers till_of makes plan (standing before connected) (standing after new) first last ended
+    pub answers : Answers till_of makes form plan (standing before connected) (standing after new) first last ended
     pub reported : Reported new.standing.till.state.book
     pub is : result ≡ by_book new.failed ended
 
@@ -68,8 +69,8 @@ module _ {L D : Type 0} (connects : KeptValue D → KeptValue D → Result Unit 
     pub is : result ≡ Err Book
 
   -- What a run of these steps answers on a line.
-  abbrev pub AnswersBook : List Planned → (old new : KeptValue D) → (first last : Option (List ℕ)) → (Reported : List Entry → Type 0) → (Quiet : Type 0) → Result Unit EndFault → Type 0
-  AnswersBook plan old new first last Reported Quiet result = RunsBook plan old new first last Reported result ⊎ NoLine old new first last Quiet result
+  abbrev pub AnswersBook : Form → List Planned → (old new : KeptValue D) → (first last : Option (List ℕ)) → (Reported : List Entry → Type 0) → (Quiet : Type 0) → Result Unit EndFault → Type 0
+  AnswersBook form plan old new first last Reported Quiet result = RunsBook form plan old new first last Reported result ⊎ NoLine old new first last Quiet result
 
   -- there was no connection, or no memory for a trace
   abbrev pub IsUnbegun : Result Unit EndFault → Type 0
@@ -90,12 +91,12 @@ module _ {L D : Type 0} (connects : KeptValue D → KeptValue D → Result Unit 
     pub quiet : Quiet
 
   -- The steps were made on a line, with a trace perhaps, which lacks something or does not.
-  pub record TracesBook (plan : List Planned) (old new : KeptValue D) (first last : Option (List ℕ)) (Reported : List Entry → Type 0) (Quiet : Type 0) (result : Result Unit EndFault) : Type 0 where
+  pub record TracesBook (form : Form) (plan : List Planned) (old new : KeptValue D) (first last : Option (List ℕ)) (Reported : List Entry → Type 0) (Quiet : Type 0) (result : Result Unit EndFault) : Type 0 where
     pub ended : Result Unit EndFault
     pub lacks : Bool
-    pub answers : AnswersBook plan old new first last Reported Quiet ended
+    pub answers : AnswersBook form plan old new first last Reported Quiet ended
     pub is : result ≡ by_trace lacks ended
 
   -- What a run of these steps answers over TCP.
-  abbrev pub AnswersBookRun : List Planned → (old new : KeptValue D) → (first last : Option (List ℕ)) → (Reported : List Entry → Type 0) → (Quiet : Type 0) → Result Unit EndFault → Type 0
-  AnswersBookRun plan old new first last Reported Quiet result = TracesBook plan old new first last Reported Quiet result ⊎ NotBegun old new first last Quiet result
+  abbrev pub AnswersBookRun : Form → List Planned → (old new : KeptValue D) → (first last : Option (List ℕ)) → (Reported : List Entry → Type 0) → (Quiet : Type 0) → Result Unit EndFault → Type 0
+  AnswersBookRun form plan old new first last Reported Quiet result = TracesBook form plan old new first last Reported Quiet result ⊎ NotBegun old new first last Quiet result

@@ -1,6 +1,7 @@
 pub mod Words
 pub mod Steps
 pub mod Outcomes
+pub mod Objects
 pub mod Plans
 pub mod Runs
 pub mod LineEnd

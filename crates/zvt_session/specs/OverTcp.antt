@@ -1,6 +1,7 @@
 -- What a run over TCP answers.
 use Rattle.std.specs.Prelude.{◌≡◌, ◌⊎◌, ℕ, List, Option, Result, Ok, Err}
 use Rattle.std.specs.Io.KnownBytes.{Keeps}
+use Rattle.zvt_json.specs.declared.form.Form.{Form}
 use Rattle.zvt_till.specs.declared.entries.Entry.{Entry}
 use Rattle.zvt_till.specs.Sending.{Settings}
 use Rattle.zvt_till.specs.Till.{new_till, step}
@@ -13,22 +14,22 @@ use Rattle.zvt_session.specs.Traced.{AnswersTraced}
 use Rattle.zvt_session.specs.declared.plans.Planned.{Planned}
 
 -- A new till of these settings, connected to a line at its start, ran these steps, and this was reported of its book.
-pub record RunsPlan {L : Type 0} (makes : Law L TillValue) (begins : L → Type 0) (settings : Settings) (plan : List Planned) (old new : Option (List ℕ)) (Reported : List Entry → Type 0) (result : Result Unit EndFault) : Type 0 where
+pub record RunsPlan {L : Type 0} (makes : Law L TillValue) (begins : L → Type 0) (settings : Settings) (form : Form) (plan : List Planned) (old new : Option (List ℕ)) (Reported : List Entry → Type 0) (result : Result Unit EndFault) : Type 0 where
   pub before : Standing L TillValue
   pub after : Standing L TillValue
   pub begun : begins before.line
   pub connected : before.till.state ≡ step (new_till settings) Connected
-  pub answers : Answers itself makes plan before after old new result
+  pub answers : Answers itself makes form plan before after old new result
   pub reported : Reported after.till.state.book
 
 -- What a run of these steps answers, with a trace perhaps. Without a connection nothing is written or reported. The words of
 -- the steps were read before, so none of them is found wrong.
-abbrev pub AnswersRun : {L : Type 0} → Law L TillValue → (L → Type 0) → Settings → List Planned → (old new : Option (List ℕ)) → (Reported : List Entry → Type 0) → (Quiet : Type 0) → Result Unit EndFault → Type 0
-AnswersRun makes begins settings plan old new Reported Quiet (Ok done) = AnswersTraced (RunsPlan makes begins settings plan old new Reported) (Ok done)
-AnswersRun makes begins settings plan old new Reported Quiet (Err (LineBroke fault)) = AnswersTraced (RunsPlan makes begins settings plan old new Reported) (Err (LineBroke fault))
-AnswersRun makes begins settings plan old new Reported Quiet (Err Trace) = AnswersTraced (RunsPlan makes begins settings plan old new Reported) (Err Trace)
-AnswersRun makes begins settings plan old new Reported Quiet (Err Book) = ⊥
-AnswersRun makes begins settings plan old new Reported Quiet (Err Write) = AnswersTraced (RunsPlan makes begins settings plan old new Reported) (Err Write)
-AnswersRun makes begins settings plan old new Reported Quiet (Err Memory) = (Keeps old new × Quiet) ⊎ AnswersTraced (RunsPlan makes begins settings plan old new Reported) (Err Memory)
-AnswersRun makes begins settings plan old new Reported Quiet (Err (BadStep at)) = ⊥
-AnswersRun makes begins settings plan old new Reported Quiet (Err (Net why)) = Keeps old new × Quiet
+abbrev pub AnswersRun : {L : Type 0} → Law L TillValue → (L → Type 0) → Settings → Form → List Planned → (old new : Option (List ℕ)) → (Reported : List Entry → Type 0) → (Quiet : Type 0) → Result Unit EndFault → Type 0
+AnswersRun makes begins settings form plan old new Reported Quiet (Ok done) = AnswersTraced (RunsPlan makes begins settings form plan old new Reported) (Ok done)
+AnswersRun makes begins settings form plan old new Reported Quiet (Err (LineBroke fault)) = AnswersTraced (RunsPlan makes begins settings form plan old new Reported) (Err (LineBroke fault))
+AnswersRun makes begins settings form plan old new Reported Quiet (Err Trace) = AnswersTraced (RunsPlan makes begins settings form plan old new Reported) (Err Trace)
+AnswersRun makes begins settings form plan old new Reported Quiet (Err Book) = ⊥
+AnswersRun makes begins settings form plan old new Reported Quiet (Err Write) = AnswersTraced (RunsPlan makes begins settings form plan old new Reported) (Err Write)
+AnswersRun makes begins settings form plan old new Reported Quiet (Err Memory) = (Keeps old new × Quiet) ⊎ AnswersTraced (RunsPlan makes begins settings form plan old new Reported) (Err Memory)
+AnswersRun makes begins settings form plan old new Reported Quiet (Err (BadStep at)) = ⊥
+AnswersRun makes begins settings form plan old new Reported Quiet (Err (Net why)) = Keeps old new × Quiet

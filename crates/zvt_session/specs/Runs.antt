@@ -3,6 +3,7 @@ use Rattle.std.specs.Prelude.{◌≡◌, ◌⊎◌, ℕ, Bool, true, false, List
 use Rattle.std.specs.String.{string_bytes}
 use Rattle.std.specs.Io.KnownBytes.{Appends}
 use Rattle.zvt_io.specs.Devices.{IsPrefix}
+use Rattle.zvt_json.specs.declared.form.Form.{Form}
 use Rattle.zvt_stream.specs.declared.line.LineFault.{LineFault}
 use Rattle.zvt_till.specs.Marks.{total}
 use Rattle.zvt_till.specs.View.{TillValue}
@@ -15,7 +16,7 @@ use Rattle.zvt_session.specs.declared.fault.EndFault.{EndFault}
 use Rattle.zvt_session.specs.declared.fault.EndFault.TheVariants.{BadStep, Book, Line as LineBroke, Memory, Net, Trace, Write}
 use Rattle.zvt_session.specs.declared.plans.Planned.{Planned}
 use Rattle.zvt_session.specs.declared.arguments.Step.{Step}
-use Rattle.zvt_session.specs.Outcomes.{ending_text, step_text, total_text}
+use Rattle.zvt_session.specs.Objects.{step_line, total_line}
 
 -- how the line broke, if it did
 abbrev pub fault_of : Result Outcome RunFault → Option LineFault
@@ -54,19 +55,19 @@ abbrev pub itself : TillValue → TillValue
 itself till = till
 
 -- A step was made, came to this, and its line says so.
-pub record Makes {L T : Type 0} (seen : T → TillValue) (makes : Law L T) (planned : Planned) (result : Result Outcome RunFault) (before after : Standing L T) (text : List ℕ) : Type 0 where
+pub record Makes {L T : Type 0} (seen : T → TillValue) (makes : Law L T) (form : Form) (planned : Planned) (result : Result Outcome RunFault) (before after : Standing L T) (text : List ℕ) : Type 0 where
   pub made : makes before.line before.till planned.step result after.line after.till
-  pub said : text ≡ step_text (string_bytes planned.word) (ending_text result (seen after.till).state.last_outcome)
+  pub said : text ≡ step_line form (string_bytes planned.word) result (seen after.till).state.last_outcome
 
 -- The steps were made one after another, no line broke, no order wanted memory, and this is what was said of them.
-abbrev pub MakesAll : {L T : Type 0} → (T → TillValue) → Law L T → List Planned → Standing L T → Standing L T → List ℕ → Type 0
-MakesAll seen makes [] before after text = (after ≡ before) × (text ≡ [])
-MakesAll {L} {T} seen makes (planned ∷ plan) before after text =
+abbrev pub MakesAll : {L T : Type 0} → (T → TillValue) → Law L T → Form → List Planned → Standing L T → Standing L T → List ℕ → Type 0
+MakesAll seen makes form [] before after text = (after ≡ before) × (text ≡ [])
+MakesAll {L} {T} seen makes form (planned ∷ plan) before after text =
     (result : Result Outcome RunFault) × (middle : Standing L T) × (first others : List ℕ)
-    × Makes seen makes planned result before middle first × GoesOn result × MakesAll seen makes plan middle after others × (text ≡ first ++ others)
+    × Makes seen makes form planned result before middle first × GoesOn result × MakesAll seen makes form plan middle after others × (text ≡ first ++ others)
 
 -- The line broke in a step, and none after it was made.
-pub record BreaksIn {L T : Type 0} (seen : T → TillValue) (makes : Law L T) (plan : List Planned) (fault : LineFault) (before after : Standing L T) (text : List ℕ) : Type 0 where
+pub record BreaksIn {L T : Type 0} (seen : T → TillValue) (makes : Law L T) (form : Form) (plan : List Planned) (fault : LineFault) (before after : Standing L T) (text : List ℕ) : Type 0 where
   pub done : List Planned
   pub planned : Planned
   pub later : List Planned
@@ -74,20 +75,20 @@ pub record BreaksIn {L T : Type 0} (seen : T → TillValue) (makes : Law L T) (p
   pub said : List ℕ
   pub last : List ℕ
   pub cut : plan ≡ done ++ planned ∷ later
-  pub all : MakesAll seen makes done before middle said
-  pub breaks : Makes seen makes planned (Err (Line fault)) middle after last
+  pub all : MakesAll seen makes form done before middle said
+  pub breaks : Makes seen makes form planned (Err (Line fault)) middle after last
   pub whole : text ≡ said ++ last
 
 -- All steps were made, or those up to the one in which the line broke.
-abbrev pub MakesTo : {L T : Type 0} → (T → TillValue) → Law L T → List Planned → Option LineFault → Standing L T → Standing L T → List ℕ → Type 0
-MakesTo seen makes plan None before after text = MakesAll seen makes plan before after text
-MakesTo seen makes plan (Some fault) before after text = BreaksIn seen makes plan fault before after text
+abbrev pub MakesTo : {L T : Type 0} → (T → TillValue) → Law L T → Form → List Planned → Option LineFault → Standing L T → Standing L T → List ℕ → Type 0
+MakesTo seen makes form plan None before after text = MakesAll seen makes form plan before after text
+MakesTo seen makes form plan (Some fault) before after text = BreaksIn seen makes form plan fault before after text
 
 -- They were made, and the total follows their lines.
-pub record Ran {L T : Type 0} (seen : T → TillValue) (makes : Law L T) (plan : List Planned) (broken : Option LineFault) (before after : Standing L T) (old new : Option (List ℕ)) : Type 0 where
+pub record Ran {L T : Type 0} (seen : T → TillValue) (makes : Law L T) (form : Form) (plan : List Planned) (broken : Option LineFault) (before after : Standing L T) (old new : Option (List ℕ)) : Type 0 where
   pub said : List ℕ
-  pub made : MakesTo seen makes plan broken before after said
-  pub appended : Appends old new (said ++ total_text (total (seen after.till).state.book))
+  pub made : MakesTo seen makes form plan broken before after said
+  pub appended : Appends old new (said ++ total_line form (total (seen after.till).state.book))
 
 -- ---- where the text could not be written whole
 
@@ -100,7 +101,7 @@ abbrev pub WritesPart : (List ℕ → List ℕ → Type 0) → List ℕ → (old
 WritesPart Part text old new = (part : List ℕ) × Part part text × Appends old new part
 
 -- The steps up to this one were made, each once. The lines of all before it were written, and such a part of its own.
-pub record EndsInStep {L T : Type 0} (seen : T → TillValue) (makes : Law L T) (Part : List ℕ → List ℕ → Type 0) (plan : List Planned) (before after : Standing L T) (old new : Option (List ℕ)) : Type 0 where
+pub record EndsInStep {L T : Type 0} (seen : T → TillValue) (makes : Law L T) (form : Form) (Part : List ℕ → List ℕ → Type 0) (plan : List Planned) (before after : Standing L T) (old new : Option (List ℕ)) : Type 0 where
   pub done : List Planned
   pub planned : Planned
   pub later : List Planned
@@ -110,63 +111,63 @@ pub record EndsInStep {L T : Type 0} (seen : T → TillValue) (makes : Law L T) 
   pub last : List ℕ
   pub between : Option (List ℕ)
   pub cut : plan ≡ done ++ planned ∷ later
-  pub all : MakesAll seen makes done before middle said
-  pub made : Makes seen makes planned result middle after last
+  pub all : MakesAll seen makes form done before middle said
+  pub made : Makes seen makes form planned result middle after last
   pub appended : Appends old between said
   pub partly : WritesPart Part last between new
 
 -- All steps were made, or those up to the one in which the line broke, each once. Their lines were written, and such a
 -- part of the total.
-pub record EndsInTotal {L T : Type 0} (seen : T → TillValue) (makes : Law L T) (Part : List ℕ → List ℕ → Type 0) (plan : List Planned) (before after : Standing L T) (old new : Option (List ℕ)) : Type 0 where
+pub record EndsInTotal {L T : Type 0} (seen : T → TillValue) (makes : Law L T) (form : Form) (Part : List ℕ → List ℕ → Type 0) (plan : List Planned) (before after : Standing L T) (old new : Option (List ℕ)) : Type 0 where
   pub broken : Option LineFault
   pub said : List ℕ
   pub between : Option (List ℕ)
-  pub made : MakesTo seen makes plan broken before after said
+  pub made : MakesTo seen makes form plan broken before after said
   pub appended : Appends old between said
-  pub partly : WritesPart Part (total_text (total (seen after.till).state.book)) between new
+  pub partly : WritesPart Part (total_line form (total (seen after.till).state.book)) between new
 
-abbrev pub EndsEarly : {L T : Type 0} → (T → TillValue) → Law L T → (List ℕ → List ℕ → Type 0) → List Planned → Standing L T → Standing L T → Option (List ℕ) → Option (List ℕ) → Type 0
-EndsEarly seen makes Part plan before after old new = EndsInStep seen makes Part plan before after old new ⊎ EndsInTotal seen makes Part plan before after old new
+abbrev pub EndsEarly : {L T : Type 0} → (T → TillValue) → Law L T → Form → (List ℕ → List ℕ → Type 0) → List Planned → Standing L T → Standing L T → Option (List ℕ) → Option (List ℕ) → Type 0
+EndsEarly seen makes form Part plan before after old new = EndsInStep seen makes form Part plan before after old new ⊎ EndsInTotal seen makes form Part plan before after old new
 
 -- ---- what functions answer
 
 -- What a run answers.
-abbrev pub Answers : {L T : Type 0} → (T → TillValue) → Law L T → List Planned → Standing L T → Standing L T → Option (List ℕ) → Option (List ℕ) → Result Unit EndFault → Type 0
-Answers seen makes plan before after old new (Ok done) = Ran seen makes plan None before after old new
-Answers seen makes plan before after old new (Err (LineBroke fault)) = Ran seen makes plan (Some fault) before after old new
-Answers seen makes plan before after old new (Err Write) = EndsEarly seen makes IsPrefix plan before after old new
-Answers seen makes plan before after old new (Err Memory) = EndsEarly seen makes IsMissing plan before after old new
-Answers seen makes plan before after old new (Err (BadStep at)) = ⊥
-Answers seen makes plan before after old new (Err (Net why)) = ⊥
-Answers seen makes plan before after old new (Err Trace) = ⊥
-Answers seen makes plan before after old new (Err Book) = ⊥
+abbrev pub Answers : {L T : Type 0} → (T → TillValue) → Law L T → Form → List Planned → Standing L T → Standing L T → Option (List ℕ) → Option (List ℕ) → Result Unit EndFault → Type 0
+Answers seen makes form plan before after old new (Ok done) = Ran seen makes form plan None before after old new
+Answers seen makes form plan before after old new (Err (LineBroke fault)) = Ran seen makes form plan (Some fault) before after old new
+Answers seen makes form plan before after old new (Err Write) = EndsEarly seen makes form IsPrefix plan before after old new
+Answers seen makes form plan before after old new (Err Memory) = EndsEarly seen makes form IsMissing plan before after old new
+Answers seen makes form plan before after old new (Err (BadStep at)) = ⊥
+Answers seen makes form plan before after old new (Err (Net why)) = ⊥
+Answers seen makes form plan before after old new (Err Trace) = ⊥
+Answers seen makes form plan before after old new (Err Book) = ⊥
 
 -- A step was made, once, and its line was written.
-pub record Said {L T : Type 0} (seen : T → TillValue) (makes : Law L T) (planned : Planned) (broken : Option LineFault) (before after : Standing L T) (old new : Option (List ℕ)) : Type 0 where
+pub record Said {L T : Type 0} (seen : T → TillValue) (makes : Law L T) (form : Form) (planned : Planned) (broken : Option LineFault) (before after : Standing L T) (old new : Option (List ℕ)) : Type 0 where
   pub result : Result Outcome RunFault
   pub text : List ℕ
-  pub made : Makes seen makes planned result before after text
+  pub made : Makes seen makes form planned result before after text
   pub ended : fault_of result ≡ broken
   pub not_wanting : wants_memory result ≡ false
   pub appended : Appends old new text
 
 -- A step was made, once, and such a part of its line was written.
-pub record PartlySaid {L T : Type 0} (seen : T → TillValue) (makes : Law L T) (Part : List ℕ → List ℕ → Type 0) (planned : Planned) (before after : Standing L T) (old new : Option (List ℕ)) : Type 0 where
+pub record PartlySaid {L T : Type 0} (seen : T → TillValue) (makes : Law L T) (form : Form) (Part : List ℕ → List ℕ → Type 0) (planned : Planned) (before after : Standing L T) (old new : Option (List ℕ)) : Type 0 where
   pub result : Result Outcome RunFault
   pub text : List ℕ
-  pub made : Makes seen makes planned result before after text
+  pub made : Makes seen makes form planned result before after text
   pub partly : WritesPart Part text old new
 
 -- What one step answers: how the line broke, if it did.
-abbrev pub AnswersStep : {L T : Type 0} → (T → TillValue) → Law L T → Planned → Standing L T → Standing L T → Option (List ℕ) → Option (List ℕ) → Result (Option LineFault) EndFault → Type 0
-AnswersStep seen makes planned before after old new (Ok broken) = Said seen makes planned broken before after old new
-AnswersStep seen makes planned before after old new (Err Write) = PartlySaid seen makes IsPrefix planned before after old new
-AnswersStep seen makes planned before after old new (Err Memory) = PartlySaid seen makes IsMissing planned before after old new
-AnswersStep seen makes planned before after old new (Err (LineBroke fault)) = ⊥
-AnswersStep seen makes planned before after old new (Err (BadStep at)) = ⊥
-AnswersStep seen makes planned before after old new (Err (Net why)) = ⊥
-AnswersStep seen makes planned before after old new (Err Trace) = ⊥
-AnswersStep seen makes planned before after old new (Err Book) = ⊥
+abbrev pub AnswersStep : {L T : Type 0} → (T → TillValue) → Law L T → Form → Planned → Standing L T → Standing L T → Option (List ℕ) → Option (List ℕ) → Result (Option LineFault) EndFault → Type 0
+AnswersStep seen makes form planned before after old new (Ok broken) = Said seen makes form planned broken before after old new
+AnswersStep seen makes form planned before after old new (Err Write) = PartlySaid seen makes form IsPrefix planned before after old new
+AnswersStep seen makes form planned before after old new (Err Memory) = PartlySaid seen makes form IsMissing planned before after old new
+AnswersStep seen makes form planned before after old new (Err (LineBroke fault)) = ⊥
+AnswersStep seen makes form planned before after old new (Err (BadStep at)) = ⊥
+AnswersStep seen makes form planned before after old new (Err (Net why)) = ⊥
+AnswersStep seen makes form planned before after old new (Err Trace) = ⊥
+AnswersStep seen makes form planned before after old new (Err Book) = ⊥
 
 -- What writing a text answers.
 abbrev pub AnswersText : List ℕ → Option (List ℕ) → Option (List ℕ) → Result Unit EndFault → Type 0

@@ -9,7 +9,7 @@ ghost use Rattle.zvt_session.specs.Reporting.{ReportsReversals};
 use crate::arguments::Step;
 use crate::fault::EndFault;
 use crate::line_end::LineEnd;
-use crate::plans::Planned;
+use crate::plans::StepRun;
 use crate::reversals::report_reversals;
 use crate::steps::{StepLine, connected_till, run_steps};
 use std::alloc::Global;
@@ -71,24 +71,25 @@ impl<A: LineEnd, B: LineEnd> StepLine<Till> for BothEnds<A, B> {
 
 /// Makes the steps one after another with a new till, on this line that is at its start.
 ///
-/// Each step writes a line when it ends: its word and its outcome. The last line is the till's total. After a line that
-/// broke no further step is made, and the fault is `Line`. An order that is not sent is a fault only where memory runs out.
-/// The other faults are `Write` and `Memory`. After these no step is made again, and no step after the one whose line is
-/// missing. However the run ends, `report` gets a line for each entry of the book whose last reversal is unclear.
+/// Each step writes a line when it ends: its word and its outcome. The last line is the till's total. `steps` has the
+/// form of these lines. After a line that broke no further step is made, and the fault is `Line`. An order that is not sent
+/// is a fault only where memory runs out. The other faults are `Write` and `Memory`. After these no step is made again, and
+/// no step after the one whose line is missing. However the run ends, `report` gets a line for each entry of the book whose
+/// last reversal is unclear.
 pub fn run_both_ends<A: LineEnd, B: LineEnd, T: Sink, E: Sink>(
     alloc: Global,
     line: &mut BothEnds<A, B>,
     settings: &TillSettings,
-    plan: &[Planned],
+    steps: &StepRun<'_>,
     writer: &mut T,
     report: &mut E,
 ) -> Result<(), EndFault>
     requires { BeginsHere (line_of A.state B.state line.old) }
-    ensures run { RunsPlan MakesHereBy BeginsHere (settings_of settings.now) plan.now (T.written writer.old) (T.written writer.new) (ReportsReversals (E.written report.old) (E.written report.new) (E.failures report.old) (E.failures report.new)) result }
+    ensures run { RunsPlan MakesHereBy BeginsHere (settings_of settings.now) steps.now.form steps.now.plan.now (T.written writer.old) (T.written writer.new) (ReportsReversals (E.written report.old) (E.written report.new) (E.failures report.old) (E.failures report.new)) result }
     ensures write { result ≡ Err EndFault.Write → T.failures writer.old < T.failures writer.new }
 {
     let mut till = connected_till(alloc, settings);
-    let answer = run_steps(alloc, line, &mut till, plan, writer);
+    let answer = run_steps(alloc, line, &mut till, steps, writer);
     report_reversals(till.book(), report);
     answer
 }

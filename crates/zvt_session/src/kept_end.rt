@@ -9,7 +9,7 @@ ghost use Rattle.zvt_session.specs.TillEnd.{BeginsThere};
 use crate::arguments::Step;
 use crate::fault::EndFault;
 use crate::kept_steps::{run_fault, run_kept_steps};
-use crate::plans::Planned;
+use crate::plans::StepRun;
 use crate::steps::StepLine;
 use crate::till_end::READS_OF_AN_ORDER;
 use std::alloc::Global;
@@ -48,14 +48,14 @@ pub fn run_till_end_kept<R: Source, W: Sink, D: Device, T: Sink, E: Sink>(
     alloc: Global,
     end: &mut Endpoint<R, W>,
     kept: &mut KeptTill<D>,
-    plan: &[Planned],
+    steps: &StepRun<'_>,
     writer: &mut T,
     report: &mut E,
 ) -> Result<(), EndFault>
     requires { end.old.stream ≡ start_in end.old.stream.reading }
-    ensures run { AnswersBook (Connects D.seen D.may_leave D.moment D.left_since) (MakesThereKept D.seen D.may_leave D.moment D.left_since) (BeginsThere end.old.stream.reading) plan.now kept.old kept.new (T.written writer.old) (T.written writer.new)
+    ensures run { AnswersBook (Connects D.seen D.may_leave D.moment D.left_since) (MakesThereKept D.seen D.may_leave D.moment D.left_since) (BeginsThere end.old.stream.reading) steps.now.form steps.now.plan.now kept.old kept.new (T.written writer.old) (T.written writer.new)
         (ReportsReversals (E.written report.old) (E.written report.new) (E.failures report.old) (E.failures report.new)) (ReportsNothing (E.written report.old) (E.written report.new) (E.failures report.old) (E.failures report.new)) result }
     ensures write { result ≡ Err EndFault.Write → T.failures writer.old < T.failures writer.new }
 {
-    run_kept_steps(alloc, end, kept, plan, writer, report)
+    run_kept_steps(alloc, end, kept, steps, writer, report)
 }

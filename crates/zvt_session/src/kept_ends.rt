@@ -12,7 +12,7 @@ use crate::both_ends::{ALTERNATIONS, BothEnds, ended};
 use crate::fault::EndFault;
 use crate::kept_steps::{run_fault, run_kept_steps};
 use crate::line_end::LineEnd;
-use crate::plans::Planned;
+use crate::plans::StepRun;
 use crate::steps::StepLine;
 use std::alloc::Global;
 use zvt_apdu::MAX_TILL_MESSAGE_LEN;
@@ -107,14 +107,14 @@ pub fn run_both_ends_kept<A: LineEnd, B: LineEnd, D: Device, T: Sink, E: Sink>(
     alloc: Global,
     line: &mut BothEnds<A, B>,
     kept: &mut KeptTill<D>,
-    plan: &[Planned],
+    steps: &StepRun<'_>,
     writer: &mut T,
     report: &mut E,
 ) -> Result<(), EndFault>
     requires { BeginsHere (line_of A.state B.state line.old) }
-    ensures run { AnswersBook (Connects D.seen D.may_leave D.moment D.left_since) (MakesHereKept D.seen D.may_leave D.moment D.left_since) BeginsHere plan.now kept.old kept.new (T.written writer.old) (T.written writer.new)
+    ensures run { AnswersBook (Connects D.seen D.may_leave D.moment D.left_since) (MakesHereKept D.seen D.may_leave D.moment D.left_since) BeginsHere steps.now.form steps.now.plan.now kept.old kept.new (T.written writer.old) (T.written writer.new)
         (ReportsReversals (E.written report.old) (E.written report.new) (E.failures report.old) (E.failures report.new)) (ReportsNothing (E.written report.old) (E.written report.new) (E.failures report.old) (E.failures report.new)) result }
     ensures write { result ≡ Err EndFault.Write → T.failures writer.old < T.failures writer.new }
 {
-    run_kept_steps(alloc, line, kept, plan, writer, report)
+    run_kept_steps(alloc, line, kept, steps, writer, report)
 }

@@ -5,7 +5,7 @@ ghost use Rattle.zvt_session.specs.Kept.{AnswersBook, run_fault_of};
 ghost use Rattle.zvt_session.specs.Reporting.{ReportsNothing, ReportsReversals};
 
 use crate::fault::{EndFault, by_book};
-use crate::plans::Planned;
+use crate::plans::StepRun;
 use crate::reversals::report_reversals;
 use crate::steps::{Keeper, StepLine, run_steps};
 use std::alloc::Global;
@@ -34,18 +34,18 @@ pub(crate) fn run_kept_steps<L: StepLine<KeptTill<D>>, D: Device, T: Sink, E: Si
     alloc: Global,
     line: &mut L,
     kept: &mut KeptTill<D>,
-    plan: &[Planned],
+    steps: &StepRun<'_>,
     writer: &mut T,
     report: &mut E,
 ) -> Result<(), EndFault>
-    ensures run { AnswersBook (Connects D.seen D.may_leave D.moment D.left_since) L.makes (λ begun. begun ≡ line.old) plan.now kept.old kept.new (T.written writer.old) (T.written writer.new)
+    ensures run { AnswersBook (Connects D.seen D.may_leave D.moment D.left_since) L.makes (λ begun. begun ≡ line.old) steps.now.form steps.now.plan.now kept.old kept.new (T.written writer.old) (T.written writer.new)
         (ReportsReversals (E.written report.old) (E.written report.new) (E.failures report.old) (E.failures report.new)) (ReportsNothing (E.written report.old) (E.written report.new) (E.failures report.old) (E.failures report.new)) result }
     ensures write { result ≡ Err EndFault.Write → T.failures writer.old < T.failures writer.new }
 {
     if let Err(_) = kept.connected(alloc) {
         return Err(EndFault::Book);
     }
-    let answer = run_steps(alloc, line, kept, plan, writer);
+    let answer = run_steps(alloc, line, kept, steps, writer);
     report_reversals(kept.till().book(), report);
     by_book(kept.has_failed(), answer)
 }

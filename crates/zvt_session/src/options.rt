@@ -6,7 +6,8 @@ use zvt_json::Form;
 use zvt_term::Verdict;
 use zvt_till::TillSettings;
 
-/// The run of a till: the terminal that it connects to, its settings, and how its line is read and traced.
+/// The run of a till: the terminal that it connects to, its settings, how its line is read and traced, and what form its
+/// text has.
 #[derive(Clone, Copy)]
 pub struct TillRun<'a, 'f> {
     /// The name or address of the terminal's host.
@@ -19,9 +20,12 @@ pub struct TillRun<'a, 'f> {
     pub lengths: Lengths,
     /// The file that the trace is written to.
     pub trace: Option<&'f File>,
+    /// The form in which the steps and the total are written.
+    pub form: Form,
 }
 
-/// The run of a till that keeps its book: the terminal that it connects to, its steps, and how its line is read and traced.
+/// The run of a till that keeps its book: the terminal that it connects to, its steps, how its line is read and traced, and
+/// what form its text has.
 #[derive(Clone, Copy)]
 pub struct BookRun<'a, 'f> {
     /// The name or address of the terminal's host.
@@ -34,15 +38,19 @@ pub struct BookRun<'a, 'f> {
     pub trace: Option<&'f File>,
     /// The steps of the till.
     pub plan: &'a [Planned],
+    /// The form in which the steps and the total are written.
+    pub form: Form,
 }
 
-/// The run of both ends in this process: the till's steps, and how its line is traced.
+/// The run of both ends in this process: the till's steps, how its line is traced, and what form its text has.
 #[derive(Clone, Copy)]
 pub struct LoopRun<'a, 'f> {
     /// The file that the trace is written to.
     pub trace: Option<&'f File>,
     /// The steps of the till.
     pub plan: &'a [Planned],
+    /// The form in which the steps and the total are written.
+    pub form: Form,
 }
 
 /// The run of a simulated terminal: where it listens, what it answers, how its lines are read and traced, and the form of its

@@ -6,12 +6,22 @@ ghost use Rattle.zvt_session.specs.Plans.{AddsStep, PlansOrStops, words_of};
 use crate::arguments::{Ends, Step, step_of};
 use crate::fault::EndFault;
 use std::alloc::{AllocError, Global};
+use zvt_json::Form;
 
 /// A step, and the word that names it.
 #[derive(Debug, Drop, PartialEq, Eq)]
 pub struct Planned {
     pub word: String,
     pub step: Step,
+}
+
+/// The steps of a run, and the form of what it writes of them.
+#[derive(Clone, Copy)]
+pub struct StepRun<'a> {
+    /// The steps, which are made in this order.
+    pub plan: &'a [Planned],
+    /// The form in which the steps and the total are written.
+    pub form: Form,
 }
 
 /// The default steps of a run of both ends.

@@ -8,16 +8,19 @@ ghost use Rattle.zvt_till.specs.declared.happenings.Happening.TheVariants.{Conne
 ghost use Rattle.zvt_till.specs.declared.line.RunFault.{RunFault};
 ghost use Rattle.zvt_till.specs.declared.outcomes.Outcome.{Outcome};
 ghost use Rattle.zvt_session.specs.declared.arguments.Step.{Step};
-ghost use Rattle.zvt_session.specs.Outcomes.{ending_text, total_text};
+ghost use Rattle.zvt_session.specs.Objects.{step_line, total_line};
+ghost use Rattle.zvt_session.specs.Outcomes.{ending_text, step_text, total_text};
 ghost use Rattle.zvt_till.specs.Settings.{settings_of};
 ghost use Rattle.zvt_session.specs.Runs.{Answers, AnswersStep, AnswersText, fault_of, standing, wants_memory};
 
 use crate::arguments::Step;
 use crate::fault::EndFault;
+use crate::objects::{say_step_object, say_total_object};
 use crate::outcomes::outcome_text;
-use crate::plans::Planned;
+use crate::plans::{Planned, StepRun};
 use std::alloc::{AllocError, Global};
 use zvt_io::Sink;
+use zvt_json::Form;
 use zvt_stream::LineFault;
 use zvt_text::Text;
 use zvt_till::{OrderRefusal, Outcome, RunFault, Till, TillSettings};
@@ -54,27 +57,27 @@ pub(crate) trait StepLine<K: Keeper> {
 }
 
 /// Makes the steps one after another. Each writes a line when it ends: its word and its outcome. The last line is the
-/// till's total. After a connection that failed no further step is made, and the fault is `Line`. An order that is not
-/// sent is a fault only where memory runs out. The other faults are `Write` and `Memory`. After these no step is made again,
-/// and no step after the one whose line is missing. The lines of all steps before it were written. After `Write` a prefix
-/// of its own line may be written.
+/// till's total. `steps` has the form of these lines. After a connection that failed no further step is made, and the
+/// fault is `Line`. An order that is not sent is a fault only where memory runs out. The other faults are `Write` and
+/// `Memory`. After these no step is made again, and no step after the one whose line is missing. The lines of all steps
+/// before it were written. After `Write` a prefix of its own line may be written.
 pub(crate) fn run_steps<L: StepLine<K>, K: Keeper, W: Sink>(
     alloc: Global,
     line: &mut L,
     till: &mut K,
-    plan: &[Planned],
+    steps: &StepRun<'_>,
     writer: &mut W,
 ) -> Result<(), EndFault>
-    ensures run { Answers K.till L.makes plan.now (standing line.old till.old) (standing line.new till.new) (W.written writer.old) (W.written writer.new) result }
+    ensures run { Answers K.till L.makes steps.now.form steps.now.plan.now (standing line.old till.old) (standing line.new till.new) (W.written writer.old) (W.written writer.new) result }
     ensures write { result ≡ Err EndFault.Write → W.failures writer.old < W.failures writer.new }
 {
-    'steps: for planned in plan {
-        if let Some(fault) = make_step(alloc, line, till, planned, writer)? {
-            write_total(alloc, till, writer)?;
+    'steps: for planned in steps.plan {
+        if let Some(fault) = make_step(alloc, line, till, steps.form, planned, writer)? {
+            write_total(alloc, till, steps.form, writer)?;
             return Err(EndFault::Line(fault));
         }
     }
-    write_total(alloc, till, writer)
+    write_total(alloc, till, steps.form, writer)
 }
 
 /// A new till of these settings, whose line is up.
@@ -86,15 +89,16 @@ pub(crate) fn connected_till(alloc: Global, settings: &TillSettings) -> Till
     till
 }
 
-/// Makes a step and writes its line. Answers how the line broke, if it did.
+/// Makes a step and writes its line in this form. Answers how the line broke, if it did.
 fn make_step<L: StepLine<K>, K: Keeper, W: Sink>(
     alloc: Global,
     line: &mut L,
     till: &mut K,
+    form: Form,
     planned: &Planned,
     writer: &mut W,
 ) -> Result<Option<LineFault>, EndFault>
-    ensures step { AnswersStep K.till L.makes planned.now (standing line.old till.old) (standing line.new till.new) (W.written writer.old) (W.written writer.new) result }
+    ensures step { AnswersStep K.till L.makes form planned.now (standing line.old till.old) (standing line.new till.new) (W.written writer.old) (W.written writer.new) result }
     ensures write { result ≡ Err EndFault.Write → W.failures writer.old < W.failures writer.new }
     ensures count { IfOk result (λ _. W.failures writer.new ≡ W.failures writer.old) }
 {
@@ -103,12 +107,43 @@ fn make_step<L: StepLine<K>, K: Keeper, W: Sink>(
         return Err(EndFault::Memory);
     }
     let mut text = Text::new(alloc);
-    text.word(planned.word.as_bytes())?;
-    text.word(b" -> ")?;
-    say_ending(&mut text, &made, till.look().last_outcome())?;
-    text.push(b'\n')?;
+    let last = till.look().last_outcome();
+    say_step(alloc, &mut text, form, planned.word.as_str(), &made, last)?;
     writer.write_all(text.bytes())?;
     Ok(fault_of(&made))
+}
+
+/// Adds the line of a step in this form: its word, and what became of it, where the till says this of the order that ended
+/// last.
+fn say_step(
+    alloc: Global,
+    text: &mut Text,
+    form: Form,
+    word: &str,
+    made: &Result<Outcome, RunFault>,
+    last: Option<Outcome>,
+) -> Result<(), AllocError>
+    ensures { OnOk result (text.new ≡ text.old ++ step_line form word.now made.now last) }
+{
+    match form {
+        Form::Text => say_step_text(text, word, made, last),
+        Form::Json => say_step_object(alloc, text, word, made, last),
+    }
+}
+
+/// Adds the text of a step: its word, and what became of it.
+fn say_step_text(
+    text: &mut Text,
+    word: &str,
+    made: &Result<Outcome, RunFault>,
+    last: Option<Outcome>,
+) -> Result<(), AllocError>
+    ensures { OnOk result (text.new ≡ text.old ++ step_text word.now (ending_text made.now last)) }
+{
+    text.word(word.as_bytes())?;
+    text.word(b" -> ")?;
+    say_ending(text, made, last)?;
+    text.push(b'\n')
 }
 
 /// Writes what became of a step, where the till says this of the order that ended last.
@@ -150,16 +185,31 @@ fn wants_memory(made: &Result<Outcome, RunFault>) -> bool
     matches!(made, Err(RunFault::Order(OrderRefusal::Memory)))
 }
 
-/// Writes the till's total.
-fn write_total<K: Keeper, W: Sink>(alloc: Global, till: &K, writer: &mut W) -> Result<(), EndFault>
-    ensures text { AnswersText (total_text (total (K.till till.now).state.book)) (W.written writer.old) (W.written writer.new) result }
+/// Writes the till's total in this form.
+fn write_total<K: Keeper, W: Sink>(
+    alloc: Global,
+    till: &K,
+    form: Form,
+    writer: &mut W,
+) -> Result<(), EndFault>
+    ensures text { AnswersText (total_line form (total (K.till till.now).state.book)) (W.written writer.old) (W.written writer.new) result }
     ensures write { result ≡ Err EndFault.Write → W.failures writer.old < W.failures writer.new }
 {
     let total = till.look().total();
     let mut text = Text::new(alloc);
-    say_total(&mut text, total)?;
+    say_total_line(&mut text, form, total)?;
     writer.write_all(text.bytes())?;
     Ok(())
+}
+
+/// Adds the line of a total in this form.
+fn say_total_line(text: &mut Text, form: Form, total: u64) -> Result<(), AllocError>
+    ensures { OnOk result (text.new ≡ text.old ++ total_line form total) }
+{
+    match form {
+        Form::Text => say_total(text, total),
+        Form::Json => say_total_object(text, total),
+    }
 }
 
 /// The line of a total.

@@ -15,8 +15,8 @@ ghost use Rattle.zvt_term.specs.Terminal.{new_terminal};
 use crate::both_ends::{BothEnds, run_both_ends};
 use crate::connection::{Door, both_ends, connect, listen};
 use crate::fault::{EndFault, by_trace};
-use crate::options::{TerminalRun, TillRun};
-use crate::plans::Planned;
+use crate::options::{LoopRun, TerminalRun, TillRun};
+use crate::plans::{Planned, StepRun};
 use crate::recorder::{Recorded, Way, ends_lacking};
 use crate::reports::{report_address, report_ledger};
 use crate::service::serve;
@@ -37,8 +37,7 @@ use zvt_till::TillSettings;
 pub fn run_loop<R, W, E>(
     rt: &R,
     alloc: Global,
-    plan: &[Planned],
-    trace: Option<&File>,
+    run: &LoopRun<'_, '_>,
     writer: &mut W,
     report: &mut E,
 ) -> Result<(), EndFault>
@@ -46,21 +45,25 @@ where
     R: Net<Listener = TcpListener, Stream = TcpStream>,
     W: Sink,
     E: Sink,
-    ensures run { AnswersRun MakesHereBy BeginsHere run_settings plan.now (W.written writer.old) (W.written writer.new) (ReportsReversals (E.written report.old) (E.written report.new) (E.failures report.old) (E.failures report.new)) (ReportsNothing (E.written report.old) (E.written report.new) (E.failures report.old) (E.failures report.new)) result }
+    ensures run { AnswersRun MakesHereBy BeginsHere run_settings run.now.form run.now.plan.now (W.written writer.old) (W.written writer.new) (ReportsReversals (E.written report.old) (E.written report.new) (E.failures report.old) (E.failures report.new)) (ReportsNothing (E.written report.old) (E.written report.new) (E.failures report.old) (E.failures report.new)) result }
     ensures write { result ≡ Err EndFault.Write → W.failures writer.old < W.failures writer.new }
 {
     let settings = TillSettings::default();
+    let steps = StepRun {
+        plan: run.plan,
+        form: run.form,
+    };
     let (till_end, terminal_end) = both_ends(rt).map_err(EndFault::Net)?;
-    match trace {
+    match run.trace {
         None => {
             let till = plain_end(alloc, &till_end, Lengths::Shortest);
             let mut line = both_ends_of(alloc, till, &terminal_end);
-            run_both_ends(alloc, &mut line, &settings, plan, writer, report)
+            run_both_ends(alloc, &mut line, &settings, &steps, writer, report)
         }
         Some(file) => {
             let till = recorded_till_end(alloc, &till_end, Lengths::Shortest, file)?;
             let mut line = both_ends_of(alloc, till, &terminal_end);
-            let answer = run_both_ends(alloc, &mut line, &settings, plan, writer, report);
+            let answer = run_both_ends(alloc, &mut line, &settings, &steps, writer, report);
             by_trace(is_broken(&line.till, file), answer)
         }
     }
@@ -104,18 +107,22 @@ where
     R: Net<Listener = TcpListener, Stream = TcpStream>,
     W: Sink,
     E: Sink,
-    ensures run { AnswersRun MakesThere (BeginsThere (reading_of run.now.lengths)) (settings_of run.now.settings) plan.now (W.written writer.old) (W.written writer.new) (ReportsReversals (E.written report.old) (E.written report.new) (E.failures report.old) (E.failures report.new)) (ReportsNothing (E.written report.old) (E.written report.new) (E.failures report.old) (E.failures report.new)) result }
+    ensures run { AnswersRun MakesThere (BeginsThere (reading_of run.now.lengths)) (settings_of run.now.settings) run.now.form plan.now (W.written writer.old) (W.written writer.new) (ReportsReversals (E.written report.old) (E.written report.new) (E.failures report.old) (E.failures report.new)) (ReportsNothing (E.written report.old) (E.written report.new) (E.failures report.old) (E.failures report.new)) result }
     ensures write { result ≡ Err EndFault.Write → W.failures writer.old < W.failures writer.new }
 {
+    let steps = StepRun {
+        plan,
+        form: run.form,
+    };
     let end = connect(rt, run.host, run.port).map_err(EndFault::Net)?;
     match run.trace {
         None => {
             let mut line = plain_end(alloc, &end, run.lengths);
-            run_till_end(alloc, &mut line, &run.settings, plan, writer, report)
+            run_till_end(alloc, &mut line, &run.settings, &steps, writer, report)
         }
         Some(file) => {
             let mut line = recorded_till_end(alloc, &end, run.lengths, file)?;
-            let answer = run_till_end(alloc, &mut line, &run.settings, plan, writer, report);
+            let answer = run_till_end(alloc, &mut line, &run.settings, &steps, writer, report);
             by_trace(is_broken(&line, file), answer)
         }
     }

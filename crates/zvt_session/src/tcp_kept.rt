@@ -13,6 +13,7 @@ use crate::fault::{EndFault, by_trace};
 use crate::kept_end::run_till_end_kept;
 use crate::kept_ends::run_both_ends_kept;
 use crate::options::{BookRun, LoopRun};
+use crate::plans::StepRun;
 use crate::tcp::{both_ends_of, is_broken, plain_end, recorded_till_end};
 use std::alloc::Global;
 use std::net::{Net, TcpListener, TcpStream};
@@ -38,19 +39,23 @@ where
     D: Device,
     W: Sink,
     E: Sink,
-    ensures run { AnswersBookRun (Connects D.seen D.may_leave D.moment D.left_since) (MakesThereKept D.seen D.may_leave D.moment D.left_since) (BeginsThere (reading_of run.now.lengths)) run.now.plan.now kept.old kept.new (W.written writer.old) (W.written writer.new)
+    ensures run { AnswersBookRun (Connects D.seen D.may_leave D.moment D.left_since) (MakesThereKept D.seen D.may_leave D.moment D.left_since) (BeginsThere (reading_of run.now.lengths)) run.now.form run.now.plan.now kept.old kept.new (W.written writer.old) (W.written writer.new)
         (ReportsReversals (E.written report.old) (E.written report.new) (E.failures report.old) (E.failures report.new)) (ReportsNothing (E.written report.old) (E.written report.new) (E.failures report.old) (E.failures report.new)) result }
     ensures write { result ≡ Err EndFault.Write → W.failures writer.old < W.failures writer.new }
 {
+    let steps = StepRun {
+        plan: run.plan,
+        form: run.form,
+    };
     let end = connect(rt, run.host, run.port).map_err(EndFault::Net)?;
     match run.trace {
         None => {
             let mut line = plain_end(alloc, &end, run.lengths);
-            run_till_end_kept(alloc, &mut line, kept, run.plan, writer, report)
+            run_till_end_kept(alloc, &mut line, kept, &steps, writer, report)
         }
         Some(file) => {
             let mut line = recorded_till_end(alloc, &end, run.lengths, file)?;
-            let answer = run_till_end_kept(alloc, &mut line, kept, run.plan, writer, report);
+            let answer = run_till_end_kept(alloc, &mut line, kept, &steps, writer, report);
             by_trace(is_broken(&line, file), answer)
         }
     }
@@ -73,21 +78,25 @@ where
     D: Device,
     W: Sink,
     E: Sink,
-    ensures run { AnswersBookRun (Connects D.seen D.may_leave D.moment D.left_since) (MakesHereKept D.seen D.may_leave D.moment D.left_since) BeginsHere run.now.plan.now kept.old kept.new (W.written writer.old) (W.written writer.new)
+    ensures run { AnswersBookRun (Connects D.seen D.may_leave D.moment D.left_since) (MakesHereKept D.seen D.may_leave D.moment D.left_since) BeginsHere run.now.form run.now.plan.now kept.old kept.new (W.written writer.old) (W.written writer.new)
         (ReportsReversals (E.written report.old) (E.written report.new) (E.failures report.old) (E.failures report.new)) (ReportsNothing (E.written report.old) (E.written report.new) (E.failures report.old) (E.failures report.new)) result }
     ensures write { result ≡ Err EndFault.Write → W.failures writer.old < W.failures writer.new }
 {
+    let steps = StepRun {
+        plan: run.plan,
+        form: run.form,
+    };
     let (till_end, terminal_end) = both_ends(rt).map_err(EndFault::Net)?;
     match run.trace {
         None => {
             let till = plain_end(alloc, &till_end, Lengths::Shortest);
             let mut line = both_ends_of(alloc, till, &terminal_end);
-            run_both_ends_kept(alloc, &mut line, kept, run.plan, writer, report)
+            run_both_ends_kept(alloc, &mut line, kept, &steps, writer, report)
         }
         Some(file) => {
             let till = recorded_till_end(alloc, &till_end, Lengths::Shortest, file)?;
             let mut line = both_ends_of(alloc, till, &terminal_end);
-            let answer = run_both_ends_kept(alloc, &mut line, kept, run.plan, writer, report);
+            let answer = run_both_ends_kept(alloc, &mut line, kept, &steps, writer, report);
             by_trace(is_broken(&line.till, file), answer)
         }
     }

@@ -27,7 +27,7 @@ pub use zvt_json::Form;
 pub use zvt_kept::{KeptTill, RecoveryError, recover};
 pub use zvt_session::{
     BookRun, BothEnds, EndFault, Endpoint, Ends, LineEnd, LoopRun, NetFault, Planned, Recorded,
-    Step, TerminalRun, TillRun, Way, config_of, currency_of, end_trace, password_of, plan,
+    Step, StepRun, TerminalRun, TillRun, Way, config_of, currency_of, end_trace, password_of, plan,
     result_code, run_both_ends, run_both_ends_kept, run_loop, run_loop_kept, run_terminal,
     run_till, run_till_end, run_till_end_kept, run_till_kept, serve, step_of, write_book,
 };
