@@ -33,20 +33,21 @@ def amount_of(message):
 class Audit:
     def __init__(self, trace, loose=False):
         self.booked, self.unclear, self.messages, self.bad = [], [], 0, 0
+        self.lines_of_booked, self.lines_of_unclear = [], []
         self.amount, self.statuses, self.taken_up, self.currency, self.named = None, [], False, None, set()
         self.sides = {sign: json_model.Side(name, loose) for sign, name in json_model.SIDES.items()}
         self.malformed = False
         for number, row in json_model.lines_of(trace):
             if row == b"!":
                 self.cut()
-                self.ends("Line")
+                self.ends("Line", number)
                 self.malformed = False
             elif row[:1] in self.sides:
                 self.feed(row[:1], json_model.bytes_of(number, row), number)
             elif row and row[:1] != b"#":
                 raise json_model.Fault(number)
         self.cut()
-        self.ends("Unfinished")
+        self.ends("Unfinished", None)
 
     def feed(self, sign, piece, number):
         if self.malformed:
@@ -56,7 +57,7 @@ class Audit:
                 self.malformed = True
                 self.bad += 1
                 self.cut()
-                self.ends("Malformed")
+                self.ends("Malformed", number)
             else:
                 self.messages += 1
                 (self.sent if sign == b">" else self.heard)(event)
@@ -68,7 +69,7 @@ class Audit:
     def sent(self, message):
         if message["kind"] not in ORDERS:
             return
-        self.ends("Unfinished")
+        self.ends("Unfinished", message["line"])
         if message["kind"] == "Authorisation":
             self.amount, self.statuses, self.taken_up = amount_of(message), [], False
         if message["kind"] == "Registration":
@@ -84,9 +85,9 @@ class Audit:
         elif kind == "Ack":
             self.taken_up = True
         elif kind == "Completion":
-            self.completed()
+            self.completed(message["line"])
         elif kind == "Abort" or kind == "Nack" and not self.taken_up:
-            self.ends(None if set(self.statuses) <= {DECLINING} else "AbortAfterApproval")
+            self.ends(None if set(self.statuses) <= {DECLINING} else "AbortAfterApproval", message["line"])
 
     def class_of(self, status):
         """What a status says of the payment that runs: that it declines it, a cause, or the trace and receipt numbers."""
@@ -101,12 +102,13 @@ class Audit:
             return "AmountDiffers"
         return "NoTrace" if only(status, TRACE) is None else (int(only(status, TRACE)), only(status, RECEIPT))
 
-    def completed(self):
+    def completed(self, line):
         """The payment that runs was completed: it is booked, declined or unclear."""
         fault = self.fault()
         if fault is None and self.statuses[0] != DECLINING:
             self.booked.append((self.amount, *self.statuses[0]))
-        self.ends(fault)
+            self.lines_of_booked.append(line)
+        self.ends(fault, line)
 
     def fault(self):
         """What is wrong with the statuses: they agree where all decline, or all are good under one trace number."""
@@ -119,20 +121,21 @@ class Audit:
                 return "Conflict"
         return "TraceUsed" if self.statuses[0][0] in [trace for _, trace, _ in self.booked] else None
 
-    def ends(self, cause):
-        """The payment that runs, if one does, is over, and unclear where there is a cause."""
+    def ends(self, cause, line):
+        """The payment that runs, if one does, is over at this line, and unclear where there is a cause."""
         if self.amount and cause:
             self.unclear.append((self.amount, cause))
+            self.lines_of_unclear.append(line)
         self.amount = None
 
     def total(self):
         return sum(amount for amount, _, _ in self.booked)
 
     def objects(self):
-        for amount, trace, receipt in self.booked:
-            yield {"booked": {"amount": amount, "trace": trace, **({"receipt": receipt} if receipt else {})}}
-        for amount, cause in self.unclear:
-            yield {"unclear": {"amount": amount, "cause": cause}}
+        for (amount, trace, receipt), line in zip(self.booked, self.lines_of_booked):
+            yield {"booked": {"amount": amount, "line": line, "trace": trace, **({"receipt": receipt} if receipt else {})}}
+        for (amount, cause), line in zip(self.unclear, self.lines_of_unclear):
+            yield {"unclear": {"amount": amount, "cause": cause, **({"line": line} if line else {})}}
         currency = {"currency": min(self.named)} if len(self.named) == 1 else {}
         yield {"bad": self.bad, **currency, "messages": self.messages, "total": self.total()}
 

@@ -55,7 +55,8 @@ NO_LINES = [
     {"fields": [{"bmp": "04", "name": "result", "value": 1}], "from": "till", "kind": "Status", "line": 1, "size": 10},
     {"from": "till", "line": 4, "refused": {"byte": "D0", "place": 3, "reason": "Unknown"}},
     {"from": "till", "line": 4, "truncated": {"after": 0}}, {"file": 1, "line": 1, "lost": True},
-    {"booked": {"amount": 0, "trace": 1}}, {"unclear": {"amount": 1, "cause": "Lost"}}, {"total": -1}, {"bad": -1, "messages": 1, "total": 1},
+    {"booked": {"amount": 0, "trace": 1}}, {"booked": {"amount": 1, "line": 0, "trace": 1}}, {"booked": {"amount": 0, "line": 1, "trace": 1}},
+    {"unclear": {"amount": 1, "cause": "Lost"}}, {"unclear": {"amount": 1, "cause": "Line", "line": 0}}, {"total": -1}, {"bad": -1, "messages": 1, "total": 1},
     {"bad": 0, "currency": "978", "messages": 1, "total": 1}, {"bad": 0, "currency": None, "messages": 1, "total": 1},
 ]
 failed, counts, validated = [], {"traces": 0, "lines": 0}, []

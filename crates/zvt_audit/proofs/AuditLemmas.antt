@@ -6,7 +6,7 @@ use Rattle.std.specs.Prelude.{IfSome}
 use Rattle.std.specs.Str.Lines.{lines}
 use Rattle.zvt_grammar.specs.Reading.{Reading}
 use Rattle.zvt_till.specs.Books.{books}
-use Rattle.zvt_till.specs.Judging.{BooksSoFar, HasJudged}
+use Rattle.zvt_till.specs.Judging.{HasJudged}
 use Rattle.zvt_till.specs.declared.happenings.Happening.{Happening}
 use Rattle.zvt_till.specs.declared.happenings.Happening.TheVariants.{Connected}
 use Rattle.zvt_trace.specs.Listening.{AnswersWalk, HearsAll, Stops}
@@ -22,6 +22,7 @@ use Rattle.zvt_trace.specs.declared.listener.ListenerError.TheVariants as failur
 use Rattle.zvt_trace.specs.declared.listener.Scope.TheVariants.{WholeLine}
 use Rattle.zvt_audit.specs.Audited.{AnswersAuditBy, AnswersBooks, AnswersReadBy, Takes, has_swapped, hears, wants_memory}
 use Rattle.zvt_audit.specs.Currencies.{agreed, currencies_of, named_by, one_currency}
+use Rattle.zvt_audit.specs.Ends.{AreEndLines, lines_of}
 use Rattle.zvt_audit.specs.Json.{books_in}
 use Rattle.zvt_json.specs.declared.form.Form.{Form}
 use Rattle.zvt_json.specs.declared.form.Form.TheVariants.{Text}
@@ -32,15 +33,9 @@ use Rattle.zvt_audit.specs.declared.currencies.NamedCurrency.{NamedCurrency}
 use Rattle.zvt_audit.specs.declared.currencies.NamedCurrency.TheVariants.{Absent}
 use Rattle.zvt_audit.specs.declared.summary.AuditSummary.{AuditSummary}
 use Rattle.zvt_audit.specs.declared.orders.Orders.{Orders}
+use Rattle.zvt_audit.proofs.EndLemmas.{log_more}
+use Rattle.zvt_audit.proofs.BecomeLemmas.{takes_more, takes_none}
 use Rattle.zvt_audit.proofs.CurrencyLemmas.{after_all, all_agreed, one_more}
-
--- nothing happened
-takes_none : (books : BooksSoFar) → Takes books books []
-takes_none books = λ log judged. subst (λ (l : List Happening). HasJudged l books) (sym (append-nil log)) judged
-
--- one thing after another
-takes_more : (a b c : BooksSoFar) (x y : List Happening) → Takes a b x → Takes b c y → Takes a c (x ++ y)
-takes_more a b c x y first second = λ log judged. subst (λ (l : List Happening). HasJudged l c) (append_assoc log x y) (second (log ++ x) (first log judged))
 
 -- ---- what is heard
 
@@ -98,6 +93,17 @@ currency_heard : (events : List At) (old new : Listening) → old.0.named ≡ Ab
 currency_heard events old new unnamed heard =
     ap agreed (all_named events old new heard ∙ ap (λ (n : NamedCurrency). after_all n (currencies_of events)) unnamed) ∙ all_agreed (currencies_of events)
 
+-- ---- at which lines payments ended
+
+all_ended : (before events : List At) (old new : Listening) → HasJudged (log_of before) old.0.books → AreEndLines before (lines_of old.0.ends) → HearsAll hears old events new → AreEndLines (before ++ events) (lines_of new.0.ends)
+all_ended before [] old new judged ended same =
+    subst (λ (s : Listening). AreEndLines (before ++ []) (lines_of s.0.ends)) (sym same) (subst (λ (l : List At). AreEndLines l (lines_of old.0.ends)) (sym (append-nil before)) ended)
+all_ended before (event ∷ events) old new judged ended some =
+    let next : HasJudged (log_of (before ++ event ∷ [])) some.0.0.books =
+    subst (λ (l : List Happening). HasJudged l some.0.0.books) (sym (log_more before event)) (some.1.0 (log_of before) judged) in
+    subst (λ (l : List At). AreEndLines l (lines_of new.0.ends)) (append_assoc before (event ∷ []) events)
+    (all_ended (before ++ event ∷ []) events some.0 new next (some.1.3 before event refl refl judged ended) some.2)
+
 -- ---- what is written
 
 pub keeps_same : (held : Option (List ℕ)) → Keeps held held
@@ -105,22 +111,27 @@ keeps_same None = tt
 keeps_same (Some bytes) = refl
 
 pub audited : {r : Reading} (trace : List ℕ) (form : Form) (tally : Tally) (answer : Result AuditSummary TraceFault) (old new : Option (List ℕ)) (connected closed : Listening)
-    → HasJudged (Connected ∷ []) connected.0.books → connected.0.orders.till ≡ false → connected.0.orders.terminal ≡ false → connected.0.named ≡ Absent → AnswersWalk r hears wants_memory WholeLine (lines (readable trace)) connected closed (Ok tally)
-    → ((log : List Happening) → HasJudged log closed.0.books → AnswersBooks form log tally (has_swapped closed.0.orders) (agreed closed.0.named) old new answer) → AnswersReadBy r form trace old new answer
-audited {r = r} trace form tally answer old new connected closed start till terminal unnamed walked closes =
-    by answer (subst (λ (c : Option ℕ). AnswersBooks form (log_of walked.0) tally (has_swapped closed.0.orders) c old new answer) (currency_heard walked.0 connected closed unnamed walked.2) (closes (log_of walked.0) (log_judged walked.0 connected closed start walked.2)))
+    → HasJudged (Connected ∷ []) connected.0.books → connected.0.orders.till ≡ false → connected.0.orders.terminal ≡ false → connected.0.named ≡ Absent → AreEndLines [] (lines_of connected.0.ends) → AnswersWalk r hears wants_memory WholeLine (lines (readable trace)) connected closed (Ok tally)
+    → ((log : List Happening) → HasJudged log closed.0.books → AnswersBooks form log tally (has_swapped closed.0.orders) (agreed closed.0.named) (lines_of closed.0.ends) old new answer) → AnswersReadBy r form trace old new answer
+audited {r = r} trace form tally answer old new connected closed start till terminal unnamed unended walked closes =
+    by answer (subst (λ (c : Option ℕ). AnswersBooks form (log_of walked.0) tally (has_swapped closed.0.orders) c (lines_of closed.0.ends) old new answer) (currency_heard walked.0 connected closed unnamed walked.2) (closes (log_of walked.0) (log_judged walked.0 connected closed start walked.2)))
   where
-    by : (answer : Result AuditSummary TraceFault) → AnswersBooks form (log_of walked.0) tally (has_swapped closed.0.orders) (one_currency (currencies_of walked.0)) old new answer → AnswersReadBy r form trace old new answer
+    ended : AreEndLines walked.0 (lines_of closed.0.ends)
+    ended = all_ended [] walked.0 connected closed start unended walked.2
+
+    by : (answer : Result AuditSummary TraceFault) → AnswersBooks form (log_of walked.0) tally (has_swapped closed.0.orders) (one_currency (currencies_of walked.0)) (lines_of closed.0.ends) old new answer → AnswersReadBy r form trace old new answer
     by (Ok audited) (appended, same, is_swapped, sums) = (
       walked.0,
+      lines_of closed.0.ends,
       walked.1,
-      subst (λ (t : Tally). Appends old new (books_in form t (one_currency (currencies_of walked.0)) (books (log_of walked.0)))) (sym same) appended,
+      ended,
+      subst (λ (t : Tally). Appends old new (books_in form t (one_currency (currencies_of walked.0)) (lines_of closed.0.ends) (books (log_of walked.0)))) (sym same) appended,
       subst (λ (t : Tally). Tallies t walked.0) (sym same) walked.3,
       is_swapped ∙ swapped walked.0 connected closed till terminal walked.2,
       sums,
     )
     by (Err Memory) kept = kept
-    by (Err Write) prefix = (walked.0, tally, walked.1, prefix, walked.3)
+    by (Err Write) prefix = (walked.0, tally, lines_of closed.0.ends, walked.1, ended, prefix, walked.3)
     by (Err (Trace number what)) never = absurd never
     by (Err TooLong) never = absurd never
     by (Err Read) never = absurd never
@@ -153,7 +164,7 @@ pub read_audited : (r : Reading) (left : Option (List ℕ)) (trace slice : List 
 read_audited r None trace slice old new found read few same answers = tt
 read_audited r (Some bytes) trace slice old new found read few same answers =
     let here = subst (λ (b : List ℕ). AnswersReadBy r Text b old new (Ok found)) same answers in
-    subst (λ (b : List ℕ). AnswersAuditBy r b old new (Ok found.tally)) read (few, (here.0, here.1, here.2, here.3))
+    subst (λ (b : List ℕ). AnswersAuditBy r b old new (Ok found.tally)) read (few, (here.0, here.2, here.4, here.5))
 
 pub read_failed : (r : Reading) (left : Option (List ℕ)) (trace slice : List ℕ) (old new : Option (List ℕ)) (fault : TraceFault) → IfSome left (λ bytes. trace ≡ bytes) → length trace ≤ limit → slice ≡ trace
     → AnswersReadBy r Text slice old new (Err fault) → IfSome left (λ bytes. AnswersAuditBy r bytes old new (Err fault))
@@ -164,6 +175,6 @@ read_failed r (Some bytes) trace slice old new fault read few same answers =
     by : (fault : TraceFault) → AnswersReadBy r Text trace old new (Err fault) → AnswersAuditBy r trace old new (Err fault)
     by (Trace number what) answers = (few, answers.0, answers.1, answers.2)
     by Memory answers = answers
-    by Write answers = (few, answers.0, answers.2, answers.3)
+    by Write answers = (few, answers.0, answers.3, answers.5)
     by TooLong never = absurd never
     by Read never = absurd never

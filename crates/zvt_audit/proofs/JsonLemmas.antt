@@ -1,6 +1,10 @@
 -- The text of a line of books is that of its value.
-use Rattle.std.proofs.Common.{◌≡◌, ℕ, List, [], ◌∷◌, ◌++◌, Option, Some, None, codes, refl, sym, ◌∙◌, ap, ap₂, append_assoc}
-use Rattle.std.specs.List.{flat_map}
+use Rattle.std.proofs.Common.{◌≡◌, ℕ, List, [], ◌∷◌, ◌++◌, Option, Some, None, codes, ◌+◌, length, refl, sym, ◌∙◌, ap, ap₂, append_assoc, append-nil, arith, Bor}
+use Rattle.std.proofs.lemmas.Option.{slice_get_past, slice_get_read}
+use Rattle.std.specs.Option.{option_copied}
+use Rattle.std.specs.Slice.{IsItemAt}
+use Rattle.std.proofs.lemmas.Grind.{flat_map-append}
+use Rattle.std.specs.List.{enumerate_from, flat_map, slice_get}
 use Rattle.std.specs.Fmt.{decimal}
 use Rattle.hex.specs.Hex.{encode_upper}
 use Rattle.json.specs.Print.{escape, escape_byte}
@@ -12,7 +16,8 @@ use Rattle.zvt_till.specs.Names.{cause_name}
 use Rattle.zvt_till.specs.declared.outcomes.Cause.{Cause}
 use Rattle.zvt_till.specs.declared.outcomes.Cause.TheVariants.{NoStatus, Conflict, AmountDiffers, NoTrace, TraceUsed, AbortAfterApproval, Line, Malformed, Unfinished, WrongCurrency}
 use Rattle.zvt_trace.specs.declared.fault.Tally.{Tally}
-use Rattle.zvt_audit.specs.Json.{booked_text, booked_value, books_json, summary_text, summary_value, unclear_text, unclear_value}
+use Rattle.zvt_audit.specs.Ends.{Lines}
+use Rattle.zvt_audit.specs.Json.{booked_text, booked_value, books_json, line_part, rows_text, summary_text, summary_value, unclear_text, unclear_value}
 use Rattle.zvt_audit.specs.Sums.{sum_json, sum_value}
 use Rattle.zvt_audit.specs.Booked.{total}
 use Rattle.zvt_audit.specs.declared.sum.Sum.{Sum}
@@ -30,45 +35,57 @@ cause_plain Malformed = refl
 cause_plain Unfinished = refl
 cause_plain WrongCurrency = refl
 
-no_receipt : (amount trace : ℕ) → booked_text (record { amount = amount; trace = trace; receipt = None }) ≡ line_text (booked_value (record { amount = amount; trace = trace; receipt = None }))
+grouped : (p a l r e q t d z : List ℕ) → p ++ a ++ l ++ (r ++ e ++ q) ++ t ++ d ++ z ≡ p ++ (a ++ (l ++ (r ++ (e ++ (q ++ (t ++ (d ++ z)))))))
+grouped p a l r e q t d z = simp append_assoc
+
+-- the text of a booked payment of this receipt number, from the line at which it ended on
+booked_tail : (trace : ℕ) (receipt : List ℕ) → List ℕ
+booked_tail trace receipt = codes ",\"receipt\":\"" ++ (escape (encode_upper receipt) ++ ((34 ∷ []) ++ (codes ",\"trace\":" ++ (decimal trace ++ (codes "}}" ++ 10 ∷ [])))))
+
+no_receipt : (amount trace : ℕ) (line : Option ℕ) → booked_text (record { amount = amount; trace = trace; receipt = None }) line ≡ line_text (booked_value (record { amount = amount; trace = trace; receipt = None }) line)
 unfolding booked_text escape_byte
-no_receipt amount trace = simp append_assoc
+no_receipt amount trace None = simp append_assoc
+no_receipt amount trace (Some line) = simp append_assoc
 
-grouped : (p a r e q t d z : List ℕ) → p ++ a ++ (r ++ e ++ q) ++ t ++ d ++ z ≡ p ++ (a ++ (r ++ (e ++ (q ++ (t ++ (d ++ z))))))
-grouped p a r e q t d z = simp append_assoc
+one_nested : (amount trace : ℕ) (receipt : List ℕ) (line : Option ℕ)
+    → codes "{\"booked\":{\"amount\":" ++ (decimal amount ++ (line_part line ++ booked_tail trace receipt)) ≡ line_text (booked_value (record { amount = amount; trace = trace; receipt = Some receipt }) line)
+unfolding escape_byte booked_tail
+one_nested amount trace receipt None = simp append_assoc
+one_nested amount trace receipt (Some line) = simp append_assoc
 
-one_nested : (amount trace : ℕ) (receipt : List ℕ)
-    → codes "{\"booked\":{\"amount\":" ++ (decimal amount ++ (codes ",\"receipt\":\"" ++ (escape (encode_upper receipt) ++ ((34 ∷ []) ++ (codes ",\"trace\":" ++ (decimal trace ++ (codes "}}" ++ 10 ∷ [])))))))
-    ≡ line_text (booked_value (record { amount = amount; trace = trace; receipt = Some receipt }))
-unfolding escape_byte
-one_nested amount trace receipt = simp append_assoc
+with_one : (amount trace : ℕ) (receipt : List ℕ) (line : Option ℕ)
+    → booked_text (record { amount = amount; trace = trace; receipt = Some receipt }) line ≡ line_text (booked_value (record { amount = amount; trace = trace; receipt = Some receipt }) line)
+unfolding booked_text booked_tail
+with_one amount trace receipt line =
+    grouped (codes "{\"booked\":{\"amount\":") (decimal amount) (line_part line) (codes ",\"receipt\":\"") (escape (encode_upper receipt)) (34 ∷ []) (codes ",\"trace\":") (decimal trace) (codes "}}" ++ 10 ∷ [])
+    ∙ one_nested amount trace receipt line
 
-with_one : (amount trace : ℕ) (receipt : List ℕ)
-    → booked_text (record { amount = amount; trace = trace; receipt = Some receipt }) ≡ line_text (booked_value (record { amount = amount; trace = trace; receipt = Some receipt }))
-unfolding booked_text
-with_one amount trace receipt =
-    grouped (codes "{\"booked\":{\"amount\":") (decimal amount) (codes ",\"receipt\":\"") (escape (encode_upper receipt)) (34 ∷ []) (codes ",\"trace\":") (decimal trace) (codes "}}" ++ 10 ∷ [])
-    ∙ one_nested amount trace receipt
-
-pub booked_said : (row : Booked) → booked_text row ≡ line_text (booked_value row)
-booked_said row = by row.amount row.trace row.receipt
+pub booked_said : (row : Booked) (line : Option ℕ) → booked_text row line ≡ line_text (booked_value row line)
+booked_said row line = by row.amount row.trace row.receipt
   where
     by : (amount trace : ℕ) (receipt : Option (List ℕ))
-        → booked_text (record { amount = amount; trace = trace; receipt = receipt }) ≡ line_text (booked_value (record { amount = amount; trace = trace; receipt = receipt }))
-    by amount trace None = no_receipt amount trace
-    by amount trace (Some receipt) = with_one amount trace receipt
+        → booked_text (record { amount = amount; trace = trace; receipt = receipt }) line ≡ line_text (booked_value (record { amount = amount; trace = trace; receipt = receipt }) line)
+    by amount trace None = no_receipt amount trace line
+    by amount trace (Some receipt) = with_one amount trace receipt line
 
-unclear_escaped : (amount : ℕ) (cause : Cause)
-    → codes "{\"unclear\":{\"amount\":" ++ decimal amount ++ codes ",\"cause\":\"" ++ escape (cause_name cause) ++ (codes "\"}}" ++ 10 ∷ [])
-    ≡ line_text (unclear_value (amount, cause))
-unfolding escape_byte
-unclear_escaped amount cause = simp append_assoc
+grouped_unclear : (p a k c q l z : List ℕ) → p ++ a ++ k ++ c ++ q ++ l ++ z ≡ p ++ (a ++ (k ++ (c ++ (q ++ (l ++ z)))))
+grouped_unclear p a k c q l z = simp append_assoc
 
-pub unclear_said : (row : ℕ × Cause) → unclear_text row ≡ line_text (unclear_value row)
-unfolding unclear_text
-unclear_said row =
-    ap (λ (l : List ℕ). codes "{\"unclear\":{\"amount\":" ++ decimal row.0 ++ codes ",\"cause\":\"" ++ l ++ (codes "\"}}" ++ 10 ∷ [])) (sym (cause_plain row.1))
-    ∙ unclear_escaped row.0 row.1
+-- the text of an unclear payment from the name of its cause on
+unclear_tail : (cause : List ℕ) (line : Option ℕ) → List ℕ
+unclear_tail cause line = codes ",\"cause\":\"" ++ (cause ++ ((34 ∷ []) ++ (line_part line ++ (codes "}}" ++ 10 ∷ []))))
+
+unclear_nested : (amount : ℕ) (cause : Cause) (line : Option ℕ) → codes "{\"unclear\":{\"amount\":" ++ (decimal amount ++ unclear_tail (escape (cause_name cause)) line) ≡ line_text (unclear_value (amount, cause) line)
+unfolding escape_byte unclear_tail
+unclear_nested amount cause None = simp append_assoc
+unclear_nested amount cause (Some line) = simp append_assoc
+
+pub unclear_said : (row : ℕ × Cause) (line : Option ℕ) → unclear_text row line ≡ line_text (unclear_value row line)
+unfolding unclear_text unclear_tail
+unclear_said row line =
+    grouped_unclear (codes "{\"unclear\":{\"amount\":") (decimal row.0) (codes ",\"cause\":\"") (cause_name row.1) (34 ∷ []) (line_part line) (codes "}}" ++ 10 ∷ [])
+    ∙ ap (λ (l : List ℕ). codes "{\"unclear\":{\"amount\":" ++ (decimal row.0 ++ unclear_tail l line)) (sym (cause_plain row.1))
+    ∙ unclear_nested row.0 row.1 line
 
 no_currency : (tally : Tally) (amount : ℕ) → summary_text tally None amount ≡ line_text (summary_value tally None amount)
 unfolding escape_byte
@@ -100,16 +117,48 @@ pub sum_said : (sum : Sum) → sum_json sum ≡ line_text (sum_value sum)
 unfolding escape_byte
 sum_said sum = simp append_assoc
 
--- lines of which each is said by its value
-all_said : {A : Type 0} (f g : A → List ℕ) → ((x : A) → f x ≡ g x) → (xs : List A) → flat_map f xs ≡ flat_map g xs
-all_said f g same [] = refl
-all_said f g same (x ∷ xs) = ap₂ (λ (a b : List ℕ). a ++ b) (same x) (all_said f g same xs)
+-- rows of which each is said by its value
+all_said : {A : Type 0} (f g : A → Option ℕ → List ℕ) (ends : List ℕ) → ((row : A) (line : Option ℕ) → f row line ≡ g row line) → (entries : List (ℕ × A))
+    → flat_map (λ entry. f entry.1 (slice_get ends entry.0)) entries ≡ flat_map (λ entry. g entry.1 (slice_get ends entry.0)) entries
+all_said f g ends same [] = refl
+all_said f g ends same (entry ∷ entries) = ap₂ (λ (a b : List ℕ). a ++ b) (same entry.1 (slice_get ends entry.0)) (all_said f g ends same entries)
 
-pub books_said : (tally : Tally) (currency : Option ℕ) (books : Books) → flat_map booked_text books.booked ++ flat_map unclear_text books.unclear ++ summary_text tally currency (total books.booked) ≡ books_json tally currency books
-books_said tally currency books =
+pub books_said : (tally : Tally) (currency : Option ℕ) (ends : Lines) (books : Books)
+    → rows_text booked_text ends.booked books.booked ++ rows_text unclear_text ends.unclear books.unclear ++ summary_text tally currency (total books.booked) ≡ books_json tally currency ends books
+books_said tally currency ends books =
     ap₂ (λ (a b : List ℕ). a ++ b)
-    (ap₂ (λ (a b : List ℕ). a ++ b) (all_said booked_text (λ row. line_text (booked_value row)) booked_said books.booked) (all_said unclear_text (λ row. line_text (unclear_value row)) unclear_said books.unclear))
+    (ap₂ (λ (a b : List ℕ). a ++ b) (all_said booked_text (λ row line. line_text (booked_value row line)) ends.booked booked_said (enumerate_from 0 books.booked))
+    (all_said unclear_text (λ row line. line_text (unclear_value row line)) ends.unclear unclear_said (enumerate_from 0 books.unclear)))
     (summary_said tally currency (total books.booked))
+
+-- ---- rows, one after another
+
+enumerate_last : {A : Type 0} (n : ℕ) (rows : List A) (row : A) → enumerate_from n (rows ++ row ∷ []) ≡ enumerate_from n rows ++ (n + length rows, row) ∷ []
+enumerate_last n [] row = ap (λ (k : ℕ). (k, row) ∷ []) (omega arith)
+enumerate_last {A = A} n (first ∷ rows) row =
+    ap (λ (l : List (ℕ × A)). (n, first) ∷ l) (enumerate_last (n + 1) rows row ∙ ap (λ (k : ℕ). enumerate_from (n + 1) rows ++ (k, row) ∷ []) (omega arith))
+
+none_before : (n : ℕ) → 0 + n ≡ n
+none_before n = omega arith
+
+-- one row more is written
+pub rows_more : {A : Type 0} (text : A → Option ℕ → List ℕ) (ends : List ℕ) (rows : List A) (row : A) → rows_text text ends (rows ++ row ∷ []) ≡ rows_text text ends rows ++ text row (slice_get ends (length rows))
+rows_more {A = A} text ends rows row =
+    ap (flat_map (λ (entry : ℕ × A). text entry.1 (slice_get ends entry.0))) (enumerate_last 0 rows row ∙ ap (λ (k : ℕ). enumerate_from 0 rows ++ (k, row) ∷ []) (none_before (length rows)))
+    ∙ flat_map-append (λ (entry : ℕ × A). text entry.1 (slice_get ends entry.0)) (enumerate_from 0 rows) ((length rows, row) ∷ [])
+    ∙ ap (λ (l : List ℕ). rows_text text ends rows ++ l) (append-nil (text row (slice_get ends (length rows))))
+
+-- the element that a slice lends at a place
+pub item_copied : (xs : List ℕ) (at : ℕ) (item : Option (Bor ℕ)) → IsItemAt xs at item → option_copied item ≡ slice_get xs at
+item_copied xs at None (is, value, there, past, default) = sym (slice_get_past xs at past)
+item_copied xs at (Some item) (is, value, there, here, default) = sym (slice_get_read xs (length xs) at item.now refl here.0 value)
+
+-- one row more is added
+pub one_row : {A : Type 0} (text : A → Option ℕ → List ℕ) (ends : List ℕ) (rows longer : List A) (row : A) (line : Option ℕ) (initial before after : List ℕ)
+    → longer ≡ rows ++ row ∷ [] → line ≡ slice_get ends (length rows) → before ≡ initial ++ rows_text text ends rows → after ≡ before ++ text row line → after ≡ initial ++ rows_text text ends longer
+one_row text ends rows longer row line initial before after grown at so added =
+    added ∙ ap₂ (λ (a b : List ℕ). a ++ b) so (ap (text row) at) ∙ append_assoc initial (rows_text text ends rows) (text row (slice_get ends (length rows)))
+    ∙ ap (λ (l : List ℕ). initial ++ l) (sym (rows_more text ends rows row) ∙ ap (rows_text text ends) (sym grown))
 
 -- ---- what is added one after another
 

@@ -9,7 +9,7 @@ use Rattle.zvt_till.specs.declared.happenings.Happening.{Happening}
 use Rattle.zvt_till.specs.declared.happenings.Happening.TheVariants.{Connected}
 use Rattle.zvt_trace.specs.Chunks.{IsEnded, IsTooLong}
 use Rattle.zvt_trace.specs.Listening.{AnswersWalk, Fails, Hears}
-use Rattle.zvt_trace.specs.TraceEvent.{At, TraceEvent, Tallies}
+use Rattle.zvt_trace.specs.TraceEvent.{At, Tallies}
 use Rattle.zvt_trace.specs.Emitting.{BrokenTrace, WholeTrace}
 use Rattle.zvt_trace.specs.Journal.{readable}
 use Rattle.zvt_trace.specs.Written.{AppendsPrefix, limit}
@@ -20,6 +20,7 @@ use Rattle.zvt_trace.specs.declared.listener.ListenerError.TheVariants as failur
 use Rattle.zvt_trace.specs.declared.listener.Scope.TheVariants.{WholeLine}
 use Rattle.zvt_audit.specs.Booked.{books_text, total}
 use Rattle.zvt_audit.specs.Currencies.{currencies_of, named_after, named_by, one_currency}
+use Rattle.zvt_audit.specs.Ends.{AreEndLines, Lines, lines_of}
 use Rattle.zvt_audit.specs.Happened.{happenings_of, log_of}
 use Rattle.zvt_audit.specs.Json.{books_in}
 use Rattle.zvt_audit.specs.Orders.{are_swapped, noticed}
@@ -35,12 +36,25 @@ Takes old new happened = (log : List Happening) → HasJudged log old → HasJud
 
 -- the auditor's till is connected, and nothing else happened at it
 abbrev pub IsConnected : Auditor → Type 0
-IsConnected auditor = HasJudged (Connected ∷ []) auditor.books × (auditor.orders.till ≡ false) × (auditor.orders.terminal ≡ false) × (auditor.named ≡ Absent)
+IsConnected auditor =
+    HasJudged (Connected ∷ []) auditor.books × (auditor.orders.till ≡ false) × (auditor.orders.terminal ≡ false) × (auditor.named ≡ Absent)
+    × AreEndLines [] (lines_of auditor.ends)
+
+-- the lines stay those of the events, also after an event of this line by which that happened
+abbrev pub KeepsEnds : Auditor → List Happening → (line : ℕ) → Auditor → Type 0
+KeepsEnds old happened line new =
+    (before : List At) (event : At) → happenings_of event.trace_event ≡ happened → event.line ≡ line
+    → HasJudged (log_of before) old.books → AreEndLines before (lines_of old.ends) → AreEndLines (before ++ event ∷ []) (lines_of new.ends)
+
+-- what an auditor becomes by what happened at a line that is no order
+abbrev pub BecomesBy : Auditor → List Happening → (line : ℕ) → Auditor → Type 0
+BecomesBy old happened line new = Takes old.books new.books happened × (new.orders ≡ old.orders) × (new.named ≡ old.named) × KeepsEnds old happened line new
 
 -- what an auditor becomes by an event
-abbrev pub Becomes : Auditor → TraceEvent → Auditor → Type 0
+abbrev pub Becomes : Auditor → At → Auditor → Type 0
 Becomes old event new =
-    Takes old.books new.books (happenings_of event) × (new.orders ≡ noticed old.orders event) × (new.named ≡ named_after old.named (named_by event))
+    Takes old.books new.books (happenings_of event.trace_event) × (new.orders ≡ noticed old.orders event.trace_event)
+    × (new.named ≡ named_after old.named (named_by event.trace_event)) × KeepsEnds old (happenings_of event.trace_event) event.line new
 
 -- orders came from where the terminal is said to be, and none from where the till is
 abbrev pub has_swapped : Orders → Bool
@@ -52,19 +66,19 @@ pub record SumsUp (audited : AuditSummary) (found : Books) : Type 0 where
   pub unclear : audited.unclear ≡ length found.unclear
 
 -- What writing the books of a log in that form answers.
-abbrev pub AnswersBooks : Form → List Happening → Tally → Bool → (currency : Option ℕ) → (old new : Option (List ℕ)) → Result AuditSummary TraceFault → Type 0
-AnswersBooks form log tally swapped currency old new (Ok audited) = Appends old new (books_in form tally currency (books log)) × (audited.tally ≡ tally) × (audited.swapped ≡ swapped) × SumsUp audited (books log)
-AnswersBooks form log tally swapped currency old new (Err Memory) = Keeps old new
-AnswersBooks form log tally swapped currency old new (Err Write) = AppendsPrefix old new (books_in form tally currency (books log))
-AnswersBooks form log tally swapped currency old new (Err (Trace number what)) = ⊥
-AnswersBooks form log tally swapped currency old new (Err TooLong) = ⊥
-AnswersBooks form log tally swapped currency old new (Err Read) = ⊥
+abbrev pub AnswersBooks : Form → List Happening → Tally → Bool → (currency : Option ℕ) → Lines → (old new : Option (List ℕ)) → Result AuditSummary TraceFault → Type 0
+AnswersBooks form log tally swapped currency lines old new (Ok audited) = Appends old new (books_in form tally currency lines (books log)) × (audited.tally ≡ tally) × (audited.swapped ≡ swapped) × SumsUp audited (books log)
+AnswersBooks form log tally swapped currency lines old new (Err Memory) = Keeps old new
+AnswersBooks form log tally swapped currency lines old new (Err Write) = AppendsPrefix old new (books_in form tally currency lines (books log))
+AnswersBooks form log tally swapped currency lines old new (Err (Trace number what)) = ⊥
+AnswersBooks form log tally swapped currency lines old new (Err TooLong) = ⊥
+AnswersBooks form log tally swapped currency lines old new (Err Read) = ⊥
 
 -- ---- an auditor as a listener
 
 -- what it becomes by an event, and how it fails
 abbrev pub hears : Hears (Auditor × Unit {0})
-hears old event new = Becomes old.0 event.trace_event new.0
+hears old event new = Becomes old.0 event new.0
 
 abbrev pub wants_memory : Fails (Auditor × Unit {0})
 wants_memory old event why new = why ≡ failure.Memory
@@ -87,12 +101,14 @@ WritesBooks r trace tally old new =
 -- written, but of a write that failed a prefix of the text.
 abbrev pub AnswersReadBy : Reading → Form → (trace : List ℕ) → (old new : Option (List ℕ)) → Result AuditSummary TraceFault → Type 0
 AnswersReadBy r form trace old new (Ok audited) =
-    (events : List At) × WholeTrace r WholeLine (lines (readable trace)) events × Appends old new (books_in form audited.tally (one_currency (currencies_of events)) (books (log_of events))) × Tallies audited.tally events × (audited.swapped ≡ are_swapped events)
+    (events : List At) × (ends : Lines) × WholeTrace r WholeLine (lines (readable trace)) events × AreEndLines events ends × Appends old new (books_in form audited.tally (one_currency (currencies_of events)) ends (books (log_of events)))
+    × Tallies audited.tally events × (audited.swapped ≡ are_swapped events)
     × SumsUp audited (books (log_of events))
 AnswersReadBy r form trace old new (Err (Trace number what)) = (events : List At) × BrokenTrace r WholeLine (lines (readable trace)) number what events × Keeps old new
 AnswersReadBy r form trace old new (Err Memory) = Keeps old new
 AnswersReadBy r form trace old new (Err Write) =
-    (events : List At) × (tally : Tally) × WholeTrace r WholeLine (lines (readable trace)) events × AppendsPrefix old new (books_in form tally (one_currency (currencies_of events)) (books (log_of events))) × Tallies tally events
+    (events : List At) × (tally : Tally) × (ends : Lines) × WholeTrace r WholeLine (lines (readable trace)) events × AreEndLines events ends × AppendsPrefix old new (books_in form tally (one_currency (currencies_of events)) ends (books (log_of events)))
+    × Tallies tally events
 AnswersReadBy r form trace old new (Err TooLong) = ⊥
 AnswersReadBy r form trace old new (Err Read) = ⊥
 

@@ -1,6 +1,6 @@
 -- The books of a trace as JSON. The members of an object come in the order of their names.
 use Rattle.std.specs.Prelude.{ℕ, List, [], ◌∷◌, ◌++◌, Option, Some, None, codes}
-use Rattle.std.specs.List.{flat_map}
+use Rattle.std.specs.List.{enumerate_from, flat_map, slice_get}
 use Rattle.std.specs.Fmt.{decimal}
 use Rattle.hex.specs.Hex.{encode_upper}
 use Rattle.json.specs.Print.{escape}
@@ -12,6 +12,7 @@ use Rattle.zvt_till.specs.Names.{cause_name}
 use Rattle.zvt_till.specs.declared.outcomes.Cause.{Cause}
 use Rattle.zvt_trace.specs.declared.fault.Tally.{Tally}
 use Rattle.zvt_audit.specs.Booked.{books_text, total}
+use Rattle.zvt_audit.specs.Ends.{Lines}
 use Rattle.zvt_json.specs.declared.form.Form.{Form}
 use Rattle.zvt_json.specs.declared.form.Form.TheVariants.{Text, Json}
 
@@ -20,17 +21,23 @@ abbrev pub with_receipt : Option (List ℕ) → Members → Members
 with_receipt None later = later
 with_receipt (Some receipt) later = member (codes "receipt") (hex_value receipt) later
 
-abbrev pub payment_value : Booked → Data
-payment_value row = object (member (codes "amount") (count_value row.amount) (with_receipt row.receipt (member (codes "trace") (count_value row.trace) no_members)))
+-- the line at which the payment ended, where it has ended, and what comes after it
+abbrev pub with_line : Option ℕ → Members → Members
+with_line None later = later
+with_line (Some line) later = member (codes "line") (count_value line) later
 
-abbrev pub booked_value : Booked → Data
-booked_value row = object (member (codes "booked") (payment_value row) no_members)
+abbrev pub payment_value : Booked → (line : Option ℕ) → Data
+payment_value row line =
+    object (member (codes "amount") (count_value row.amount) (with_line line (with_receipt row.receipt (member (codes "trace") (count_value row.trace) no_members))))
 
-abbrev pub doubt_value : ℕ × Cause → Data
-doubt_value row = object (member (codes "amount") (count_value row.0) (member (codes "cause") (string (cause_name row.1)) no_members))
+abbrev pub booked_value : Booked → (line : Option ℕ) → Data
+booked_value row line = object (member (codes "booked") (payment_value row line) no_members)
 
-abbrev pub unclear_value : ℕ × Cause → Data
-unclear_value row = object (member (codes "unclear") (doubt_value row) no_members)
+abbrev pub doubt_value : ℕ × Cause → (line : Option ℕ) → Data
+doubt_value row line = object (member (codes "amount") (count_value row.0) (member (codes "cause") (string (cause_name row.1)) (with_line line no_members)))
+
+abbrev pub unclear_value : ℕ × Cause → (line : Option ℕ) → Data
+unclear_value row line = object (member (codes "unclear") (doubt_value row line) no_members)
 
 -- the currency, where the trace has one, and what comes after it
 abbrev pub with_currency : Option ℕ → Members → Members
@@ -41,16 +48,20 @@ with_currency (Some currency) later = member (codes "currency") (string (four_di
 abbrev pub summary_value : Tally → (currency : Option ℕ) → (total : ℕ) → Data
 summary_value tally currency total = object (member (codes "bad") (count_value tally.bad) (with_currency currency (member (codes "messages") (count_value tally.messages) (member (codes "total") (count_value total) no_members))))
 
+-- what is written of rows, each with the line at which it ended
+abbrev pub rows_text : {A : Type 0} → (A → Option ℕ → List ℕ) → (ends : List ℕ) → List A → List ℕ
+rows_text text ends rows = flat_map (λ entry. text entry.1 (slice_get ends entry.0)) (enumerate_from 0 rows)
+
 -- a line for each payment that was completed, for each of which it is not known whether it happened, and for the whole trace
-abbrev pub books_json : Tally → (currency : Option ℕ) → Books → List ℕ
-books_json tally currency books =
-    flat_map (λ row. line_text (booked_value row)) books.booked ++ flat_map (λ row. line_text (unclear_value row)) books.unclear
+abbrev pub books_json : Tally → (currency : Option ℕ) → Lines → Books → List ℕ
+books_json tally currency ends books =
+    rows_text (λ row line. line_text (booked_value row line)) ends.booked books.booked ++ rows_text (λ row line. line_text (unclear_value row line)) ends.unclear books.unclear
     ++ line_text (summary_value tally currency (total books.booked))
 
 -- the books in that form
-abbrev pub books_in : Form → Tally → (currency : Option ℕ) → Books → List ℕ
-books_in Text tally currency books = books_text books
-books_in Json tally currency books = books_json tally currency books
+abbrev pub books_in : Form → Tally → (currency : Option ℕ) → Lines → Books → List ℕ
+books_in Text tally currency ends books = books_text books
+books_in Json tally currency ends books = books_json tally currency ends books
 
 -- ---- the same texts, as they are written
 
@@ -58,11 +69,15 @@ abbrev pub receipt_part : Option (List ℕ) → List ℕ
 receipt_part None = []
 receipt_part (Some receipt) = codes ",\"receipt\":\"" ++ escape (encode_upper receipt) ++ 34 ∷ []
 
-unfoldable pub booked_text : Booked → List ℕ
-booked_text row = codes "{\"booked\":{\"amount\":" ++ decimal row.amount ++ receipt_part row.receipt ++ codes ",\"trace\":" ++ decimal row.trace ++ (codes "}}" ++ 10 ∷ [])
+abbrev pub line_part : Option ℕ → List ℕ
+line_part None = []
+line_part (Some line) = codes ",\"line\":" ++ decimal line
 
-unfoldable pub unclear_text : ℕ × Cause → List ℕ
-unclear_text row = codes "{\"unclear\":{\"amount\":" ++ decimal row.0 ++ codes ",\"cause\":\"" ++ cause_name row.1 ++ (codes "\"}}" ++ 10 ∷ [])
+unfoldable pub booked_text : Booked → Option ℕ → List ℕ
+booked_text row line = codes "{\"booked\":{\"amount\":" ++ decimal row.amount ++ line_part line ++ receipt_part row.receipt ++ codes ",\"trace\":" ++ decimal row.trace ++ (codes "}}" ++ 10 ∷ [])
+
+unfoldable pub unclear_text : ℕ × Cause → Option ℕ → List ℕ
+unclear_text row line = codes "{\"unclear\":{\"amount\":" ++ decimal row.0 ++ codes ",\"cause\":\"" ++ cause_name row.1 ++ (34 ∷ []) ++ line_part line ++ (codes "}}" ++ 10 ∷ [])
 
 abbrev pub currency_part : Option ℕ → List ℕ
 currency_part None = []

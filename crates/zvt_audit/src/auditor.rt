@@ -1,9 +1,6 @@
 //! The books of the events of a trace.
-ghost use Rattle.std.specs.Prelude.{◌∷◌, [], OnOk};
-ghost use Rattle.zvt_till.specs.declared.happenings.Happening.TheVariants.{Connected, Lost, Malformed};
-ghost use Rattle.zvt_audit.specs.Audited.{Takes};
-
 use crate::currencies::NamedCurrency;
+use crate::ends::{Ends, can_end};
 use crate::happened::ordered;
 use crate::orders::Orders;
 use std::alloc::AllocError;
@@ -12,13 +9,14 @@ use zvt_till::Happening;
 use zvt_till::books::Bookkeeping;
 use zvt_trace::{Direction, Listener, ListenerError, TraceEvent};
 
-/// Judges the events of a trace as happenings of a till. It notices who sends orders, and which currencies the till names.
-/// It writes to no device.
+/// Judges the events of a trace as happenings of a till. It notices who sends orders, which currencies the till names, and
+/// at which lines payments end. It writes to no device.
 #[derive(Drop)]
 pub(crate) struct Auditor {
     pub(crate) books: Bookkeeping,
     pub(crate) orders: Orders,
     pub(crate) named: NamedCurrency,
+    pub(crate) ends: Ends,
 }
 
 impl Listener<()> for Auditor {
@@ -26,7 +24,7 @@ impl Listener<()> for Auditor {
     ghost use Rattle.zvt_audit.specs.Audited.{Becomes};
     ghost use Rattle.zvt_trace.specs.declared.listener.ListenerError.TheVariants.{Memory};
 
-    ghost hears = { λ old event new. Becomes old.0 event.trace_event new.0 };
+    ghost hears = { λ old event new. Becomes old.0 event new.0 };
 
     ghost fails = { λ _ _ failure _. failure ≡ Memory };
 
@@ -34,75 +32,88 @@ impl Listener<()> for Auditor {
     fn hear(
         &mut self,
         _device: &mut (),
-        _line: u64,
+        line: u64,
         trace_event: &TraceEvent<'_>,
     ) -> Result<(), ListenerError> {
         match trace_event {
             TraceEvent::Message { from, apdu, .. } => match from {
-                Direction::FromTill => self.hear_till(apdu)?,
-                Direction::FromTerminal => self.hear_terminal(apdu)?,
+                Direction::FromTill => self.hear_till(line, apdu)?,
+                Direction::FromTerminal => self.hear_terminal(line, apdu)?,
             },
-            TraceEvent::Refused { .. } => malform(&mut self.books)?,
-            TraceEvent::Lost => lose(&mut self.books)?,
-            TraceEvent::Unread { .. } | TraceEvent::CutOff { .. } => {}
+            TraceEvent::Refused { .. } => self.malform(line)?,
+            TraceEvent::Lost => self.lose(line)?,
+            TraceEvent::Unread { .. } => {}
+            TraceEvent::CutOff { .. } => {}
         }
         Ok(())
     }
 }
 
 impl Auditor {
-    ghost use Rattle.std.specs.Prelude.{OnOk};
-    ghost use Rattle.zvt_audit.specs.Audited.{Becomes};
+    ghost use Rattle.std.specs.Prelude.{◌∷◌, [], OnOk};
+    ghost use Rattle.zvt_audit.specs.Audited.{Becomes, BecomesBy};
+    ghost use Rattle.zvt_till.specs.declared.happenings.Happening.TheVariants.{Connected, Lost, Malformed};
     ghost use Rattle.zvt_trace.specs.TraceEvent as trace_event;
+    ghost use Rattle.zvt_trace.specs.TraceEvent.{on};
     ghost use Rattle.zvt_trace.specs.declared.direction.Direction.TheVariants.{FromTill, FromTerminal};
 
     /// Hears a message of the till. Most acknowledge one of the terminal, and leave at once.
     #[inline(always)]
-    fn hear_till(&mut self, apdu: &ApduView<'_>) -> Result<(), AllocError>
-        ensures { OnOk result (Becomes self.old (trace_event.message FromTill apdu.now) self.new) }
+    fn hear_till(&mut self, line: u64, apdu: &ApduView<'_>) -> Result<(), AllocError>
+        ensures { OnOk result (Becomes self.old (on line (trace_event.message FromTill apdu.now)) self.new) }
     {
         match apdu.kind() {
             Kind::Ack => Ok(()),
-            _ => self.hear_order(apdu),
+            _ => self.hear_order(line, apdu),
         }
     }
 
     /// Hears a message of the till that may be an order.
     #[inline(never)]
-    fn hear_order(&mut self, apdu: &ApduView<'_>) -> Result<(), AllocError>
-        ensures { OnOk result (Becomes self.old (trace_event.message FromTill apdu.now) self.new) }
+    fn hear_order(&mut self, line: u64, apdu: &ApduView<'_>) -> Result<(), AllocError>
+        ensures { OnOk result (Becomes self.old (on line (trace_event.message FromTill apdu.now)) self.new) }
     {
         self.orders.notice(Direction::FromTill, apdu);
         self.named.notice(apdu.currency());
         match ordered(apdu) {
-            Some(order) => self.books.take(&Happening::Sent(order)),
+            Some(order) => {
+                self.books.take(&Happening::Sent(order))?;
+                self.ends.notice(&self.books, line)
+            }
             None => Ok(()),
         }
     }
 
     /// Hears a message of the terminal.
     #[inline(always)]
-    fn hear_terminal(&mut self, apdu: &ApduView<'_>) -> Result<(), AllocError>
-        ensures { OnOk result (Becomes self.old (trace_event.message FromTerminal apdu.now) self.new) }
+    fn hear_terminal(&mut self, line: u64, apdu: &ApduView<'_>) -> Result<(), AllocError>
+        ensures { OnOk result (Becomes self.old (on line (trace_event.message FromTerminal apdu.now)) self.new) }
     {
         self.orders.notice(Direction::FromTerminal, apdu);
-        self.books.hear(apdu)
+        self.books.hear(apdu)?;
+        if can_end(apdu.kind()) {
+            self.ends.notice(&self.books, line)
+        } else {
+            Ok(())
+        }
     }
-}
 
-/// What came is no message.
-#[inline(never)]
-fn malform(books: &mut Bookkeeping) -> Result<(), AllocError>
-    ensures { OnOk result (Takes books.old books.new (Malformed ∷ [])) }
-{
-    books.take(&Happening::Malformed)
-}
+    /// What came is no message.
+    #[inline(never)]
+    fn malform(&mut self, line: u64) -> Result<(), AllocError>
+        ensures { OnOk result (BecomesBy self.old (Malformed ∷ []) line self.new) }
+    {
+        self.books.take(&Happening::Malformed)?;
+        self.ends.notice(&self.books, line)
+    }
 
-/// The connection is lost, and the next one is up.
-#[inline(never)]
-fn lose(books: &mut Bookkeeping) -> Result<(), AllocError>
-    ensures { OnOk result (Takes books.old books.new (Lost ∷ Connected ∷ [])) }
-{
-    books.take(&Happening::Lost)?;
-    books.take(&Happening::Connected)
+    /// The connection is lost, and the next one is up.
+    #[inline(never)]
+    fn lose(&mut self, line: u64) -> Result<(), AllocError>
+        ensures { OnOk result (BecomesBy self.old (Lost ∷ Connected ∷ []) line self.new) }
+    {
+        self.books.take(&Happening::Lost)?;
+        self.books.take(&Happening::Connected)?;
+        self.ends.notice(&self.books, line)
+    }
 }

@@ -1,8 +1,10 @@
 //! The books of a trace in either form.
 ghost use Rattle.std.specs.Prelude.{◌≡◌, ◌++◌, OnOk};
 ghost use Rattle.zvt_till.specs.Judging.{books_value};
+ghost use Rattle.zvt_audit.specs.Ends.{lines_of};
 ghost use Rattle.zvt_audit.specs.Json.{books_in};
 
+use crate::ends::Ends;
 use crate::{booked, objects};
 use std::alloc::AllocError;
 use zvt_bcd::Currency;
@@ -11,18 +13,19 @@ use zvt_text::Text;
 use zvt_till::Books;
 use zvt_trace::Tally;
 
-/// Writes the books of a trace in this form. The currency of its till is in the JSON alone.
+/// Writes the books of a trace in this form. The currency, and the lines at which payments ended, are in the JSON alone.
 pub(crate) fn write(
     text: &mut Text,
     form: Form,
     tally: Tally,
     currency: Option<Currency>,
+    ends: &Ends,
     books: &Books,
 ) -> Result<(), AllocError>
-    ensures { OnOk result (text.new ≡ text.old ++ books_in form tally currency (books_value books.now)) }
+    ensures { OnOk result (text.new ≡ text.old ++ books_in form tally currency (lines_of ends.now) (books_value books.now)) }
 {
     match form {
         Form::Text => booked::write(text, books),
-        Form::Json => objects::write(text, tally, currency, books),
+        Form::Json => objects::write(text, tally, currency, ends, books),
     }
 }

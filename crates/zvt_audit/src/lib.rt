@@ -4,6 +4,7 @@
 mod auditor;
 mod booked;
 mod currencies;
+mod ends;
 mod follow;
 mod form;
 mod happened;

@@ -4,9 +4,11 @@ ghost use Rattle.hex.specs.Hex.{encode_upper};
 ghost use Rattle.json.specs.Print.{escape};
 ghost use Rattle.zvt_text.specs.Writing.{Adds};
 ghost use Rattle.zvt_till.specs.Judging.{books_value, row_value};
-ghost use Rattle.zvt_audit.specs.Json.{booked_text, books_json, currency_part, receipt_part, summary_text, unclear_text};
+ghost use Rattle.zvt_audit.specs.Ends.{lines_of};
+ghost use Rattle.zvt_audit.specs.Json.{booked_text, books_json, currency_part, line_part, receipt_part, summary_text, unclear_text};
 
 use crate::booked::total;
+use crate::ends::Ends;
 use std::alloc::AllocError;
 use zvt_bcd::{Amount, Currency};
 use zvt_text::cursor::{Full, four_digits};
@@ -20,29 +22,42 @@ pub(crate) fn write(
     text: &mut Text,
     tally: Tally,
     currency: Option<Currency>,
+    ends: &Ends,
     books: &Books,
 ) -> Result<(), AllocError>
-    ensures { OnOk result (text.new ≡ text.old ++ books_json tally currency (books_value books.now)) }
+    ensures { OnOk result (text.new ≡ text.old ++ books_json tally currency (lines_of ends.now) (books_value books.now)) }
 {
-    for row in &books.booked {
-        booked_row(text, row)?;
+    for (at, row) in books.booked.iter().enumerate() {
+        booked_row(text, row, ends.booked.get(at).copied())?;
     }
-    for row in &books.unclear {
-        unclear_row(text, row)?;
+    for (at, row) in books.unclear.iter().enumerate() {
+        unclear_row(text, row, ends.unclear.get(at).copied())?;
     }
     summary(text, tally, currency, total(books.booked.as_slice()))
 }
 
 /// The line of a payment that was completed.
-fn booked_row(text: &mut Text, row: &Booked) -> Result<(), AllocError>
-    ensures { OnOk result (text.new ≡ text.old ++ booked_text (row_value row.now)) }
+fn booked_row(text: &mut Text, row: &Booked, line: Option<u64>) -> Result<(), AllocError>
+    ensures { OnOk result (text.new ≡ text.old ++ booked_text (row_value row.now) line) }
 {
     text.word(b"{\"booked\":{\"amount\":")?;
     text.number(row.amount.get())?;
+    ended_at(text, line)?;
     receipt(text, row.receipt)?;
     text.word(b",\"trace\":")?;
     text.number(row.trace.get())?;
     text.word(b"}}\n")
+}
+
+/// The line at which the payment ended, where it has ended.
+fn ended_at(text: &mut Text, line: Option<u64>) -> Result<(), AllocError>
+    ensures { OnOk result (text.new ≡ text.old ++ line_part line) }
+{
+    let Some(number) = line else {
+        return Ok(());
+    };
+    text.word(b",\"line\":")?;
+    text.number(number)
 }
 
 /// The receipt number, where the payment has one.
@@ -65,15 +80,17 @@ fn digits(text: &mut Text, bytes: &[u8]) -> Result<(), AllocError>
 }
 
 /// The line of a payment of which it is not known whether it happened.
-fn unclear_row(text: &mut Text, row: &(Amount, Cause)) -> Result<(), AllocError>
-    ensures { OnOk result (text.new ≡ text.old ++ unclear_text row.now) }
+fn unclear_row(text: &mut Text, row: &(Amount, Cause), line: Option<u64>) -> Result<(), AllocError>
+    ensures { OnOk result (text.new ≡ text.old ++ unclear_text row.now line) }
 {
     let (amount, cause) = row;
     text.word(b"{\"unclear\":{\"amount\":")?;
     text.number(amount.get())?;
     text.word(b",\"cause\":\"")?;
     text.word(cause.name().as_bytes())?;
-    text.word(b"\"}}\n")
+    text.push(b'"')?;
+    ended_at(text, line)?;
+    text.word(b"}}\n")
 }
 
 /// The line of the whole trace.

@@ -6,9 +6,11 @@ ghost use Rattle.zvt_till.specs.Judging.{HasJudged};
 ghost use Rattle.zvt_till.specs.declared.happenings.Happening.{Happening};
 ghost use Rattle.zvt_audit.specs.Audited.{AnswersBooks, AnswersReadBy, IsConnected, has_swapped};
 ghost use Rattle.zvt_audit.specs.Currencies.{agreed};
+ghost use Rattle.zvt_audit.specs.Ends.{lines_of};
 
 use crate::auditor::Auditor;
 use crate::currencies::NamedCurrency;
+use crate::ends::Ends;
 use crate::orders::Orders;
 use crate::{booked, form};
 use std::alloc::{AllocError, Global};
@@ -75,6 +77,7 @@ pub(crate) fn connected(alloc: Global) -> Result<Auditor, AllocError>
         books,
         orders: Orders::none(),
         named: NamedCurrency::none(),
+        ends: Ends::none(alloc),
     })
 }
 
@@ -86,7 +89,7 @@ pub(crate) fn write_books<W: Sink>(
     tally: Tally,
     writer: &mut W,
 ) -> Result<AuditSummary, TraceFault>
-    ensures writes { (log : List Happening) → HasJudged log auditor.books → AnswersBooks form log tally (has_swapped auditor.orders) (agreed auditor.named) (W.written writer.old) (W.written writer.new) result }
+    ensures writes { (log : List Happening) → HasJudged log auditor.books → AnswersBooks form log tally (has_swapped auditor.orders) (agreed auditor.named) (lines_of auditor.ends) (W.written writer.old) (W.written writer.new) result }
     ensures write { result ≡ Err TraceFault.Write → W.failures writer.old < W.failures writer.new }
     ensures read { result ≡ Err TraceFault.Read → ⊥ }
 {
@@ -94,7 +97,7 @@ pub(crate) fn write_books<W: Sink>(
     let currency = auditor.named.agreed();
     let found = auditor.books.close()?;
     let mut text = Text::new(alloc);
-    form::write(&mut text, form, tally, currency, &found)?;
+    form::write(&mut text, form, tally, currency, &auditor.ends, &found)?;
     writer.write_all(text.bytes())?;
     Ok(AuditSummary {
         tally,

@@ -2,7 +2,7 @@
 //!
 //! What an audit calls for each message is `#[inline(always)]`. What few messages need is `#[inline(never)]`, so that it
 //! does not make that way longer.
-ghost use Rattle.std.specs.Prelude.{◌≡◌, ◌++◌, ◌∷◌, [], List, IfOk, OnOk};
+ghost use Rattle.std.specs.Prelude.{◌≡◌, ◌++◌, ◌∷◌, [], List, length, IfOk, OnOk};
 ghost use Rattle.zvt_till.specs.Books.{books};
 ghost use Rattle.zvt_till.specs.declared.happenings.Happening.TheVariants.{Heard as HeardIn};
 ghost use Rattle.zvt_till.specs.declared.messages.Heard.TheVariants.{Completion, Status};
@@ -115,6 +115,22 @@ impl Bookkeeping {
         ensures { OnOk result ((log : List Happening) → HasJudged log self.old → HasJudged (log ++ HeardIn (heard_as apdu.now) ∷ []) self.new) }
     {
         self.take(&Happening::Heard(heard_view(apdu)))
+    }
+
+    /// How many payments were completed.
+    #[inline(always)]
+    pub fn booked_count(&self) -> usize
+        ensures { result ≡ length self.now.books.booked }
+    {
+        self.found.booked.len()
+    }
+
+    /// Of how many payments it is not known whether they happened, but for the one that runs.
+    #[inline(always)]
+    pub fn unclear_count(&self) -> usize
+        ensures { result ≡ length self.now.books.unclear }
+    {
+        self.found.unclear.len()
     }
 
     /// The log ends: a payment without an end is unfinished.

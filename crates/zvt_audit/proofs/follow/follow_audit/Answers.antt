@@ -18,5 +18,5 @@ returns-clause-follows g c =
       heard.2,
       books_followed (reading_of c.args.lengths) c.args.form heard.0 (g.R.Source.remaining c.hear_all.new.reader) (g.W.Sink.written c.args.writer.now) _ c.write_books.result
           (audited {r = reading_of c.args.lengths} heard.0 c.args.form c.in_ok-tally.tally c.write_books.result _ _ (c.in_ok-auditor.auditor, tt) (c.hear_all.new.auditor, tt)
-          c.in_ok-auditor.ensures.0 c.in_ok-auditor.ensures.1 c.in_ok-auditor.ensures.2 c.in_ok-auditor.ensures.3 heard.3.0 c.write_books.ensures.writes) heard.3.1,
+          c.in_ok-auditor.ensures.0 c.in_ok-auditor.ensures.1 c.in_ok-auditor.ensures.2 c.in_ok-auditor.ensures.3 c.in_ok-auditor.ensures.4 heard.3.0 c.write_books.ensures.writes) heard.3.1,
     )
