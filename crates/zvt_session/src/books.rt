@@ -14,8 +14,8 @@ use zvt_json::Form;
 use zvt_text::Text;
 use zvt_till::{Cause, Doubt, Entry, Till};
 
-/// Writes a till's book in this form: a line for each entry with what became of its reversals, one for each payment of which
-/// it is not known whether it happened, and the sum of the entries that were not reversed.
+/// Writes a till's book in this form. A line represents each entry, with what became of its reversals. Then one represents
+/// each payment of which it is not known whether it happened. Last comes the sum of the entries that were not reversed.
 ///
 /// The text is written once. Where memory runs out nothing is written.
 pub fn write_book<W: Sink>(
