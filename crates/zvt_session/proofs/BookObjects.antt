@@ -14,7 +14,7 @@ use Rattle.zvt_till.specs.declared.entries.Entry.{Entry}
 use Rattle.zvt_till.specs.declared.outcomes.Cause.{Cause}
 use Rattle.zvt_till.specs.declared.outcomes.Cause.TheVariants.{NoStatus, Conflict, AmountDiffers, NoTrace, TraceUsed, AbortAfterApproval, Line, Malformed, Unfinished, WrongCurrency}
 use Rattle.zvt_session.proofs.Gone.{three_parts}
-use Rattle.zvt_session.specs.BookObjects.{amount_part, entry_json, entry_value, receipt_part, reversals_part, reversed_part, taken_back_part, total_json, total_value, trace_part, unclear_json, unclear_reversal_part, unclear_value, with_receipt, with_reversals, with_reversed, with_taken_back, with_unclear_reversal}
+use Rattle.zvt_session.specs.BookObjects.{amount_part, entry_json, entry_value, receipt_part, reversals_part, reversed_part, taken_back_part, trace_part, unclear_json, unclear_reversal_part, unclear_value, with_receipt, with_reversals, with_reversed, with_taken_back, with_unclear_reversal}
 
 cause_plain : (c : Cause) → escape (cause_name c) ≡ cause_name c
 unfolding escape_byte
@@ -108,10 +108,6 @@ unfolding unclear_json
 unclear_said row =
     ap (λ (l : List ℕ). codes "{\"unclear\":{\"amount\":" ++ (decimal row.0 ++ (codes ",\"cause\":\"" ++ (l ++ codes "\"}}\n")))) (sym (cause_plain row.1))
     ∙ unclear_escaped row.0 row.1
-
-pub total_said : (total : ℕ) → total_json total ≡ line_text (total_value total)
-unfolding total_json escape_byte
-total_said total = simp append_assoc
 
 -- ---- what is added one after another
 

@@ -17,6 +17,7 @@ use Rattle.zvt_till.specs.declared.entries.Entry.{Entry}
 use Rattle.zvt_till.specs.declared.outcomes.Cause.{Cause}
 use Rattle.zvt_till.specs.declared.outcomes.Cause.TheVariants.{NoStatus}
 use Rattle.zvt_session.specs.Books.{book_text}
+use Rattle.zvt_session.specs.Objects.{total_value}
 
 -- the receipt number, where the payment has one, and what comes after it
 abbrev pub with_receipt : Option (List ℕ) → Members → Members
@@ -58,9 +59,6 @@ doubt_value row = object (member (codes "amount") (count_value row.0) (member (c
 -- a payment of which it is not known whether it happened
 abbrev pub unclear_value : ℕ × Cause → Data
 unclear_value row = object (member (codes "unclear") (doubt_value row) no_members)
-
-abbrev pub total_value : ℕ → Data
-total_value total = object (member (codes "total") (count_value total) no_members)
 
 abbrev pub entries_json : List Entry → List ℕ
 entries_json book = flat_map (λ entry. line_text (entry_value entry)) book
@@ -112,10 +110,6 @@ an_unclear_payment : line_text (unclear_value (500, NoStatus)) ≡ codes "{\"unc
 unfolding digits escape_byte
 an_unclear_payment = refl
 
-a_total : line_text (total_value 1000) ≡ codes "{\"total\":1000}\n"
-unfolding digits escape_byte
-a_total = refl
-
 -- ---- the same texts, as they are written
 
 abbrev pub receipt_part : Option (List ℕ) → List ℕ
@@ -152,6 +146,3 @@ entry_json entry = amount_part entry.amount ++ receipt_part entry.receipt ++ rev
 
 unfoldable pub unclear_json : ℕ × Cause → List ℕ
 unclear_json row = codes "{\"unclear\":{\"amount\":" ++ (decimal row.0 ++ (codes ",\"cause\":\"" ++ (cause_name row.1 ++ codes "\"}}\n")))
-
-unfoldable pub total_json : ℕ → List ℕ
-total_json total = codes "{\"total\":" ++ decimal total ++ codes "}\n"

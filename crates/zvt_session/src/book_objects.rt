@@ -4,8 +4,9 @@ ghost use Rattle.hex.specs.Hex.{encode_upper};
 ghost use Rattle.json.specs.Print.{escape};
 ghost use Rattle.zvt_json.specs.Strings.{line_text};
 ghost use Rattle.zvt_text.specs.Writing.{Adds};
-ghost use Rattle.zvt_session.specs.BookObjects.{amount_part, book_json, entries_json, entry_json, entry_value, receipt_part, reversals_part, reversed_part, taken_back_part, total_json, total_value, trace_part, unclear_json, unclear_reversal_part, unclear_value, unclears_json};
+ghost use Rattle.zvt_session.specs.BookObjects.{amount_part, book_json, entries_json, entry_json, entry_value, receipt_part, reversals_part, reversed_part, taken_back_part, trace_part, unclear_json, unclear_reversal_part, unclear_value, unclears_json};
 
+use crate::objects::say_total_object;
 use std::alloc::AllocError;
 use zvt_bcd::{Amount, Trace};
 use zvt_text::Text;
@@ -18,7 +19,7 @@ pub(crate) fn say_objects(text: &mut Text, till: &Till) -> Result<(), AllocError
 {
     say_entries(text, till.book())?;
     say_unclear(text, till.unclear())?;
-    say_total(text, till.total())
+    say_total_object(text, till.total())
 }
 
 /// The lines of these entries.
@@ -55,14 +56,6 @@ fn say_unclear_row(text: &mut Text, row: &(Amount, Cause)) -> Result<(), AllocEr
     ensures { OnOk result (text.new ≡ text.old ++ line_text (unclear_value row.now)) }
 {
     write_unclear(text, row)
-}
-
-/// The line of a total.
-#[tactic(auto, using(crate::proofs::BookObjects::total_said))]
-fn say_total(text: &mut Text, total: u64) -> Result<(), AllocError>
-    ensures { OnOk result (text.new ≡ text.old ++ line_text (total_value total)) }
-{
-    write_total(text, total)
 }
 
 /// Writes the line of an entry, part by part.
@@ -164,14 +157,4 @@ fn write_unclear(text: &mut Text, row: &(Amount, Cause)) -> Result<(), AllocErro
     text.word(b",\"cause\":\"")?;
     text.word(cause.name().as_bytes())?;
     text.word(b"\"}}\n")
-}
-
-/// Writes the line of a total, part by part.
-#[tactic(auto, unfolding(crate::specs::BookObjects::total_json))]
-fn write_total(text: &mut Text, total: u64) -> Result<(), AllocError>
-    ensures { OnOk result (text.new ≡ text.old ++ total_json total) }
-{
-    text.word(b"{\"total\":")?;
-    text.number(total)?;
-    text.word(b"}\n")
 }
