@@ -9,9 +9,9 @@ use zvt_grammar::{Lengths, Why};
 use zvt_io::{Counted, Sink, Source};
 use zvt_json::Form;
 use zvt_session::{
-    BothEnds, EndFault, Endpoint, Ends, LoopRun, NetFault, Planned, Recorded, StepRun, TillRun, Way,
-    config_of, currency_of, password_of, plan, run_both_ends, run_loop, run_till, run_till_end,
-    serve,
+    BothEnds, EndFault, Endpoint, Ends, LoopRun, NetFault, Planned, Recorded, StepRun, TillRun,
+    Way, config_of, currency_of, password_of, plan, run_both_ends, run_loop, run_till,
+    run_till_end, serve,
 };
 use zvt_stream::{LineFault, Stream};
 use zvt_term::{Served, Terminal, Verdict};
