@@ -6,7 +6,7 @@ use Rattle.std.specs.Prelude.{OnOk}
 use Rattle.std.specs.List.{cons_option, flat_map, slice_get}
 use Rattle.zvt_apdu.specs.Kinds.{kind_of}
 use Rattle.zvt_apdu.specs.Message.{Message, ack, nack, registration, authorisation, reversal, end_of_day, abort_order, status, intermediate, print_line, text_block, completion, abort, other}
-use Rattle.zvt_till.specs.Books.{Books, books, books_of}
+use Rattle.zvt_till.specs.Books.{Books, books, books_of, empty_books}
 use Rattle.zvt_till.specs.Hearing.{heard_as}
 use Rattle.zvt_till.specs.Judging.{BooksSoFar, HasJudged, IsJudged, Runs, as_book, ends_open, is_open_as, open_after, opened, paying, written}
 use Rattle.zvt_till.specs.Outcomes.{note_if, outcome_by}
@@ -206,6 +206,40 @@ event_happened count counts log judged (trace_event.unread from) = none_happened
 event_happened count counts log judged (trace_event.cut_off from head have) = none_happened count log
 event_happened count counts log judged trace_event.lost = lost_happened count counts log judged
 
+-- ---- a count never shrinks
+
+judged_on : (done more : List Happening) → Judged done → Judged (done ++ more)
+unfolding Judged
+judged_on done [] judged = subst (λ (l : List Happening). (b : Books) × (run : Option OpenPayment) × IsJudged l b run) (sym (append-nil done)) judged
+judged_on done (h ∷ more) judged =
+    let next = one_more done h judged.0 judged.1 judged.2 in
+    subst (λ (l : List Happening). (b : Books) × (run : Option OpenPayment) × IsJudged l b run) (append_assoc done (h ∷ []) more) (judged_on (done ++ h ∷ []) more (next.0, next.1, next.2))
+
+all_judged : (log : List Happening) → Judged log
+unfolding Judged
+all_judged log = judged_on [] log (empty_books, None, record { all = refl; ended = refl })
+
+count_grows : (count : List Happening → ℕ) → Counts count → (log more : List Happening) → count log ≤ count (log ++ more)
+count_grows count counts log [] =
+    let same : count (log ++ []) ≡ count log = ap count (append-nil log) in
+    omega (arith, same)
+count_grows count counts log (h ∷ more) =
+    let same : count ((log ++ h ∷ []) ++ more) ≡ count (log ++ h ∷ more) = ap count (append_assoc log (h ∷ []) more) in
+    omega (arith, same, counts.least log h (all_judged log), count_grows count counts (log ++ h ∷ []) more)
+
+events_grow : (count : List Happening → ℕ) → Counts count → (events some rest : List At) → events ≡ some ++ rest → count (log_of some) ≤ count (log_of events)
+events_grow count counts events some rest cut =
+    let longer : log_of events ≡ log_of some ++ flat_map (λ (e : At). happenings_of e.trace_event) rest =
+    ap log_of cut ∙ ap (λ (l : List Happening). Connected ∷ l) (flat_map-append (λ (e : At). happenings_of e.trace_event) some rest) in
+    let same : count (log_of events) ≡ count (log_of some ++ flat_map (λ (e : At). happenings_of e.trace_event) rest) = ap count longer in
+    omega (arith, same, count_grows count counts (log_of some) (flat_map (λ (e : At). happenings_of e.trace_event) rest))
+
+pub booked_grow : (events some rest : List At) → events ≡ some ++ rest → booked_count (log_of some) ≤ booked_count (log_of events)
+booked_grow = events_grow booked_count booked_counts
+
+pub unclear_grow : (events some rest : List At) → events ≡ some ++ rest → unclear_count (log_of some) ≤ unclear_count (log_of events)
+unclear_grow = events_grow unclear_count unclear_counts
+
 -- ---- the lines
 
 still_ends : (count : List Happening → ℕ) (events : List At) (next : At) (row line : ℕ) → EndsAt count events row line → EndsAt count (events ++ next ∷ []) row line
@@ -214,7 +248,7 @@ still_ends count events next row line ended = record {
   event = ended.event;
   later = ended.later ++ next ∷ [];
   is = ap (λ (l : List At). l ++ next ∷ []) ended.is ∙ append_assoc ended.before (ended.event ∷ ended.later) (next ∷ []);
-  not_before = ended.not_before;
+  first = ended.first;
   then = ended.then;
   at_line = ended.at_line;
 }
@@ -233,8 +267,8 @@ last_or_before (first ∷ lines) last (suc row) line is = by (last_or_before lin
     by (inl before) = inl before
     by (inr (at, same)) = inr (ap suc at, same)
 
-ends_added : (count : List Happening → ℕ) (events : List At) (next : At) (lines : List ℕ) → AreEndsOf count events lines → count (log_of (events ++ next ∷ [])) ≡ length lines + 1 → AreEndsOf count (events ++ next ∷ []) (lines ++ next.line ∷ [])
-ends_added count events next lines ended more = record {
+ends_added : (count : List Happening → ℕ) → Counts count → (events : List At) (next : At) (lines : List ℕ) → AreEndsOf count events lines → count (log_of (events ++ next ∷ [])) ≡ length lines + 1 → AreEndsOf count (events ++ next ∷ []) (lines ++ next.line ∷ [])
+ends_added count counts events next lines ended more = record {
   all = length-append lines (next.line ∷ []) ∙ sym more;
   each = λ row line is. by row line (last_or_before lines next.line row line is);
 }
@@ -246,14 +280,14 @@ ends_added count events next lines ended more = record {
       event = next;
       later = [];
       is = refl;
-      not_before = omega (arith, at, ended.all);
+      first = λ some rest cut. omega (arith, at, ended.all, events_grow count counts events some rest cut);
       then = omega (arith, at, more);
       at_line = same;
     }
 
-one_noticed : (count : List Happening → ℕ) (events : List At) (next : At) (lines : List ℕ) (rows : ℕ) → OneMore count (log_of events) (happenings_of next.trace_event) → rows ≡ count (log_of (events ++ next ∷ []))
+one_noticed : (count : List Happening → ℕ) → Counts count → (events : List At) (next : At) (lines : List ℕ) (rows : ℕ) → OneMore count (log_of events) (happenings_of next.trace_event) → rows ≡ count (log_of (events ++ next ∷ []))
     → AreEndsOf count events lines → AreEndsOf count (events ++ next ∷ []) (with_end lines rows next.line)
-one_noticed count events next lines rows one is ended = by (nat_lt (length lines) rows) refl
+one_noticed count counts events next lines rows one is ended = by (nat_lt (length lines) rows) refl
   where
     grown : count (log_of (events ++ next ∷ [])) ≡ count (log_of events ++ happenings_of next.trace_event)
     grown = ap count (log_more events next)
@@ -261,7 +295,7 @@ one_noticed count events next lines rows one is ended = by (nat_lt (length lines
     by : (more : Bool) → nat_lt (length lines) rows ≡ more → AreEndsOf count (events ++ next ∷ []) (cond more (lines ++ next.line ∷ []) lines)
     by true less =
         let strict : length lines < rows = grind (arith, nat_tests, less) in
-        ends_added count events next lines ended (omega (arith, strict, is, grown, one.most, ended.all))
+        ends_added count counts events next lines ended (omega (arith, strict, is, grown, one.most, ended.all))
     by false less =
         let none : rows ≤ length lines = grind (arith, nat_tests, less) in
         ends_kept count events next lines ended (omega (arith, none, is, grown, one.least, ended.all))
@@ -292,8 +326,8 @@ ends_noticed old new happened line lines after takes noticed before event is at 
     let sound : Judged (log_of before) = (old.books, old.running, judged.0) in
     subst (λ (l : Lines). AreEndLines (before ++ event ∷ []) l) (ap (with_ends lines new) at ∙ sym noticed)
     (record {
-      booked = one_noticed booked_count before event lines.booked (length new.books.booked) (event_happened booked_count booked_counts (log_of before) sound event.trace_event) (sym (booked_rows (log_of (before ++ event ∷ [])) new.books new.running next.0)) ended.booked;
-      unclear = one_noticed unclear_count before event lines.unclear (length new.books.unclear) (event_happened unclear_count unclear_counts (log_of before) sound event.trace_event) (sym (unclear_rows (log_of (before ++ event ∷ [])) new.books new.running next.0)) ended.unclear;
+      booked = one_noticed booked_count booked_counts before event lines.booked (length new.books.booked) (event_happened booked_count booked_counts (log_of before) sound event.trace_event) (sym (booked_rows (log_of (before ++ event ∷ [])) new.books new.running next.0)) ended.booked;
+      unclear = one_noticed unclear_count unclear_counts before event lines.unclear (length new.books.unclear) (event_happened unclear_count unclear_counts (log_of before) sound event.trace_event) (sym (unclear_rows (log_of (before ++ event ∷ [])) new.books new.running next.0)) ended.unclear;
     })
 
 -- nothing happened

@@ -9,6 +9,7 @@ use Rattle.zvt_trace.specs.TraceEvent as trace_event
 use Rattle.zvt_trace.specs.declared.direction.Direction.TheVariants.{FromTill, FromTerminal}
 use Rattle.zvt_audit.specs.Ends.{AreEndLines, AreEndsOf, EndsAt, booked_count, unclear_count}
 use Rattle.zvt_audit.specs.Happened.{log_of}
+use Rattle.zvt_audit.proofs.EndLemmas.{booked_grow, unclear_grow}
 
 abbrev ordered_at : ℕ → At
 ordered_at line = on line (trace_event.message FromTill (authorisation (plain 0x04 (0 ∷ 0 ∷ 0 ∷ 0 ∷ 0 ∷ 1 ∷ []) ∷ [])))
@@ -33,7 +34,7 @@ one_of count events line one ends = record { all = sym one; each = λ row at is.
 -- a payment that was completed ends with the completion, and not with its order or its status
 pub booked_by_completion : AreEndLines (ordered_at 1 ∷ approved_at 2 ∷ completed_at 4 ∷ []) (record { booked = 4 ∷ []; unclear = [] })
 booked_by_completion = record {
-  booked = one_of booked_count _ 4 refl (record { before = ordered_at 1 ∷ approved_at 2 ∷ []; event = completed_at 4; later = []; is = refl; not_before = omega arith; then = omega arith; at_line = refl });
+  booked = one_of booked_count _ 4 refl (record { before = ordered_at 1 ∷ approved_at 2 ∷ []; event = completed_at 4; later = []; is = refl; first = λ some rest cut. omega (arith, booked_grow _ some rest cut); then = omega arith; at_line = refl });
   unclear = none_of unclear_count _ refl;
 }
 
@@ -41,21 +42,21 @@ booked_by_completion = record {
 pub unclear_by_completion : AreEndLines (ordered_at 1 ∷ completed_at 3 ∷ approved_at 5 ∷ []) (record { booked = []; unclear = 3 ∷ [] })
 unclear_by_completion = record {
   booked = none_of booked_count _ refl;
-  unclear = one_of unclear_count _ 3 refl (record { before = ordered_at 1 ∷ []; event = completed_at 3; later = approved_at 5 ∷ []; is = refl; not_before = omega arith; then = omega arith; at_line = refl });
+  unclear = one_of unclear_count _ 3 refl (record { before = ordered_at 1 ∷ []; event = completed_at 3; later = approved_at 5 ∷ []; is = refl; first = λ some rest cut. omega (arith, unclear_grow _ some rest cut); then = omega arith; at_line = refl });
 }
 
 -- a lost connection ends it
 pub unclear_by_loss : AreEndLines (ordered_at 1 ∷ approved_at 2 ∷ on 6 trace_event.lost ∷ []) (record { booked = []; unclear = 6 ∷ [] })
 unclear_by_loss = record {
   booked = none_of booked_count _ refl;
-  unclear = one_of unclear_count _ 6 refl (record { before = ordered_at 1 ∷ approved_at 2 ∷ []; event = on 6 trace_event.lost; later = []; is = refl; not_before = omega arith; then = omega arith; at_line = refl });
+  unclear = one_of unclear_count _ 6 refl (record { before = ordered_at 1 ∷ approved_at 2 ∷ []; event = on 6 trace_event.lost; later = []; is = refl; first = λ some rest cut. omega (arith, unclear_grow _ some rest cut); then = omega arith; at_line = refl });
 }
 
 -- the next order ends it; the payment that this order begins has no end
 pub unclear_by_order : AreEndLines (ordered_at 1 ∷ ordered_at 8 ∷ []) (record { booked = []; unclear = 8 ∷ [] })
 unclear_by_order = record {
   booked = none_of booked_count _ refl;
-  unclear = one_of unclear_count _ 8 refl (record { before = ordered_at 1 ∷ []; event = ordered_at 8; later = []; is = refl; not_before = omega arith; then = omega arith; at_line = refl });
+  unclear = one_of unclear_count _ 8 refl (record { before = ordered_at 1 ∷ []; event = ordered_at 8; later = []; is = refl; first = λ some rest cut. omega (arith, unclear_grow _ some rest cut); then = omega arith; at_line = refl });
 }
 
 -- nothing ended it

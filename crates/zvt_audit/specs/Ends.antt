@@ -20,12 +20,13 @@ abbrev pub unclear_count : List Happening → ℕ
 unclear_count log = length (books log).unclear - cond (ends_open (segments log)) 1 0
 
 -- With an event of this line the count of rows first exceeds the place of that row, which is counted from 0.
+-- The count of no prefix of the events before it exceeds that place.
 pub record EndsAt (count : List Happening → ℕ) (events : List At) (row line : ℕ) : Type 0 where
   pub before : List At
   pub event : At
   pub later : List At
   pub is : events ≡ before ++ event ∷ later
-  pub not_before : count (log_of before) ≤ row
+  pub first : (some rest : List At) → before ≡ some ++ rest → count (log_of some) ≤ row
   pub then : row < count (log_of (before ++ event ∷ []))
   pub at_line : line ≡ event.line
 
