@@ -32,12 +32,13 @@ PROGRAM = os.path.abspath(sys.argv[1]) if len(sys.argv) > 1 else str(HERE.parent
 SEED, RUNS, VECTORS, SECONDS = 20261126, 150, 40, 60
 # The sections of docs/JSON.md whose objects are seen here.
 SECTIONS = ("Steps", "Books of a till", "Terminals", "Vectors")
-REGISTERED = bytes.fromhex("80 00 00 06 0F 00")
-# What a terminal sends for a payment of 1000, if it is connected to one, and then closes the line.
-ANSWERS = [
-    REGISTERED, REGISTERED + bytes.fromhex("80 00 00 06 0F 00"), REGISTERED + bytes.fromhex("84 83 00"), REGISTERED + bytes.fromhex("80 00"),
-    REGISTERED + bytes.fromhex("80 00 00 06 D0 00 01"), bytes.fromhex("84 83 00"), bytes.fromhex("80 00 00 06 1E 01 6F"), b"", bytes.fromhex("80 00 00 06 0F 02 D0"),
-]
+ACK = bytes.fromhex("80 00 00")
+# What a terminal sends for one order after another, before it closes the line.
+ANSWERS = [[bytes.fromhex(answer) for answer in answers] for answers in (
+    [], ["80 00 00 06 0F 00"], ["80 00 00 06 0F 00", "80 00 00 06 0F 00"], ["80 00 00 06 0F 00", "84 83 00"], ["80 00 00 06 0F 00", "80 00"],
+    ["80 00 00 06 0F 00", "80 00 00 06 D0 00 01"], ["80 00 00 06 0F 00", "80 00 00 04 0F 02 27 6F 06 0F 00", "80 00 00 06 1E 01 B5"],
+    ["84 83 00"], ["80 00 00 06 1E 01 6F"], ["80 00 00 06 0F 02 D0"],
+)]
 failed, seen = [], []
 
 
@@ -188,35 +189,49 @@ def hold_loops(chance, folder):
 
 # ---- a till and a terminal
 
+def awaits_order(line):
+    """Reads until an order has come, and not only what acknowledges a message."""
+    data = b""
+    while not data:
+        data = line.recv(4096)
+        if not data:
+            raise OSError("the till has gone")
+        while data.startswith(ACK):
+            data = data[len(ACK):]
+
+
+def serve(door, answers):
+    """Gives these answers to one order after another, to each till that connects, and then sends nothing more."""
+    while True:
+        line, _ = door.accept()
+        with line, contextlib.suppress(OSError):
+            line.settimeout(SECONDS)
+            for answer in answers:
+                awaits_order(line)
+                line.sendall(answer)
+            line.shutdown(socket.SHUT_WR)
+            while line.recv(4096):
+                pass
+
+
 @contextlib.contextmanager
-def answering(answer):
-    """A port at which this is sent for each till that connects; its line is closed once the till was read from."""
+def answering(answers):
+    """A port at which a terminal gives these answers."""
     with socket.create_server(("127.0.0.1", 0)) as door:
-        def serve():
-            with contextlib.suppress(OSError):
-                while True:
-                    line, _ = door.accept()
-                    with line:
-                        line.settimeout(SECONDS)
-                        with contextlib.suppress(OSError):
-                            line.recv(4096)
-                            line.sendall(answer)
-                            line.shutdown(socket.SHUT_WR)
-                            while line.recv(4096):
-                                pass
-        threading.Thread(target=serve, daemon=True).start()
+        threading.Thread(target=serve, args=(door, answers), daemon=True).start()
         yield door.getsockname()[1]
 
 
 def hold_lines():
     """Tills at terminals that end the line at odd places."""
-    for answer in ANSWERS:
-        with answering(answer) as port:
+    for answers in ANSWERS:
+        said = [answer.hex() for answer in answers]
+        with answering(answers) as port:
             words = ["--port", str(port), "register", "pay:1000", "close"]
             status, text, errors = run(["till", *words])
             found = run(["till", "--json", *words])
-            hold(f"till at {answer.hex()}", found[1], lines_of(text, step_object))
-            check(f"the end of a till at {answer.hex()}", (found[0], found[2]), (status, errors))
+            hold(f"till at {said}", found[1], lines_of(text, step_object))
+            check(f"the end of a till at {said}", (found[0], found[2]), (status, errors))
 
 
 def serving(words):
