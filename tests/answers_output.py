@@ -202,16 +202,17 @@ def awaits_order(line):
 
 def serve(door, answers):
     """Gives these answers to one order after another, to each till that connects, and then sends nothing more."""
-    while True:
-        line, _ = door.accept()
-        with line, contextlib.suppress(OSError):
-            line.settimeout(SECONDS)
-            for answer in answers:
-                awaits_order(line)
-                line.sendall(answer)
-            line.shutdown(socket.SHUT_WR)
-            while line.recv(4096):
-                pass
+    with contextlib.suppress(OSError):  # the port is closed in the end
+        while True:
+            line, _ = door.accept()
+            with line, contextlib.suppress(OSError):  # the till has gone
+                line.settimeout(SECONDS)
+                for answer in answers:
+                    awaits_order(line)
+                    line.sendall(answer)
+                line.shutdown(socket.SHUT_WR)
+                while line.recv(4096):
+                    pass
 
 
 @contextlib.contextmanager
