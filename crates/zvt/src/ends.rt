@@ -67,32 +67,18 @@ pub fn till(rt: &HostRuntime, options: &TillOptions<'_>) -> io::Result<u8> {
         Ok(file) => file,
         Err(status) => return Ok(status),
     };
-    let trace = file.as_ref();
+    let run = TillRun {
+        host: options.host,
+        port: options.port,
+        settings,
+        lengths: lengths_by(options.loose),
+        trace: file.as_ref(),
+        form: form_by(options.json),
+    };
     let plan = plan.as_slice();
-    let form = form_by(options.json);
     match kept {
-        None => {
-            let run = TillRun {
-                host: options.host,
-                port: options.port,
-                settings,
-                lengths: lengths_by(options.loose),
-                trace,
-                form,
-            };
-            till_alone(rt, &run, plan)
-        }
-        Some(kept) => {
-            let run = BookRun {
-                host: options.host,
-                port: options.port,
-                lengths: lengths_by(options.loose),
-                trace,
-                plan,
-                form,
-            };
-            till_with_book(rt, &run, kept)
-        }
+        None => till_alone(rt, &run, plan),
+        Some(kept) => till_with_book(rt, &run, plan, kept),
     }
 }
 
@@ -107,12 +93,21 @@ fn till_alone(rt: &HostRuntime, run: &TillRun<'_, '_>, plan: &[Planned]) -> io::
 /// Runs the till of a book, and answers the exit status.
 fn till_with_book(
     rt: &HostRuntime,
-    run: &BookRun<'_, '_>,
+    run: &TillRun<'_, '_>,
+    plan: &[Planned],
     mut kept: KeptTill<FileDevice>,
 ) -> io::Result<u8> {
+    let run = BookRun {
+        host: run.host,
+        port: run.port,
+        lengths: run.lengths,
+        trace: run.trace,
+        plan,
+        form: run.form,
+    };
     let mut writer = Counted::new(Output::new(io::writer(rt)));
     let mut report = Counted::new(rt.stderr());
-    let answer = run_till_kept(rt, rt.alloc(), run, &mut kept, &mut writer, &mut report);
+    let answer = run_till_kept(rt, rt.alloc(), &run, &mut kept, &mut writer, &mut report);
     finish_run(rt, writer.inner.broken_pipe, answer)
 }
 
