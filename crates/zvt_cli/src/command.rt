@@ -214,8 +214,5 @@ fn terminal<'a>(alloc: Global) -> Result<Command<'a>, AllocError>
     );
     let traced = and(decided, options::text(alloc, "trace", "FILE", help::TRACE));
     let reading = and(traced, options::flag(alloc, "loose", help::TERMINAL_LOOSE));
-    and(
-        reading,
-        options::flag(alloc, "json", help::TERMINAL_JSON),
-    )
+    and(reading, options::flag(alloc, "json", help::TERMINAL_JSON))
 }
