@@ -1,267 +1,325 @@
--- What a piece emits, one message after another.
-use Rattle.std.proofs.Common.{◌≡◌, ℕ, ◌+◌, ◌<◌, Bool, true, false, subst, List, [], ◌∷◌, ◌++◌, length, take, drop, refl, sym, ◌∙◌, ap, arith, append_assoc, append-nil, length-append}
-use Rattle.std.proofs.lemmas.List.{take-append-drop, map-append}
+-- What the parts of a piece emit.
+use Rattle.std.proofs.Common.{◌≡◌, ℕ, ◌-◌, ◌<◌, ◌≤◌, zero, suc, min, Bool, true, false, subst, List, [], ◌∷◌, ◌++◌, length, take, slice_index, Option, None, Some, Result, Ok, Err, refl, sym, ◌∙◌, ap, arith, append-nil}
+use Rattle.std.proofs.lemmas.List.{length-take-le, take-append-drop}
 use Rattle.std.proofs.lemmas.Bool.{false≢true}
-use Rattle.zvt_grammar.proofs.CutLemmas.{spelled_more, spelled_push}
-use Rattle.zvt_grammar.specs.Beginnings.{NoneWhole}
-use Rattle.zvt_grammar.specs.Cuts.{Cut, Spelled}
+use Rattle.zvt_grammar.specs.Cuts.{Cut}
 use Rattle.zvt_grammar.specs.Reading.{Reading}
+use Rattle.zvt_grammar.specs.declared.why.Why.{Why}
 use Rattle.zvt_apdu.specs.Grammar.{Spells}
 use Rattle.zvt_apdu.specs.Message.{Message}
 use Rattle.zvt_stream.proofs.Beginnings.{nothing_in}
-use Rattle.zvt_stream.specs.Apdus.{UnfinishedIn}
-use Rattle.zvt_stream.specs.StreamState.{StreamState, Holds, Keeps}
-use Rattle.std.specs.Prelude.{Result, Err}
-use Rattle.std.specs.Result.{IsErrOf}
-use Rattle.zvt_stream.specs.declared.stream.FedView.{FedView}
-use Rattle.zvt_stream.specs.declared.stream.FeedError.{FeedError}
-use Rattle.zvt_stream.specs.declared.stream.FeedError.TheVariants as fault_of
-use Rattle.zvt_trace.specs.Listening.{Fails, FailsIn, Hears, HearsAll, HearsEnd, HearsPiece, PieceBegins, is_stopped}
+use Rattle.zvt_stream.specs.Apdus.{IsRefusedIn, UnfinishedIn}
+use Rattle.zvt_stream.specs.StreamState.{StreamState, HasRefused, Holds, Keeps}
 use Rattle.zvt_stream.specs.Head.{head_of}
-use Rattle.zvt_trace.specs.TraceEvent.{At, Tallies, TraceEvent, bad_in, message, messages_in, on, unread}
-use Rattle.zvt_trace.specs.TraceEvent as trace_event
-use Rattle.zvt_trace.specs.Emitting.{PrefixOf, SideEnds, Emits, ending_events, messages_emitted}
-use Rattle.zvt_trace.specs.Trace.{Ending, EndsIn, Side, begun, refused, running, side_after, stopped}
-use Rattle.zvt_trace.specs.Written.{Follows}
-use Rattle.zvt_trace.specs.declared.direction.Direction.{Direction}
-use Rattle.zvt_trace.specs.declared.listener.ListenerError.{ListenerError}
-use Rattle.zvt_trace.specs.declared.listener.ListenerError.TheVariants.{Memory}
-use Rattle.zvt_trace.specs.declared.emit.Hearing.{Hearing}
 use Rattle.zvt_stream.specs.declared.head.Head.{Head}
-use Rattle.zvt_trace.proofs.EventLemmas.{bad_append, fails_here, fails_next, prefix_whole, hears_append, hears_one, hears_push, messages_append, messages_of, none_bad}
-use Rattle.zvt_trace.proofs.PieceLemmas.{EndsAs, arrived, undecoded, nothing_left}
+use Rattle.zvt_trace.specs.Listening.{BytesBegin, EmitsRest, Fails, FailsIn, Hears, HearsAll, HearsBytes, HearsEnd, StaysSilent, one_message, one_refusal, uncounted}
+use Rattle.zvt_trace.specs.TraceEvent.{At, Tallies, message, on, unread}
+use Rattle.zvt_trace.specs.TraceEvent as trace_event
+use Rattle.zvt_trace.specs.Emitting.{PartEmits, PrefixOf, SideEnds}
+use Rattle.zvt_trace.specs.Resuming.{IsWithin, announced, refused_size, resuming_events, side_refused, side_skipping, skipping_events}
+use Rattle.zvt_trace.specs.Trace.{Side, begun, refused, running, skipping, stopped}
+use Rattle.zvt_trace.specs.Written.{Follows, IsOpening, Skips, SkipsTo, StreamFollows, is_everything, skipped_by}
+use Rattle.zvt_trace.specs.declared.direction.Direction.{Direction}
+use Rattle.zvt_trace.specs.declared.fault.Tally.{Tally}
+use Rattle.zvt_trace.specs.declared.listener.ListenerError.{ListenerError}
+use Rattle.zvt_trace.specs.declared.listener.Scope.{Scope}
+use Rattle.zvt_trace.specs.declared.side.SideReader.{SideReader}
+use Rattle.zvt_trace.specs.declared.side.Skipped.{Skipped}
+use Rattle.zvt_trace.specs.declared.side.Skipped.TheVariants.{Everything, Nothing, Rest}
+use Rattle.zvt_trace.proofs.EventLemmas.{fails_after, fails_as, fails_next, prefix_after, prefix_whole, hears_one}
+use Rattle.zvt_trace.proofs.PassLemmas.{one_part}
+use Rattle.zvt_trace.proofs.PieceLemmas.{arrived, goes_on_with}
+use Rattle.zvt_trace.proofs.ResumingLemmas.{size_within}
 
--- ---- the messages so far
+-- ---- a message
 
--- that many whole messages came with the prefix of the piece
-pub record Fed (r : Reading) (bytes rest : List ℕ) (start state : StreamState) (count : ℕ) : Type 0 where
-  pub messages : List Message
-  pub done : List ℕ
-  pub cut : bytes ≡ done ++ rest
-  pub spelled : Spelled (Spells r) (start.held ++ done) messages state.held
-  pub counted : count ≡ length messages
-  pub same : state.stopped ≡ start.stopped
-
-pub none_fed : {r : Reading} (bytes : List ℕ) (start : StreamState) → Fed r bytes bytes start start 0
-none_fed bytes start = record {
-  messages = [];
-  done = [];
-  cut = refl;
-  spelled = append-nil start.held;
-  counted = refl;
-  same = refl;
-}
-
-pub one_fed : {r : Reading} (bytes rest after : List ℕ) (start state next : StreamState) (count taken : ℕ) (m : Message) → Fed r bytes rest start state count → state.stopped ≡ false
-    → Spells r m (state.held ++ take taken rest) → Holds [] next → after ≡ drop taken rest → Fed r bytes after start next (count + 1)
-one_fed {r = r} bytes rest after start state next count taken m fed going spells is_next is_after =
-    let some = take taken rest in
-    let whole = fed.done ++ some in
-    let longer = spelled_more (Spells r) fed.messages (start.held ++ fed.done) state.held some fed.spelled in
-    let pushed = spelled_push (Spells r) fed.messages m ((start.held ++ fed.done) ++ some) (state.held ++ some) [] (state.held ++ some) longer (sym (append-nil (state.held ++ some))) spells in
-    let moved = subst (λ (b : List ℕ). Spelled (Spells r) b (fed.messages ++ m ∷ []) []) (append_assoc start.held fed.done some) pushed in
-    record {
-      messages = fed.messages ++ m ∷ [];
-      done = whole;
-      cut = fed.cut ∙ ap (λ (r : List ℕ). fed.done ++ r) (sym (take-append-drop taken rest)) ∙ sym (append_assoc fed.done some (drop taken rest)) ∙ ap (λ (r : List ℕ). whole ++ r) (sym is_after);
-      spelled = subst (λ (h : List ℕ). Spelled (Spells r) (start.held ++ whole) (fed.messages ++ m ∷ []) h) (sym is_next.0) moved;
-      counted = omega (arith, fed.counted, length-append fed.messages (m ∷ []));
-      same = is_next.1 ∙ sym going ∙ fed.same;
-    }
-
--- all of the piece is spelled
-spelled_all : {r : Reading} (bytes rest : List ℕ) (start state : StreamState) (count : ℕ) → (fed : Fed r bytes rest start state count) → Spelled (Spells r) (start.held ++ bytes) fed.messages (state.held ++ rest)
-spelled_all {r = r} bytes rest start state count fed =
-    let longer = spelled_more (Spells r) fed.messages (start.held ++ fed.done) state.held rest fed.spelled in
-    subst (λ (b : List ℕ). Spelled (Spells r) b fed.messages (state.held ++ rest)) (append_assoc start.held fed.done rest ∙ ap (λ (b : List ℕ). start.held ++ b) (sym fed.cut)) longer
-
--- what the whole piece emits
-pub emits_all : {r : Reading} (line : ℕ) (from : Direction) (before bytes rest : List ℕ) (start state : StreamState) (count : ℕ) (ending : Ending) → (fed : Fed r bytes rest start state count)
-    → NoneWhole (Spells r) (state.held ++ rest) → EndsIn r (state.held ++ rest) ending → Follows r start (running before)
-    → Emits r line from before bytes (messages_emitted line from fed.messages ++ ending_events line from (state.held ++ rest) ending) (side_after (before ++ bytes) ending)
-emits_all line from before bytes rest start state count ending fed none ended follows = record {
-  messages = fed.messages;
-  rest = state.held ++ rest;
-  ending = ending;
-  arrives = arrived before bytes (state.held ++ rest) start fed.messages ending follows (spelled_all bytes rest start state count fed) none ended;
+message_emits : {r : Reading} (scope : Scope) (line : ℕ) (from : Direction) (before part : List ℕ) (reader : SideReader) (m : Message) → Follows r reader (running before) → Spells r m (reader.stream.held ++ part)
+    → PartEmits r scope line from (running before) part (on line (message from m) ∷ []) (running (before ++ part))
+message_emits {r = r} scope line from before part reader m follows spells = record {
+  messages = m ∷ [];
+  rest = [];
+  ending = begun;
+  arrives = arrived before part [] reader.stream (m ∷ []) begun follows.0 (reader.stream.held ++ part, [], sym (append-nil (reader.stream.held ++ part)), spells, refl) (nothing_in r).none_whole (nothing_in r).alive;
+  within = tt;
   is_all = refl;
   is_after = refl;
 }
 
--- what the messages so far emit is a prefix of it
-pub begins : {r : Reading} (line : ℕ) (from : Direction) (side : Side) (bytes rest : List ℕ) (start state : StreamState) (count : ℕ) → (fed : Fed r bytes rest start state count) → state.stopped ≡ false
-    → UnfinishedIn r state.held → Follows r start side → PieceBegins r line from side bytes (messages_emitted line from fed.messages)
-begins line from stopped bytes rest start state count fed going unfinished follows = absurd (false≢true (sym going ∙ fed.same ∙ follows.1))
-begins line from (running before) bytes rest start state count fed going unfinished follows = record {
-  first = fed.done;
-  more = rest;
-  after = running (before ++ fed.done);
-  cut = fed.cut;
-  emits = prefix_whole (messages_emitted line from fed.messages) (record {
-    messages = fed.messages;
-    rest = state.held;
-    ending = begun;
-    arrives = arrived before fed.done state.held start fed.messages begun follows fed.spelled unfinished.none_whole unfinished.alive;
-    is_all = sym (append-nil (messages_emitted line from fed.messages));
-    is_after = refl;
-  });
-}
+pub hears_message : {S : Type 0} {r : Reading} (hears : Hears S) (scope : Scope) (line : ℕ) (from : Direction) (part : List ℕ) (reader next : SideReader) (m : Message) (now new : S) → reader.stream.stopped ≡ false → Spells r m (reader.stream.held ++ part)
+    → Holds [] next.stream → IsOpening next.opening [] → next.skipped ≡ reader.skipped → hears now (on line (message from m)) new → (side : Side) → Follows r reader side → HearsBytes r hears scope line from side part next one_message now new
+unfolding message_emits
+hears_message hears scope line from part reader next m now new going spells is_next opens same heard stopped follows = absurd (false≢true (sym going ∙ (follows.0).1))
+hears_message hears scope line from part reader next m now new going spells is_next opens same heard (skipping size left) follows = absurd (false≢true (sym going ∙ (follows.0).1))
+hears_message {r = r} hears scope line from part reader next m now new going spells is_next opens same heard (running before) follows =
+    let emits = message_emits scope line from before part reader m follows spells in record {
+      events = on line (message from m) ∷ [];
+      after = running (before ++ part);
+      passes = one_part r scope line from (running before) (running (before ++ part)) part (on line (message from m) ∷ []) emits;
+      heard = hears_one hears (on line (message from m)) now new heard;
+      follows = (goes_on_with before part [] next.stream (m ∷ []) begun emits.arrives is_next, (same ∙ (follows.1).0, opens ∙ ap (λ (held : List ℕ). take 5 held) (sym is_next.0)));
+      counts = record { messages = refl; bad = refl };
+      any = refl;
+    }
 
-pub event_push : (line : ℕ) (from : Direction) (messages : List Message) (m : Message) → messages_emitted line from (messages ++ m ∷ []) ≡ messages_emitted line from messages ++ on line (message from m) ∷ []
-event_push line from messages m = map-append (λ (n : Message). on line (message from n)) messages (m ∷ [])
+pub fails_message : {S : Type 0} {r : Reading} (hears : Hears S) (fails : Fails S) (why : ListenerError) (scope : Scope) (line : ℕ) (from : Direction) (part : List ℕ) (reader : SideReader) (m : Message) (now new : S) → reader.stream.stopped ≡ false
+    → Spells r m (reader.stream.held ++ part) → fails now (on line (message from m)) why new → (side : Side) → Follows r reader side → FailsIn hears fails why (BytesBegin r scope line from side part) now new
+fails_message hears fails why scope line from part reader m now new going spells failed stopped follows = absurd (false≢true (sym going ∙ (follows.0).1))
+fails_message hears fails why scope line from part reader m now new going spells failed (skipping size left) follows = absurd (false≢true (sym going ∙ (follows.0).1))
+fails_message {r = r} hears fails why scope line from part reader m now new going spells failed (running before) follows =
+    let emits = one_part r scope line from (running before) (running (before ++ part)) part (on line (message from m) ∷ []) (message_emits scope line from before part reader m follows spells) in
+    fails_next hears fails why [] (on line (message from m)) now now new refl (record { first = part; more = []; after = running (before ++ part); cut = sym (append-nil part); emits = prefix_whole (on line (message from m) ∷ []) emits }) failed
 
--- ---- and what was heard of them
+-- ---- the beginning of a message
 
-pub record SoFar {S : Type 0} (r : Reading) (hears : Hears S) (line : ℕ) (from : Direction) (bytes rest : List ℕ) (start state : StreamState) (old now : S) (count : ℕ) : Type 0 where
-  pub fed : Fed r bytes rest start state count
-  pub heard : HearsAll hears old (messages_emitted line from fed.messages) now
-  pub fresh : state.stopped ≡ true → (state ≡ start) × (now ≡ old) × (count ≡ 0)
+pub hears_more : {S : Type 0} {r : Reading} (hears : Hears S) (scope : Scope) (line : ℕ) (from : Direction) (part : List ℕ) (reader next : SideReader) (now : S) → reader.stream.stopped ≡ false → UnfinishedIn r (reader.stream.held ++ part)
+    → Holds (reader.stream.held ++ part) next.stream → ((held : List ℕ) → IsOpening reader.opening held → IsOpening next.opening (held ++ part)) → next.skipped ≡ reader.skipped
+    → (side : Side) → Follows r reader side → HearsBytes r hears scope line from side part next (uncounted false) now now
+hears_more hears scope line from part reader next now going unfinished is_next opens same stopped follows = absurd (false≢true (sym going ∙ (follows.0).1))
+hears_more hears scope line from part reader next now going unfinished is_next opens same (skipping size left) follows = absurd (false≢true (sym going ∙ (follows.0).1))
+hears_more {r = r} hears scope line from part reader next now going unfinished is_next opens same (running before) follows =
+    let arrives = arrived before part (reader.stream.held ++ part) reader.stream [] begun follows.0 refl unfinished.none_whole unfinished.alive in
+    let emits : PartEmits r scope line from (running before) part [] (running (before ++ part)) = record { messages = []; rest = reader.stream.held ++ part; ending = begun; arrives = arrives; within = tt; is_all = refl; is_after = refl } in record {
+      events = [];
+      after = running (before ++ part);
+      passes = one_part r scope line from (running before) (running (before ++ part)) part [] emits;
+      heard = refl;
+      follows = (
+        goes_on_with before part (reader.stream.held ++ part) next.stream [] begun arrives is_next,
+        (same ∙ (follows.1).0, opens reader.stream.held (follows.1).1 ∙ ap (λ (held : List ℕ). take 5 held) (sym is_next.0)),
+      );
+      counts = record { messages = refl; bad = refl };
+      any = refl;
+    }
 
-pub none_yet : {S : Type 0} {r : Reading} (hears : Hears S) (line : ℕ) (from : Direction) (bytes : List ℕ) (start : StreamState) (old : S)
-    → SoFar r hears line from bytes bytes start start old old 0
-unfolding none_fed
-none_yet hears line from bytes start old = record {
-  fed = none_fed bytes start;
-  heard = refl;
-  fresh = λ e. (refl, refl, refl);
-}
+-- ---- a refusal
 
-pub one_more : {S : Type 0} {r : Reading} (hears : Hears S) (line : ℕ) (from : Direction) (bytes rest after : List ℕ) (start state next : StreamState) (old now new : S) (count taken : ℕ) (m : Message)
-    → SoFar r hears line from bytes rest start state old now count → state.stopped ≡ false
-    → Spells r m (state.held ++ take taken rest) → Holds [] next → after ≡ drop taken rest → hears now (on line (message from m)) new
-    → SoFar r hears line from bytes after start next old new (count + 1)
-unfolding one_fed
-one_more hears line from bytes rest after start state next old now new count taken m so going spells is_next is_after heard = record {
-  fed = one_fed bytes rest after start state next count taken m so.fed going spells is_next is_after;
-  heard = subst (λ (events : List At). HearsAll hears old events new) (sym (event_push line from so.fed.messages m)) (hears_push hears (messages_emitted line from so.fed.messages) (on line (message from m)) old now new so.heard heard);
-  fresh = λ e. absurd (false≢true (sym is_next.1 ∙ e));
-}
+abbrev pub refusal_event : ℕ → Direction → List ℕ → ℕ → Why → At
+refusal_event line from whole place why = on line (trace_event.refused from (head_of whole) (slice_index whole place) place why)
 
--- ---- the piece ends
+refusal_emits : {r : Reading} (scope : Scope) (line : ℕ) (from : Direction) (before part : List ℕ) (reader : SideReader) (place : ℕ) (why : Why) → Follows r reader (running before) → IsRefusedIn r (reader.stream.held ++ part) place why
+    → suc place ≡ length (reader.stream.held ++ part)
+    → (let whole = reader.stream.held ++ part in PartEmits r scope line from (running before) part (refusal_event line from whole place why ∷ resuming_events line from (refused_size scope whole place) (length whole)) (side_refused (refused_size scope whole place) (length whole)))
+refusal_emits {r = r} scope line from before part reader place why follows fatal all =
+    let whole = reader.stream.held ++ part in record {
+      messages = [];
+      rest = whole;
+      ending = refused place why;
+      arrives = arrived before part whole reader.stream [] (refused place why) follows.0 refl fatal.0 (fatal.1, fatal.2);
+      within = subst (λ (n : ℕ). IsWithin (refused_size scope whole place) n) all (size_within scope place (announced (take (suc place) whole)));
+      is_all = refl;
+      is_after = refl;
+    }
 
-pub ends : {S : Type 0} {r : Reading} (hears : Hears S) (line : ℕ) (from : Direction) (side : Side) (bytes rest : List ℕ) (start state next : StreamState) (old now new : S) (count : ℕ) (ending : Ending) (hearing : Hearing)
-    → SoFar r hears line from bytes rest start state old now count → state.stopped ≡ false → NoneWhole (Spells r) (state.held ++ rest)
-    → EndsIn r (state.held ++ rest) ending → EndsAs next (state.held ++ rest) ending → HearsAll hears now (ending_events line from (state.held ++ rest) ending) new
-    → hearing.tally.messages ≡ count → hearing.tally.bad ≡ bad_in (ending_events line from (state.held ++ rest) ending) → hearing.stopped ≡ is_stopped (side_after [] ending)
-    → Follows r start side → HearsPiece r hears line from side bytes next hearing old new
-unfolding emits_all
-ends hears line from stopped bytes rest start state next old now new count ending hearing so going none ended is_end last messages bad over follows =
-    absurd (false≢true (sym going ∙ so.fed.same ∙ follows.1))
-ends hears line from (running before) bytes rest start state next old now new count ending hearing so going none ended is_end last messages bad over follows =
-    let trace_event = emits_all line from before bytes rest start state count ending so.fed none ended follows in
-    let first = messages_emitted line from so.fed.messages in
-    let second = ending_events line from (state.held ++ rest) ending in
-    record {
-      events = first ++ second;
-      after = side_after (before ++ bytes) ending;
-      emits = trace_event;
-      heard = hears_append hears first second old now new so.heard last;
-      follows = undecoded before bytes (state.held ++ rest) next so.fed.messages ending trace_event.arrives is_end;
-      counts = record {
-        messages = omega (arith, messages, so.fed.counted, messages_append first second, messages_of line from so.fed.messages, no_messages ending);
-        bad = omega (arith, bad, bad_append first second, none_bad line from so.fed.messages);
-      };
-      ends = over ∙ same_end ending;
+-- what the code has after it emitted what comes of a refusal
+abbrev pub EndsRefusal : {S : Type 0} → Reading → Hears S → Fails S → ℕ → Direction → Option ℕ → (come : ℕ) → SideReader → (now new : S) → Result Bool ListenerError → Type 0
+EndsRefusal r hears fails line from size come next now new (Ok any) = HearsAll hears now (resuming_events line from size come) new × Follows r next (side_refused size come)
+EndsRefusal r hears fails line from size come next now new (Err why) = FailsIn hears fails why (PrefixOf (λ all. all ≡ resuming_events line from size come)) now new
+
+pub ends_refusal : {S : Type 0} (r : Reading) (hears : Hears S) (fails : Fails S) (line : ℕ) (from : Direction) (size : Option ℕ) (come : ℕ) (reader next : SideReader) (now new : S) (answer : Result Bool ListenerError) → HasRefused reader.stream
+    → reader.skipped ≡ skipped_by size come → ((size left : ℕ) → SkipsTo reader size left → EmitsRest r hears fails line from size left next now new answer)
+    → (is_everything reader.skipped ≡ true → StaysSilent hears reader next now new answer) → EndsRefusal r hears fails line from size come next now new answer
+ends_refusal {S = S} r hears fails line from None come reader next now new answer gone is rest all =
+    let stays = all (ap is_everything is) in
+    subst (λ (a : Result Bool ListenerError). EndsRefusal r hears fails line from None come next now new a) (sym stays.0)
+    (stays.2, subst (λ (n : SideReader). Follows r n stopped) (sym stays.1) (gone, is))
+ends_refusal r hears fails line from (Some size) come reader next now new (Ok any) gone is rest all = let ended = rest size (size - come) (gone, is) in (ended.0, ended.1)
+ends_refusal r hears fails line from (Some size) come reader next now new (Err why) gone is rest all = rest size (size - come) (gone, is)
+
+pub hears_refused : {S : Type 0} {r : Reading} (hears : Hears S) (fails : Fails S) (scope : Scope) (line : ℕ) (from : Direction) (part : List ℕ) (reader next : SideReader) (place : ℕ) (why : Why) (now middle new : S) (any : Bool) → reader.stream.stopped ≡ false
+    → IsRefusedIn r (reader.stream.held ++ part) place why → suc place ≡ length (reader.stream.held ++ part) → hears now (refusal_event line from (reader.stream.held ++ part) place why) middle
+    → (((held : List ℕ) → IsOpening reader.opening held → suc place ≡ length (held ++ part) → EndsRefusal r hears fails line from (refused_size scope (held ++ part) place) (length (held ++ part)) next middle new (Ok any)))
+    → (side : Side) → Follows r reader side → HearsBytes r hears scope line from side part next one_refusal now new
+hears_refused hears fails scope line from part reader next place why now middle new any going fatal all heard ended stopped follows = absurd (false≢true (sym going ∙ (follows.0).1))
+hears_refused hears fails scope line from part reader next place why now middle new any going fatal all heard ended (skipping size left) follows = absurd (false≢true (sym going ∙ (follows.0).1))
+hears_refused {r = r} hears fails scope line from part reader next place why now middle new any going fatal all heard ended (running before) follows =
+    let whole = reader.stream.held ++ part in
+    let size = refused_size scope whole place in
+    let first = refusal_event line from whole place why in
+    let later = resuming_events line from size (length whole) in
+    let after = side_refused size (length whole) in
+    let over = ended reader.stream.held (follows.1).1 all in record {
+      events = first ∷ later;
+      after = after;
+      passes = one_part r scope line from (running before) after part (first ∷ later) (refusal_emits scope line from before part reader place why follows fatal all);
+      heard = (middle, heard, over.0);
+      follows = over.1;
+      counts = no_more size (length whole);
+      any = refl;
     }
   where
-    no_messages : (ending : Ending) → messages_in (ending_events line from (state.held ++ rest) ending) ≡ 0
-    no_messages begun = refl
-    no_messages (refused place why) = refl
+    none_left : (size left : ℕ) → Tallies one_refusal.tally (refusal_event line from (reader.stream.held ++ part) place why ∷ skipping_events line from size left)
+    none_left size zero = record { messages = refl; bad = refl }
+    none_left size (suc left) = record { messages = refl; bad = refl }
 
-    same_end : (ending : Ending) → is_stopped (side_after [] ending) ≡ is_stopped (side_after (before ++ bytes) ending)
-    same_end begun = refl
-    same_end (refused place why) = refl
+    no_more : (size : Option ℕ) (come : ℕ) → Tallies one_refusal.tally (refusal_event line from (reader.stream.held ++ part) place why ∷ resuming_events line from size come)
+    no_more None come = record { messages = refl; bad = refl }
+    no_more (Some size) come = none_left size (size - come)
 
--- nothing of the piece is left after a message
-pub ends_whole : {S : Type 0} {r : Reading} (hears : Hears S) (line : ℕ) (from : Direction) (side : Side) (bytes rest : List ℕ) (start state : StreamState) (old now : S) (count : ℕ) (hearing : Hearing)
-    → SoFar r hears line from bytes rest start state old now count → Holds [] state → length rest ≡ 0
-    → hearing.tally.messages ≡ count → hearing.tally.bad ≡ 0 → hearing.stopped ≡ false → Follows r start side → HearsPiece r hears line from side bytes state hearing old now
-ends_whole {r = r} hears line from side bytes rest start state old now count hearing so holds none messages bad over follows =
-    let nothing = nothing_left state.held rest holds.0 none in
-    ends hears line from side bytes rest start state state old now now count begun hearing so holds.1 (subst (NoneWhole (Spells r)) (sym nothing) (nothing_in r).none_whole)
-    (subst (λ (b : List ℕ). EndsIn r b begun) (sym nothing) (nothing_in r).alive) (holds.0 ∙ sym nothing, holds.1) refl messages bad over follows
+pub fails_refused : {S : Type 0} {r : Reading} (hears : Hears S) (fails : Fails S) (failure : ListenerError) (scope : Scope) (line : ℕ) (from : Direction) (part : List ℕ) (reader : SideReader) (place : ℕ) (why : Why) (now new : S) → reader.stream.stopped ≡ false
+    → IsRefusedIn r (reader.stream.held ++ part) place why → suc place ≡ length (reader.stream.held ++ part) → fails now (refusal_event line from (reader.stream.held ++ part) place why) failure new
+    → (side : Side) → Follows r reader side → FailsIn hears fails failure (BytesBegin r scope line from side part) now new
+fails_refused hears fails failure scope line from part reader place why now new going fatal all failed stopped follows = absurd (false≢true (sym going ∙ (follows.0).1))
+fails_refused hears fails failure scope line from part reader place why now new going fatal all failed (skipping size left) follows = absurd (false≢true (sym going ∙ (follows.0).1))
+fails_refused {r = r} hears fails failure scope line from part reader place why now new going fatal all failed (running before) follows =
+    let whole = reader.stream.held ++ part in
+    let size = refused_size scope whole place in
+    let first = refusal_event line from whole place why in
+    let later = resuming_events line from size (length whole) in
+    let after = side_refused size (length whole) in
+    let passes = one_part r scope line from (running before) after part (first ∷ later) (refusal_emits scope line from before part reader place why follows fatal all) in
+    fails_next hears fails failure [] first now now new refl
+    (record { first = part; more = []; after = after; cut = sym (append-nil part); emits = record { all = first ∷ later; later = later; emit = passes; is_prefix = refl } }) failed
 
--- a piece after a refusal
-pub stays : {S : Type 0} {r : Reading} (hears : Hears S) (line : ℕ) (from : Direction) (side : Side) (bytes rest : List ℕ) (start state next : StreamState) (old now new : S) (count : ℕ) (hearing : Hearing)
-    → SoFar r hears line from bytes rest start state old now count → state.stopped ≡ true → Keeps state next → hears now (on line (unread from)) new
-    → hearing.tally.messages ≡ count → hearing.tally.bad ≡ 0 → hearing.stopped ≡ true → Follows r start side → HearsPiece r hears line from side bytes next hearing old new
-stays hears line from (running before) bytes rest start state next old now new count hearing so still kept heard messages bad over follows =
-    absurd (false≢true (sym follows.0 ∙ sym so.fed.same ∙ still))
-stays {S = S} hears line from stopped bytes rest start state next old now new count hearing so still kept heard messages bad over follows = record {
-  events = on line (unread from) ∷ [];
-  after = stopped;
-  emits = (refl, refl);
-  heard = subst (λ (s : S). HearsAll hears s (on line (unread from) ∷ []) new) (so.fresh still).1 (hears_one hears (on line (unread from)) now new heard);
-  follows = (kept.0 ∙ ap (λ (s : StreamState). s.held) (so.fresh still).0 ∙ follows.0, kept.1 ∙ still);
-  counts = record { messages = messages ∙ (so.fresh still).2; bad = bad };
-  ends = over;
-}
+pub fails_resumed : {S : Type 0} {r : Reading} (hears : Hears S) (fails : Fails S) (failure : ListenerError) (scope : Scope) (line : ℕ) (from : Direction) (part : List ℕ) (reader next : SideReader) (place : ℕ) (why : Why) (now middle new : S) → reader.stream.stopped ≡ false
+    → IsRefusedIn r (reader.stream.held ++ part) place why → suc place ≡ length (reader.stream.held ++ part) → hears now (refusal_event line from (reader.stream.held ++ part) place why) middle
+    → (((held : List ℕ) → IsOpening reader.opening held → suc place ≡ length (held ++ part) → EndsRefusal r hears fails line from (refused_size scope (held ++ part) place) (length (held ++ part)) next middle new (Err failure)))
+    → (side : Side) → Follows r reader side → FailsIn hears fails failure (BytesBegin r scope line from side part) now new
+fails_resumed hears fails failure scope line from part reader next place why now middle new going fatal all heard ended stopped follows = absurd (false≢true (sym going ∙ (follows.0).1))
+fails_resumed hears fails failure scope line from part reader next place why now middle new going fatal all heard ended (skipping size left) follows = absurd (false≢true (sym going ∙ (follows.0).1))
+fails_resumed {r = r} hears fails failure scope line from part reader next place why now middle new going fatal all heard ended (running before) follows =
+    let whole = reader.stream.held ++ part in
+    let size = refused_size scope whole place in
+    let first = refusal_event line from whole place why in
+    let after = side_refused size (length whole) in
+    let emits = refusal_emits scope line from before part reader place why follows fatal all in
+    fails_after hears fails failure (first ∷ []) now middle new (hears_one hears first now middle heard) (ended reader.stream.held (follows.1).1 all) (λ events so. record {
+      first = part;
+      more = [];
+      after = after;
+      cut = sym (append-nil part);
+      emits = prefix_after (first ∷ []) events so (λ later is. one_part r scope line from (running before) after part (first ∷ later)
+          (subst (λ (es : List At). PartEmits r scope line from (running before) part (first ∷ es) after) (sym is) emits));
+    })
 
--- ---- the listener, or memory, fails
+-- ---- what is skipped
 
-pub fails_message : {S : Type 0} {r : Reading} (hears : Hears S) (fails : Fails S) (why : ListenerError) (line : ℕ) (from : Direction) (side : Side) (bytes rest : List ℕ) (start state next : StreamState) (old now new : S) (count taken : ℕ) (m : Message)
-    → SoFar r hears line from bytes rest start state old now count → state.stopped ≡ false
-    → Spells r m (state.held ++ take taken rest) → Holds [] next → fails now (on line (message from m)) why new → Follows r start side
-    → FailsIn hears fails why (PieceBegins r line from side bytes) old new
-unfolding one_fed
-fails_message {r = r} hears fails why line from side bytes rest start state next old now new count taken m so going spells is_next failed follows =
-    let more = one_fed bytes rest (drop taken rest) start state next count taken m so.fed going spells is_next refl in
-    fails_next hears fails why (messages_emitted line from so.fed.messages) (on line (message from m)) old now new so.heard
-    (subst (PieceBegins r line from side bytes) (event_push line from so.fed.messages m) (begins line from side bytes (drop taken rest) start next (count + 1) more is_next.1 (subst (UnfinishedIn r) (sym is_next.0) (nothing_in r)) follows)) failed
+-- the bytes that are skipped
+abbrev pub skipped_part : Skipped → List ℕ → List ℕ
+skipped_part Nothing bytes = bytes
+skipped_part (Rest size left) bytes = take (min left (length bytes)) bytes
+skipped_part Everything bytes = bytes
 
-pub fails_refused : {S : Type 0} {r : Reading} (hears : Hears S) (fails : Fails S) (why : ListenerError) (line : ℕ) (from : Direction) (side : Side) (bytes rest : List ℕ) (start state : StreamState) (old now new : S) (count : ℕ) (ending : Ending) (event : At)
-    → SoFar r hears line from bytes rest start state old now count → state.stopped ≡ false → NoneWhole (Spells r) (state.held ++ rest)
-    → EndsIn r (state.held ++ rest) ending → ending_events line from (state.held ++ rest) ending ≡ event ∷ [] → fails now event why new → Follows r start side
-    → FailsIn hears fails why (PieceBegins r line from side bytes) old new
-fails_refused hears fails why line from stopped bytes rest start state old now new count ending event so going none ended is_event failed follows =
-    absurd (false≢true (sym going ∙ so.fed.same ∙ follows.1))
-fails_refused {r = r} hears fails why line from (running before) bytes rest start state old now new count ending event so going none ended is_event failed follows =
-    let trace_event = emits_all line from before bytes rest start state count ending so.fed none ended follows in
-    let first = messages_emitted line from so.fed.messages in
-    let all = subst (λ (events : List At). Emits r line from before bytes (first ++ events) (side_after (before ++ bytes) ending)) is_event trace_event in
-    fails_next hears fails why first event old now new so.heard
-    (record { first = bytes; more = []; after = side_after (before ++ bytes) ending; cut = sym (append-nil bytes); emits = prefix_whole (first ++ event ∷ []) all }) failed
+pub skips_part : (skipped next : Skipped) (bytes rest : List ℕ) → Skips skipped bytes next rest → bytes ≡ skipped_part skipped bytes ++ rest
+skips_part Nothing next bytes rest skips = sym (append-nil bytes) ∙ ap (λ (b : List ℕ). bytes ++ b) (sym skips.1)
+skips_part (Rest size left) next bytes rest skips = sym (take-append-drop (min left (length bytes)) bytes) ∙ ap (λ (b : List ℕ). take (min left (length bytes)) bytes ++ b) (sym skips.1)
+skips_part Everything next bytes rest skips = sym (append-nil bytes) ∙ ap (λ (b : List ℕ). bytes ++ b) (sym skips.1)
 
-pub fails_unread : {S : Type 0} {r : Reading} (hears : Hears S) (fails : Fails S) (why : ListenerError) (line : ℕ) (from : Direction) (side : Side) (bytes rest : List ℕ) (start state : StreamState) (old now new : S) (count : ℕ)
-    → SoFar r hears line from bytes rest start state old now count → state.stopped ≡ true → fails now (on line (unread from)) why new → Follows r start side
-    → FailsIn hears fails why (PieceBegins r line from side bytes) old new
-fails_unread hears fails why line from (running before) bytes rest start state old now new count so still failed follows =
-    absurd (false≢true (sym follows.0 ∙ sym so.fed.same ∙ still))
-fails_unread {S = S} hears fails why line from stopped bytes rest start state old now new count so still failed follows =
-    fails_next hears fails why [] (on line (unread from)) old now new (so.fresh still).1
-    (record { first = bytes; more = []; after = stopped; cut = sym (append-nil bytes); emits = prefix_whole (on line (unread from) ∷ []) (refl, refl) }) failed
+-- a reader that keeps its stream
+kept_refused : (old new : StreamState) → Keeps old new → HasRefused old → HasRefused new
+kept_refused old new kept gone = (kept.0 ∙ gone.0, kept.1 ∙ gone.1)
 
-pub fails_memory : {S : Type 0} {r : Reading} (hears : Hears S) (fails : Fails S) (line : ℕ) (from : Direction) (side : Side) (bytes rest : List ℕ) (start state : StreamState) (old now : S) (count : ℕ)
-    → SoFar r hears line from bytes rest start state old now count → state.stopped ≡ false → UnfinishedIn r state.held → Follows r start side
-    → FailsIn hears fails Memory (PieceBegins r line from side bytes) old now
-fails_memory hears fails line from side bytes rest start state old now count so going unfinished follows =
-    fails_here hears fails (messages_emitted line from so.fed.messages) old now so.heard (begins line from side bytes rest start state count so.fed going unfinished follows)
+rest_count : (line : ℕ) (from : Direction) (size left : ℕ) → Tallies (let t : Tally = record { messages = 0; bad = 0 } in t) (skipping_events line from size left)
+rest_count line from size zero = record { messages = refl; bad = refl }
+rest_count line from size (suc left) = record { messages = refl; bad = refl }
 
--- a stream that wants memory had not stopped
-pub not_stopped : {stopped : Bool} (answer : Result FedView FeedError) (fault : FeedError) → answer ≡ Err fault → fault ≡ fault_of.Memory → (stopped ≡ true → IsErrOf answer fault_of.Stopped) → stopped ≡ false
-not_stopped {stopped = false} answer fault is memory refuses = refl
-not_stopped {stopped = true} answer fault is memory refuses = absurd (differ (sym memory ∙ same (sym is ∙ refuses refl)))
+rest_emits : (r : Reading) (scope : Scope) (line : ℕ) (from : Direction) (size left count : ℕ) (bytes : List ℕ) → count ≡ min left (length bytes)
+    → PartEmits r scope line from (skipping size left) (take count bytes) (skipping_events line from size (left - count)) (side_skipping size (left - count))
+rest_emits r scope line from size left count bytes is =
+    let there : length (take count bytes) ≡ count = length-take-le count bytes (omega (arith, is)) in
+    (omega (arith, there, is), ap (λ (n : ℕ). skipping_events line from size (left - n)) (sym there), ap (λ (n : ℕ). side_skipping size (left - n)) (sym there))
+
+-- all of the bytes are skipped, or the last ones of a refused message
+pub hears_skipped : {S : Type 0} {r : Reading} (hears : Hears S) (fails : Fails S) (scope : Scope) (line : ℕ) (from : Direction) (bytes rest : List ℕ) (reader middle next : SideReader) (now new : S) (any : Bool) → reader.stream.stopped ≡ true
+    → Keeps reader.stream middle.stream → Skips reader.skipped bytes middle.skipped rest → ((size left : ℕ) → SkipsTo middle size left → EmitsRest r hears fails line from size left next now new (Ok any))
+    → (is_everything middle.skipped ≡ true → StaysSilent hears middle next now new (Ok any))
+    → (side : Side) → Follows r reader side → HearsBytes r hears scope line from side (skipped_part reader.skipped bytes) next (uncounted any) now new
+hears_skipped hears fails scope line from bytes rest reader middle next now new any still kept skips ended all (running before) follows = absurd (false≢true (sym (follows.0).0 ∙ still))
+hears_skipped {r = r} hears fails scope line from bytes rest reader middle next now new any still kept skips ended all stopped follows =
+    subst (λ (s : Skipped). Skips s bytes middle.skipped rest → HearsBytes r hears scope line from stopped (skipped_part s bytes) next (uncounted any) now new) (sym follows.1)
+    (λ skipped. let stays = all (ap is_everything skipped.0) in record {
+      events = [];
+      after = stopped;
+      passes = one_part r scope line from stopped stopped bytes [] (refl, refl);
+      heard = stays.2;
+      follows = subst (λ (n : SideReader). Follows r n stopped) (sym stays.1) (kept_refused reader.stream middle.stream kept follows.0, skipped.0);
+      counts = record { messages = refl; bad = refl };
+      any = cc (stays.0);
+    }) skips
+hears_skipped {r = r} hears fails scope line from bytes rest reader middle next now new any still kept skips ended all (skipping size left) follows =
+    let count = min left (length bytes) in
+    subst (λ (s : Skipped). Skips s bytes middle.skipped rest → HearsBytes r hears scope line from (skipping size left) (skipped_part s bytes) next (uncounted any) now new) (sym (follows.1).0)
+    (λ skipped. let over = ended size (left - count) (kept_refused reader.stream middle.stream kept follows.0, skipped.0) in record {
+      events = skipping_events line from size (left - count);
+      after = side_skipping size (left - count);
+      passes = one_part r scope line from (skipping size left) (side_skipping size (left - count)) (take count bytes) (skipping_events line from size (left - count)) (rest_emits r scope line from size left count bytes refl);
+      heard = over.0;
+      follows = over.1;
+      counts = rest_count line from size (left - count);
+      any = over.2;
+    }) skips
+
+pub fails_skipped : {S : Type 0} {r : Reading} (hears : Hears S) (fails : Fails S) (why : ListenerError) (scope : Scope) (line : ℕ) (from : Direction) (bytes rest : List ℕ) (reader middle next : SideReader) (now new : S) → reader.stream.stopped ≡ true
+    → Keeps reader.stream middle.stream → Skips reader.skipped bytes middle.skipped rest → ((size left : ℕ) → SkipsTo middle size left → EmitsRest r hears fails line from size left next now new (Err why))
+    → (is_everything middle.skipped ≡ true → StaysSilent hears middle next now new (Err why))
+    → (side : Side) → Follows r reader side → FailsIn hears fails why (BytesBegin r scope line from side (skipped_part reader.skipped bytes)) now new
+fails_skipped hears fails why scope line from bytes rest reader middle next now new still kept skips ended all (running before) follows = absurd (false≢true (sym (follows.0).0 ∙ still))
+fails_skipped {r = r} hears fails why scope line from bytes rest reader middle next now new still kept skips ended all stopped follows =
+    let skipped = subst (λ (s : Skipped). Skips s bytes middle.skipped rest) follows.1 skips in
+    absurd (differ (all (ap is_everything skipped.0)).0)
   where
-    same : {a b : FeedError} → (let l : Result FedView FeedError = Err a in l) ≡ Err b → a ≡ b
-    same e = cc (e)
+    differ : (let a : Result Bool ListenerError = Err why in a) ≡ Ok false → ⊥
+    differ e = cc (e)
+fails_skipped {r = r} hears fails why scope line from bytes rest reader middle next now new still kept skips ended all (skipping size left) follows =
+    let count = min left (length bytes) in
+    subst (λ (s : Skipped). Skips s bytes middle.skipped rest → FailsIn hears fails why (BytesBegin r scope line from (skipping size left) (skipped_part s bytes)) now new) (sym (follows.1).0)
+    (λ skipped. fails_as hears fails why now new (ended size (left - count) (kept_refused reader.stream middle.stream kept follows.0, skipped.0)) (λ events so. record {
+      first = take count bytes;
+      more = [];
+      after = side_skipping size (left - count);
+      cut = sym (append-nil (take count bytes));
+      emits = prefix_after [] events so (λ later is. one_part r scope line from (skipping size left) (side_skipping size (left - count)) (take count bytes) later
+          (subst (λ (es : List At). PartEmits r scope line from (skipping size left) (take count bytes) es (side_skipping size (left - count))) (sym is) (rest_emits r scope line from size left count bytes refl)));
+    })) skips
 
-    differ : fault_of.Memory ≡ fault_of.Stopped → ⊥
-    differ e = cc
+-- ---- a reader that is read on
+
+abbrev pub is_rest : Skipped → Bool
+is_rest Nothing = false
+is_rest (Rest size left) = true
+is_rest Everything = false
+
+same_rest : (a b c d : ℕ) → Rest a b ≡ Rest c d → (a ≡ c) × (b ≡ d)
+same_rest a b c d e = (cc (e), cc (e))
+
+pub rest_resumed : {S : Type 0} {r : Reading} (hears : Hears S) (fails : Fails S) (line : ℕ) (from : Direction) (reader next : SideReader) (known zero_left size left : ℕ) (now new : S) → reader.skipped ≡ Rest known zero_left → zero_left ≤ 0 → Follows r next (running [])
+    → hears now (on line (trace_event.resumed from known)) new → SkipsTo reader size left → EmitsRest r hears fails line from size left next now new (Ok true)
+rest_resumed {r = r} hears fails line from reader next known zero_left size left now new is none follows heard skips =
+    let same = same_rest known 0 size left (ap (λ (n : ℕ). Rest known n) (let e : 0 ≡ zero_left = omega (arith, none) in e) ∙ sym is ∙ skips.1) in
+    subst (λ (n : ℕ). EmitsRest r hears fails line from n left next now new (Ok true)) same.0
+    (subst (λ (n : ℕ). EmitsRest r hears fails line from known n next now new (Ok true)) same.1 (hears_one hears (on line (trace_event.resumed from known)) now new heard, follows, refl))
+
+pub rest_failed : {S : Type 0} (r : Reading) (hears : Hears S) (fails : Fails S) (why : ListenerError) (line : ℕ) (from : Direction) (reader next : SideReader) (known zero_left size left : ℕ) (now new : S) → reader.skipped ≡ Rest known zero_left → zero_left ≤ 0
+    → fails now (on line (trace_event.resumed from known)) why new → SkipsTo reader size left → EmitsRest r hears fails line from size left next now new (Err why)
+rest_failed r hears fails why line from reader next known zero_left size left now new is none failed skips =
+    let same = same_rest known 0 size left (ap (λ (n : ℕ). Rest known n) (let e : 0 ≡ zero_left = omega (arith, none) in e) ∙ sym is ∙ skips.1) in
+    subst (λ (n : ℕ). EmitsRest r hears fails line from n left next now new (Err why)) same.0
+    (subst (λ (n : ℕ). EmitsRest r hears fails line from known n next now new (Err why)) same.1
+    (fails_next hears fails why [] (on line (trace_event.resumed from known)) now now new refl (prefix_whole (on line (trace_event.resumed from known) ∷ []) refl) failed))
+
+pub rest_left : {S : Type 0} (r : Reading) (hears : Hears S) (fails : Fails S) (line : ℕ) (from : Direction) (reader : SideReader) (known some_left size left : ℕ) (now : S) → reader.skipped ≡ Rest known some_left → 0 < some_left → SkipsTo reader size left
+    → EmitsRest r hears fails line from size left reader now now (Ok false)
+rest_left r hears fails line from reader known some_left size zero now is some skips = absurd (omega (arith, some, (same_rest known some_left size 0 (sym is ∙ skips.1)).1))
+rest_left r hears fails line from reader known some_left size (suc left) now is some skips = (refl, (skips.0, (skips.1, omega arith)), refl)
+
+pub none_to_rest : {S : Type 0} (r : Reading) (hears : Hears S) (fails : Fails S) (line : ℕ) (from : Direction) (reader : SideReader) (size left : ℕ) (now : S) → is_rest reader.skipped ≡ false → SkipsTo reader size left → EmitsRest r hears fails line from size left reader now now (Ok false)
+none_to_rest r hears fails line from reader size left now none skips = absurd (false≢true (sym none ∙ ap is_rest skips.1))
 
 -- ---- the end of a side
 
-pub none_cut : {S : Type 0} (r : Reading) (hears : Hears S) (line : ℕ) (from : Direction) (side : Side) (state : StreamState) (now : S) → Follows r state side → state.held ≡ [] → HearsEnd hears (SideEnds r line from side) 0 now now
+pub none_cut : {S : Type 0} (r : Reading) (hears : Hears S) (line : ℕ) (from : Direction) (side : Side) (state : StreamState) (now : S) → StreamFollows r state side → state.held ≡ [] → HearsEnd hears (SideEnds r line from side) 0 now now
 none_cut r hears line from (running bytes) state now follows none = record {
   events = [];
   ends = (follows.1, [], subst (λ (h : List ℕ). Cut (Spells r) bytes follows.1 h) none follows.2, refl);
   heard = refl;
   counts = record { messages = refl; bad = refl };
 }
+none_cut r hears line from (skipping size left) state now follows none = record { events = []; ends = refl; heard = refl; counts = record { messages = refl; bad = refl } }
 none_cut r hears line from stopped state now follows none = record { events = []; ends = refl; heard = refl; counts = record { messages = refl; bad = refl } }
 
 -- what is cut off, as its events are emitted
-pub ends_cut : (r : Reading) (line : ℕ) (from : Direction) (side : Side) (state : StreamState) (head : Head) (have : ℕ) → Follows r state side → 0 < have → have ≡ length state.held → head ≡ head_of state.held
+pub ends_cut : (r : Reading) (line : ℕ) (from : Direction) (side : Side) (state : StreamState) (head : Head) (have : ℕ) → StreamFollows r state side → 0 < have → have ≡ length state.held → head ≡ head_of state.held
     → SideEnds r line from side (on line (trace_event.cut_off from head have) ∷ [])
+ends_cut r line from (skipping size left) state head have follows some is is_head = absurd (omega (arith, some, is, ap length follows.0))
 ends_cut r line from stopped state head have follows some is is_head = absurd (omega (arith, some, is, ap length follows.0))
 ends_cut r line from (running bytes) state head have follows some is is_head = by_held state.held follows.2 is is_head
   where

@@ -1,4 +1,3 @@
-pub mod AfterLemmas
 pub mod ChunkLemmas
 mod ChunkRows
 pub mod EventLemmas
@@ -7,11 +6,16 @@ pub mod InputLemmas
 mod JournalRows
 pub mod LineLemmas
 pub mod PairLemmas
+mod PartRows
+pub mod PassLemmas
 pub mod PieceLemmas
 pub mod PlainLemmas
+pub mod ResumingLemmas
+mod ResumingRows
 pub mod SidesLemmas
 pub mod SpelledLemmas
 pub mod StartLemmas
 pub mod EmitLemmas
+pub mod ToldLemmas
 pub mod WalkedLemmas
 pub mod WalkerLemmas

@@ -2,13 +2,13 @@
 use Rattle.std.proofs.Common.{◌≡◌, ℕ, ◌+◌, Bool, true, false, subst, List, [], ◌∷◌, ◌++◌, refl, sym, ◌∙◌, arith, append-nil}
 use Rattle.std.proofs.lemmas.Bool.{false≢true}
 use Rattle.zvt_grammar.specs.Reading.{Reading}
-use Rattle.zvt_stream.specs.StreamState.{StreamState}
+use Rattle.zvt_trace.specs.declared.side.SideReader.{SideReader}
 use Rattle.zvt_trace.specs.Listening.{BesideBegins, Fails, FailsIn, FollowBoth, FollowsUntil, Hears, HearsBeside, HearsEnd, HearsLine, HearsPiece, PieceBegins, is_stopped}
 use Rattle.zvt_trace.specs.Meanings.{lost, piece, comment}
 use Rattle.zvt_trace.specs.TraceEvent.{At, Tallies, on, unread}
 use Rattle.zvt_trace.specs.TraceEvent as trace_event
 use Rattle.zvt_trace.specs.Emitting.{PrefixOf, Leaves, LineEnds, LineEmits, MeaningBegins, PieceEmits, SideEnds, both_sides, cut_off_event, other}
-use Rattle.zvt_trace.specs.Trace.{Side, Sides, new_line, running, stopped}
+use Rattle.zvt_trace.specs.Trace.{Side, Sides, new_line, running, skipping, stopped}
 use Rattle.zvt_trace.specs.Written.{Follows}
 use Rattle.zvt_trace.specs.declared.walker.BothSides.{BothSides}
 use Rattle.zvt_trace.specs.declared.direction.Direction.{Direction}
@@ -16,20 +16,23 @@ use Rattle.zvt_trace.specs.declared.direction.Direction.TheVariants.{FromTill, F
 use Rattle.zvt_trace.specs.declared.fault.Tally.{Tally}
 use Rattle.zvt_trace.specs.declared.listener.ListenerError.{ListenerError}
 use Rattle.zvt_trace.specs.declared.listener.Scope.{Scope}
-use Rattle.zvt_trace.specs.declared.listener.Scope.TheVariants.{OneSide, WholeLine}
-use Rattle.zvt_trace.specs.declared.emit.Hearing.{Hearing}
+use Rattle.zvt_trace.specs.declared.listener.Scope.TheVariants.{OneMessage, OneSide, WholeLine}
+use Rattle.zvt_trace.specs.declared.feed.Hearing.{Hearing}
 use Rattle.zvt_trace.proofs.EventLemmas.{fails_as, fails_after, fails_next, prefix_before, prefix_after, prefix_whole, hears_append, hears_one, hears_push, messages_append, bad_append, tallies_both}
+use Rattle.zvt_trace.proofs.PassLemmas.{one_part}
 
 -- ---- a piece, and the other side
 
 -- a side that goes on leaves the other one as it is, and so does one that is left alone
 leaves_all : (r : Reading) (scope : Scope) (line : ℕ) (from : Direction) (side beside : Side) → (scope ≡ WholeLine → is_stopped side ≡ false) → Leaves r scope line from side beside [] beside
 leaves_all r OneSide line from side beside going = (refl, refl)
+leaves_all r OneMessage line from side beside going = (refl, refl)
 leaves_all r WholeLine line from (running bytes) beside going = (refl, refl)
+leaves_all r WholeLine line from (skipping size left) beside going = (refl, refl)
 leaves_all r WholeLine line from stopped beside going = absurd (false≢true (sym (going refl)))
 
-pub goes_on : {S : Type 0} {r : Reading} (hears : Hears S) (scope : Scope) (line : ℕ) (from : Direction) (side beside : Side) (bytes : List ℕ) (state others : StreamState) (hearing whole : Hearing) (old new : S)
-    → HearsPiece r hears line from side bytes state hearing old new → Follows r others beside → (scope ≡ WholeLine → hearing.stopped ≡ false) → whole.tally ≡ hearing.tally → whole.stopped ≡ false
+pub goes_on : {S : Type 0} {r : Reading} (hears : Hears S) (scope : Scope) (line : ℕ) (from : Direction) (side beside : Side) (bytes : List ℕ) (state others : SideReader) (hearing whole : Hearing) (old new : S)
+    → HearsPiece r hears scope line from side bytes state hearing old new → Follows r others beside → (scope ≡ WholeLine → hearing.stopped ≡ false) → whole.tally ≡ hearing.tally → whole.stopped ≡ false
     → HearsBeside r hears scope line from side beside bytes state others whole old new
 goes_on {r = r} hears scope line from side beside bytes state others hearing whole old new heard follows going same still = record {
   events = heard.events;
@@ -50,16 +53,17 @@ goes_on {r = r} hears scope line from side beside bytes state others hearing who
 
 is_end : (side : Side) → is_stopped side ≡ true → side ≡ stopped
 is_end (running bytes) e = absurd (false≢true e)
+is_end (skipping size left) e = absurd (false≢true e)
 is_end stopped e = refl
 
-pub gives_up : {S : Type 0} {r : Reading} (hears : Hears S) (scope : Scope) (line : ℕ) (from there : Direction) (side beside : Side) (bytes : List ℕ) (state others : StreamState) (hearing whole : Hearing) (bad : ℕ) (old middle new : S)
-    → scope ≡ WholeLine → there ≡ other from → HearsPiece r hears line from side bytes state hearing old middle → hearing.stopped ≡ true → HearsEnd hears (SideEnds r line there beside) bad middle new
+pub gives_up : {S : Type 0} {r : Reading} (hears : Hears S) (scope : Scope) (line : ℕ) (from there : Direction) (side beside : Side) (bytes : List ℕ) (state others : SideReader) (hearing whole : Hearing) (bad : ℕ) (old middle new : S)
+    → scope ≡ WholeLine → there ≡ other from → HearsPiece r hears scope line from side bytes state hearing old middle → hearing.stopped ≡ true → HearsEnd hears (SideEnds r line there beside) bad middle new
     → whole.tally.messages ≡ hearing.tally.messages → whole.tally.bad ≡ hearing.tally.bad + bad → whole.stopped ≡ true
     → HearsBeside r hears scope line from side beside bytes state others whole old new
 gives_up {r = r} hears scope line from there side beside bytes state others hearing whole bad old middle new is_whole is_other heard over cut messages bads still =
     let after : heard.after ≡ stopped = is_end heard.after (sym heard.ends ∙ over) in
     let ended : SideEnds r line (other from) beside cut.events = subst (λ (d : Direction). SideEnds r line d beside cut.events) is_other cut.ends in
-    let emits : PieceEmits r line from side bytes heard.events stopped = subst (λ (s : Side). PieceEmits r line from side bytes heard.events s) after heard.emits in
+    let emits : PieceEmits r scope line from side bytes heard.events stopped = subst (λ (s : Side). PieceEmits r scope line from side bytes heard.events s) after heard.emits in
     record {
       events = heard.events ++ cut.events;
       after = stopped;
@@ -78,16 +82,19 @@ gives_up {r = r} hears scope line from there side beside bytes state others hear
     }
 
 -- there is something that a refusal leaves
-ends_some : (r : Reading) (line : ℕ) (from : Direction) (side : Side) (state : StreamState) → Follows r state side → (events : List At) × SideEnds r line from side events
-ends_some r line from (running bytes) state follows = (cut_off_event line from state.held, (follows.1, state.held, follows.2, refl))
+ends_some : (r : Reading) (line : ℕ) (from : Direction) (side : Side) (state : SideReader) → Follows r state side → (events : List At) × SideEnds r line from side events
+ends_some r line from (running bytes) state follows = (cut_off_event line from state.stream.held, ((follows.0).1, state.stream.held, (follows.0).2, refl))
+ends_some r line from (skipping size left) state follows = ([], refl)
 ends_some r line from stopped state follows = ([], refl)
 
-leaves_some : (r : Reading) (scope : Scope) (line : ℕ) (from : Direction) (side beside : Side) (others : StreamState) → Follows r others beside → (after : Side) × (events : List At) × Leaves r scope line from side beside events after
+leaves_some : (r : Reading) (scope : Scope) (line : ℕ) (from : Direction) (side beside : Side) (others : SideReader) → Follows r others beside → (after : Side) × (events : List At) × Leaves r scope line from side beside events after
 leaves_some r OneSide line from side beside others follows = (beside, [], (refl, refl))
+leaves_some r OneMessage line from side beside others follows = (beside, [], (refl, refl))
 leaves_some r WholeLine line from (running bytes) beside others follows = (beside, [], (refl, refl))
+leaves_some r WholeLine line from (skipping size left) beside others follows = (beside, [], (refl, refl))
 leaves_some r WholeLine line from stopped beside others follows = let ended = ends_some r line (other from) beside others follows in (stopped, ended.0, (ended.1, refl))
 
-beside_begins : {r : Reading} (scope : Scope) (line : ℕ) (from : Direction) (side beside : Side) (bytes : List ℕ) (others : StreamState) (events : List At) → Follows r others beside → PieceBegins r line from side bytes events
+beside_begins : {r : Reading} (scope : Scope) (line : ℕ) (from : Direction) (side beside : Side) (bytes : List ℕ) (others : SideReader) (events : List At) → Follows r others beside → PieceBegins r scope line from side bytes events
     → BesideBegins r scope line from side beside bytes events
 beside_begins {r = r} scope line from side beside bytes others events follows begins =
     let leaves = leaves_some r scope line from begins.after beside others follows in record {
@@ -99,17 +106,17 @@ beside_begins {r = r} scope line from side beside bytes others events follows be
       emits = prefix_before events begins.emits (λ all emits. (leaves.1, record { own = all; others = leaves.1; emits = emits; leaves = leaves.2; is_all = refl }));
     }
 
-pub piece_fails : {S : Type 0} {r : Reading} (hears : Hears S) (fails : Fails S) (why : ListenerError) (scope : Scope) (line : ℕ) (from : Direction) (side beside : Side) (bytes : List ℕ) (others : StreamState) (old new : S)
-    → FailsIn hears fails why (PieceBegins r line from side bytes) old new → Follows r others beside → FailsIn hears fails why (BesideBegins r scope line from side beside bytes) old new
+pub piece_fails : {S : Type 0} {r : Reading} (hears : Hears S) (fails : Fails S) (why : ListenerError) (scope : Scope) (line : ℕ) (from : Direction) (side beside : Side) (bytes : List ℕ) (others : SideReader) (old new : S)
+    → FailsIn hears fails why (PieceBegins r scope line from side bytes) old new → Follows r others beside → FailsIn hears fails why (BesideBegins r scope line from side beside bytes) old new
 piece_fails hears fails why scope line from side beside bytes others old new failed follows =
     fails_as hears fails why old new failed (λ events so. beside_begins scope line from side beside bytes others events follows so)
 
-pub cut_off_fails : {S : Type 0} {r : Reading} (hears : Hears S) (fails : Fails S) (why : ListenerError) (scope : Scope) (line : ℕ) (from there : Direction) (side beside : Side) (bytes : List ℕ) (state : StreamState) (hearing : Hearing) (old middle new : S)
-    → scope ≡ WholeLine → there ≡ other from → HearsPiece r hears line from side bytes state hearing old middle → hearing.stopped ≡ true → FailsIn hears fails why (PrefixOf (SideEnds r line there beside)) middle new
+pub cut_off_fails : {S : Type 0} {r : Reading} (hears : Hears S) (fails : Fails S) (why : ListenerError) (scope : Scope) (line : ℕ) (from there : Direction) (side beside : Side) (bytes : List ℕ) (state : SideReader) (hearing : Hearing) (old middle new : S)
+    → scope ≡ WholeLine → there ≡ other from → HearsPiece r hears scope line from side bytes state hearing old middle → hearing.stopped ≡ true → FailsIn hears fails why (PrefixOf (SideEnds r line there beside)) middle new
     → FailsIn hears fails why (BesideBegins r scope line from side beside bytes) old new
 cut_off_fails {r = r} hears fails why scope line from there side beside bytes state hearing old middle new is_whole is_other heard over failed =
     let after : heard.after ≡ stopped = is_end heard.after (sym heard.ends ∙ over) in
-    let emits : PieceEmits r line from side bytes heard.events stopped = subst (λ (s : Side). PieceEmits r line from side bytes heard.events s) after heard.emits in
+    let emits : PieceEmits r scope line from side bytes heard.events stopped = subst (λ (s : Side). PieceEmits r scope line from side bytes heard.events s) after heard.emits in
     fails_after hears fails why heard.events old middle new heard.heard failed (λ events prefix. record {
       first = bytes;
       more = [];
@@ -127,11 +134,11 @@ cut_off_fails {r = r} hears fails why scope line from there side beside bytes st
 
 -- ---- both sides
 
-pub until : (r : Reading) (rejected : Bool) (state : StreamState) (side : Side) → rejected ≡ false → FollowsUntil r rejected state side → Follows r state side
+pub until : (r : Reading) (rejected : Bool) (state : SideReader) (side : Side) → rejected ≡ false → FollowsUntil r rejected state side → Follows r state side
 until r false state side e follows = follows
 until r true state side e follows = absurd (false≢true (sym e))
 
-until_end : (r : Reading) (rejected : Bool) (state : StreamState) (side : Side) → rejected ≡ true → FollowsUntil r rejected state side → side ≡ stopped
+until_end : (r : Reading) (rejected : Bool) (state : SideReader) (side : Side) → rejected ≡ true → FollowsUntil r rejected state side → side ≡ stopped
 until_end r false state side e follows = absurd (false≢true e)
 until_end r true state side e follows = follows
 
@@ -146,13 +153,17 @@ is_silent {r = r} state sides follow rejected = silent_is (until_end r state.rej
 
 leaves_silent : (r : Reading) (scope : Scope) (line : ℕ) (from : Direction) → Leaves r scope line from stopped stopped [] stopped
 leaves_silent r OneSide line from = (refl, refl)
+leaves_silent r OneMessage line from = (refl, refl)
 leaves_silent r WholeLine line from = (refl, refl)
+
+silent_emits : (r : Reading) (scope : Scope) (line : ℕ) (from : Direction) (bytes : List ℕ) → PieceEmits r scope line from stopped bytes (on line (unread from) ∷ []) stopped
+silent_emits r scope line from bytes = record { own = []; passes = one_part r scope line from stopped stopped bytes [] (refl, refl); is_all = refl }
 
 silent_piece : {r : Reading} (scope : Scope) (line : ℕ) (from : Direction) (bytes : List ℕ) → LineEmits r scope line (piece from bytes) silent (on line (unread from) ∷ []) silent
 silent_piece {r = r} scope line FromTill bytes =
-    (stopped, stopped, record { own = on line (unread FromTill) ∷ []; others = []; emits = (refl, refl); leaves = leaves_silent r scope line FromTill; is_all = refl }, refl)
+    (stopped, stopped, record { own = on line (unread FromTill) ∷ []; others = []; emits = silent_emits r scope line FromTill bytes; leaves = leaves_silent r scope line FromTill; is_all = refl }, refl)
 silent_piece {r = r} scope line FromTerminal bytes =
-    (stopped, stopped, record { own = on line (unread FromTerminal) ∷ []; others = []; emits = (refl, refl); leaves = leaves_silent r scope line FromTerminal; is_all = refl }, refl)
+    (stopped, stopped, record { own = on line (unread FromTerminal) ∷ []; others = []; emits = silent_emits r scope line FromTerminal bytes; leaves = leaves_silent r scope line FromTerminal; is_all = refl }, refl)
 
 pub unheard : {S : Type 0} {r : Reading} (hears : Hears S) (scope : Scope) (line : ℕ) (from : Direction) (bytes : List ℕ) (sides : Sides) (state : BothSides) (tally : Tally) (old new : S) → FollowBoth r state sides → state.rejected ≡ true
     → hears old (on line (unread from)) new → tally.messages ≡ 0 → tally.bad ≡ 0 → HearsLine r hears scope line (piece from bytes) sides state tally old new
@@ -186,7 +197,7 @@ till_heard {r = r} hears scope line from bytes sides start state hearing old new
       heard = trace_event.heard;
       follow = record {
         till = subst (λ (b : Bool). FollowsUntil r b state.till trace_event.after) (sym over) trace_event.follows;
-        terminal = subst (λ (b : Bool). FollowsUntil r b state.terminal trace_event.beside_after) (sym over) (subst (λ (s : StreamState). FollowsUntil r hearing.stopped s trace_event.beside_after) (sym same) trace_event.follows_beside);
+        terminal = subst (λ (b : Bool). FollowsUntil r b state.terminal trace_event.beside_after) (sym over) (subst (λ (s : SideReader). FollowsUntil r hearing.stopped s trace_event.beside_after) (sym same) trace_event.follows_beside);
       };
       counts = trace_event.counts;
     })
@@ -202,7 +213,7 @@ terminal_heard {r = r} hears scope line from bytes sides start state hearing old
       emits = (trace_event.after, trace_event.beside_after, trace_event.emits, refl);
       heard = trace_event.heard;
       follow = record {
-        till = subst (λ (b : Bool). FollowsUntil r b state.till trace_event.beside_after) (sym over) (subst (λ (s : StreamState). FollowsUntil r hearing.stopped s trace_event.beside_after) (sym same) trace_event.follows_beside);
+        till = subst (λ (b : Bool). FollowsUntil r b state.till trace_event.beside_after) (sym over) (subst (λ (s : SideReader). FollowsUntil r hearing.stopped s trace_event.beside_after) (sym same) trace_event.follows_beside);
         terminal = subst (λ (b : Bool). FollowsUntil r b state.terminal trace_event.after) (sym over) trace_event.follows;
       };
       counts = trace_event.counts;
@@ -250,7 +261,7 @@ both_end hears line sides a b all old middle new till terminal is = record {
   counts = tallies_both (record { messages = 0; bad = a }) (record { messages = 0; bad = b }) (record { messages = 0; bad = all }) till.events terminal.events till.counts terminal.counts refl is;
 }
 
-pub till_end_fails : {S : Type 0} {r : Reading} (hears : Hears S) (fails : Fails S) (why : ListenerError) (line : ℕ) (sides : Sides) (terminal : StreamState) (old new : S) → FailsIn hears fails why (PrefixOf (SideEnds r line FromTill sides.till)) old new
+pub till_end_fails : {S : Type 0} {r : Reading} (hears : Hears S) (fails : Fails S) (why : ListenerError) (line : ℕ) (sides : Sides) (terminal : SideReader) (old new : S) → FailsIn hears fails why (PrefixOf (SideEnds r line FromTill sides.till)) old new
     → Follows r terminal sides.terminal → FailsIn hears fails why (PrefixOf (LineEnds r line sides)) old new
 till_end_fails {r = r} hears fails why line sides terminal old new failed follows =
     let ended = ends_some r line FromTerminal sides.terminal terminal follows in

@@ -9,10 +9,9 @@ use Rattle.zvt_trace.specs.Chunks.{AnswersFeed, AnswersRead, FeedFaults, HasNoEn
 use Rattle.zvt_trace.specs.Emitting.{BrokenTrace, EventsSoFar, LineEnds, SideEnds}
 use Rattle.zvt_trace.specs.Journal.{before_empty_line, is_journal, readable}
 use Rattle.zvt_trace.specs.Listening.{Fails, FaultsFrom, FollowBoth, FollowsUntil, HasWalked, Hears, HearsAll, WalksOn, most}
-use Rattle.zvt_trace.specs.Trace.{Side, Sides, running, stopped}
+use Rattle.zvt_trace.specs.Trace.{Side, Sides, running, skipping, stopped}
 use Rattle.zvt_trace.specs.TraceEvent.{At}
 use Rattle.zvt_trace.specs.Written.{limit}
-use Rattle.zvt_stream.specs.StreamState.{StreamState}
 use Rattle.zvt_trace.specs.declared.chunks.Ended.{Ended}
 use Rattle.zvt_trace.specs.declared.chunks.Form.{Form}
 use Rattle.zvt_trace.specs.declared.chunks.Form.TheVariants.{Journal, Over, Plain}
@@ -23,6 +22,7 @@ use Rattle.zvt_trace.specs.declared.fault.TraceFault.{TraceFault}
 use Rattle.zvt_trace.specs.declared.fault.TraceFault.TheVariants.{Memory, Read, TooLong, Trace, Write}
 use Rattle.zvt_trace.specs.declared.listener.ListenerError.TheVariants as failure
 use Rattle.zvt_trace.specs.declared.listener.Scope.{Scope}
+use Rattle.zvt_trace.specs.declared.side.SideReader.{SideReader}
 use Rattle.zvt_trace.specs.declared.walker.BothSides.{BothSides}
 use Rattle.zvt_trace.specs.declared.walker.Progress.{Progress}
 use Rattle.zvt_trace.proofs.ChunkLemmas.{all_read, begun_read, cut_whole, goes_on, journal_same, lines_append, stops_there, whole_append}
@@ -60,11 +60,13 @@ read_after Over next text more whole (inr (all, is)) = ap (λ (f : Form). read_a
 
 -- ---- what is cut off
 
-until_ends : (r : Reading) (rejected : Bool) (line : ℕ) (from : Direction) (state : StreamState) (side : Side) → FollowsUntil r rejected state side → (events : List At) × SideEnds r line from side events
-until_ends r true line from state (running bytes) follows = absurd (cc follows)
-until_ends r true line from state stopped follows = ([], refl)
-until_ends r false line from state (running bytes) follows = (_, (follows.1, state.held, follows.2, refl))
-until_ends r false line from state stopped follows = ([], refl)
+until_ends : (r : Reading) (rejected : Bool) (line : ℕ) (from : Direction) (reader : SideReader) (side : Side) → FollowsUntil r rejected reader side → (events : List At) × SideEnds r line from side events
+until_ends r true line from reader (running bytes) follows = absurd (cc follows)
+until_ends r true line from reader (skipping size left) follows = absurd (cc follows)
+until_ends r true line from reader stopped follows = ([], refl)
+until_ends r false line from reader (running bytes) follows = (_, ((follows.0).1, reader.stream.held, (follows.0).2, refl))
+until_ends r false line from reader (skipping size left) follows = ([], refl)
+until_ends r false line from reader stopped follows = ([], refl)
 
 ends_somehow : (r : Reading) (line : ℕ) (state : BothSides) (sides : Sides) → FollowBoth r state sides → (events : List At) × LineEnds r line sides events
 ends_somehow r line state sides follow =

@@ -1,5 +1,6 @@
 -- What a piece, a line and a whole trace emit.
-use Rattle.std.specs.Prelude.{◌≡◌, ◌⊎◌, ℕ, ◌+◌, List, [], ◌∷◌, ◌++◌, length, map, slice_index, Ok, Err}
+use Rattle.std.specs.Prelude.{⊤, ◌≡◌, ◌⊎◌, ◌≤◌, ℕ, ◌+◌, ◌-◌, List, [], ◌∷◌, ◌++◌, length, map, slice_index, Ok, Err}
+use Rattle.std.specs.List.{concat}
 use Rattle.zvt_grammar.specs.Cuts.{Cut}
 use Rattle.zvt_grammar.specs.Reading.{Reading}
 use Rattle.zvt_apdu.specs.Grammar.{Spells}
@@ -8,34 +9,84 @@ use Rattle.zvt_trace.specs.Meanings.{Meaning, lost, meaning_of, piece, comment}
 use Rattle.zvt_stream.specs.Head.{head_of}
 use Rattle.zvt_trace.specs.TraceEvent.{At, on}
 use Rattle.zvt_trace.specs.TraceEvent as trace_event
-use Rattle.zvt_trace.specs.Trace.{Arrives, Ending, Side, Sides, begun, new_line, refused, running, side_after, side_of, stopped}
+use Rattle.zvt_trace.specs.Resuming.{IsWithin, refused_size, resuming_events, side_refused, side_skipping, skipping_events}
+use Rattle.zvt_trace.specs.Trace.{Arrives, Ending, Side, Sides, begun, new_line, refused, running, side_of, skipping, stopped}
 use Rattle.zvt_trace.specs.declared.direction.Direction.{Direction}
 use Rattle.zvt_trace.specs.declared.direction.Direction.TheVariants.{FromTill, FromTerminal}
 use Rattle.zvt_trace.specs.declared.fault.TraceLineError.{TraceLineError}
 use Rattle.zvt_trace.specs.declared.listener.Scope.{Scope}
-use Rattle.zvt_trace.specs.declared.listener.Scope.TheVariants.{OneSide, WholeLine}
+use Rattle.zvt_trace.specs.declared.listener.Scope.TheVariants.{OneMessage, OneSide, WholeLine}
 
 -- ---- one side of the line
 
 abbrev pub messages_emitted : ℕ → Direction → List Message → List At
 messages_emitted line from messages = map (λ (message : Message). on line (trace_event.message from message)) messages
 
-abbrev pub ending_events : ℕ → Direction → List ℕ → Ending → List At
-ending_events line from rest begun = []
-ending_events line from rest (refused place why) = on line (trace_event.refused from (head_of rest) (slice_index rest place) place why) ∷ []
+abbrev pub ending_events : Scope → ℕ → Direction → List ℕ → Ending → List At
+ending_events scope line from rest begun = []
+ending_events scope line from rest (refused place why) =
+    on line (trace_event.refused from (head_of rest) (slice_index rest place) place why) ∷ resuming_events line from (refused_size scope rest place) (length rest)
 
--- A piece emits the messages that arrive with it, and what is refused after them.
-pub record Emits (r : Reading) (line : ℕ) (from : Direction) (before bytes : List ℕ) (events : List At) (after : Side) : Type 0 where
+abbrev pub side_after : Scope → (bytes rest : List ℕ) → Ending → Side
+side_after scope bytes rest begun = running bytes
+side_after scope bytes rest (refused place why) = side_refused (refused_size scope rest place) (length rest)
+
+-- what is left has no byte after the end of a refused message
+abbrev pub EndsWithin : Scope → List ℕ → Ending → Type 0
+EndsWithin scope rest begun = ⊤
+EndsWithin scope rest (refused place why) = IsWithin (refused_size scope rest place) (length rest)
+
+-- A part emits the messages that arrive with it, and what is refused after them.
+pub record Emits (r : Reading) (scope : Scope) (line : ℕ) (from : Direction) (before bytes : List ℕ) (events : List At) (after : Side) : Type 0 where
   pub messages : List Message
   pub rest : List ℕ
   pub ending : Ending
   pub arrives : Arrives r before bytes messages rest ending
-  pub is_all : events ≡ messages_emitted line from messages ++ ending_events line from rest ending
-  pub is_after : after ≡ side_after (before ++ bytes) ending
+  pub within : EndsWithin scope rest ending
+  pub is_all : events ≡ messages_emitted line from messages ++ ending_events scope line from rest ending
+  pub is_after : after ≡ side_after scope (before ++ bytes) rest ending
 
-abbrev pub PieceEmits : Reading → ℕ → Direction → Side → List ℕ → List At → Side → Type 0
-PieceEmits r line from (running before) bytes events after = Emits r line from before bytes events after
-PieceEmits r line from stopped bytes events after = (events ≡ on line (trace_event.unread from) ∷ []) × (after ≡ stopped)
+abbrev pub PartEmits : Reading → Scope → ℕ → Direction → Side → List ℕ → List At → Side → Type 0
+PartEmits r scope line from (running before) bytes events after = Emits r scope line from before bytes events after
+PartEmits r scope line from (skipping size left) bytes events after =
+    (length bytes ≤ left) × (events ≡ skipping_events line from size (left - length bytes)) × (after ≡ side_skipping size (left - length bytes))
+PartEmits r scope line from stopped bytes events after = (events ≡ []) × (after ≡ stopped)
+
+-- ---- parts, one after another
+
+pub record OnePart (r : Reading) (scope : Scope) (line : ℕ) (from : Direction) (side : Side) (part : List ℕ) (Others : Side → List At → Type 0) (events : List At) : Type 0 where
+  pub own : List At
+  pub later : List At
+  pub middle : Side
+  pub emits : PartEmits r scope line from side part own middle
+  pub others : Others middle later
+  pub is_all : events ≡ own ++ later
+
+abbrev pub PartsEmit : Reading → Scope → ℕ → Direction → Side → List (List ℕ) → List At → Side → Type 0
+PartsEmit r scope line from side [] events after = (events ≡ []) × (after ≡ side)
+PartsEmit r scope line from side (part ∷ parts) events after = OnePart r scope line from side part (λ middle later. PartsEmit r scope line from middle parts later after) events
+
+-- The bytes are cut into parts, so that none goes on after the end of a refused message.
+pub record Passes (r : Reading) (scope : Scope) (line : ℕ) (from : Direction) (side : Side) (bytes : List ℕ) (events : List At) (after : Side) : Type 0 where
+  pub parts : List (List ℕ)
+  pub cut : bytes ≡ concat parts
+  pub emit : PartsEmit r scope line from side parts events after
+
+-- that a piece is not read, where none of it is
+abbrev pub or_unread : ℕ → Direction → List At → List At
+or_unread line from [] = on line (trace_event.unread from) ∷ []
+or_unread line from (event ∷ events) = event ∷ events
+
+abbrev pub told : ℕ → Direction → Side → List At → List At
+told line from (running bytes) events = events
+told line from (skipping size left) events = or_unread line from events
+told line from stopped events = or_unread line from events
+
+-- A piece emits what its bytes do, and of a side that is not read on, that it is not read.
+pub record PieceEmits (r : Reading) (scope : Scope) (line : ℕ) (from : Direction) (side : Side) (bytes : List ℕ) (events : List At) (after : Side) : Type 0 where
+  pub own : List At
+  pub passes : Passes r scope line from side bytes own after
+  pub is_all : events ≡ told line from side own
 
 abbrev pub cut_off_event : ℕ → Direction → List ℕ → List At
 cut_off_event line from [] = []
@@ -44,6 +95,7 @@ cut_off_event line from (byte ∷ bytes) = on line (trace_event.cut_off from (he
 -- where the line ends, the message that a side has begun is cut off
 abbrev pub SideEnds : Reading → ℕ → Direction → Side → List At → Type 0
 SideEnds r line from (running bytes) events = (messages : List Message) × (rest : List ℕ) × Cut (Spells r) bytes messages rest × (events ≡ cut_off_event line from rest)
+SideEnds r line from (skipping size left) events = events ≡ []
 SideEnds r line from stopped events = events ≡ []
 
 -- ---- both sides
@@ -60,14 +112,16 @@ both_sides FromTerminal side beside = record { till = beside; terminal = side }
 -- What a refusal leaves of the other side: all, or nothing; then what it has begun is cut off.
 abbrev pub Leaves : Reading → Scope → ℕ → Direction → (side beside : Side) → List At → Side → Type 0
 Leaves r OneSide line from side beside events after = (events ≡ []) × (after ≡ beside)
+Leaves r OneMessage line from side beside events after = (events ≡ []) × (after ≡ beside)
 Leaves r WholeLine line from (running bytes) beside events after = (events ≡ []) × (after ≡ beside)
+Leaves r WholeLine line from (skipping size left) beside events after = (events ≡ []) × (after ≡ beside)
 Leaves r WholeLine line from stopped beside events after = SideEnds r line (other from) beside events × (after ≡ stopped)
 
 -- a piece of this side, and what it leaves of the other
 pub record EmitsBeside (r : Reading) (scope : Scope) (line : ℕ) (from : Direction) (side beside : Side) (bytes : List ℕ) (events : List At) (after beside_after : Side) : Type 0 where
   pub own : List At
   pub others : List At
-  pub emits : PieceEmits r line from side bytes own after
+  pub emits : PieceEmits r scope line from side bytes own after
   pub leaves : Leaves r scope line from after beside others beside_after
   pub is_all : events ≡ own ++ others
 

@@ -8,3 +8,4 @@ pub mod Emitting
 pub mod TraceEvent
 pub mod Trace
 pub mod Written
+pub mod Resuming

@@ -1,13 +1,13 @@
 -- The events that a listener hears, and what becomes of it.
-use Rattle.std.specs.Prelude.{◌≡◌, ◌≤◌, ◌*◌, ◌^◌, ◌⊎◌, ℕ, Bool, true, false, List, [], ◌∷◌, ◌++◌, length, Result, Ok, Err}
+use Rattle.std.specs.Prelude.{◌≡◌, ◌≤◌, ◌*◌, ◌+◌, ◌^◌, ◌⊎◌, ◌||◌, ℕ, Bool, true, false, List, [], ◌∷◌, ◌++◌, length, Result, Ok, Err}
 use Rattle.zvt_grammar.specs.Reading.{Reading}
 use Rattle.zvt_grammar.specs.Lengths.{reading_of}
-use Rattle.zvt_stream.specs.StreamState.{StreamState}
 use Rattle.zvt_trace.specs.Meanings.{Meaning, meaning_of}
 use Rattle.zvt_trace.specs.TraceEvent.{At, Tallies}
-use Rattle.zvt_trace.specs.Emitting.{BrokenTrace, PrefixOf, LineSoFar, LineEmits, LinesEmit, MeaningBegins, PieceEmits, EmitsBeside, EventsSoFar, WholeTrace}
-use Rattle.zvt_trace.specs.Trace.{Side, Sides, new_line, running, stopped}
-use Rattle.zvt_trace.specs.Written.{Follows}
+use Rattle.zvt_trace.specs.Emitting.{BrokenTrace, PrefixOf, LineSoFar, LineEmits, LinesEmit, MeaningBegins, Passes, PieceEmits, EmitsBeside, EventsSoFar, WholeTrace}
+use Rattle.zvt_trace.specs.Resuming.{side_skipping, skipping_events}
+use Rattle.zvt_trace.specs.Trace.{Side, Sides, new_line, running, skipping, stopped}
+use Rattle.zvt_trace.specs.Written.{Follows, ReadsBy}
 use Rattle.zvt_trace.specs.declared.walker.BothSides.{BothSides}
 use Rattle.zvt_trace.specs.declared.walker.Progress.{Progress}
 use Rattle.zvt_trace.specs.declared.direction.Direction.{Direction}
@@ -17,7 +17,10 @@ use Rattle.zvt_trace.specs.declared.fault.TraceFault.TheVariants.{Memory, Read, 
 use Rattle.zvt_trace.specs.declared.listener.ListenerError.{ListenerError}
 use Rattle.zvt_trace.specs.declared.listener.ListenerError.TheVariants as failure
 use Rattle.zvt_trace.specs.declared.listener.Scope.{Scope}
-use Rattle.zvt_trace.specs.declared.emit.Hearing.{Hearing}
+use Rattle.zvt_trace.specs.declared.feed.Heard.{Heard}
+use Rattle.zvt_trace.specs.declared.feed.Hearing.{Hearing}
+use Rattle.zvt_trace.specs.declared.feed.Next.{Next}
+use Rattle.zvt_trace.specs.declared.side.SideReader.{SideReader}
 
 -- ---- events, one after another
 
@@ -47,29 +50,91 @@ pub record FailsIn {S : Type 0} (hears : Hears S) (fails : Fails S) (why : Liste
 
 abbrev pub is_stopped : Side → Bool
 is_stopped (running bytes) = false
+is_stopped (skipping size left) = false
 is_stopped stopped = true
 
--- what a piece emits was heard, and the stream goes on after it
-pub record HearsPiece {S : Type 0} (r : Reading) (hears : Hears S) (line : ℕ) (from : Direction) (side : Side) (bytes : List ℕ) (state : StreamState) (hearing : Hearing) (old new : S) : Type 0 where
+abbrev pub has_some : List At → Bool
+has_some [] = false
+has_some (event ∷ events) = true
+
+abbrev pub one_message : Heard
+one_message = record { tally = record { messages = 1; bad = 0 }; any = true }
+
+abbrev pub one_refusal : Heard
+one_refusal = record { tally = record { messages = 0; bad = 1 }; any = true }
+
+abbrev pub uncounted : Bool → Heard
+uncounted any = record { tally = record { messages = 0; bad = 0 }; any = any }
+
+-- the events of some bytes, and those of the bytes after them
+pub record IsBoth (first second both : Heard) : Type 0 where
+  pub messages : both.tally.messages ≡ first.tally.messages + second.tally.messages
+  pub bad : both.tally.bad ≡ first.tally.bad + second.tally.bad
+  pub any : both.any ≡ (first.any || second.any)
+
+-- what these bytes emit was heard, and the side is read on after them
+pub record HearsBytes {S : Type 0} (r : Reading) (hears : Hears S) (scope : Scope) (line : ℕ) (from : Direction) (side : Side) (bytes : List ℕ) (reader : SideReader) (so_far : Heard) (old new : S) : Type 0 where
   pub events : List At
   pub after : Side
-  pub emits : PieceEmits r line from side bytes events after
+  pub passes : Passes r scope line from side bytes events after
   pub heard : HearsAll hears old events new
-  pub follows : Follows r state after
-  pub counts : Tallies hearing.tally events
-  pub ends : hearing.stopped ≡ is_stopped after
+  pub follows : Follows r reader after
+  pub counts : Tallies so_far.tally events
+  pub any : so_far.any ≡ has_some events
 
--- a prefix of what a prefix of the piece emits
-pub record PieceBegins (r : Reading) (line : ℕ) (from : Direction) (side : Side) (bytes : List ℕ) (events : List At) : Type 0 where
+-- a prefix of what a prefix of the bytes emits
+pub record BytesBegin (r : Reading) (scope : Scope) (line : ℕ) (from : Direction) (side : Side) (bytes : List ℕ) (events : List At) : Type 0 where
   pub first : List ℕ
   pub more : List ℕ
   pub after : Side
   pub cut : bytes ≡ first ++ more
-  pub emits : PrefixOf (λ all. PieceEmits r line from side first all after) events
+  pub emits : PrefixOf (λ all. Passes r scope line from side first all after) events
 
-abbrev pub EmitsPiece : {S : Type 0} → Reading → Hears S → Fails S → ℕ → Direction → Side → List ℕ → StreamState → (old new : S) → Result Hearing ListenerError → Type 0
-EmitsPiece r hears fails line from side bytes state old new (Ok hearing) = HearsPiece r hears line from side bytes state hearing old new
-EmitsPiece r hears fails line from side bytes state old new (Err why) = FailsIn hears fails why (PieceBegins r line from side bytes) old new
+abbrev pub EmitsBytes : {S : Type 0} → Reading → Hears S → Fails S → Scope → ℕ → Direction → Side → List ℕ → SideReader → (old new : S) → Result Heard ListenerError → Type 0
+EmitsBytes r hears fails scope line from side bytes reader old new (Ok heard) = HearsBytes r hears scope line from side bytes reader heard old new
+EmitsBytes r hears fails scope line from side bytes reader old new (Err why) = FailsIn hears fails why (BytesBegin r scope line from side bytes) old new
+
+-- what the first of these bytes emit was heard, and the side is read on with the rest
+pub record HearsFirst {S : Type 0} (r : Reading) (hears : Hears S) (scope : Scope) (line : ℕ) (from : Direction) (side : Side) (bytes rest : List ℕ) (reader : SideReader) (so_far : Heard) (old new : S) : Type 0 where
+  pub first : List ℕ
+  pub cut : bytes ≡ first ++ rest
+  pub heard : HearsBytes r hears scope line from side first reader so_far old new
+
+abbrev pub EmitsFirst : {S : Type 0} → Reading → Hears S → Fails S → Scope → ℕ → Direction → Side → List ℕ → SideReader → (old new : S) → Result Next ListenerError → Type 0
+EmitsFirst r hears fails scope line from side bytes reader old new (Ok next) = HearsFirst r hears scope line from side bytes next.rest.now reader next.heard old new
+EmitsFirst r hears fails scope line from side bytes reader old new (Err why) = FailsIn hears fails why (BytesBegin r scope line from side bytes) old new
+
+-- So many bytes of a refused message are left. What comes of it was heard, and whether anything did.
+abbrev pub EmitsRest : {S : Type 0} → Reading → Hears S → Fails S → ℕ → Direction → (size left : ℕ) → SideReader → (old new : S) → Result Bool ListenerError → Type 0
+EmitsRest r hears fails line from size left reader old new (Ok any) =
+    HearsAll hears old (skipping_events line from size left) new × Follows r reader (side_skipping size left) × (any ≡ has_some (skipping_events line from size left))
+EmitsRest r hears fails line from size left reader old new (Err why) = FailsIn hears fails why (PrefixOf (λ all. all ≡ skipping_events line from size left)) old new
+
+-- nothing of the side is read any more
+abbrev pub StaysSilent : {S : Type 0} → Hears S → (reader next : SideReader) → (old new : S) → Result Bool ListenerError → Type 0
+StaysSilent hears reader next old new result = (result ≡ Ok false) × (next ≡ reader) × (new ≡ old)
+
+-- what a piece emits was heard, and its side is read on after it
+pub record HearsPiece {S : Type 0} (r : Reading) (hears : Hears S) (scope : Scope) (line : ℕ) (from : Direction) (side : Side) (bytes : List ℕ) (reader : SideReader) (hearing : Hearing) (old new : S) : Type 0 where
+  pub events : List At
+  pub after : Side
+  pub emits : PieceEmits r scope line from side bytes events after
+  pub heard : HearsAll hears old events new
+  pub follows : Follows r reader after
+  pub counts : Tallies hearing.tally events
+  pub ends : hearing.stopped ≡ is_stopped after
+
+-- a prefix of what a prefix of the piece emits
+pub record PieceBegins (r : Reading) (scope : Scope) (line : ℕ) (from : Direction) (side : Side) (bytes : List ℕ) (events : List At) : Type 0 where
+  pub first : List ℕ
+  pub more : List ℕ
+  pub after : Side
+  pub cut : bytes ≡ first ++ more
+  pub emits : PrefixOf (λ all. PieceEmits r scope line from side first all after) events
+
+abbrev pub EmitsPiece : {S : Type 0} → Reading → Hears S → Fails S → Scope → ℕ → Direction → Side → List ℕ → SideReader → (old new : S) → Result Hearing ListenerError → Type 0
+EmitsPiece r hears fails scope line from side bytes reader old new (Ok hearing) = HearsPiece r hears scope line from side bytes reader hearing old new
+EmitsPiece r hears fails scope line from side bytes reader old new (Err why) = FailsIn hears fails why (PieceBegins r scope line from side bytes) old new
 
 -- what is cut off was heard
 pub record HearsEnd {S : Type 0} (hears : Hears S) (Ends : List At → Type 0) (bad : ℕ) (old new : S) : Type 0 where
@@ -84,27 +149,27 @@ EmitsEnd hears fails Ends old new (Err why) = FailsIn hears fails why (PrefixOf 
 
 -- ---- both sides
 
--- each stream holds what is left of its side's bytes, until none is read
-abbrev pub FollowsUntil : Reading → Bool → StreamState → Side → Type 0
-FollowsUntil r true state side = side ≡ stopped
-FollowsUntil r false state side = Follows r state side
+-- each reader goes on after its side's bytes, until none is read
+abbrev pub FollowsUntil : Reading → Bool → SideReader → Side → Type 0
+FollowsUntil r true reader side = side ≡ stopped
+FollowsUntil r false reader side = Follows r reader side
 
--- both streams take lengths by that reading
+-- both readers take lengths by that reading
 abbrev pub TakeBy : Reading → BothSides → Type 0
-TakeBy r state = (state.till.reading ≡ r) × (state.terminal.reading ≡ r)
+TakeBy r state = ReadsBy r state.till × ReadsBy r state.terminal
 
 pub record FollowBoth (r : Reading) (state : BothSides) (sides : Sides) : Type 0 where
   pub till : FollowsUntil r state.rejected state.till sides.till
   pub terminal : FollowsUntil r state.rejected state.terminal sides.terminal
 
 -- what a piece emits was heard, and what it leaves of the other side
-pub record HearsBeside {S : Type 0} (r : Reading) (hears : Hears S) (scope : Scope) (line : ℕ) (from : Direction) (side beside : Side) (bytes : List ℕ) (state other : StreamState) (hearing : Hearing) (old new : S) : Type 0 where
+pub record HearsBeside {S : Type 0} (r : Reading) (hears : Hears S) (scope : Scope) (line : ℕ) (from : Direction) (side beside : Side) (bytes : List ℕ) (reader other : SideReader) (hearing : Hearing) (old new : S) : Type 0 where
   pub events : List At
   pub after : Side
   pub beside_after : Side
   pub emits : EmitsBeside r scope line from side beside bytes events after beside_after
   pub heard : HearsAll hears old events new
-  pub follows : FollowsUntil r hearing.stopped state after
+  pub follows : FollowsUntil r hearing.stopped reader after
   pub follows_beside : FollowsUntil r hearing.stopped other beside_after
   pub counts : Tallies hearing.tally events
 
@@ -117,9 +182,9 @@ pub record BesideBegins (r : Reading) (scope : Scope) (line : ℕ) (from : Direc
   pub cut : bytes ≡ first ++ more
   pub emits : PrefixOf (λ all. EmitsBeside r scope line from side beside first all after beside_after) events
 
-abbrev pub EmitsThere : {S : Type 0} → Reading → Hears S → Fails S → Scope → ℕ → Direction → (side beside : Side) → List ℕ → (state other : StreamState) → (old new : S) → Result Hearing ListenerError → Type 0
-EmitsThere r hears fails scope line from side beside bytes state other old new (Ok hearing) = HearsBeside r hears scope line from side beside bytes state other hearing old new
-EmitsThere r hears fails scope line from side beside bytes state other old new (Err why) = FailsIn hears fails why (BesideBegins r scope line from side beside bytes) old new
+abbrev pub EmitsThere : {S : Type 0} → Reading → Hears S → Fails S → Scope → ℕ → Direction → (side beside : Side) → List ℕ → (reader other : SideReader) → (old new : S) → Result Hearing ListenerError → Type 0
+EmitsThere r hears fails scope line from side beside bytes reader other old new (Ok hearing) = HearsBeside r hears scope line from side beside bytes reader other hearing old new
+EmitsThere r hears fails scope line from side beside bytes reader other old new (Err why) = FailsIn hears fails why (BesideBegins r scope line from side beside bytes) old new
 
 -- ---- one line of the trace
 
@@ -168,7 +233,7 @@ pub record IsSound (progress : Progress) : Type 0 where
   pub reading : TakeBy (reading_by progress) progress.sides
   pub lines : progress.number ≤ progress.size
   pub messages : progress.tally.messages ≤ progress.size
-  pub bad : progress.tally.bad ≤ 2 * progress.number
+  pub bad : progress.tally.bad ≤ 2 * progress.number + progress.size
   pub size : progress.size ≤ most
 
 -- these lines were read, and they emit these events

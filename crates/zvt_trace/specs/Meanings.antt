@@ -7,7 +7,7 @@ use Rattle.hex.specs.declared.error.FromHexError.{FromHexError}
 use Rattle.zvt_trace.specs.Spelled.{AreHex, after_bytes, spells}
 use Rattle.zvt_trace.specs.declared.fault.TraceLineError.{TraceLineError}
 use Rattle.zvt_trace.specs.declared.fault.TraceLineError.TheVariants.{Form, Hex}
-use Rattle.zvt_trace.specs.declared.emit.Piece.{Piece}
+use Rattle.zvt_trace.specs.declared.feed.Piece.{Piece}
 use Rattle.zvt_trace.specs.declared.line.TraceLine.{TraceLine}
 use Rattle.zvt_trace.specs.declared.line.Plain.{Plain}
 use Rattle.zvt_trace.specs.declared.line.TraceLine.TheVariants as code

@@ -12,9 +12,11 @@ use Rattle.zvt_trace.specs.declared.direction.Direction.TheVariants.{FromTill, F
 
 -- ---- one side of the line
 
--- all that a side has sent since the line was made; or some of it was refused, and nothing more is read of it
+-- all that a side has sent since it began to be read; or a message of that size was refused, and its last bytes are still to
+-- come; or some of it was refused, and nothing more is read of it
 pub data Side : Type 0 where
   running : (bytes : List ℕ) → Side
+  skipping : (size left : ℕ) → Side
   stopped : Side
 
 -- what is left after the whole messages: nothing or the beginning of one, or bytes after which none can follow
@@ -25,10 +27,6 @@ pub data Ending : Type 0 where
 abbrev pub EndsIn : Reading → List ℕ → Ending → Type 0
 EndsIn r rest begun = Alive (Spells r) rest
 EndsIn r rest (refused place why) = Place (Spells r) rest place × WhyOf r rest place why
-
-abbrev pub side_after : List ℕ → Ending → Side
-side_after bytes begun = running bytes
-side_after bytes (refused place why) = stopped
 
 -- The messages arrive that the side's bytes have with the piece and did not have without it.
 pub record Arrives (r : Reading) (before bytes : List ℕ) (messages : List Message) (rest : List ℕ) (ending : Ending) : Type 0 where

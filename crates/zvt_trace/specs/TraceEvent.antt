@@ -12,11 +12,13 @@ use Rattle.zvt_trace.specs.declared.event.TraceEvent as code
 use Rattle.zvt_trace.specs.declared.event.TraceEvent.TheVariants as code_event
 
 -- a whole message; or that bytes were refused, with the byte at which no message could follow any more; or that a piece
--- after a refusal is not read; or that a message of that many bytes is cut off where the line ends; or that the connection was lost
+-- after a refusal is not read; or that the side is read on after a refused message of that size; or that a message of that
+-- many bytes is cut off where the line ends; or that the connection was lost
 pub data TraceEvent : Type 0 where
   message : (from : Direction) → (message : Message) → TraceEvent
   refused : (from : Direction) → (head : Head) → (byte place : ℕ) → (why : Why) → TraceEvent
   unread : (from : Direction) → TraceEvent
+  resumed : (from : Direction) → (size : ℕ) → TraceEvent
   cut_off : (from : Direction) → (head : Head) → (have : ℕ) → TraceEvent
   lost : TraceEvent
 
@@ -34,6 +36,7 @@ abbrev pub event_of : code.TraceEvent → TraceEvent
 event_of (code_event.Message from apdu bytes lengths) = message from apdu
 event_of (code_event.Refused from refusal) = refused from refusal.head refusal.byte refusal.place refusal.why
 event_of (code_event.Unread from) = unread from
+event_of (code_event.Resumed from size) = resumed from size
 event_of (code_event.CutOff from head have) = cut_off from head have
 event_of code_event.Lost = lost
 
@@ -42,6 +45,7 @@ abbrev pub HasItsBytes : code.TraceEvent → Type 0
 HasItsBytes (code_event.Message from apdu bytes lengths) = Spells (reading_of lengths) apdu bytes.now
 HasItsBytes (code_event.Refused from refusal) = Unit {0}
 HasItsBytes (code_event.Unread from) = Unit {0}
+HasItsBytes (code_event.Resumed from size) = Unit {0}
 HasItsBytes (code_event.CutOff from head have) = Unit {0}
 HasItsBytes code_event.Lost = Unit {0}
 
@@ -51,6 +55,7 @@ abbrev pub message_count : TraceEvent → ℕ
 message_count (message from m) = 1
 message_count (refused from head byte place why) = 0
 message_count (unread from) = 0
+message_count (resumed from size) = 0
 message_count (cut_off from head have) = 0
 message_count lost = 0
 
@@ -58,6 +63,7 @@ abbrev pub bad_count : TraceEvent → ℕ
 bad_count (message from m) = 0
 bad_count (refused from head byte place why) = 1
 bad_count (unread from) = 0
+bad_count (resumed from size) = 0
 bad_count (cut_off from head have) = 1
 bad_count lost = 0
 

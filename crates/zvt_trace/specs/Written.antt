@@ -1,5 +1,5 @@
 -- What the streams represent, what a device has that failed, and what reading a trace answers.
-use Rattle.std.specs.Prelude.{◌≡◌, ℕ, ◌<◌, ◌≤◌, ◌++◌, false, List, length, Option, IfSome, Result, Ok, Err, Vec}
+use Rattle.std.specs.Prelude.{⊤, ◌≡◌, ℕ, ◌-◌, ◌<◌, ◌≤◌, ◌++◌, Bool, true, false, List, [], length, take, drop, min, Option, None, Some, IfSome, Result, Ok, Err, Vec}
 use Rattle.std.specs.Global.{Global}
 use Rattle.std.specs.Io.KnownBytes.{Appends, Consumes, IsAtEnd, Keeps}
 use Rattle.zvt_io.specs.Devices.{IsPrefix}
@@ -8,16 +8,71 @@ use Rattle.zvt_grammar.specs.Reading.{Reading}
 use Rattle.zvt_apdu.specs.Grammar.{Spells}
 use Rattle.zvt_apdu.specs.Message.{Message}
 use Rattle.zvt_stream.specs.StreamState.{StreamState, HasRefused}
-use Rattle.zvt_trace.specs.Trace.{Side, running, stopped}
+use Rattle.zvt_trace.specs.Trace.{Side, running, skipping, stopped}
+use Rattle.zvt_trace.specs.declared.side.Opening.{Opening}
+use Rattle.zvt_trace.specs.declared.side.SideReader.{SideReader}
+use Rattle.zvt_trace.specs.declared.side.Skipped.{Skipped}
+use Rattle.zvt_trace.specs.declared.side.Skipped.TheVariants.{Everything, Nothing, Rest}
 use Rattle.zvt_trace.specs.declared.fault.TraceFault.{TraceFault}
 use Rattle.zvt_trace.specs.declared.fault.TraceFault.TheVariants.{Memory, Read, TooLong, Trace, Write}
 
 -- ---- what the streams of the code represent
 
 -- the stream holds what is left of the side's bytes after their whole messages
-abbrev pub Follows : Reading → StreamState → Side → Type 0
-Follows r state (running bytes) = (state.stopped ≡ false) × (messages : List Message) × Cut (Spells r) bytes messages state.held
-Follows r state stopped = HasRefused state
+abbrev pub StreamFollows : Reading → StreamState → Side → Type 0
+StreamFollows r state (running bytes) = (state.stopped ≡ false) × (messages : List Message) × Cut (Spells r) bytes messages state.held
+StreamFollows r state (skipping size left) = HasRefused state
+StreamFollows r state stopped = HasRefused state
+
+-- these are the first bytes of what is held
+abbrev pub IsOpening : Opening → List ℕ → Type 0
+IsOpening opening held = opening.first.items ≡ take 5 held
+
+abbrev pub Knows : SideReader → Side → Type 0
+Knows reader (running bytes) = (reader.skipped ≡ Nothing) × IsOpening reader.opening reader.stream.held
+Knows reader (skipping size left) = (reader.skipped ≡ Rest size left) × (0 < left)
+Knows reader stopped = reader.skipped ≡ Everything
+
+abbrev pub Follows : Reading → SideReader → Side → Type 0
+Follows r reader side = StreamFollows r reader.stream side × Knows reader side
+
+-- ---- what is skipped
+
+-- some bytes of a refused message are left
+abbrev pub HasLeft : Skipped → Type 0
+HasLeft Nothing = ⊤
+HasLeft (Rest size left) = 0 < left
+HasLeft Everything = ⊤
+
+-- the reader takes lengths by that reading
+abbrev pub ReadsBy : Reading → SideReader → Type 0
+ReadsBy r reader = (reader.stream.reading ≡ r) × HasLeft reader.skipped
+
+abbrev pub is_nothing : Skipped → Bool
+is_nothing Nothing = true
+is_nothing (Rest size left) = false
+is_nothing Everything = false
+
+abbrev pub is_everything : Skipped → Bool
+is_everything Nothing = false
+is_everything (Rest size left) = false
+is_everything Everything = true
+
+-- So many bytes of a message of that size have come, which is refused.
+abbrev pub skipped_by : Option ℕ → (come : ℕ) → Skipped
+skipped_by None come = Everything
+skipped_by (Some size) come = Rest size (size - come)
+
+-- the reader has refused a message, of which so many bytes are left
+abbrev pub SkipsTo : SideReader → (size left : ℕ) → Type 0
+SkipsTo reader size left = HasRefused reader.stream × (reader.skipped ≡ Rest size left)
+
+-- what is skipped of these bytes, and what comes after that
+abbrev pub Skips : Skipped → List ℕ → Skipped → List ℕ → Type 0
+Skips Nothing bytes next rest = (next ≡ Nothing) × (rest ≡ [])
+Skips (Rest size left) bytes next rest =
+    (next ≡ Rest size (left - min left (length bytes))) × (rest ≡ drop (min left (length bytes)) bytes)
+Skips Everything bytes next rest = (next ≡ Everything) × (rest ≡ [])
 
 -- ---- what a device has that failed
 

@@ -36,6 +36,11 @@ pub enum TraceEvent<'a> {
     Unread {
         from: Direction,
     },
+    /// The side is read on after a refused message, which announced a size of so many bytes.
+    Resumed {
+        from: Direction,
+        size: usize,
+    },
     /// The line ends after the first `have` bytes of a message.
     CutOff {
         from: Direction,

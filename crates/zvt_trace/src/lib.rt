@@ -9,11 +9,13 @@ mod direction;
 mod emit;
 mod event;
 mod fault;
+mod feed;
 mod input;
 mod journal;
 mod line;
 mod lines;
 mod listener;
+mod side;
 mod spelled;
 mod walker;
 

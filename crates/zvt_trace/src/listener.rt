@@ -7,12 +7,14 @@ use crate::event::TraceEvent;
 use std::alloc::AllocError;
 use zvt_io::Failed;
 
-/// What a refusal leaves unread until the connection is lost.
+/// What a refusal leaves unread.
 #[derive(Clone, Copy, Debug, PartialEq, Eq)]
 pub enum Scope {
-    /// The side whose bytes were refused.
+    /// The refused message alone, by the size that it announces. Its side is read on after it.
+    OneMessage,
+    /// The side whose bytes were refused, until the connection is lost.
     OneSide,
-    /// Both sides. What the other side had begun is cut off there, and its event comes after the refusal.
+    /// Both sides, until the connection is lost. What the other side had begun is cut off there, and its event comes after the refusal.
     WholeLine,
 }
 

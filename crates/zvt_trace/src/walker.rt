@@ -13,15 +13,16 @@ ghost use Rattle.zvt_trace.specs.Listening.{AnswersFrom, AnswersWalk, EmitsEnd, 
 ghost use Rattle.zvt_trace.specs.Written.{limit};
 
 use crate::direction::Direction;
-use crate::emit::{Piece, PieceAt, emit_truncation, feed_side};
+use crate::emit::{PieceAt, emit_truncation};
 use crate::event::TraceEvent;
 use crate::fault::{Tally, TraceFault, TraceLineError};
+use crate::feed::{Piece, feed_side};
 use crate::journal::readable;
 use crate::line::{CHUNK, TraceLine, first_line};
 use crate::listener::{Listener, ListenerError, Scope};
+use crate::side::SideReader;
 use std::alloc::Global;
 use zvt_grammar::Lengths;
-use zvt_stream::Stream;
 
 /// Emits all that the trace says to the listener, line by line, and what is cut off at its end. Its streams take such
 /// lengths. Of a journal the lines before the first empty one are read.
@@ -150,7 +151,7 @@ fn emit_line<D, L: Listener<D>>(
     ensures reading { OnOk result (TakeBy (reading_of options.lengths) sides.new) }
     ensures emits { (content : List ℕ) → Reads content read.entry → (state : Sides) → FollowBoth (reading_of options.lengths) sides.old state → WalksLine (reading_of options.lengths) L.hears L.fails options.scope number content state sides.new (listener.old, device.old) (listener.new, device.new) result }
     ensures few { (content : List ℕ) → Reads content read.entry → IfOk result (λ tally. tally.messages ≤ length content) }
-    ensures two { IfOk result (λ tally. tally.bad ≤ 2) }
+    ensures bad { (content : List ℕ) → Reads content read.entry → IfOk result (λ tally. tally.bad ≤ length content + 2) }
 {
     let line = match read {
         Ok(line) => line,
@@ -167,11 +168,11 @@ struct WalkOptions {
     lengths: Lengths,
 }
 
-/// A stream for each side of the line. Once a refusal has left both sides unread, neither is fed.
+/// Both sides of the line. Once a refusal has left both sides unread, neither is fed.
 #[derive(Drop)]
 struct BothSides {
-    till: Stream,
-    terminal: Stream,
+    till: SideReader,
+    terminal: SideReader,
     rejected: bool,
 }
 
@@ -182,8 +183,8 @@ impl BothSides {
         ensures reading { TakeBy (reading_of lengths) result }
     {
         BothSides {
-            till: Stream::of(alloc, lengths),
-            terminal: Stream::of(alloc, lengths),
+            till: SideReader::new(alloc, lengths),
+            terminal: SideReader::new(alloc, lengths),
             rejected: false,
         }
     }
@@ -203,7 +204,7 @@ impl BothSides {
         ensures reading { OnOk result (TakeBy (reading_of options.lengths) self.new) }
         ensures emits { (sides : Sides) → FollowBoth (reading_of options.lengths) self.old sides → EmitsLine (reading_of options.lengths) L.hears L.fails options.scope number (meant_by line.now) sides self.new (listener.old, device.old) (listener.new, device.new) result }
         ensures few { IfOk result (λ tally. tally.messages ≤ size_of (meant_by line.now)) }
-        ensures two { IfOk result (λ tally. tally.bad ≤ 2) }
+        ensures bad { IfOk result (λ tally. tally.bad ≤ size_of (meant_by line.now) + 2) }
     {
         let WalkOptions {
             alloc,
@@ -220,6 +221,7 @@ impl BothSides {
                 let at = PieceAt {
                     line: number,
                     from: *from,
+                    alloc,
                     scope,
                     lengths,
                 };
@@ -248,7 +250,7 @@ impl BothSides {
         ensures reading { OnOk result (TakeBy (reading_of at.lengths) self.new) }
         ensures emits { (sides : Sides) → FollowBoth (reading_of at.lengths) self.old sides → EmitsLine (reading_of at.lengths) L.hears L.fails at.scope at.line (meaning.piece at.from (bytes_in piece.entry)) sides self.new (listener.old, device.old) (listener.new, device.new) result }
         ensures few { IfOk result (λ tally. tally.messages ≤ length (bytes_in piece.entry)) }
-        ensures two { IfOk result (λ tally. tally.bad ≤ 2) }
+        ensures bad { IfOk result (λ tally. tally.bad ≤ length (bytes_in piece.entry) + 2) }
     {
         let from = at.from;
         if self.rejected {
@@ -277,13 +279,19 @@ impl BothSides {
         if self.rejected {
             return Ok(0);
         }
-        let till = emit_truncation(listener, device, number, Direction::FromTill, &self.till)?;
+        let till = emit_truncation(
+            listener,
+            device,
+            number,
+            Direction::FromTill,
+            &self.till.stream,
+        )?;
         let terminal = emit_truncation(
             listener,
             device,
             number,
             Direction::FromTerminal,
-            &self.terminal,
+            &self.terminal.stream,
         )?;
         Ok(till + terminal)
     }

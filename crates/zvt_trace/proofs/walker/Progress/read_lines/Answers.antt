@@ -11,7 +11,7 @@ lines-init g c = record {
   size = refl;
   lines = omega (arith, c.requires.sound.lines);
   messages = omega (arith, c.requires.sound.messages);
-  bad = c.requires.sound.bad;
+  bad = omega (arith, c.requires.sound.bad);
 }
 
 pub lines-preserved : goal.lines-preserved
@@ -27,7 +27,7 @@ lines-preserved g c =
       size = inv.size;
       lines = omega (arith, inv.lines, c.first_line.ensures.4);
       messages = omega (arith, inv.messages, c.in_ok-counted.ensures.few c.first_line.ensures.0 c.first_line.ensures.2, c.first_line.ensures.3);
-      bad = omega (arith, inv.bad, c.in_ok-counted.ensures.two);
+      bad = omega (arith, inv.bad, c.in_ok-counted.ensures.bad c.first_line.ensures.0 c.first_line.ensures.2, c.first_line.ensures.3);
     }
 
 pub returns-in_err-counted-clause-walks : goal.returns-in_err-counted-clause-walks

@@ -14,7 +14,7 @@ invariant-lines g l = record {
   size : l.self.size ≡ l.initial.self.size;
   lines : l.number + length l.rest ≤ l.initial.self.size + length l.text;
   messages : l.tally.messages + length l.rest ≤ l.initial.self.size + length l.text;
-  bad : l.tally.bad ≤ 2 * l.number;
+  bad : l.tally.bad + length l.rest ≤ 2 * l.number + (l.initial.self.size + length l.text);
 }
 
 abbrev pub decreases-lines : goal.decreases-lines

@@ -1,0 +1,154 @@
+//! What is read of one side of the line.
+ghost use Rattle.std.specs.Prelude.{◌≡◌, ◌++◌, [], ℕ, List, length, suc};
+ghost use Rattle.zvt_grammar.specs.Lengths.{reading_of};
+ghost use Rattle.zvt_trace.specs.Resuming.{announced, refused_size, size_by};
+ghost use Rattle.zvt_trace.specs.Trace.{running};
+ghost use Rattle.zvt_trace.specs.Written.{Follows, IsOpening, ReadsBy, Skips, is_everything, is_nothing, skipped_by};
+
+use crate::listener::Scope;
+use arrayvec::ArrayVec;
+use std::alloc::Global;
+use zvt_grammar::Lengths;
+use zvt_stream::Stream;
+
+/// The first bytes of a message, as far as they have come: those that announce its size.
+#[derive(Drop)]
+pub(crate) struct Opening {
+    first: ArrayVec<u8, 5>,
+}
+
+impl Opening {
+    /// No message has begun.
+    fn nothing() -> Opening
+        ensures { IsOpening result [] }
+    {
+        Opening {
+            first: ArrayVec::new(),
+        }
+    }
+
+    /// A message has ended.
+    #[inline(always)]
+    pub(crate) fn clear(&mut self)
+        ensures { IsOpening self.new [] }
+    {
+        self.first.clear();
+    }
+
+    /// These bytes of the message come next.
+    pub(crate) fn add(&mut self, bytes: &[u8])
+        ensures { (held : List ℕ) → IsOpening self.old held → IsOpening self.new (held ++ bytes.now) }
+    {
+        let room = self.first.remaining_capacity();
+        let count = bytes.len().min(room);
+        if self.first.try_extend_from_slice(&bytes[..count]).is_err() {
+            unreachable!();
+        }
+    }
+
+    /// The size of the whole message, where enough of it has come.
+    fn announced(&self) -> Option<usize>
+        ensures { (held : List ℕ) → IsOpening self.now held → result ≡ announced held }
+    {
+        match self.first.as_slice() {
+            [_, _, 0xFF, low, high] => Some(5 + *low as usize + 256 * *high as usize),
+            [_, _, 0xFF, ..] => None,
+            [_, _, size, ..] => Some(3 + *size as usize),
+            _ => None,
+        }
+    }
+}
+
+/// What is not read of a side.
+#[derive(Clone, Copy, Debug, PartialEq, Eq)]
+pub(crate) enum Skipped {
+    /// All is read.
+    Nothing,
+    /// The last `left` bytes of a refused message of `size` bytes.
+    Rest { size: usize, left: usize },
+    /// All that comes until the connection is lost.
+    Everything,
+}
+
+impl Skipped {
+    /// What is skipped after a refusal at that place, where the message announces that size.
+    fn after(scope: Scope, size: Option<usize>, place: usize) -> Skipped
+        ensures { result ≡ skipped_by (size_by scope place size) (suc place) }
+    {
+        match scope {
+            Scope::OneSide | Scope::WholeLine => Skipped::Everything,
+            Scope::OneMessage => match size {
+                Some(size) if place < size => Skipped::Rest {
+                    size,
+                    left: size - place - 1,
+                },
+                _ => Skipped::Everything,
+            },
+        }
+    }
+}
+
+/// The reader of one side of the line: its stream, the first bytes of the message that it holds, and what is skipped.
+#[derive(Drop)]
+pub(crate) struct SideReader {
+    pub(crate) stream: Stream,
+    pub(crate) opening: Opening,
+    pub(crate) skipped: Skipped,
+}
+
+impl SideReader {
+    /// A side of which nothing has come.
+    pub(crate) fn new(alloc: Global, lengths: Lengths) -> SideReader
+        ensures follows { Follows (reading_of lengths) result (running []) }
+        ensures reading { ReadsBy (reading_of lengths) result }
+    {
+        SideReader {
+            stream: Stream::of(alloc, lengths),
+            opening: Opening::nothing(),
+            skipped: Skipped::Nothing,
+        }
+    }
+
+    /// Whether all that comes next is read.
+    #[inline(always)]
+    pub(crate) fn reads(&self) -> bool
+        ensures { result ≡ is_nothing self.now.skipped }
+    {
+        self.skipped == Skipped::Nothing
+    }
+
+    /// Whether nothing more is read.
+    #[inline(always)]
+    pub(crate) fn has_stopped(&self) -> bool
+        ensures { result ≡ is_everything self.now.skipped }
+    {
+        self.skipped == Skipped::Everything
+    }
+
+    /// Skips what the scope says after a refusal at that place of the message, of which these last bytes have come now.
+    pub(crate) fn refuse(&mut self, scope: Scope, bytes: &[u8], place: usize)
+        ensures skipped { (held : List ℕ) → IsOpening self.old.opening held → suc place ≡ length (held ++ bytes.now) → self.new.skipped ≡ skipped_by (refused_size scope (held ++ bytes.now) place) (length (held ++ bytes.now)) }
+        ensures stream { self.new.stream ≡ self.old.stream }
+    {
+        self.opening.add(bytes);
+        self.skipped = Skipped::after(scope, self.opening.announced(), place);
+    }
+
+    /// Skips what is to be skipped of these bytes, and answers those after it.
+    pub(crate) fn skip<'b>(&mut self, bytes: &'b [u8]) -> &'b [u8]
+        ensures skips { Skips self.old.skipped bytes.now self.new.skipped result.now }
+        ensures stream { self.new.stream ≡ self.old.stream }
+    {
+        match self.skipped {
+            Skipped::Rest { size, left } => {
+                let count = left.min(bytes.len());
+                self.skipped = Skipped::Rest {
+                    size,
+                    left: left - count,
+                };
+                bytes.split_at(count).1
+            }
+            Skipped::Nothing | Skipped::Everything => &[],
+        }
+    }
+}
