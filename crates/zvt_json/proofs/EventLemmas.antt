@@ -10,8 +10,8 @@ use Rattle.serde_json.specs.Written.{compact_text}
 use Rattle.zvt_text.specs.Bytes.{hex_of}
 use Rattle.zvt_trace.specs.declared.direction.Direction.{Direction}
 use Rattle.zvt_trace.specs.declared.direction.Direction.TheVariants.{FromTill, FromTerminal}
-use Rattle.zvt_json.specs.Events.{lost_value, reason_value, refused_value, stopped_value, truncated_value}
-use Rattle.zvt_json.specs.Texts.{lost_text, reason_text, refused_text, shut, side_text, stopped_text, truncated_text}
+use Rattle.zvt_json.specs.Events.{lost_value, reason_value, refused_value, resumed_value, stopped_value, truncated_value}
+use Rattle.zvt_json.specs.Texts.{lost_text, reason_text, refused_text, resumed_text, shut, side_text, stopped_text, truncated_text}
 use Rattle.zvt_json.proofs.EscapeLemmas.{why_plain}
 
 pub lost_said : (line : ℕ) → lost_text line ≡ compact_text (lost_value line)
@@ -22,6 +22,11 @@ pub stopped_said : (from : Direction) (line : ℕ) → stopped_text from line �
 unfolding escape_byte
 stopped_said FromTill line = refl
 stopped_said FromTerminal line = refl
+
+pub resumed_said : (from : Direction) (line size : ℕ) → resumed_text from line size ≡ compact_text (resumed_value from line size)
+unfolding escape_byte
+resumed_said FromTill line size = refl
+resumed_said FromTerminal line size = refl
 
 pub truncated_said : (from : Direction) (line have : ℕ) → truncated_text from line have ≡ compact_text (truncated_value from line have)
 unfolding escape_byte

@@ -5,7 +5,7 @@ use Rattle.zvt_grammar.specs.Names.{why_name}
 use Rattle.zvt_grammar.specs.Reading.{shortest}
 use Rattle.zvt_grammar.specs.declared.why.Why.{Why}
 use Rattle.zvt_apdu.specs.Grammar.{Spells}
-use Rattle.zvt_trace.specs.TraceEvent.{At, TraceEvent, message, refused, unread, cut_off, lost}
+use Rattle.zvt_trace.specs.TraceEvent.{At, TraceEvent, message, refused, unread, resumed, cut_off, lost}
 use Rattle.zvt_trace.specs.declared.direction.Direction.{Direction}
 use Rattle.zvt_json.specs.Strings.{byte_value, count_value, line_text}
 use Rattle.zvt_json.specs.Messages.{message_value, side_name}
@@ -24,6 +24,10 @@ refused_value from line byte place why = side_value from line (member (codes "re
 abbrev pub stopped_value : Direction → (line : ℕ) → Data
 stopped_value from line = side_value from line (member (codes "stopped") (boolean true) no_members)
 
+-- the side is read on after a refused message of that size
+abbrev pub resumed_value : Direction → (line size : ℕ) → Data
+resumed_value from line size = side_value from line (member (codes "resumed") (count_value size) no_members)
+
 abbrev pub truncated_value : Direction → (line have : ℕ) → Data
 truncated_value from line have = side_value from line (member (codes "truncated") (object (member (codes "after") (count_value have) no_members)) no_members)
 
@@ -35,6 +39,7 @@ abbrev pub EventValue : (line : ℕ) → TraceEvent → Data → Type 0
 EventValue line (message from m) value = (bytes : List ℕ) × Spells shortest m bytes × (value ≡ message_value from line (length bytes) m)
 EventValue line (refused from head byte place why) value = value ≡ refused_value from line byte place why
 EventValue line (unread from) value = value ≡ stopped_value from line
+EventValue line (resumed from size) value = value ≡ resumed_value from line size
 EventValue line (cut_off from head have) value = value ≡ truncated_value from line have
 EventValue line lost value = value ≡ lost_value line
 

@@ -6,7 +6,7 @@ use Rattle.serde_json.specs.Written.{compact_text}
 use Rattle.zvt_field.specs.Grammar.{Field, plain}
 use Rattle.zvt_apdu.specs.Message.{registration, reversal, end_of_day}
 use Rattle.zvt_trace.specs.declared.direction.Direction.{Direction}
-use Rattle.zvt_trace.specs.TraceEvent.{TraceEvent, message, refused, unread, cut_off, lost}
+use Rattle.zvt_trace.specs.TraceEvent.{TraceEvent, message, refused, unread, resumed, cut_off, lost}
 use Rattle.zvt_json.specs.Events.{EventValue}
 use Rattle.zvt_json.specs.Fields.{field_values}
 use Rattle.zvt_json.specs.Messages.{message_value}
@@ -28,11 +28,12 @@ StaysHidden bmp =
 abbrev pub SecretsStayHidden : Type 0
 SecretsStayHidden = StaysHidden 0x22 × StaysHidden 0x23 × StaysHidden 0x24 × StaysHidden 0x2D × StaysHidden 0x3A × StaysHidden 0x3D
 
--- A place and a count fit 64 bits, as the program's do.
+-- A place, a size and a count fit 64 bits, as the program's do.
 abbrev pub NumbersFit : TraceEvent → Type 0
 NumbersFit (message from m) = Unit {0}
 NumbersFit (refused from head byte place why) = place < 2 ^ 64
 NumbersFit (unread from) = Unit {0}
+NumbersFit (resumed from size) = size < 2 ^ 64
 NumbersFit (cut_off from head have) = have < 2 ^ 64
 NumbersFit lost = Unit {0}
 

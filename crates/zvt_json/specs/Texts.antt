@@ -132,6 +132,9 @@ refused_text from line byte place why = side_text from line ++ (codes ",\"refuse
 abbrev pub stopped_text : Direction → (line : ℕ) → List ℕ
 stopped_text from line = side_text from line ++ codes ",\"stopped\":true}"
 
+abbrev pub resumed_text : Direction → (line size : ℕ) → List ℕ
+resumed_text from line size = side_text from line ++ (codes ",\"resumed\":" ++ (decimal size ++ codes "}"))
+
 abbrev pub truncated_text : Direction → (line have : ℕ) → List ℕ
 truncated_text from line have = side_text from line ++ (codes ",\"truncated\":{\"after\":" ++ (decimal have ++ codes "}}"))
 

@@ -1,7 +1,7 @@
 //! The JSON of events that are no messages.
 ghost use Rattle.std.specs.Prelude.{◌≤◌, length};
 ghost use Rattle.zvt_text.specs.Writing.{Puts};
-ghost use Rattle.zvt_json.specs.Texts.{lost_text, reason_text, refused_text, side_text, stopped_text, truncated_text};
+ghost use Rattle.zvt_json.specs.Texts.{lost_text, reason_text, refused_text, resumed_text, side_text, stopped_text, truncated_text};
 
 use crate::messages::sender;
 use crate::strings::byte;
@@ -44,6 +44,23 @@ pub(crate) fn stopped(
 {
     let at = side(buffer, at, from, line)?;
     fixed(buffer, at, *b",\"stopped\":true}")
+}
+
+/// A side that is read on after a refused message of that size.
+pub(crate) fn resumed(
+    buffer: &mut [u8],
+    at: usize,
+    from: Direction,
+    line: u64,
+    size: usize,
+) -> Result<usize, Full>
+    requires { at ≤ length buffer.old }
+    ensures { Puts result at buffer.old buffer.new (resumed_text from line size) }
+{
+    let at = side(buffer, at, from, line)?;
+    let at = fixed(buffer, at, *b",\"resumed\":")?;
+    let at = decimal(buffer, at, size as u64)?;
+    push(buffer, at, b'}')
 }
 
 /// A message that is cut off after that many bytes.

@@ -7,8 +7,8 @@ ghost use Rattle.zvt_text.specs.Writing.{Adds};
 ghost use Rattle.zvt_trace.specs.TraceEvent.{HasItsBytes, event_of, on};
 ghost use Rattle.zvt_json.specs.Strings.{line_text};
 ghost use Rattle.zvt_json.specs.Messages.{message_value};
-ghost use Rattle.zvt_json.specs.Events.{AddsLine, lost_value, refused_value, stopped_value, truncated_value};
-ghost use Rattle.zvt_json.specs.Texts.{lost_text, message_text, refused_text, stopped_text, truncated_text};
+ghost use Rattle.zvt_json.specs.Events.{AddsLine, lost_value, refused_value, resumed_value, stopped_value, truncated_value};
+ghost use Rattle.zvt_json.specs.Texts.{lost_text, message_text, refused_text, resumed_text, stopped_text, truncated_text};
 
 use crate::events;
 use crate::messages::{self, Origin};
@@ -53,6 +53,7 @@ pub fn event(
         }
         TraceEvent::Refused { from, refusal } => refused(text, *from, line, *refusal),
         TraceEvent::Unread { from } => stopped(text, *from, line),
+        TraceEvent::Resumed { from, size } => resumed(text, *from, line, *size),
         TraceEvent::CutOff { from, have, .. } => truncated(text, *from, line, *have),
         TraceEvent::Lost => lost(text, line),
     }
@@ -156,6 +157,30 @@ impl Says for StoppedLine {
 
     fn put(&self, buffer: &mut [u8]) -> Result<usize, Full> {
         let at = events::stopped(buffer, 0, self.from, self.line)?;
+        push(buffer, at, b'\n')
+    }
+}
+
+/// Adds the line of a side that is read on.
+fn resumed(text: &mut Text, from: Direction, line: u64, size: usize) -> Result<(), AllocError>
+    ensures { Adds result text.old text.new (line_text (resumed_value from line size)) }
+{
+    text.add(&ResumedLine { from, line, size })
+}
+
+/// The line of a side that is read on after a refused message.
+#[derive(Drop)]
+struct ResumedLine {
+    from: Direction,
+    line: u64,
+    size: usize,
+}
+
+impl Says for ResumedLine {
+    ghost said = { λ r. resumed_text r.from r.line r.size ++ 10 ∷ [] };
+
+    fn put(&self, buffer: &mut [u8]) -> Result<usize, Full> {
+        let at = events::resumed(buffer, 0, self.from, self.line, self.size)?;
         push(buffer, at, b'\n')
     }
 }

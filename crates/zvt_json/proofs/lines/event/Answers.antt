@@ -1,7 +1,7 @@
 use Rattle.std.proofs.Common.{ℕ, ap, refl}
 use Rattle.zvt_json.specs.Strings.{line_text}
 use Rattle.zvt_json.specs.Messages.{message_value}
-use Rattle.zvt_json.specs.Events.{lost_value, refused_value, stopped_value, truncated_value}
+use Rattle.zvt_json.specs.Events.{lost_value, refused_value, resumed_value, stopped_value, truncated_value}
 use Rattle.zvt_json.proofs.EventLemmas.{where_added}
 use Rattle.zvt_json.proofs.lines.event.Goals as goal
 
@@ -21,6 +21,11 @@ pub returns-in-Unread-clause-adds : goal.returns-in-Unread-clause-adds
 returns-in-Unread-clause-adds c =
     let value = stopped_value c.in-Unread.from c.args.line in
     rw c.in-Unread.is (where_added c.stopped.result c.args.text.now _ (line_text value) (λ grown. record { one = line_text value; says = (value, refl, refl); grown = grown }) c.stopped.ensures)
+
+pub returns-in-Resumed-clause-adds : goal.returns-in-Resumed-clause-adds
+returns-in-Resumed-clause-adds c =
+    let value = resumed_value c.in-Resumed.from c.args.line c.in-Resumed.size in
+    rw c.in-Resumed.is (where_added c.resumed.result c.args.text.now _ (line_text value) (λ grown. record { one = line_text value; says = (value, refl, refl); grown = grown }) c.resumed.ensures)
 
 pub returns-in-CutOff-clause-adds : goal.returns-in-CutOff-clause-adds
 returns-in-CutOff-clause-adds c =
