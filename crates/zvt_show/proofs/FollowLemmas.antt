@@ -12,7 +12,7 @@ use Rattle.zvt_trace.specs.declared.fault.Tally.{Tally}
 use Rattle.zvt_trace.specs.declared.fault.TraceFault.{TraceFault}
 use Rattle.zvt_trace.specs.declared.fault.TraceFault.TheVariants.{Memory, Read, TooLong, Trace, Write}
 use Rattle.zvt_trace.specs.declared.listener.ListenerError.TheVariants as failure
-use Rattle.zvt_trace.specs.declared.listener.Scope.TheVariants.{OneSide}
+use Rattle.zvt_trace.specs.declared.listener.Scope.{Scope}
 use Rattle.zvt_show.specs.Text.{EventsText}
 use Rattle.zvt_show.specs.Written.{AnswersLinesBy, Extends, Page, all_of}
 use Rattle.zvt_show.specs.declared.render.Style.{Style}
@@ -64,25 +64,25 @@ said_less style events first page said = record { text = said.text; says = said.
 -- ---- a failure
 
 -- what a fault leaves on the page and the device
-abbrev pub SaidAtFault : Reading → Style → List (List ℕ) → Option (List ℕ) → Page → TraceFault → Type 0
-SaidAtFault r style lines first page (Trace number what) = (events : List At) × BrokenTrace r OneSide lines number what events × Said style events first page
-SaidAtFault r style lines first page Memory = (events : List At) × EventsSoFar r OneSide lines events × Said style events first page
-SaidAtFault r style lines first page Write = (events : List At) × EventsSoFar r OneSide lines events × SaidLess style events first page
-SaidAtFault r style lines first page TooLong = ⊥
-SaidAtFault r style lines first page Read = ⊥
+abbrev pub SaidAtFault : Reading → Scope → Style → List (List ℕ) → Option (List ℕ) → Page → TraceFault → Type 0
+SaidAtFault r scope style lines first page (Trace number what) = (events : List At) × BrokenTrace r scope lines number what events × Said style events first page
+SaidAtFault r scope style lines first page Memory = (events : List At) × EventsSoFar r scope lines events × Said style events first page
+SaidAtFault r scope style lines first page Write = (events : List At) × EventsSoFar r scope lines events × SaidLess style events first page
+SaidAtFault r scope style lines first page TooLong = ⊥
+SaidAtFault r scope style lines first page Read = ⊥
 
-memory_said : {S : Type 0} (r : Reading) (view : S → Page) (style : Style) (lines : List (List ℕ)) (earlier : List At) (first : Option (List ℕ)) (old new : S) → (view old).style ≡ style → Said style earlier first (view old)
-    → FailsIn (writes view) (fails view) failure.Memory (λ own. EventsSoFar r OneSide lines (earlier ++ own)) old new → SaidAtFault r style lines first (view new) Memory
-memory_said {S = S} r view style lines earlier first old new in_style said failed = by failed.stops
+memory_said : {S : Type 0} (r : Reading) (scope : Scope) (view : S → Page) (style : Style) (lines : List (List ℕ)) (earlier : List At) (first : Option (List ℕ)) (old new : S) → (view old).style ≡ style → Said style earlier first (view old)
+    → FailsIn (writes view) (fails view) failure.Memory (λ own. EventsSoFar r scope lines (earlier ++ own)) old new → SaidAtFault r scope style lines first (view new) Memory
+memory_said {S = S} r scope view style lines earlier first old new in_style said failed = by failed.stops
   where
     middle : Said style (earlier ++ failed.events) first (view failed.middle)
     middle = said_more view style earlier failed.events first old failed.middle in_style said failed.heard
 
-    by : Stops (fails view) failure.Memory (λ own. EventsSoFar r OneSide lines (earlier ++ own)) failed.events failed.middle new → SaidAtFault r style lines first (view new) Memory
+    by : Stops (fails view) failure.Memory (λ own. EventsSoFar r scope lines (earlier ++ own)) failed.events failed.middle new → SaidAtFault r scope style lines first (view new) Memory
     by (inl (is, so_far, same)) = (earlier ++ failed.events, so_far, subst (λ (s : S). Said style (earlier ++ failed.events) first (view s)) (sym same) middle)
     by (inr (event, so_far, left)) = (
       earlier ++ failed.events,
-      prefix_fewer (earlier ++ failed.events) (event ∷ []) (subst (λ (es : List At). EventsSoFar r OneSide lines es) (sym (append_assoc earlier failed.events (event ∷ []))) so_far),
+      prefix_fewer (earlier ++ failed.events) (event ∷ []) (subst (λ (es : List At). EventsSoFar r scope lines es) (sym (append_assoc earlier failed.events (event ∷ []))) so_far),
       record {
         text = middle.text;
         says = middle.says;
@@ -91,19 +91,19 @@ memory_said {S = S} r view style lines earlier first old new in_style said faile
       },
     )
 
-write_said : {S : Type 0} (r : Reading) (view : S → Page) (style : Style) (lines : List (List ℕ)) (earlier : List At) (first : Option (List ℕ)) (old new : S) → (view old).style ≡ style → Said style earlier first (view old)
-    → FailsIn (writes view) (fails view) failure.Write (λ own. EventsSoFar r OneSide lines (earlier ++ own)) old new → SaidAtFault r style lines first (view new) Write
-write_said {S = S} r view style lines earlier first old new in_style said failed = by failed.stops
+write_said : {S : Type 0} (r : Reading) (scope : Scope) (view : S → Page) (style : Style) (lines : List (List ℕ)) (earlier : List At) (first : Option (List ℕ)) (old new : S) → (view old).style ≡ style → Said style earlier first (view old)
+    → FailsIn (writes view) (fails view) failure.Write (λ own. EventsSoFar r scope lines (earlier ++ own)) old new → SaidAtFault r scope style lines first (view new) Write
+write_said {S = S} r scope view style lines earlier first old new in_style said failed = by failed.stops
   where
     middle : Said style (earlier ++ failed.events) first (view failed.middle)
     middle = said_more view style earlier failed.events first old failed.middle in_style said failed.heard
 
-    by : Stops (fails view) failure.Write (λ own. EventsSoFar r OneSide lines (earlier ++ own)) failed.events failed.middle new → SaidAtFault r style lines first (view new) Write
+    by : Stops (fails view) failure.Write (λ own. EventsSoFar r scope lines (earlier ++ own)) failed.events failed.middle new → SaidAtFault r scope style lines first (view new) Write
     by (inl (is, so_far, same)) = cc
     by (inr (event, so_far, left)) =
         let extends = extends_more first (view failed.middle).written (view new).written middle.extends left.1 in (
           earlier ++ failed.events,
-          prefix_fewer (earlier ++ failed.events) (event ∷ []) (subst (λ (es : List At). EventsSoFar r OneSide lines es) (sym (append_assoc earlier failed.events (event ∷ []))) so_far),
+          prefix_fewer (earlier ++ failed.events) (event ∷ []) (subst (λ (es : List At). EventsSoFar r scope lines es) (sym (append_assoc earlier failed.events (event ∷ []))) so_far),
           record {
             text = middle.text;
             says = middle.says;
@@ -112,13 +112,13 @@ write_said {S = S} r view style lines earlier first old new in_style said failed
           },
         )
 
-pub fault_said : {S : Type 0} (r : Reading) (view : S → Page) (style : Style) (lines : List (List ℕ)) (earlier : List At) (first : Option (List ℕ)) (fault : TraceFault) (old new : S) → (view old).style ≡ style → Said style earlier first (view old)
-    → FaultsFrom r (writes view) (fails view) OneSide lines earlier old new fault → SaidAtFault r style lines first (view new) fault
-fault_said r view style lines earlier first (Trace number what) old new in_style said (own, broken, heard) = (earlier ++ own, broken, said_more view style earlier own first old new in_style said heard)
-fault_said r view style lines earlier first Memory old new in_style said failed = memory_said r view style lines earlier first old new in_style said failed
-fault_said r view style lines earlier first Write old new in_style said failed = write_said r view style lines earlier first old new in_style said failed
-fault_said r view style lines earlier first TooLong old new in_style said never = absurd never
-fault_said r view style lines earlier first Read old new in_style said never = absurd never
+pub fault_said : {S : Type 0} (r : Reading) (scope : Scope) (view : S → Page) (style : Style) (lines : List (List ℕ)) (earlier : List At) (first : Option (List ℕ)) (fault : TraceFault) (old new : S) → (view old).style ≡ style → Said style earlier first (view old)
+    → FaultsFrom r (writes view) (fails view) scope lines earlier old new fault → SaidAtFault r scope style lines first (view new) fault
+fault_said r scope view style lines earlier first (Trace number what) old new in_style said (own, broken, heard) = (earlier ++ own, broken, said_more view style earlier own first old new in_style said heard)
+fault_said r scope view style lines earlier first Memory old new in_style said failed = memory_said r scope view style lines earlier first old new in_style said failed
+fault_said r scope view style lines earlier first Write old new in_style said failed = write_said r scope view style lines earlier first old new in_style said failed
+fault_said r scope view style lines earlier first TooLong old new in_style said never = absurd never
+fault_said r scope view style lines earlier first Read old new in_style said never = absurd never
 
 -- ---- the block goes out
 
@@ -127,58 +127,58 @@ pub said_out : (style : Style) (events : List At) (first device : Option (List �
 said_out style events first device page said out = all_written first page.written device page.block said.text said.appended out
 
 -- it could not be written
-pub lost_out : (r : Reading) (style : Style) (lines : List (List ℕ)) (events : List At) (first device : Option (List ℕ)) (page : Page) → EventsSoFar r OneSide lines events → SaidLess style events first page → AppendsPrefix page.written device page.block → AnswersLinesBy r style lines first device (Err Write)
-lost_out r style lines events first device page so_far less out = (events, less.text, so_far, less.says, last_failed first page.written device page.block less.text less.extends less.prefix out)
+pub lost_out : (r : Reading) (scope : Scope) (style : Style) (lines : List (List ℕ)) (events : List At) (first device : Option (List ℕ)) (page : Page) → EventsSoFar r scope lines events → SaidLess style events first page → AppendsPrefix page.written device page.block → AnswersLinesBy r scope style lines first device (Err Write)
+lost_out r scope style lines events first device page so_far less out = (events, less.text, so_far, less.says, last_failed first page.written device page.block less.text less.extends less.prefix out)
 
-pub fault_written : (r : Reading) (style : Style) (lines : List (List ℕ)) (first device : Option (List ℕ)) (page : Page) (fault : TraceFault) → SaidAtFault r style lines first page fault → Appends page.written device page.block → AnswersLinesBy r style lines first device (Err fault)
-fault_written r style lines first device page (Trace number what) (events, broken, said) out = (events, said.text, broken, said.says, said_out style events first device page said out)
-fault_written r style lines first device page Memory (events, so_far, said) out = (events, said.text, so_far, said.says, said_out style events first device page said out)
-fault_written r style lines first device page Write (events, so_far, less) out = (events, less.text, so_far, less.says, last_written first page.written device page.block less.text less.prefix out)
-fault_written r style lines first device page TooLong never out = absurd never
-fault_written r style lines first device page Read never out = absurd never
+pub fault_written : (r : Reading) (scope : Scope) (style : Style) (lines : List (List ℕ)) (first device : Option (List ℕ)) (page : Page) (fault : TraceFault) → SaidAtFault r scope style lines first page fault → Appends page.written device page.block → AnswersLinesBy r scope style lines first device (Err fault)
+fault_written r scope style lines first device page (Trace number what) (events, broken, said) out = (events, said.text, broken, said.says, said_out style events first device page said out)
+fault_written r scope style lines first device page Memory (events, so_far, said) out = (events, said.text, so_far, said.says, said_out style events first device page said out)
+fault_written r scope style lines first device page Write (events, so_far, less) out = (events, less.text, so_far, less.says, last_written first page.written device page.block less.text less.prefix out)
+fault_written r scope style lines first device page TooLong never out = absurd never
+fault_written r scope style lines first device page Read never out = absurd never
 
-pub fault_lost : (r : Reading) (style : Style) (lines : List (List ℕ)) (first device : Option (List ℕ)) (page : Page) (fault : TraceFault) → SaidAtFault r style lines first page fault → AppendsPrefix page.written device page.block → AnswersLinesBy r style lines first device (Err Write)
-fault_lost r style lines first device page (Trace number what) (events, broken, said) out = lost_out r style lines events first device page (broken_so_far OneSide lines number what events broken) (said_less style events first page said) out
-fault_lost r style lines first device page Memory (events, so_far, said) out = lost_out r style lines events first device page so_far (said_less style events first page said) out
-fault_lost r style lines first device page Write (events, so_far, less) out = lost_out r style lines events first device page so_far less out
-fault_lost r style lines first device page TooLong never out = absurd never
-fault_lost r style lines first device page Read never out = absurd never
+pub fault_lost : (r : Reading) (scope : Scope) (style : Style) (lines : List (List ℕ)) (first device : Option (List ℕ)) (page : Page) (fault : TraceFault) → SaidAtFault r scope style lines first page fault → AppendsPrefix page.written device page.block → AnswersLinesBy r scope style lines first device (Err Write)
+fault_lost r scope style lines first device page (Trace number what) (events, broken, said) out = lost_out r scope style lines events first device page (broken_so_far scope lines number what events broken) (said_less style events first page said) out
+fault_lost r scope style lines first device page Memory (events, so_far, said) out = lost_out r scope style lines events first device page so_far (said_less style events first page said) out
+fault_lost r scope style lines first device page Write (events, so_far, less) out = lost_out r scope style lines events first device page so_far less out
+fault_lost r scope style lines first device page TooLong never out = absurd never
+fault_lost r scope style lines first device page Read never out = absurd never
 
 -- ---- the answer at the end
 
-pub end_written : {S : Type 0} (r : Reading) (view : S → Page) (style : Style) (lines : List (List ℕ)) (earlier : List At) (first device : Option (List ℕ)) (answer : Result Tally TraceFault) (old new : S) → (view old).style ≡ style → Said style earlier first (view old)
-    → AnswersFrom r (writes view) (fails view) OneSide lines earlier old new answer → Appends (view new).written device (view new).block → AnswersLinesBy r style lines first device answer
-end_written r view style lines earlier first device (Ok tally) old new in_style said (own, whole, heard, counts) out =
+pub end_written : {S : Type 0} (r : Reading) (scope : Scope) (view : S → Page) (style : Style) (lines : List (List ℕ)) (earlier : List At) (first device : Option (List ℕ)) (answer : Result Tally TraceFault) (old new : S) → (view old).style ≡ style → Said style earlier first (view old)
+    → AnswersFrom r (writes view) (fails view) scope lines earlier old new answer → Appends (view new).written device (view new).block → AnswersLinesBy r scope style lines first device answer
+end_written r scope view style lines earlier first device (Ok tally) old new in_style said (own, whole, heard, counts) out =
     let all = said_more view style earlier own first old new in_style said heard in
     (earlier ++ own, all.text, whole, all.says, said_out style (earlier ++ own) first device (view new) all out, counts)
-end_written r view style lines earlier first device (Err fault) old new in_style said failed out = fault_written r style lines first device (view new) fault (fault_said r view style lines earlier first fault old new in_style said failed) out
+end_written r scope view style lines earlier first device (Err fault) old new in_style said failed out = fault_written r scope style lines first device (view new) fault (fault_said r scope view style lines earlier first fault old new in_style said failed) out
 
-pub end_lost : {S : Type 0} (r : Reading) (view : S → Page) (style : Style) (lines : List (List ℕ)) (earlier : List At) (first device : Option (List ℕ)) (answer : Result Tally TraceFault) (old new : S) → (view old).style ≡ style → Said style earlier first (view old)
-    → AnswersFrom r (writes view) (fails view) OneSide lines earlier old new answer → AppendsPrefix (view new).written device (view new).block → AnswersLinesBy r style lines first device (Err Write)
-end_lost r view style lines earlier first device (Ok tally) old new in_style said (own, whole, heard, counts) out =
-    lost_out r style lines (earlier ++ own) first device (view new) (whole_so_far OneSide lines (earlier ++ own) whole) (said_less style (earlier ++ own) first (view new) (said_more view style earlier own first old new in_style said heard)) out
-end_lost r view style lines earlier first device (Err fault) old new in_style said failed out = fault_lost r style lines first device (view new) fault (fault_said r view style lines earlier first fault old new in_style said failed) out
+pub end_lost : {S : Type 0} (r : Reading) (scope : Scope) (view : S → Page) (style : Style) (lines : List (List ℕ)) (earlier : List At) (first device : Option (List ℕ)) (answer : Result Tally TraceFault) (old new : S) → (view old).style ≡ style → Said style earlier first (view old)
+    → AnswersFrom r (writes view) (fails view) scope lines earlier old new answer → AppendsPrefix (view new).written device (view new).block → AnswersLinesBy r scope style lines first device (Err Write)
+end_lost r scope view style lines earlier first device (Ok tally) old new in_style said (own, whole, heard, counts) out =
+    lost_out r scope style lines (earlier ++ own) first device (view new) (whole_so_far scope lines (earlier ++ own) whole) (said_less style (earlier ++ own) first (view new) (said_more view style earlier own first old new in_style said heard)) out
+end_lost r scope view style lines earlier first device (Err fault) old new in_style said failed out = fault_lost r scope style lines first device (view new) fault (fault_said r scope view style lines earlier first fault old new in_style said failed) out
 
 -- ---- failures
 
 -- no failure is taken back, and a walk that failed by a write counted one
-pub fault_counted : {S : Type 0} (r : Reading) (view : S → Page) (lines : List (List ℕ)) (earlier : List At) (fault : TraceFault) (old new : S) → FaultsFrom r (writes view) (fails view) OneSide lines earlier old new fault
+pub fault_counted : {S : Type 0} (r : Reading) (scope : Scope) (view : S → Page) (lines : List (List ℕ)) (earlier : List At) (fault : TraceFault) (old new : S) → FaultsFrom r (writes view) (fails view) scope lines earlier old new fault
     → ((view old).failures ≤ (view new).failures) × (fault ≡ Write → (view old).failures < (view new).failures)
-fault_counted r view lines earlier (Trace number what) old new (own, broken, heard) = (omega (arith, (shown view own old new heard).failures), λ is. cc is)
-fault_counted {S = S} r view lines earlier Memory old new failed = (by failed.stops, λ is. cc is)
+fault_counted r scope view lines earlier (Trace number what) old new (own, broken, heard) = (omega (arith, (shown view own old new heard).failures), λ is. cc is)
+fault_counted {S = S} r scope view lines earlier Memory old new failed = (by failed.stops, λ is. cc is)
   where
-    by : Stops (fails view) failure.Memory (λ own. EventsSoFar r OneSide lines (earlier ++ own)) failed.events failed.middle new → (view old).failures ≤ (view new).failures
+    by : Stops (fails view) failure.Memory (λ own. EventsSoFar r scope lines (earlier ++ own)) failed.events failed.middle new → (view old).failures ≤ (view new).failures
     by (inl (is, so_far, same)) = subst (λ (s : S). (view old).failures ≤ (view s).failures) (sym same) (omega (arith, (shown view failed.events old failed.middle failed.heard).failures))
     by (inr (event, so_far, left)) = omega (arith, (shown view failed.events old failed.middle failed.heard).failures, left.2)
-fault_counted {S = S} r view lines earlier Write old new failed = let more = by failed.stops in (omega (arith, more), λ is. more)
+fault_counted {S = S} r scope view lines earlier Write old new failed = let more = by failed.stops in (omega (arith, more), λ is. more)
   where
-    by : Stops (fails view) failure.Write (λ own. EventsSoFar r OneSide lines (earlier ++ own)) failed.events failed.middle new → (view old).failures < (view new).failures
+    by : Stops (fails view) failure.Write (λ own. EventsSoFar r scope lines (earlier ++ own)) failed.events failed.middle new → (view old).failures < (view new).failures
     by (inl (is, so_far, same)) = cc
     by (inr (event, so_far, left)) = omega (arith, (shown view failed.events old failed.middle failed.heard).failures, left.2)
-fault_counted r view lines earlier TooLong old new never = absurd never
-fault_counted r view lines earlier Read old new never = absurd never
+fault_counted r scope view lines earlier TooLong old new never = absurd never
+fault_counted r scope view lines earlier Read old new never = absurd never
 
-pub end_counted : {S : Type 0} (r : Reading) (view : S → Page) (lines : List (List ℕ)) (earlier : List At) (answer : Result Tally TraceFault) (old new : S) → AnswersFrom r (writes view) (fails view) OneSide lines earlier old new answer
+pub end_counted : {S : Type 0} (r : Reading) (scope : Scope) (view : S → Page) (lines : List (List ℕ)) (earlier : List At) (answer : Result Tally TraceFault) (old new : S) → AnswersFrom r (writes view) (fails view) scope lines earlier old new answer
     → ((view old).failures ≤ (view new).failures) × (answer ≡ Err Write → (view old).failures < (view new).failures)
-end_counted r view lines earlier (Ok tally) old new (own, whole, heard, counts) = (omega (arith, (shown view own old new heard).failures), λ is. cc is)
-end_counted r view lines earlier (Err fault) old new failed = let counted = fault_counted r view lines earlier fault old new failed in (counted.0, λ is. counted.1 (cc is))
+end_counted r scope view lines earlier (Ok tally) old new (own, whole, heard, counts) = (omega (arith, (shown view own old new heard).failures), λ is. cc is)
+end_counted r scope view lines earlier (Err fault) old new failed = let counted = fault_counted r scope view lines earlier fault old new failed in (counted.0, λ is. counted.1 (cc is))

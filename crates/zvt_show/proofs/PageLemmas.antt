@@ -126,10 +126,10 @@ shown view (event ∷ events) old new some =
 -- ---- what a walk answers
 
 -- the text is there that these events have, or a prefix of it; and no write failed before
-record Wrote (r : Reading) (style : Style) (lines : List (List ℕ)) (old new : Page) : Type 0 where
+record Wrote (r : Reading) (scope : Scope) (style : Style) (lines : List (List ℕ)) (old new : Page) : Type 0 where
   pub events : List At
   pub text : List ℕ
-  pub so_far : EventsSoFar r OneSide lines events
+  pub so_far : EventsSoFar r scope lines events
   pub says : EventsText style events text
   pub prefix : AppendsPrefix old.written (all_of new) text
   pub extends : Extends old.written new.written
@@ -138,8 +138,8 @@ record Wrote (r : Reading) (style : Style) (lines : List (List ℕ)) (old new : 
 pub started : (old : Page) (new : Option (List ℕ)) (text : List ℕ) → old.block ≡ [] → Appends (all_of old) new text → Appends old.written new text
 started old new text empty appended = subst (λ (o : Option (List ℕ)). Appends o new text) (after_nothing old.written old.block empty) appended
 
-wrote_all : {S : Type 0} {r : Reading} (view : S → Page) (lines : List (List ℕ)) (events : List At) (old new : S) → (view old).block ≡ [] → EventsSoFar r OneSide lines events → HearsAll (writes view) old events new → Wrote r (view old).style lines (view old) (view new)
-wrote_all {r = r} view lines events old new empty so_far heard =
+wrote_all : {S : Type 0} {r : Reading} (scope : Scope) (view : S → Page) (lines : List (List ℕ)) (events : List At) (old new : S) → (view old).block ≡ [] → EventsSoFar r scope lines events → HearsAll (writes view) old events new → Wrote r scope (view old).style lines (view old) (view new)
+wrote_all {r = r} scope view lines events old new empty so_far heard =
     let shows = shown view events old new heard in record {
       events = events;
       text = shows.text;
@@ -151,9 +151,9 @@ wrote_all {r = r} view lines events old new empty so_far heard =
     }
 
 -- of an event that could not be written nothing is there, and perhaps less than before
-wrote_less : {S : Type 0} {r : Reading} (view : S → Page) (lines : List (List ℕ)) (events : List At) (event : At) (why : ListenerError) (old middle new : S) → (view old).block ≡ [] → EventsSoFar r OneSide lines (events ++ event ∷ [])
-    → HearsAll (writes view) old events middle → FailsEvent why (view middle) (view new) → Wrote r (view old).style lines (view old) (view new)
-wrote_less {r = r} view lines events event failure.Memory old middle new empty so_far heard failed =
+wrote_less : {S : Type 0} {r : Reading} (scope : Scope) (view : S → Page) (lines : List (List ℕ)) (events : List At) (event : At) (why : ListenerError) (old middle new : S) → (view old).block ≡ [] → EventsSoFar r scope lines (events ++ event ∷ [])
+    → HearsAll (writes view) old events middle → FailsEvent why (view middle) (view new) → Wrote r scope (view old).style lines (view old) (view new)
+wrote_less {r = r} scope view lines events event failure.Memory old middle new empty so_far heard failed =
     let shows = shown view events old middle heard in record {
       events = events;
       text = shows.text;
@@ -164,7 +164,7 @@ wrote_less {r = r} view lines events event failure.Memory old middle new empty s
       extends = extends_more (view old).written (view middle).written (view new).written shows.extends failed.1;
       least = omega (arith, shows.failures, failed.2);
     }
-wrote_less {r = r} view lines events event failure.Write old middle new empty so_far heard failed =
+wrote_less {r = r} scope view lines events event failure.Write old middle new empty so_far heard failed =
     let shows = shown view events old middle heard in
     let extends = extends_more (view old).written (view middle).written (view new).written shows.extends failed.1 in record {
       events = events;
@@ -176,106 +176,106 @@ wrote_less {r = r} view lines events event failure.Write old middle new empty so
       least = omega (arith, shows.failures, failed.2);
     }
 
-wrote_failed : {S : Type 0} (r : Reading) (view : S → Page) (lines : List (List ℕ)) (why : ListenerError) (old new : S) → (view old).block ≡ [] → FailsIn (writes view) (fails view) why (EventsSoFar r OneSide lines) old new → Wrote r (view old).style lines (view old) (view new)
-wrote_failed {S = S} r view lines why old new empty failed = by failed.stops
+wrote_failed : {S : Type 0} (r : Reading) (scope : Scope) (view : S → Page) (lines : List (List ℕ)) (why : ListenerError) (old new : S) → (view old).block ≡ [] → FailsIn (writes view) (fails view) why (EventsSoFar r scope lines) old new → Wrote r scope (view old).style lines (view old) (view new)
+wrote_failed {S = S} r scope view lines why old new empty failed = by failed.stops
   where
-    by : Stops (fails view) why (EventsSoFar r OneSide lines) failed.events failed.middle new → Wrote r (view old).style lines (view old) (view new)
-    by (inl (is, so_far, same)) = subst (λ (s : S). Wrote r (view old).style lines (view old) (view s)) (sym same) (wrote_all view lines failed.events old failed.middle empty so_far failed.heard)
-    by (inr (event, so_far, left)) = wrote_less view lines failed.events event why old failed.middle new empty so_far failed.heard left
+    by : Stops (fails view) why (EventsSoFar r scope lines) failed.events failed.middle new → Wrote r scope (view old).style lines (view old) (view new)
+    by (inl (is, so_far, same)) = subst (λ (s : S). Wrote r scope (view old).style lines (view old) (view s)) (sym same) (wrote_all scope view lines failed.events old failed.middle empty so_far failed.heard)
+    by (inr (event, so_far, left)) = wrote_less scope view lines failed.events event why old failed.middle new empty so_far failed.heard left
 
-wrote : {S : Type 0} (r : Reading) (view : S → Page) (lines : List (List ℕ)) (answer : Result Tally TraceFault) (old new : S) → (view old).block ≡ [] → AnswersWalk r (writes view) (fails view) OneSide lines old new answer → Wrote r (view old).style lines (view old) (view new)
-wrote r view lines (Ok tally) old new empty walked = wrote_all view lines walked.0 old new empty (whole_so_far OneSide lines walked.0 walked.1) walked.2
-wrote r view lines (Err (Trace number what)) old new empty walked = wrote_all view lines walked.0 old new empty (broken_so_far OneSide lines number what walked.0 walked.1) walked.2
-wrote r view lines (Err Memory) old new empty failed = wrote_failed r view lines failure.Memory old new empty failed
-wrote r view lines (Err Write) old new empty failed = wrote_failed r view lines failure.Write old new empty failed
-wrote r view lines (Err TooLong) old new empty never = absurd never
-wrote r view lines (Err Read) old new empty never = absurd never
+wrote : {S : Type 0} (r : Reading) (scope : Scope) (view : S → Page) (lines : List (List ℕ)) (answer : Result Tally TraceFault) (old new : S) → (view old).block ≡ [] → AnswersWalk r (writes view) (fails view) scope lines old new answer → Wrote r scope (view old).style lines (view old) (view new)
+wrote r scope view lines (Ok tally) old new empty walked = wrote_all scope view lines walked.0 old new empty (whole_so_far scope lines walked.0 walked.1) walked.2
+wrote r scope view lines (Err (Trace number what)) old new empty walked = wrote_all scope view lines walked.0 old new empty (broken_so_far scope lines number what walked.0 walked.1) walked.2
+wrote r scope view lines (Err Memory) old new empty failed = wrote_failed r scope view lines failure.Memory old new empty failed
+wrote r scope view lines (Err Write) old new empty failed = wrote_failed r scope view lines failure.Write old new empty failed
+wrote r scope view lines (Err TooLong) old new empty never = absurd never
+wrote r scope view lines (Err Read) old new empty never = absurd never
 
 -- ---- the last block
 
 -- it was written
-memory_written : {S : Type 0} (r : Reading) (view : S → Page) (lines : List (List ℕ)) (old new : S) (device : Option (List ℕ)) → (view old).block ≡ [] → FailsIn (writes view) (fails view) failure.Memory (EventsSoFar r OneSide lines) old new
-    → Appends (view new).written device (view new).block → AnswersLinesBy r (view old).style lines (view old).written device (Err Memory)
-memory_written {S = S} r view lines old new device empty failed last = by failed.stops
+memory_written : {S : Type 0} (r : Reading) (scope : Scope) (view : S → Page) (lines : List (List ℕ)) (old new : S) (device : Option (List ℕ)) → (view old).block ≡ [] → FailsIn (writes view) (fails view) failure.Memory (EventsSoFar r scope lines) old new
+    → Appends (view new).written device (view new).block → AnswersLinesBy r scope (view old).style lines (view old).written device (Err Memory)
+memory_written {S = S} r scope view lines old new device empty failed last = by failed.stops
   where
     shows : Shows (view old).style failed.events (view old) (view failed.middle)
     shows = shown view failed.events old failed.middle failed.heard
 
-    all : Appends (all_of (view old)) (all_of (view new)) shows.text → EventsSoFar r OneSide lines failed.events → AnswersLinesBy r (view old).style lines (view old).written device (Err Memory)
+    all : Appends (all_of (view old)) (all_of (view new)) shows.text → EventsSoFar r scope lines failed.events → AnswersLinesBy r scope (view old).style lines (view old).written device (Err Memory)
     all appended so_far = (failed.events, shows.text, so_far, shows.says, all_written (view old).written (view new).written device (view new).block shows.text (started (view old) (all_of (view new)) shows.text empty appended) last)
 
-    by : Stops (fails view) failure.Memory (EventsSoFar r OneSide lines) failed.events failed.middle new → AnswersLinesBy r (view old).style lines (view old).written device (Err Memory)
+    by : Stops (fails view) failure.Memory (EventsSoFar r scope lines) failed.events failed.middle new → AnswersLinesBy r scope (view old).style lines (view old).written device (Err Memory)
     by (inl (is, so_far, same)) = all (subst (λ (s : S). Appends (all_of (view old)) (all_of (view s)) shows.text) (sym same) shows.appended) so_far
     by (inr (event, so_far, left)) = all (Appends-kept (all_of (view old)) (all_of (view failed.middle)) (all_of (view new)) shows.text shows.appended left.0) (prefix_fewer failed.events (event ∷ []) so_far)
 
-written_so : {S : Type 0} (r : Reading) (view : S → Page) (lines : List (List ℕ)) (answer : Result Tally TraceFault) (old new : S) (device : Option (List ℕ)) → (view old).block ≡ [] → AnswersWalk r (writes view) (fails view) OneSide lines old new answer
-    → Appends (view new).written device (view new).block → AnswersLinesBy r (view old).style lines (view old).written device answer
-written_so r view lines (Ok tally) old new device empty walked last =
+written_so : {S : Type 0} (r : Reading) (scope : Scope) (view : S → Page) (lines : List (List ℕ)) (answer : Result Tally TraceFault) (old new : S) (device : Option (List ℕ)) → (view old).block ≡ [] → AnswersWalk r (writes view) (fails view) scope lines old new answer
+    → Appends (view new).written device (view new).block → AnswersLinesBy r scope (view old).style lines (view old).written device answer
+written_so r scope view lines (Ok tally) old new device empty walked last =
     let shows = shown view walked.0 old new walked.2 in
     (walked.0, shows.text, walked.1, shows.says, all_written (view old).written (view new).written device (view new).block shows.text (started (view old) (all_of (view new)) shows.text empty shows.appended) last, walked.3)
-written_so r view lines (Err (Trace number what)) old new device empty walked last =
+written_so r scope view lines (Err (Trace number what)) old new device empty walked last =
     let shows = shown view walked.0 old new walked.2 in
     (walked.0, shows.text, walked.1, shows.says, all_written (view old).written (view new).written device (view new).block shows.text (started (view old) (all_of (view new)) shows.text empty shows.appended) last)
-written_so r view lines (Err Memory) old new device empty failed last = memory_written r view lines old new device empty failed last
-written_so r view lines (Err Write) old new device empty failed last =
-    let some = wrote_failed r view lines failure.Write old new empty failed in
+written_so r scope view lines (Err Memory) old new device empty failed last = memory_written r scope view lines old new device empty failed last
+written_so r scope view lines (Err Write) old new device empty failed last =
+    let some = wrote_failed r scope view lines failure.Write old new empty failed in
     (some.events, some.text, some.so_far, some.says, last_written (view old).written (view new).written device (view new).block some.text some.prefix last)
-written_so r view lines (Err TooLong) old new device empty never last = absurd never
-written_so r view lines (Err Read) old new device empty never last = absurd never
+written_so r scope view lines (Err TooLong) old new device empty never last = absurd never
+written_so r scope view lines (Err Read) old new device empty never last = absurd never
 
-pub written : {S : Type 0} (r : Reading) (view : S → Page) (style : Style) (lines : List (List ℕ)) (answer : Result Tally TraceFault) (old new : S) (device : Option (List ℕ)) → (view old).style ≡ style → (view old).block ≡ []
-    → AnswersWalk r (writes view) (fails view) OneSide lines old new answer → Appends (view new).written device (view new).block → AnswersLinesBy r style lines (view old).written device answer
-written r view style lines answer old new device is empty walked last = subst (λ (s : Style). AnswersLinesBy r s lines (view old).written device answer) is (written_so r view lines answer old new device empty walked last)
+pub written : {S : Type 0} (r : Reading) (scope : Scope) (view : S → Page) (style : Style) (lines : List (List ℕ)) (answer : Result Tally TraceFault) (old new : S) (device : Option (List ℕ)) → (view old).style ≡ style → (view old).block ≡ []
+    → AnswersWalk r (writes view) (fails view) scope lines old new answer → Appends (view new).written device (view new).block → AnswersLinesBy r scope style lines (view old).written device answer
+written r scope view style lines answer old new device is empty walked last = subst (λ (s : Style). AnswersLinesBy r scope s lines (view old).written device answer) is (written_so r scope view lines answer old new device empty walked last)
 
 -- it could not be written
-pub not_written : {S : Type 0} (r : Reading) (view : S → Page) (style : Style) (lines : List (List ℕ)) (answer : Result Tally TraceFault) (old new : S) (device : Option (List ℕ)) → (view old).style ≡ style → (view old).block ≡ []
-    → AnswersWalk r (writes view) (fails view) OneSide lines old new answer → AppendsPrefix (view new).written device (view new).block → AnswersLinesBy r style lines (view old).written device (Err Write)
-not_written r view style lines answer old new device is empty walked last =
-    let some = wrote r view lines answer old new empty walked in
-    subst (λ (s : Style). AnswersLinesBy r s lines (view old).written device (Err Write)) is
+pub not_written : {S : Type 0} (r : Reading) (scope : Scope) (view : S → Page) (style : Style) (lines : List (List ℕ)) (answer : Result Tally TraceFault) (old new : S) (device : Option (List ℕ)) → (view old).style ≡ style → (view old).block ≡ []
+    → AnswersWalk r (writes view) (fails view) scope lines old new answer → AppendsPrefix (view new).written device (view new).block → AnswersLinesBy r scope style lines (view old).written device (Err Write)
+not_written r scope view style lines answer old new device is empty walked last =
+    let some = wrote r scope view lines answer old new empty walked in
+    subst (λ (s : Style). AnswersLinesBy r scope s lines (view old).written device (Err Write)) is
     (some.events, some.text, some.so_far, some.says, last_failed (view old).written (view new).written device (view new).block some.text some.extends some.prefix last)
 
 -- ---- failures
 
-pub least : {S : Type 0} (r : Reading) (view : S → Page) (lines : List (List ℕ)) (answer : Result Tally TraceFault) (old new : S) → (view old).block ≡ [] → AnswersWalk r (writes view) (fails view) OneSide lines old new answer → (view old).failures ≤ (view new).failures
-least r view lines answer old new empty walked = (wrote r view lines answer old new empty walked).least
+pub least : {S : Type 0} (r : Reading) (scope : Scope) (view : S → Page) (lines : List (List ℕ)) (answer : Result Tally TraceFault) (old new : S) → (view old).block ≡ [] → AnswersWalk r (writes view) (fails view) scope lines old new answer → (view old).failures ≤ (view new).failures
+least r scope view lines answer old new empty walked = (wrote r scope view lines answer old new empty walked).least
 
 -- the walk failed since a write did
-pub write_counted : {S : Type 0} (r : Reading) (view : S → Page) (lines : List (List ℕ)) (answer : Result Tally TraceFault) (old new : S) → AnswersWalk r (writes view) (fails view) OneSide lines old new answer → answer ≡ Err Write → (view old).failures < (view new).failures
-write_counted r view lines (Ok tally) old new walked e = cc
-write_counted r view lines (Err (Trace number what)) old new walked e = cc
-write_counted r view lines (Err Memory) old new walked e = cc
-write_counted r view lines (Err TooLong) old new never e = absurd never
-write_counted r view lines (Err Read) old new never e = absurd never
-write_counted {S = S} r view lines (Err Write) old new failed e = by failed.stops
+pub write_counted : {S : Type 0} (r : Reading) (scope : Scope) (view : S → Page) (lines : List (List ℕ)) (answer : Result Tally TraceFault) (old new : S) → AnswersWalk r (writes view) (fails view) scope lines old new answer → answer ≡ Err Write → (view old).failures < (view new).failures
+write_counted r scope view lines (Ok tally) old new walked e = cc
+write_counted r scope view lines (Err (Trace number what)) old new walked e = cc
+write_counted r scope view lines (Err Memory) old new walked e = cc
+write_counted r scope view lines (Err TooLong) old new never e = absurd never
+write_counted r scope view lines (Err Read) old new never e = absurd never
+write_counted {S = S} r scope view lines (Err Write) old new failed e = by failed.stops
   where
-    by : Stops (fails view) failure.Write (EventsSoFar r OneSide lines) failed.events failed.middle new → (view old).failures < (view new).failures
+    by : Stops (fails view) failure.Write (EventsSoFar r scope lines) failed.events failed.middle new → (view old).failures < (view new).failures
     by (inl (is, so_far, same)) = cc
     by (inr (event, so_far, left)) = omega (arith, (shown view failed.events old failed.middle failed.heard).failures, left.2)
 
 -- ---- nothing was read
 
-unread : (r : Reading) (style : Style) (lines : List (List ℕ)) (held : Option (List ℕ)) → AnswersLinesBy r style lines held held (Err Memory)
-unread r style lines held = ([], [], none_so_far OneSide lines, refl, appends_none held)
+unread : (r : Reading) (scope : Scope) (style : Style) (lines : List (List ℕ)) (held : Option (List ℕ)) → AnswersLinesBy r scope style lines held held (Err Memory)
+unread r scope style lines held = ([], [], none_so_far scope lines, refl, appends_none held)
 
 -- the trace could not be read
 pub read_failed : (r : Reading) (style : Style) (left held : Option (List ℕ)) (fault : TraceFault) → ReadsTrace left (Err fault) → IfSome left (λ trace. AnswersTraceBy r style trace held held (Err fault))
 read_failed r style None held fault reads = tt
 read_failed r style (Some trace) held TooLong reads = (reads, keeps_same held)
 read_failed r style (Some trace) held Read reads = keeps_same held
-read_failed r style (Some trace) held Memory reads = unread r style (lines (readable trace)) held
+read_failed r style (Some trace) held Memory reads = unread r OneSide style (lines (readable trace)) held
 read_failed r style (Some trace) held Write never = absurd never
 read_failed r style (Some trace) held (Trace number what) never = absurd never
 
 -- ---- a trace that is read first
 
 pub read_answered : (r : Reading) (style : Style) (left : Option (List ℕ)) (trace slice : List ℕ) (old new : Option (List ℕ)) (answer : Result Tally TraceFault) → IfSome left (λ bytes. trace ≡ bytes) → length trace ≤ limit → slice ≡ trace
-    → AnswersLinesBy r style (lines (readable slice)) old new answer → IfSome left (λ bytes. AnswersTraceBy r style bytes old new answer)
+    → AnswersLinesBy r OneSide style (lines (readable slice)) old new answer → IfSome left (λ bytes. AnswersTraceBy r style bytes old new answer)
 read_answered r style None trace slice old new answer read few same answers = tt
 read_answered r style (Some bytes) trace slice old new answer read few same answers =
-    subst (λ (b : List ℕ). AnswersTraceBy r style b old new answer) read (by answer (subst (λ (b : List ℕ). AnswersLinesBy r style (lines (readable b)) old new answer) same answers))
+    subst (λ (b : List ℕ). AnswersTraceBy r style b old new answer) read (by answer (subst (λ (b : List ℕ). AnswersLinesBy r OneSide style (lines (readable b)) old new answer) same answers))
   where
-    by : (answer : Result Tally TraceFault) → AnswersLinesBy r style (lines (readable trace)) old new answer → AnswersTraceBy r style trace old new answer
+    by : (answer : Result Tally TraceFault) → AnswersLinesBy r OneSide style (lines (readable trace)) old new answer → AnswersTraceBy r style trace old new answer
     by (Ok tally) written = (few, written)
     by (Err (Trace number what)) written = (few, written)
     by (Err Memory) written = written

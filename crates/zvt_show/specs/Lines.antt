@@ -28,6 +28,10 @@ refused_text style from place why =
 abbrev pub stopped_text : Style → Direction → List ℕ
 stopped_text style from = marked (mark_of style) (direction_text from ++ codes " stopped")
 
+-- what is said of a side that is read on after a refused message of that size
+abbrev pub resumed_text : Style → Direction → (size : ℕ) → List ℕ
+resumed_text style from size = marked (mark_of style) (direction_text from ++ codes " resumed after " ++ decimal size ++ codes " bytes")
+
 abbrev pub truncated_text : Style → Direction → ℕ → List ℕ
 truncated_text style from have = marked (mark_of style) (direction_text from ++ codes " truncated after " ++ decimal have)
 

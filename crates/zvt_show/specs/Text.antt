@@ -13,7 +13,7 @@ use Rattle.zvt_trace.specs.TraceEvent as trace_event
 use Rattle.zvt_trace.specs.declared.direction.Direction.{Direction}
 use Rattle.zvt_trace.specs.declared.direction.Direction.TheVariants.{FromTill, FromTerminal}
 use Rattle.zvt_json.specs.Events.{EventLine}
-use Rattle.zvt_show.specs.Lines.{lost_text, refused_text, stopped_text, truncated_text}
+use Rattle.zvt_show.specs.Lines.{lost_text, refused_text, resumed_text, stopped_text, truncated_text}
 use Rattle.zvt_show.specs.declared.render.Style.{Style}
 use Rattle.zvt_show.specs.declared.render.Style.TheVariants.{Join, Json, JsonReceipts, Receipts, Show}
 
@@ -59,6 +59,7 @@ abbrev pub PlainText : Style → TraceEvent → List ℕ → Type 0
 PlainText style (trace_event.message from m) text = MessageText style from m text
 PlainText style (trace_event.refused from head byte place why) text = text ≡ refused_text style from place why
 PlainText style (trace_event.unread from) text = text ≡ stopped_text style from
+PlainText style (trace_event.resumed from size) text = text ≡ resumed_text style from size
 PlainText style (trace_event.cut_off from head have) text = text ≡ truncated_text style from have
 PlainText style trace_event.lost text = text ≡ lost_text style
 
@@ -68,6 +69,7 @@ printed_in (trace_event.message FromTill m) = None
 printed_in (trace_event.message FromTerminal m) = text_in m
 printed_in (trace_event.refused from head byte place why) = None
 printed_in (trace_event.unread from) = None
+printed_in (trace_event.resumed from size) = None
 printed_in (trace_event.cut_off from head have) = None
 printed_in trace_event.lost = None
 

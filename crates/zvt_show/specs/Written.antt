@@ -15,6 +15,7 @@ use Rattle.zvt_trace.specs.declared.fault.TraceFault.{TraceFault}
 use Rattle.zvt_trace.specs.declared.fault.TraceFault.TheVariants.{Memory, Read, TooLong, Trace, Write}
 use Rattle.zvt_trace.specs.declared.listener.ListenerError.{ListenerError}
 use Rattle.zvt_trace.specs.declared.listener.ListenerError.TheVariants as failure
+use Rattle.zvt_trace.specs.declared.listener.Scope.{Scope}
 use Rattle.zvt_trace.specs.declared.listener.Scope.TheVariants.{OneSide}
 use Rattle.zvt_show.specs.Text.{EventText, EventsText, MessageText, PlainText}
 use Rattle.zvt_show.specs.declared.render.Style.{Style}
@@ -87,29 +88,29 @@ FailsEvent failure.Write old new = IsShortOf (all_of old) (all_of new) × Extend
 
 -- ---- what a command answers
 
--- What a command answers for the lines of a trace, by that reading of lengths. Where memory is refused, the text of all
+-- What a command answers for the lines of a trace, by that reading of lengths, where a refusal leaves so much unread. Where memory is refused, the text of all
 -- that the lines before emit is written, and of a prefix of what comes next; of a write that failed, some prefix of such a
 -- text.
-abbrev pub AnswersLinesBy : Reading → Style → List (List ℕ) → (old new : Option (List ℕ)) → Result Tally TraceFault → Type 0
-AnswersLinesBy r style lines old new (Ok tally) =
-    (events : List At) × (text : List ℕ) × WholeTrace r OneSide lines events × EventsText style events text × Appends old new text × Tallies tally events
-AnswersLinesBy r style lines old new (Err (Trace number what)) =
-    (events : List At) × (text : List ℕ) × BrokenTrace r OneSide lines number what events × EventsText style events text × Appends old new text
-AnswersLinesBy r style lines old new (Err Write) =
-    (events : List At) × (text : List ℕ) × EventsSoFar r OneSide lines events × EventsText style events text × AppendsPrefix old new text
-AnswersLinesBy r style lines old new (Err Memory) =
-    (events : List At) × (text : List ℕ) × EventsSoFar r OneSide lines events × EventsText style events text × Appends old new text
-AnswersLinesBy r style lines old new (Err TooLong) = ⊥
-AnswersLinesBy r style lines old new (Err Read) = ⊥
+abbrev pub AnswersLinesBy : Reading → Scope → Style → List (List ℕ) → (old new : Option (List ℕ)) → Result Tally TraceFault → Type 0
+AnswersLinesBy r scope style lines old new (Ok tally) =
+    (events : List At) × (text : List ℕ) × WholeTrace r scope lines events × EventsText style events text × Appends old new text × Tallies tally events
+AnswersLinesBy r scope style lines old new (Err (Trace number what)) =
+    (events : List At) × (text : List ℕ) × BrokenTrace r scope lines number what events × EventsText style events text × Appends old new text
+AnswersLinesBy r scope style lines old new (Err Write) =
+    (events : List At) × (text : List ℕ) × EventsSoFar r scope lines events × EventsText style events text × AppendsPrefix old new text
+AnswersLinesBy r scope style lines old new (Err Memory) =
+    (events : List At) × (text : List ℕ) × EventsSoFar r scope lines events × EventsText style events text × Appends old new text
+AnswersLinesBy r scope style lines old new (Err TooLong) = ⊥
+AnswersLinesBy r scope style lines old new (Err Read) = ⊥
 
 -- What a command answers for a trace of known bytes, by that reading of lengths.
 abbrev pub AnswersTraceBy : Reading → Style → (trace : List ℕ) → (old new : Option (List ℕ)) → Result Tally TraceFault → Type 0
-AnswersTraceBy r style trace old new (Ok tally) = (length trace ≤ limit) × AnswersLinesBy r style (lines (readable trace)) old new (Ok tally)
-AnswersTraceBy r style trace old new (Err (Trace line what)) = (length trace ≤ limit) × AnswersLinesBy r style (lines (readable trace)) old new (Err (Trace line what))
+AnswersTraceBy r style trace old new (Ok tally) = (length trace ≤ limit) × AnswersLinesBy r OneSide style (lines (readable trace)) old new (Ok tally)
+AnswersTraceBy r style trace old new (Err (Trace line what)) = (length trace ≤ limit) × AnswersLinesBy r OneSide style (lines (readable trace)) old new (Err (Trace line what))
 AnswersTraceBy r style trace old new (Err TooLong) = (limit < length trace) × Keeps old new
 AnswersTraceBy r style trace old new (Err Read) = Keeps old new
-AnswersTraceBy r style trace old new (Err Write) = (length trace ≤ limit) × AnswersLinesBy r style (lines (readable trace)) old new (Err Write)
-AnswersTraceBy r style trace old new (Err Memory) = AnswersLinesBy r style (lines (readable trace)) old new (Err Memory)
+AnswersTraceBy r style trace old new (Err Write) = (length trace ≤ limit) × AnswersLinesBy r OneSide style (lines (readable trace)) old new (Err Write)
+AnswersTraceBy r style trace old new (Err Memory) = AnswersLinesBy r OneSide style (lines (readable trace)) old new (Err Memory)
 
 -- The same of a strict command.
 abbrev pub AnswersTrace : Style → (trace : List ℕ) → (old new : Option (List ℕ)) → Result Tally TraceFault → Type 0

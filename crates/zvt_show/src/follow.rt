@@ -9,6 +9,7 @@ ghost use Rattle.zvt_trace.specs.Journal.{readable};
 ghost use Rattle.zvt_trace.specs.Written.{limit};
 ghost use Rattle.zvt_show.specs.Followed.{AnswersFollow, AnswersTurn, CountsWrites, HasWritten, IsFollowing};
 ghost use Rattle.zvt_show.specs.Written.{AnswersLinesBy};
+ghost use Rattle.zvt_trace.specs.declared.listener.Scope.{Scope};
 ghost use Rattle.zvt_show.specs.declared.render.Style.{Style};
 
 use crate::pages::{Pages, flush};
@@ -30,15 +31,16 @@ const CHUNK: usize = 65_536;
 pub fn follow_trace<R: Source, W: Sink>(
     alloc: Global,
     style: Style,
+    scope: Scope,
     lengths: Lengths,
     reader: &mut R,
     writer: &mut W,
 ) -> Result<Tally, TraceFault>
-    ensures follows { (taken : List ℕ) × Consumes (R.remaining reader.old) (R.remaining reader.new) taken × IsTaken taken × AnswersFollow (reading_of lengths) style taken (R.remaining reader.new) (W.written writer.old) (W.written writer.new) result }
+    ensures follows { (taken : List ℕ) × Consumes (R.remaining reader.old) (R.remaining reader.new) taken × IsTaken taken × AnswersFollow (reading_of lengths) scope style taken (R.remaining reader.new) (W.written writer.old) (W.written writer.new) result }
     ensures read { result ≡ Err TraceFault.Read → R.failures reader.old < R.failures reader.new }
     ensures write { result ≡ Err TraceFault.Write → W.failures writer.old < W.failures writer.new }
 {
-    let mut follower = Follower::new(alloc, style, lengths);
+    let mut follower = Follower::new(alloc, style, scope, lengths);
     let mut buffer = [0; CHUNK];
     for _turn in 0..u64::MAX {
         let taken = read_chunk(reader, &mut buffer)?;
@@ -62,14 +64,14 @@ pub struct Follower {
 
 impl Follower {
     /// A follower that has read nothing.
-    pub fn new(alloc: Global, style: Style, lengths: Lengths) -> Follower
-        ensures written { (held : Option (List ℕ)) → HasWritten (reading_of lengths) style [] held held result }
+    pub fn new(alloc: Global, style: Style, scope: Scope, lengths: Lengths) -> Follower
+        ensures written { (held : Option (List ℕ)) → HasWritten (reading_of lengths) scope style [] held held result }
         ensures following { IsFollowing result }
         ensures reads_on { ¬ IsOver result.walker }
     {
         Follower {
             pages: Pages::new(alloc, style),
-            walker: Walker::new(alloc, Scope::OneSide, lengths),
+            walker: Walker::new(alloc, scope, lengths),
         }
     }
 
@@ -85,9 +87,9 @@ impl Follower {
     pub fn feed<W: Sink>(&mut self, writer: &mut W, chunk: &[u8]) -> Result<(), TraceFault>
         requires following { IsFollowing self.old }
         requires few { length chunk.now ≤ limit }
-        ensures writes { (r : Reading) (style : Style) (bytes : List ℕ) (first : Option (List ℕ)) → HasWritten r style bytes first (W.written writer.old) self.old → AnswersTurn r style (bytes ++ chunk.now) first (W.written writer.new) self.new result }
+        ensures writes { (r : Reading) (scope : Scope) (style : Style) (bytes : List ℕ) (first : Option (List ℕ)) → HasWritten r scope style bytes first (W.written writer.old) self.old → AnswersTurn r scope style (bytes ++ chunk.now) first (W.written writer.new) self.new result }
         ensures following { OnOk result (IsFollowing self.new) }
-        ensures counts { (r : Reading) (style : Style) (bytes : List ℕ) (first : Option (List ℕ)) → HasWritten r style bytes first (W.written writer.old) self.old → CountsWrites (W.failures writer.old) (W.failures writer.new) result }
+        ensures counts { (r : Reading) (scope : Scope) (style : Style) (bytes : List ℕ) (first : Option (List ℕ)) → HasWritten r scope style bytes first (W.written writer.old) self.old → CountsWrites (W.failures writer.old) (W.failures writer.new) result }
     {
         let answer = self.walker.feed(&mut self.pages, writer, chunk);
         flush(&mut self.pages.block, writer)?;
@@ -97,8 +99,8 @@ impl Follower {
     /// Writes the text of a last line without a line feed, and of what is cut off.
     pub fn finish<W: Sink>(self, writer: &mut W) -> Result<Tally, TraceFault>
         requires following { IsFollowing self }
-        ensures writes { (r : Reading) (style : Style) (bytes : List ℕ) (first : Option (List ℕ)) → HasWritten r style bytes first (W.written writer.old) self → AnswersLinesBy r style (lines (readable bytes)) first (W.written writer.new) result }
-        ensures counts { (r : Reading) (style : Style) (bytes : List ℕ) (first : Option (List ℕ)) → HasWritten r style bytes first (W.written writer.old) self → CountsWrites (W.failures writer.old) (W.failures writer.new) result }
+        ensures writes { (r : Reading) (scope : Scope) (style : Style) (bytes : List ℕ) (first : Option (List ℕ)) → HasWritten r scope style bytes first (W.written writer.old) self → AnswersLinesBy r scope style (lines (readable bytes)) first (W.written writer.new) result }
+        ensures counts { (r : Reading) (scope : Scope) (style : Style) (bytes : List ℕ) (first : Option (List ℕ)) → HasWritten r scope style bytes first (W.written writer.old) self → CountsWrites (W.failures writer.old) (W.failures writer.new) result }
     {
         let Follower { mut pages, walker } = self;
         let answer = walker.finish(&mut pages, writer);

@@ -22,21 +22,22 @@ const BLOCK: usize = 65_536;
 /// goes out in blocks, the last one also where the walk fails. In the styles `Json` and `JsonReceipts` each line of the text is
 /// one JSON value.
 ///
-/// The trace may have such lengths. In the style `Join` each whole message is written in its one strict spelling. A stream
+/// A refusal leaves as much unread as the scope says. The trace may have such lengths. In the style `Join` each whole message is written in its one strict spelling. A stream
 /// that is refused or cut off counts as bad.
 pub fn render_trace<W: Sink>(
     alloc: Global,
     style: Style,
+    scope: Scope,
     lengths: Lengths,
     trace: &[u8],
     writer: &mut W,
 ) -> Result<Tally, TraceFault>
     requires { length trace.now ≤ limit }
-    ensures writes { AnswersLinesBy (reading_of lengths) style (lines (readable trace.now)) (W.written writer.old) (W.written writer.new) result }
+    ensures writes { AnswersLinesBy (reading_of lengths) scope style (lines (readable trace.now)) (W.written writer.old) (W.written writer.new) result }
     ensures write { result ≡ Err TraceFault.Write → W.failures writer.old < W.failures writer.new }
 {
     let mut pages = Pages::new(alloc, style);
-    let answer = walk(&mut pages, writer, alloc, Scope::OneSide, lengths, trace);
+    let answer = walk(&mut pages, writer, alloc, scope, lengths, trace);
     flush(&mut pages.block, writer)?;
     answer
 }

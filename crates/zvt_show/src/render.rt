@@ -6,7 +6,7 @@ ghost use Rattle.zvt_text.specs.Writing.{Adds};
 ghost use Rattle.zvt_trace.specs.Lines.{direction_text};
 ghost use Rattle.zvt_trace.specs.TraceEvent.{HasItsBytes, event_of, on};
 ghost use Rattle.zvt_json.specs.Events.{AddsLine};
-ghost use Rattle.zvt_show.specs.Lines.{lost_text, refused_text, stopped_text, truncated_text};
+ghost use Rattle.zvt_show.specs.Lines.{lost_text, refused_text, resumed_text, stopped_text, truncated_text};
 ghost use Rattle.zvt_show.specs.Text.{joined, printed_in, receipt, shown};
 ghost use Rattle.zvt_show.specs.Written.{AddsEvent, AddsMessage, AddsPlain};
 ghost use Rattle.zvt_show.specs.declared.render.Style.TheVariants.{Join, JsonReceipts};
@@ -144,6 +144,7 @@ fn plain(
             refused(text, alloc, style, *from, place, why)
         }
         TraceEvent::Unread { from } => stopped(text, alloc, style, *from),
+        TraceEvent::Resumed { from, size } => resumed(text, alloc, style, *from, *size),
         TraceEvent::CutOff { from, have, .. } => truncated(text, alloc, style, *from, *have),
         TraceEvent::Lost => lost(text, style),
     }
@@ -273,6 +274,26 @@ fn truncated(
     };
     let mut line = begun(alloc, mark, from, b" truncated after ")?;
     line.number(have as u64)?;
+    line.push(b'\n')?;
+    text.word(line.bytes())
+}
+
+/// Adds the line of a side that is read on after a refused message.
+fn resumed(
+    text: &mut Text,
+    alloc: Global,
+    style: Style,
+    from: Direction,
+    size: usize,
+) -> Result<(), AllocError>
+    ensures { Adds result text.old text.new (resumed_text style from size) }
+{
+    let Some(mark) = style.mark() else {
+        return Ok(());
+    };
+    let mut line = begun(alloc, mark, from, b" resumed after ")?;
+    line.number(size as u64)?;
+    line.word(b" bytes")?;
     line.push(b'\n')?;
     text.word(line.bytes())
 }

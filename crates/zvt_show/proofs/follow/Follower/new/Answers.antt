@@ -11,5 +11,5 @@ returns-clause-written c = λ held. record {
   written = Appends-nil held;
   in_style = c.new.ensures.style;
   reading = c.new-2.ensures.reading;
-  one_side = c.new-2.ensures.scope;
+  by_scope = c.new-2.ensures.scope;
 }
