@@ -41,6 +41,7 @@ one_said : (scope : Scope) (since : List At) (line : ℕ) (what : TraceEvent) (a
 one_said scope since line (trace_event.message from m) all = one_more scope since (on line (trace_event.message from m)) all
 one_said scope since line (trace_event.refused from head byte place why) all = one_more scope since (on line (trace_event.refused from head byte place why)) all
 one_said scope since line (trace_event.unread from) all = one_more scope since (on line (trace_event.unread from)) all
+one_said scope since line (trace_event.resumed from size) all = one_more scope since (on line (trace_event.resumed from size)) all
 one_said scope since line (trace_event.cut_off from head have) all = one_more scope since (on line (trace_event.cut_off from head have)) all
 one_said scope since line trace_event.lost all =
     ap (λ (l : List At). unread_of scope l ++ (life_text scope all.first ++ flat_map (life_text scope) all.later)) (sym (append-nil since))
@@ -89,6 +90,7 @@ messages_step : (old : Counts) (event : TraceEvent) → Counted old.messages (co
 messages_step old (trace_event.message from m) = inl refl
 messages_step old (trace_event.refused from head byte place why) = inr (refl, refl)
 messages_step old (trace_event.unread from) = inr (refl, refl)
+messages_step old (trace_event.resumed from size) = inr (refl, refl)
 messages_step old (trace_event.cut_off from head have) = inr (refl, refl)
 messages_step old trace_event.lost = inr (refl, refl)
 
@@ -99,6 +101,7 @@ refused_step : (old : Counts) (event : TraceEvent) → Counted old.refused (coun
 refused_step old (trace_event.message from m) = inr (refl, refl)
 refused_step old (trace_event.refused from head byte place why) = inl refl
 refused_step old (trace_event.unread from) = inr (refl, refl)
+refused_step old (trace_event.resumed from size) = inr (refl, refl)
 refused_step old (trace_event.cut_off from head have) = inr (refl, refl)
 refused_step old trace_event.lost = inr (refl, refl)
 
@@ -109,6 +112,7 @@ cut_off_step : (old : Counts) (event : TraceEvent) → Counted old.cut_off (coun
 cut_off_step old (trace_event.message from m) = inr (refl, refl)
 cut_off_step old (trace_event.refused from head byte place why) = inr (refl, refl)
 cut_off_step old (trace_event.unread from) = inr (refl, refl)
+cut_off_step old (trace_event.resumed from size) = inr (refl, refl)
 cut_off_step old (trace_event.cut_off from head have) = inl refl
 cut_off_step old trace_event.lost = inr (refl, refl)
 

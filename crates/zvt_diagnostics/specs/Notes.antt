@@ -16,7 +16,7 @@ use Rattle.zvt_trace.specs.TraceEvent as trace_event
 use Rattle.zvt_trace.specs.declared.direction.Direction.{Direction}
 use Rattle.zvt_trace.specs.declared.direction.Direction.TheVariants.{FromTill, FromTerminal}
 use Rattle.zvt_trace.specs.declared.listener.Scope.{Scope}
-use Rattle.zvt_trace.specs.declared.listener.Scope.TheVariants.{OneSide, WholeLine}
+use Rattle.zvt_trace.specs.declared.listener.Scope.TheVariants.{OneMessage, OneSide, WholeLine}
 use Rattle.zvt_stream.specs.declared.head.Head.{Head}
 use Rattle.zvt_stream.specs.declared.head.Head.TheVariants.{Empty, One, Two}
 
@@ -79,6 +79,7 @@ abbrev pub event_note : ℕ → TraceEvent → List ℕ
 event_note line (trace_event.message from m) = []
 event_note line (trace_event.refused from head byte place why) = refused_note line from head byte place why
 event_note line (trace_event.unread from) = []
+event_note line (trace_event.resumed from size) = []
 event_note line (trace_event.cut_off from head have) = cut_off_note line from head have
 event_note line trace_event.lost = []
 
@@ -89,6 +90,7 @@ note_text event = event_note event.line event.trace_event
 
 -- What is not read is counted for its own side; for one of them alone where a refusal leaves the whole line unread.
 abbrev pub counted_side : Scope → Direction → Direction
+counted_side OneMessage from = from
 counted_side OneSide from = from
 counted_side WholeLine from = FromTill
 
@@ -102,6 +104,7 @@ abbrev pub is_unread : Scope → Direction → TraceEvent → Bool
 is_unread scope side (trace_event.message from m) = false
 is_unread scope side (trace_event.refused from head byte place why) = false
 is_unread scope side (trace_event.unread from) = is_same_side side (counted_side scope from)
+is_unread scope side (trace_event.resumed from size) = false
 is_unread scope side (trace_event.cut_off from head have) = false
 is_unread scope side trace_event.lost = false
 
@@ -116,6 +119,7 @@ last_line (line ∷ next ∷ lines) = last_line (next ∷ lines)
 
 -- the side, where the other one is read on
 abbrev pub side_mark : Scope → Direction → List ℕ
+side_mark OneMessage side = codes " of " ++ direction_text side
 side_mark OneSide side = codes " of " ++ direction_text side
 side_mark WholeLine side = []
 
@@ -153,6 +157,7 @@ abbrev pub with_event : ℕ → TraceEvent → Lives → Lives
 with_event line (trace_event.message from m) lives = begins_with (trace_event.on line (trace_event.message from m)) lives
 with_event line (trace_event.refused from head byte place why) lives = begins_with (trace_event.on line (trace_event.refused from head byte place why)) lives
 with_event line (trace_event.unread from) lives = begins_with (trace_event.on line (trace_event.unread from)) lives
+with_event line (trace_event.resumed from size) lives = begins_with (trace_event.on line (trace_event.resumed from size)) lives
 with_event line (trace_event.cut_off from head have) lives = begins_with (trace_event.on line (trace_event.cut_off from head have)) lives
 with_event line trace_event.lost lives = record { first = []; later = lives.first ∷ lives.later }
 
@@ -173,6 +178,7 @@ abbrev pub refused_count : TraceEvent → ℕ
 refused_count (trace_event.message from m) = 0
 refused_count (trace_event.refused from head byte place why) = 1
 refused_count (trace_event.unread from) = 0
+refused_count (trace_event.resumed from size) = 0
 refused_count (trace_event.cut_off from head have) = 0
 refused_count trace_event.lost = 0
 
@@ -180,6 +186,7 @@ abbrev pub cut_off_count : TraceEvent → ℕ
 cut_off_count (trace_event.message from m) = 0
 cut_off_count (trace_event.refused from head byte place why) = 0
 cut_off_count (trace_event.unread from) = 0
+cut_off_count (trace_event.resumed from size) = 0
 cut_off_count (trace_event.cut_off from head have) = 1
 cut_off_count trace_event.lost = 0
 

@@ -31,6 +31,7 @@ abbrev pub counted_more : Counts → TraceEvent → Counts
 counted_more counts (trace_event.message from m) = record counts { messages = most (counts.messages + 1) }
 counted_more counts (trace_event.refused from head byte place why) = record counts { refused = most (counts.refused + 1) }
 counted_more counts (trace_event.unread from) = counts
+counted_more counts (trace_event.resumed from size) = counts
 counted_more counts (trace_event.cut_off from head have) = record counts { cut_off = most (counts.cut_off + 1) }
 counted_more counts trace_event.lost = counts
 
@@ -41,6 +42,7 @@ abbrev pub events_since : List At → (line : ℕ) → TraceEvent → List At
 events_since events line (trace_event.message from m) = events ++ on line (trace_event.message from m) ∷ []
 events_since events line (trace_event.refused from head byte place why) = events ++ on line (trace_event.refused from head byte place why) ∷ []
 events_since events line (trace_event.unread from) = events ++ on line (trace_event.unread from) ∷ []
+events_since events line (trace_event.resumed from size) = events ++ on line (trace_event.resumed from size) ∷ []
 events_since events line (trace_event.cut_off from head have) = events ++ on line (trace_event.cut_off from head have) ∷ []
 events_since events line trace_event.lost = []
 
@@ -49,6 +51,7 @@ abbrev pub said_at : Scope → List At → (line : ℕ) → TraceEvent → List 
 said_at scope events line (trace_event.message from m) = []
 said_at scope events line (trace_event.refused from head byte place why) = note_text (on line (trace_event.refused from head byte place why))
 said_at scope events line (trace_event.unread from) = []
+said_at scope events line (trace_event.resumed from size) = []
 said_at scope events line (trace_event.cut_off from head have) = note_text (on line (trace_event.cut_off from head have))
 said_at scope events line trace_event.lost = unread_of scope events
 

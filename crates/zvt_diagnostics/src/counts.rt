@@ -37,7 +37,7 @@ impl Counts {
             TraceEvent::Message { .. } => self.messages = self.messages.saturating_add(1),
             TraceEvent::Refused { .. } => self.refused = self.refused.saturating_add(1),
             TraceEvent::CutOff { .. } => self.cut_off = self.cut_off.saturating_add(1),
-            TraceEvent::Unread { .. } | TraceEvent::Lost => {}
+            TraceEvent::Unread { .. } | TraceEvent::Resumed { .. } | TraceEvent::Lost => {}
         }
     }
 

@@ -20,7 +20,10 @@ pub(crate) fn put(
     match trace_event {
         TraceEvent::Refused { from, refusal } => put_refused(text, line, *from, refusal),
         TraceEvent::CutOff { from, head, have } => put_cut_off(text, line, *from, *head, *have),
-        TraceEvent::Message { .. } | TraceEvent::Unread { .. } | TraceEvent::Lost => Ok(()),
+        TraceEvent::Message { .. }
+        | TraceEvent::Unread { .. }
+        | TraceEvent::Resumed { .. }
+        | TraceEvent::Lost => Ok(()),
     }
 }
 

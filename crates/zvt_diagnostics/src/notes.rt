@@ -67,8 +67,10 @@ impl Listener<()> for Notes {
                 self.trailing.put(&mut self.text, self.scope)?;
                 self.trailing = SkippedLines::nothing();
             }
-            TraceEvent::Message { .. } | TraceEvent::Refused { .. } | TraceEvent::CutOff { .. } =>
-                {}
+            TraceEvent::Message { .. }
+            | TraceEvent::Refused { .. }
+            | TraceEvent::Resumed { .. }
+            | TraceEvent::CutOff { .. } => {}
         }
         Ok(())
     }

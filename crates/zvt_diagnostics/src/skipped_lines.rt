@@ -68,7 +68,7 @@ fn put_mark(text: &mut Text, scope: Scope, side: Direction) -> Result<(), AllocE
     ensures { OnOk result (text.new ≡ text.old ++ side_mark scope side) }
 {
     match scope {
-        Scope::OneSide => {
+        Scope::OneMessage | Scope::OneSide => {
             text.word(b" of ")?;
             text.word(side.sign().as_bytes())
         }
@@ -118,7 +118,7 @@ fn counted_side(scope: Scope, from: Direction) -> Direction
     ensures { result ≡ counted_side scope from }
 {
     match scope {
-        Scope::OneSide => from,
+        Scope::OneMessage | Scope::OneSide => from,
         Scope::WholeLine => Direction::FromTill,
     }
 }
