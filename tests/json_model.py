@@ -5,7 +5,7 @@ looked at.
 `events_of` reads the bytes of a trace and gives an object for each thing that `show` says. `json_of` and `text_of` write
 such an object as `show --json` and as `show` do. `receipts_of` leaves those of `receipts`. A trace with a line that can't be
 read ends with `Fault`, after the events of the lines before. With files as arguments the events of each are written as
-JSON, after `--loose` of padded lengths.
+JSON, with `--loose` of padded lengths, and with `--resync` after refused messages too.
 """
 import json
 import re
@@ -264,25 +264,40 @@ def quoted(data):
 class Side:
     """What a side sends, as one stream."""
 
-    def __init__(self, name, loose):
-        self.name, self.loose = name, loose
+    def __init__(self, name, loose, resync):
+        self.name, self.loose, self.resync = name, loose, resync
         self.anew()
 
     def anew(self):
-        self.held, self.reader, self.read, self.refused = b"", None, 0, False
+        self.held, self.reader, self.read, self.first, self.refused, self.size, self.left = b"", None, 0, b"", False, 0, 0
 
     def feed(self, piece, line):
-        if self.refused:
+        if self.refused and (not self.resync or len(piece) < self.left):
+            self.left -= len(piece)
             yield {"from": self.name, "line": line, "stopped": True}
             return
+        while True:
+            if self.refused:
+                yield {"from": self.name, "line": line, "resumed": self.size}
+                piece, _ = piece[self.left:], self.anew()
+            piece = yield from self.take(piece, line)
+            if not self.refused or not self.resync:
+                return
+            if len(piece) < self.left:
+                self.left -= len(piece)
+                return
+
+    def take(self, piece, line):
+        """Reads up to a refusal, and answers the bytes after the fatal one."""
         held, at = self.held + piece, 0
         while self.reader or at < len(held):
             if self.reader is None:
-                self.reader, self.read = message(self.loose), 0
+                self.reader, self.read, self.first = message(self.loose), 0, b""
                 self.wanted = next(self.reader)
             if len(held) - at < self.wanted:
                 break
             given, at = held[at:at + self.wanted], at + self.wanted
+            self.first = (self.first + given)[:5]
             try:
                 wanted = self.reader.send(given)
                 self.read, self.wanted = self.read + len(given), wanted
@@ -290,10 +305,13 @@ class Side:
                 self.reader = None
                 yield {"from": self.name, "line": line, **ended.value}
             except Refused as refusal:
-                self.refused = True
+                self.refused, size = True, self.first[2]
+                self.size = 3 + size if size < 255 else 5 + self.first[3] + 256 * self.first[4]
+                self.left = self.size - self.read - len(given)
                 yield {"from": self.name, "line": line, "refused": {"byte": upper(given), "place": self.read, "reason": str(refusal)}}
-                return
+                return held[at:]
         self.held = held[at:]
+        return b""
 
     def cut(self, line):
         if self.reader and not self.refused:
@@ -321,9 +339,9 @@ def bytes_of(number, row):
     return bytes.fromhex(digits.decode())
 
 
-def events_of(trace, loose=False):
+def events_of(trace, loose=False, resync=False):
     """What is said of a trace, in order."""
-    sides, number = {mark: Side(name, loose) for mark, name in SIDES.items()}, 0
+    sides, number = {mark: Side(name, loose, resync) for mark, name in SIDES.items()}, 0
     for number, row in lines_of(trace):
         if row == b"!":
             yield from (said for side in sides.values() for said in side.cut(number))
@@ -377,6 +395,8 @@ def text_of(said):
         return [f"{mark} truncated after {said['truncated']['after']}"]
     if "stopped" in said:
         return [f"{mark} stopped"]
+    if "resumed" in said:
+        return [f"{mark} resumed after {said['resumed']} bytes"]
     head = {
         "Nack": lambda: f" {said['code']}", "Intermediate": lambda: f" {said['status']}", "Abort": lambda: f" {words_of(said)}",
         "Other": lambda: f" {said['control']}", "PrintLine": lambda: f' {said["attribute"]} "{said["text"]}"',
@@ -387,10 +407,10 @@ def text_of(said):
 
 
 def main():
-    loose = sys.argv[1:2] == ["--loose"]
-    for path in sys.argv[2 if loose else 1:]:
+    words = sys.argv[1:]
+    for path in (word for word in words if not word.startswith("--")):
         with open(path, "rb") as file:
-            for event in events_of(file.read(), loose):
+            for event in events_of(file.read(), "--loose" in words, "--resync" in words):
                 print(json_of(event))
     return 0
 

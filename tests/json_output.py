@@ -1,6 +1,6 @@
 #!/usr/bin/env python3
 """Compares `show` and `receipts`, as text and as JSON, with the model of `json_model.py`, byte for byte, strictly and with
-`--loose`.
+`--loose`, and `show` with `--resync` too.
 
     tests/json_output.py [--text] [PROGRAM]
 
@@ -35,6 +35,7 @@ MOST = 4_000_000  # bytes of a trace that many others are put into
 DOCUMENTED = [
     b"\n\n< 04 0F 1C 27 00 04 00 00 00 00 12 34 22 F1 F0" + 10 * b" 11" + b" 06 04 25 02 07 00\n",
     b"\n\n\n< 04 0F 05 D0\n< 80\n",
+    b"\n\n\n< 04 0F 05 D0 00 00 00 00\n",
     b"> 06 01 0A 04 00 00 00 00 12 34\n\n\n\n\n!\n!\n",
 ]
 # Traces whose ends and lines are odd, and some that can't be read.
@@ -54,7 +55,7 @@ NO_LINES = [
     {"fields": [{"bmp": "04", "name": "amount", "value": 10 ** 12}], "from": "till", "kind": "Status", "line": 1, "size": 10},
     {"fields": [{"bmp": "04", "name": "result", "value": 1}], "from": "till", "kind": "Status", "line": 1, "size": 10},
     {"from": "till", "line": 4, "refused": {"byte": "D0", "place": 3, "reason": "Unknown"}},
-    {"from": "till", "line": 4, "truncated": {"after": 0}}, {"file": 1, "line": 1, "lost": True},
+    {"from": "till", "line": 4, "truncated": {"after": 0}}, {"from": "till", "line": 4, "resumed": 2}, {"file": 1, "line": 1, "lost": True},
     {"booked": {"amount": 0, "trace": 1}}, {"booked": {"amount": 1, "line": 0, "trace": 1}}, {"booked": {"amount": 0, "line": 1, "trace": 1}},
     {"unclear": {"amount": 1, "cause": "Lost"}}, {"unclear": {"amount": 1, "cause": "Line", "line": 0}}, {"total": -1}, {"bad": -1, "messages": 1, "total": 1},
     {"bad": 0, "currency": "978", "messages": 1, "total": 1}, {"bad": 0, "currency": None, "messages": 1, "total": 1},
@@ -74,15 +75,15 @@ def run(words, given):
     return done.returncode, done.stdout, done.stderr
 
 
-def told(trace, loose):
+def told(trace, loose, resync=False):
     """The events of a trace, and the status of the program that reads it."""
     events = []
     try:
-        for event in json_model.events_of(trace, loose):
+        for event in json_model.events_of(trace, loose, resync):
             events.append(event)
     except json_model.Fault:
         return events, 3
-    return events, int(any("refused" in event or "truncated" in event for event in events))
+    return events, int(any(map(is_bad, events)))
 
 
 def compare(name, words, trace, wanted):
@@ -103,16 +104,38 @@ def note_of(event):
     return "{line} {sign} refused at {place}, byte {byte}: {reason}".format(line=event["line"], sign=sign, **event["refused"])
 
 
+def is_bad(event):
+    return "refused" in event or "truncated" in event
+
+
+def notes_in(noted):
+    """What standard error says of streams that are bad, in order."""
+    found = re.findall(r"^zvt: line (\d+) of the trace: ([<>]) .*?((?:refused at|cut off after) .*)$", noted, re.M)
+    return sorted(map(" ".join, found))
+
+
 def hold_to_others(name, trace, loose, events, noted):
     """The lines, bytes and sizes of JSON are those that standard error says, and that the messages have which are joined."""
-    wanted = sorted(note_of(event) for event in events if "refused" in event or "truncated" in event)
-    found = re.findall(r"^zvt: line (\d+) of the trace: ([<>]) .*?((?:refused at|cut off after) .*)$", noted, re.M)
-    if sorted(map(" ".join, found)) != wanted:
-        fault(name, "standard error", set(wanted) ^ set(map(" ".join, found)))
+    wanted, found = sorted(map(note_of, filter(is_bad, events))), notes_in(noted)
+    if found != wanted:
+        fault(name, "standard error", set(wanted) ^ set(found))
     joined = run(["normalise" if loose else "join"], trace)[1].decode().splitlines()
     sizes = [(line[0], len(line) // 2 - 1) for line in joined if line[:1] in "<>"]
     if sizes != [(json_model.MARKS[event["from"]], event["size"]) for event in events if "size" in event]:
         fault(name, "the sizes of messages")
+
+
+def hold_resync(name, trace, loose):
+    """With --resync too."""
+    events, status = told(trace, bool(loose), True)
+    text = "".join(row + "\n" for event in events for row in json_model.text_of(event))
+    noted = compare(name, ["show", "--resync", *loose], trace, [status, text.encode("ascii")])
+    if notes_in(noted) != sorted(map(note_of, filter(is_bad, events))):
+        fault(name, "standard error with --resync")
+    if not TEXT_ALONE:
+        lines = [json_model.json_of(event) for event in events]
+        compare(name, ["show", "--json", "--resync", *loose], trace, [status, "".join(line + "\n" for line in lines).encode("ascii")])
+        validated.extend(line for line, event in zip(lines, events) if "resumed" in event)
 
 
 def hold(name, trace):
@@ -129,6 +152,7 @@ def hold(name, trace):
             receipts = "".join(json_model.json_of(event) + "\n" for event in printed)
             compare(name, ["show", "--json", *loose], trace, [status, "".join(line + "\n" for line in lines).encode("ascii")])
             compare(name, ["receipts", "--json", *loose], trace, [status, receipts.encode("ascii")])
+        hold_resync(name, trace, loose)
         validated.extend(lines)
         counts["lines"] += len(lines)
 
@@ -183,9 +207,9 @@ def objects_of_document(events=False):
 
 def documented():
     """Each event of docs/JSON.md is one that the model writes."""
-    written = [event for trace in DOCUMENTED for event in told(trace, False)[0]]
+    written = [event for trace in DOCUMENTED for resync in (False, True) for event in told(trace, False, resync)[0]]
     shown = objects_of_document(events=True)
-    if len(shown) != 6:
+    if len(shown) != 7:
         fault("docs/JSON.md", f"it has {len(shown)} events")
     for text in shown:
         if text.endswith(",..}"):

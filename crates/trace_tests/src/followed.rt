@@ -5,7 +5,7 @@ use zvt_grammar::Lengths;
 use zvt_io::{Counted, Failed, GhostCount, Source};
 use zvt_show::{Follower, Style};
 use zvt_tool::follow_trace;
-use zvt_trace::TraceFault;
+use zvt_trace::{Scope, TraceFault};
 
 /// How many bytes are written after each of three pieces, and all of them.
 #[derive(Drop)]
@@ -17,7 +17,7 @@ struct Written {
 // This function and those below that call the library say nothing of what it answers.
 fn three_pieces(alloc: Global) -> Result<Written, TraceFault> {
     let mut writer = Counted::new(Vec::new(alloc));
-    let mut follower = Follower::new(alloc, Style::Join, Lengths::Shortest);
+    let mut follower = Follower::new(alloc, Style::Join, Scope::OneSide, Lengths::Shortest);
     follower.feed(&mut writer, b"> 06 B")?;
     let begun = writer.inner.len();
     follower.feed(&mut writer, b"0 00\n< 80 0")?;
@@ -83,6 +83,7 @@ fn followed(alloc: Global, pieces: &[&[u8]]) -> (Option<TraceFault>, u64, Vec<u8
     match follow_trace(
         alloc,
         Style::Join,
+        Scope::OneSide,
         Lengths::Shortest,
         &mut reader,
         &mut writer,

@@ -7,6 +7,7 @@ use std::test::Fail;
 use zvt_grammar::Lengths;
 use zvt_io::Counted;
 use zvt_show::{Style, render_trace};
+use zvt_trace::Scope;
 
 /// A status with a result, an amount, a card number and a container; a line to print; what is refused, and what comes
 /// after it; and an order that the loss of the connection cuts off.
@@ -40,7 +41,7 @@ fn written(alloc: Global, style: Style, lengths: Lengths, trace: &[u8]) -> Resul
     requires { length trace.now ≤ limit }
 {
     let mut writer = Counted::new(Vec::new(alloc));
-    render_trace(alloc, style, lengths, trace, &mut writer)?;
+    render_trace(alloc, style, Scope::OneSide, lengths, trace, &mut writer)?;
     Ok(writer.inner)
 }
 

@@ -13,6 +13,8 @@ mod json_lines;
 #[cfg(test)]
 mod json_runs;
 #[cfg(test)]
+mod read_on;
+#[cfg(test)]
 mod recorded_runs;
 #[cfg(test)]
 mod reported_runs;

@@ -203,6 +203,7 @@ event_happened : (count : List Happening → ℕ) → Counts count → (log : Li
 event_happened count counts log judged (trace_event.message from m) = option_happened count counts log judged (happened from m)
 event_happened count counts log judged (trace_event.refused from head byte place why) = one_happened count counts log judged Malformed
 event_happened count counts log judged (trace_event.unread from) = none_happened count log
+event_happened count counts log judged (trace_event.resumed from size) = none_happened count log
 event_happened count counts log judged (trace_event.cut_off from head have) = none_happened count log
 event_happened count counts log judged trace_event.lost = lost_happened count counts log judged
 

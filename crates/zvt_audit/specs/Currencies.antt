@@ -20,6 +20,7 @@ abbrev pub named_by : TraceEvent → Option ℕ
 named_by (trace_event.message from m) = named_from from m
 named_by (trace_event.refused from head byte place why) = None
 named_by (trace_event.unread from) = None
+named_by (trace_event.resumed from size) = None
 named_by (trace_event.cut_off from head have) = None
 named_by trace_event.lost = None
 

@@ -51,6 +51,7 @@ abbrev pub happenings_of : TraceEvent → List Happening
 happenings_of (trace_event.message from m) = cons_option (happened from m) []
 happenings_of (trace_event.refused from head byte place why) = Malformed ∷ []
 happenings_of (trace_event.unread from) = []
+happenings_of (trace_event.resumed from size) = []
 happenings_of (trace_event.cut_off from head have) = []
 happenings_of trace_event.lost = Lost ∷ Connected ∷ []
 

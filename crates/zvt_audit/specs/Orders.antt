@@ -36,6 +36,7 @@ abbrev pub is_order_from : Direction → TraceEvent → Bool
 is_order_from side (trace_event.message from m) = ordered_from side from m
 is_order_from side (trace_event.refused from head byte place why) = false
 is_order_from side (trace_event.unread from) = false
+is_order_from side (trace_event.resumed from size) = false
 is_order_from side (trace_event.cut_off from head have) = false
 is_order_from side trace_event.lost = false
 

@@ -43,6 +43,7 @@ impl Listener<()> for Auditor {
             TraceEvent::Refused { .. } => self.malform(line)?,
             TraceEvent::Lost => self.lose(line)?,
             TraceEvent::Unread { .. } => {}
+            TraceEvent::Resumed { .. } => {}
             TraceEvent::CutOff { .. } => {}
         }
         Ok(())

@@ -12,7 +12,7 @@ use zvt_grammar::Lengths;
 use zvt_io::{Sink, Source};
 use zvt_json::Form;
 use zvt_show::{Style, render_trace};
-use zvt_trace::{Tally, TraceFault, read_trace};
+use zvt_trace::{Scope, Tally, TraceFault, read_trace};
 
 /// Writes each whole message of the trace as text: its direction and name, and a line for each field. A stream that is
 /// refused or cut off has a line, and counts as bad.
@@ -134,7 +134,14 @@ fn read_and_render<R: Source, W: Sink>(
     ensures write { result ≡ Err TraceFault.Write → W.failures writer.old < W.failures writer.new }
 {
     let trace = read_trace(alloc, reader)?;
-    render_trace(alloc, style, lengths, trace.as_slice(), writer)
+    render_trace(
+        alloc,
+        style,
+        Scope::OneSide,
+        lengths,
+        trace.as_slice(),
+        writer,
+    )
 }
 
 /// Reads a trace, and writes its books.
