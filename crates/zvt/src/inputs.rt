@@ -260,7 +260,7 @@ fn work_on_whole<R: Source>(
 }
 
 /// The file, which is no directory: the system opens one, and fails at the first read alone.
-fn opened(rt: &HostRuntime, path: &str) -> io::Result<File> {
+pub fn opened(rt: &HostRuntime, path: &str) -> io::Result<File> {
     let file = File::open(rt, path)?;
     if file.metadata()?.is_dir() {
         return Err(io::Error::from(io::ErrorKind::IsADirectory));

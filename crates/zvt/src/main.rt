@@ -7,6 +7,7 @@ ghost use Rattle.zvt_cli.specs.Chosen.{IsChoiceOf};
 
 mod book;
 mod command;
+mod difference;
 mod ends;
 mod finish;
 mod inputs;
@@ -14,6 +15,7 @@ mod label;
 mod notes;
 mod on_trace;
 mod output;
+mod play;
 mod progress;
 mod settings;
 mod statuses;

@@ -6,7 +6,7 @@ ghost use Rattle.zvt_session.specs.Connecting.{given_by, why_of};
 
 use std::io;
 use std::io::ErrorKind;
-use std::net::{HostAddrs, Net, TcpListener, TcpStream, ToSocketAddrs};
+use std::net::{HostAddrs, Net, SocketAddr, TcpListener, TcpStream, ToSocketAddrs};
 use std::time::Duration;
 use thiserror::Error;
 use zvt_io::GhostCount;
@@ -77,8 +77,9 @@ where
     Ok((till_end, terminal_end))
 }
 
-/// The till's end of a connection to a terminal that listens at this host and port.
-pub(crate) fn connect<R>(rt: &R, host: &str, port: u16) -> Result<TcpStream, NetFault>
+/// The till's end of a connection to a terminal that listens at this host and port. Each read and each write waits for 60
+/// seconds at most.
+pub fn connect<R>(rt: &R, host: &str, port: u16) -> Result<TcpStream, NetFault>
 where
     R: Net<Listener = TcpListener, Stream = TcpStream>,
 {
@@ -105,7 +106,7 @@ where
 
 /// Where tills come in. Contracts see how many connections it gave.
 #[derive(Drop)]
-pub(crate) struct Door {
+pub struct Door {
     pub(crate) listener: TcpListener,
     gave: GhostCount,
 }
@@ -123,8 +124,13 @@ impl Door {
         }
     }
 
+    /// The address at which it listens.
+    pub fn address(&self) -> io::Result<SocketAddr> {
+        self.listener.local_addr()
+    }
+
     /// The terminal's end of the next connection, for which it waits as long as it takes.
-    pub(crate) fn next(&mut self) -> Result<TcpStream, NetFault>
+    pub fn next(&mut self) -> Result<TcpStream, NetFault>
         ensures { MatchResult result (λ _. given_by self.new ≡ given_by self.old + 1) (λ _. given_by self.new ≡ given_by self.old) }
     {
         match accept_next(&self.listener) {
@@ -138,7 +144,7 @@ impl Door {
 }
 
 /// Listens at this port of this host, where port 0 is a free one.
-pub(crate) fn listen<R>(rt: &R, host: &str, port: u16) -> Result<Door, NetFault>
+pub fn listen<R>(rt: &R, host: &str, port: u16) -> Result<Door, NetFault>
 where
     R: Net<Listener = TcpListener, Stream = TcpStream>,
     ensures { IfOk result (λ door. given_by door ≡ 0) }

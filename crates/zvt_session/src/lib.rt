@@ -32,7 +32,7 @@ mod till_end;
 pub use arguments::{Ends, Step, result_code, step_of};
 pub use books::write_book;
 pub use both_ends::{BothEnds, run_both_ends};
-pub use connection::NetFault;
+pub use connection::{Door, NetFault, connect, listen};
 pub use fault::EndFault;
 pub use kept_end::run_till_end_kept;
 pub use kept_ends::run_both_ends_kept;

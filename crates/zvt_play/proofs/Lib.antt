@@ -1,0 +1,8 @@
+pub mod NextLemmas
+pub mod HearLemmas
+pub mod PlayLemmas
+pub mod ScriptLemmas
+pub mod Numbers
+mod Rows
+pub mod CheckLemmas
+pub mod UnheardLemmas

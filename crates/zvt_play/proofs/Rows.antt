@@ -1,0 +1,66 @@
+-- Rows worked by hand.
+use Rattle.std.proofs.Common.{◌≡◌, [], ◌∷◌, Ok, Err, Some, None, length, refl, ap, arith}
+use Rattle.std.specs.Prelude.{codes}
+use Rattle.hex.specs.Hex.{decode_pairs}
+use Rattle.zvt_trace.specs.declared.direction.Direction.TheVariants.{FromTill, FromTerminal}
+use Rattle.zvt_play.specs.Playing.{Meets}
+use Rattle.zvt_play.specs.Script.{LineSays, break, comment_says, send, silence, wait}
+use Rattle.zvt_play.specs.declared.line.ScriptLineError.TheVariants.{Mark}
+
+-- ---- marks
+
+pub silent : comment_says (codes "#~ silent") ≡ Ok (Some silence)
+silent = refl
+
+pub a_wait : comment_says (codes "#~ 1500") ≡ Ok (Some (wait 1500))
+a_wait = refl
+
+pub the_longest_wait : comment_says (codes "#~ 9999999") ≡ Ok (Some (wait 9999999))
+the_longest_wait = refl
+
+pub a_comment : comment_says (codes "# ~ silent") ≡ Ok None
+a_comment = refl
+
+pub too_long : comment_says (codes "#~ 10000000") ≡ Err Mark
+too_long = refl
+
+pub no_space : comment_says (codes "#~1500") ≡ Err Mark
+no_space = refl
+
+pub another_word : comment_says (codes "#~ silence") ≡ Err Mark
+another_word = refl
+
+-- ---- lines
+
+pub an_own_line : LineSays FromTerminal (codes "< 80 00 00") (Ok (Some (send (0x80 ∷ 0x00 ∷ 0x00 ∷ []))))
+unfolding decode_pairs
+an_own_line = refl
+
+pub a_malformed_own_line : LineSays FromTill (codes "> 80") (Ok (Some (send (0x80 ∷ []))))
+unfolding decode_pairs
+a_malformed_own_line = refl
+
+pub a_lost_line : LineSays FromTill (codes "!") (Ok (Some break))
+a_lost_line = refl
+
+-- ---- what a line demands
+
+-- `06 01` and an authorisation
+pub any_authorisation : Meets (0x06 ∷ 0x01 ∷ []) ((0x06 ∷ 0x01 ∷ 0x00 ∷ []) ∷ [])
+any_authorisation = (0x00 ∷ [], refl)
+
+-- the sign alone
+pub any_message : Meets [] ((0x80 ∷ 0x00 ∷ 0x00 ∷ []) ∷ [])
+any_message = (0x80 ∷ 0x00 ∷ 0x00 ∷ [], refl)
+
+-- a message, and the beginning of another
+pub one_and_a_half : Meets (0x80 ∷ 0x00 ∷ 0x00 ∷ 0x06 ∷ 0x0F ∷ []) ((0x80 ∷ 0x00 ∷ 0x00 ∷ []) ∷ (0x06 ∷ 0x0F ∷ 0x00 ∷ []) ∷ [])
+one_and_a_half = (0x06 ∷ 0x0F ∷ [], refl, omega arith, (0x00 ∷ [], refl))
+
+-- a message of a line of two
+pub too_few : Meets (0x80 ∷ 0x00 ∷ 0x00 ∷ 0x06 ∷ 0x0F ∷ 0x00 ∷ []) ((0x80 ∷ 0x00 ∷ 0x00 ∷ []) ∷ []) → ⊥
+too_few m = cc (m.1)
+
+-- a message more than the line has
+pub too_many : Meets (0x80 ∷ 0x00 ∷ 0x00 ∷ []) ((0x80 ∷ 0x00 ∷ 0x00 ∷ []) ∷ (0x80 ∷ 0x00 ∷ 0x00 ∷ []) ∷ []) → ⊥
+too_many m = omega (arith, m.2, ap length m.1)

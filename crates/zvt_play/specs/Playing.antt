@@ -1,0 +1,223 @@
+-- What playing a script does to the devices of a connection.
+use Rattle.std.specs.Prelude.{◌≡◌, ⊤, ◌<◌, ◌≤◌, ◌⊎◌, ℕ, ◌+◌, Bool, false, true, List, [], ◌∷◌, ◌++◌, length, map, take, drop, Option, Some}
+use Rattle.std.specs.List.{All, concat}
+use Rattle.std.specs.Io.KnownBytes.{Appends, Consumes, IsAtEnd}
+use Rattle.zvt_io.specs.Devices.{IsPrefix}
+use Rattle.zvt_grammar.specs.Reading.{shortest}
+use Rattle.zvt_apdu.specs.Message.{Message}
+use Rattle.zvt_stream.specs.Apdus.{IsRefused, Spells, Unfinished}
+use Rattle.zvt_stream.specs.StreamState.{IsReserved, StreamState}
+use Rattle.zvt_play.specs.Script.{Act, act_of, await, break, send, silence, wait}
+use Rattle.zvt_play.specs.declared.difference.Difference.{Difference}
+use Rattle.zvt_play.specs.declared.difference.Difference.TheVariants.{Closed, Malformed, Other, Read, Surplus, Write}
+use Rattle.zvt_play.specs.declared.difference.Unplayed.{Unplayed}
+use Rattle.zvt_play.specs.declared.step.ScriptStep.{ScriptStep}
+
+-- ---- messages
+
+abbrev pub IsMessage : List ℕ → Type 0
+IsMessage bytes = (message : Message) × Spells message bytes
+
+-- Messages are what a line demands: each but the last is what comes next of its bytes, and the last begins with what is left
+-- of them. So a line without bytes demands one message, whatever it is.
+abbrev pub Meets : (demanded : List ℕ) → (messages : List (List ℕ)) → Type 0
+Meets demanded [] = ⊥
+Meets demanded (message ∷ []) = IsPrefix demanded message
+Meets demanded (message ∷ next ∷ later) = (left : List ℕ) × (demanded ≡ message ++ left) × (0 < length left) × Meets left (next ∷ later)
+
+-- messages are the first bytes that a line demands, and some of them are left
+abbrev pub Agrees : (demanded : List ℕ) → (messages : List (List ℕ)) → (left : List ℕ) → Type 0
+Agrees demanded [] left = demanded ≡ left
+Agrees demanded (message ∷ later) left = (between : List ℕ) × (demanded ≡ message ++ between) × (0 < length between) × Agrees between later left
+
+-- neither begins the other
+abbrev pub AreApart : List ℕ → List ℕ → Type 0
+AreApart a b = (IsPrefix a b → ⊥) × (IsPrefix b a → ⊥)
+
+-- what is left of the bytes that are demanded after a message that agrees with them
+abbrev pub Leaves : (demanded message left : List ℕ) → Type 0
+Leaves demanded message left = ((left ≡ []) × IsPrefix demanded message) ⊎ ((0 < length left) × (demanded ≡ message ++ left))
+
+-- a stream that holds nothing, and never wants memory
+pub record IsReady (s : StreamState) : Type 0 where
+  pub holds : s.held ≡ []
+  pub goes_on : s.stopped ≡ false
+  pub reading : s.reading ≡ shortest
+  pub reserved : IsReserved s
+
+-- what was read and not heard, what is to come, and what was written
+pub record LineState : Type 0 where
+  pub unheard : List ℕ
+  pub coming : Option (List ℕ)
+  pub written : Option (List ℕ)
+
+abbrev pub line_state : List ℕ → (coming written : Option (List ℕ)) → LineState
+line_state unheard coming written = record { unheard = unheard; coming = coming; written = written }
+
+-- One message came whole, and the stream lends it. It is the first of what was unheard and what was then read, and the rest
+-- of that is unheard.
+pub record NextMessage (unheard : List ℕ) (coming : Option (List ℕ)) (rest : List ℕ) (left : Option (List ℕ)) (stream : StreamState) : Type 0 where
+  pub message : Message
+  pub bytes : List ℕ
+  pub read : List ℕ
+  pub some : 0 < length bytes
+  pub spells : Spells message bytes
+  pub lent : stream.lent ≡ Some message
+  pub consumed : Consumes coming left read
+  pub cut : unheard ++ read ≡ bytes ++ rest
+
+-- No message came whole: none begins with these bytes, or they begin one and no more came.
+abbrev pub NoneOf : Difference → (bytes : List ℕ) → (left : Option (List ℕ)) → Type 0
+NoneOf (Closed have) bytes left = Unfinished bytes × (have ≡ length bytes) × IsAtEnd left
+NoneOf (Malformed place why) bytes left = IsRefused bytes place why
+NoneOf Read bytes left = Unfinished bytes
+NoneOf (Other at) bytes left = ⊥
+NoneOf (Surplus count) bytes left = ⊥
+NoneOf Write bytes left = ⊥
+
+pub record NoMessage (why : Difference) (unheard : List ℕ) (coming left : Option (List ℕ)) : Type 0 where
+  pub bytes : List ℕ
+  pub rest : List ℕ
+  pub read : List ℕ
+  pub consumed : Consumes coming left read
+  pub cut : unheard ++ read ≡ bytes ++ rest
+  pub none : NoneOf why bytes left
+
+-- some bytes are unheard: those that were, or what one read brought
+pub record Fills (old : List ℕ) (coming : Option (List ℕ)) (new : List ℕ) (left : Option (List ℕ)) : Type 0 where
+  pub read : List ℕ
+  pub consumed : Consumes coming left read
+  pub cut : old ++ read ≡ new
+  pub some : 0 < length new
+
+-- none were unheard, and none came
+abbrev pub NoMore : Difference → (have : ℕ) → (unheard : List ℕ) → (coming left : Option (List ℕ)) → Type 0
+NoMore (Closed bytes) have unheard coming left = (bytes ≡ have) × (unheard ≡ []) × Consumes coming left [] × IsAtEnd left
+NoMore Read have unheard coming left = (unheard ≡ []) × Consumes coming left []
+NoMore (Malformed place why) have unheard coming left = ⊥
+NoMore (Other at) have unheard coming left = ⊥
+NoMore (Surplus count) have unheard coming left = ⊥
+NoMore Write have unheard coming left = ⊥
+
+-- ---- one step
+
+-- Messages came that are what a line demands.
+pub record Hears (demanded unheard : List ℕ) (coming : Option (List ℕ)) (rest : List ℕ) (left : Option (List ℕ)) : Type 0 where
+  pub messages : List (List ℕ)
+  pub read : List ℕ
+  pub each : All IsMessage messages
+  pub meets : Meets demanded messages
+  pub consumed : Consumes coming left read
+  pub cut : unheard ++ read ≡ concat messages ++ rest
+
+-- Messages came that agree with a line, and more of it is demanded.
+pub record HearsPart (demanded unheard : List ℕ) (coming : Option (List ℕ)) (rest : List ℕ) (left : Option (List ℕ)) (wanted : List ℕ) : Type 0 where
+  pub messages : List (List ℕ)
+  pub read : List ℕ
+  pub each : All IsMessage messages
+  pub agrees : Agrees demanded messages wanted
+  pub consumed : Consumes coming left read
+  pub cut : unheard ++ read ≡ concat messages ++ rest
+
+-- the next message is not what is wanted, or there is none
+abbrev pub ComesOtherwise : Difference → (demanded wanted unheard : List ℕ) → (coming left : Option (List ℕ)) → StreamState → Type 0
+ComesOtherwise (Other at) demanded wanted unheard coming left stream =
+    (rest : List ℕ) × (next : NextMessage unheard coming rest left stream) × AreApart wanted next.bytes × (at + length wanted ≡ length demanded)
+ComesOtherwise (Closed have) demanded wanted unheard coming left stream = NoMessage (Closed have) unheard coming left
+ComesOtherwise (Malformed place why) demanded wanted unheard coming left stream = NoMessage (Malformed place why) unheard coming left
+ComesOtherwise Read demanded wanted unheard coming left stream = NoMessage Read unheard coming left
+ComesOtherwise (Surplus count) demanded wanted unheard coming left stream = ⊥
+ComesOtherwise Write demanded wanted unheard coming left stream = ⊥
+
+-- After messages that agree with a line something else came than it demands.
+pub record Differs (why : Difference) (demanded unheard : List ℕ) (coming left : Option (List ℕ)) (stream : StreamState) : Type 0 where
+  pub wanted : List ℕ
+  pub rest : List ℕ
+  pub between : Option (List ℕ)
+  pub part : HearsPart demanded unheard coming rest between wanted
+  pub last : ComesOtherwise why demanded wanted rest between left stream
+
+-- A step was played. Before an own line all that was read was heard.
+abbrev pub Played : Act → (old new : LineState) → Type 0
+Played (send bytes) old new = (old.unheard ≡ []) × (new.unheard ≡ []) × (new.coming ≡ old.coming) × Appends old.written new.written bytes
+Played (await bytes) old new = Hears bytes old.unheard old.coming new.unheard new.coming × (new.written ≡ old.written)
+Played break old new = ⊥
+Played (wait milliseconds) old new = new ≡ old
+Played silence old new = ⊥
+
+-- A step ends what is played over one connection. Before it is broken all that was read was heard.
+abbrev pub EndsLine : Act → LineState → Type 0
+EndsLine (send bytes) state = ⊥
+EndsLine (await bytes) state = ⊥
+EndsLine break state = state.unheard ≡ []
+EndsLine (wait milliseconds) state = ⊥
+EndsLine silence state = ⊤
+
+-- more was read than was awaited
+abbrev pub IsSurplus : (count : ℕ) → (old new : LineState) → Type 0
+IsSurplus count old new = (count ≡ length old.unheard) × (0 < count) × (new ≡ old)
+
+-- A step could not be played.
+abbrev pub Stops : Difference → Act → (old new : LineState) → StreamState → Type 0
+Stops why (await bytes) old new stream = Differs why bytes old.unheard old.coming new.coming stream × (new.written ≡ old.written)
+Stops (Surplus count) (send bytes) old new stream = IsSurplus count old new
+Stops (Surplus count) break old new stream = IsSurplus count old new
+Stops Write (send bytes) old new stream = (old.unheard ≡ []) × (new.coming ≡ old.coming) × (part : List ℕ) × IsPrefix part bytes × Appends old.written new.written part
+Stops why act old new stream = ⊥
+
+-- what one step answers: that it was played, or that it ends what is played over the connection
+abbrev pub PlaysStep : Act → (goes_on : Bool) → (old new : LineState) → Type 0
+PlaysStep act true old new = Played act old new
+PlaysStep act false old new = EndsLine act old × (new ≡ old)
+
+-- ---- the steps over one connection
+
+abbrev pub acts_of : List ScriptStep → List Act
+acts_of steps = map (λ step. act_of step.action) steps
+
+-- the steps were played, one after another
+abbrev pub Plays : List Act → (old new : LineState) → Type 0
+Plays [] old new = new ≡ old
+Plays (act ∷ acts) old new = (middle : LineState) × Played act old middle × Plays acts middle new
+
+-- what is played over the connection ends before these steps: with all that was read heard, or in silence
+abbrev pub EndsBefore : List Act → LineState → Type 0
+EndsBefore [] state = state.unheard ≡ []
+EndsBefore (act ∷ acts) state = EndsLine act state
+
+-- the first of these steps, or the end, could not be played
+abbrev pub StopsAt : Difference → List Act → (old new : LineState) → StreamState → Type 0
+StopsAt why (act ∷ acts) old new stream = Stops why act old new stream
+StopsAt (Surplus count) [] old new stream = IsSurplus count old new
+StopsAt (Other at) [] old new stream = ⊥
+StopsAt (Closed have) [] old new stream = ⊥
+StopsAt (Malformed place why) [] old new stream = ⊥
+StopsAt Read [] old new stream = ⊥
+StopsAt Write [] old new stream = ⊥
+
+-- That many of the steps were played, and what is played over the connection ends there.
+pub record PlaysTo (steps : List ScriptStep) (count : ℕ) (old : LineState) (left written : Option (List ℕ)) : Type 0 where
+  pub unheard : List ℕ
+  pub few : count ≤ length steps
+  pub plays : Plays (take count (acts_of steps)) old (line_state unheard left written)
+  pub ends : EndsBefore (drop count (acts_of steps)) (line_state unheard left written)
+
+-- The steps before that one were played, and it could not be.
+pub record StopsPlay (steps : List ScriptStep) (unplayed : Unplayed) (old : LineState) (left written : Option (List ℕ)) (stream : StreamState) : Type 0 where
+  pub middle : LineState
+  pub unheard : List ℕ
+  pub few : unplayed.step ≤ length steps
+  pub plays : Plays (take unplayed.step (acts_of steps)) old middle
+  pub stops : StopsAt unplayed.why (drop unplayed.step (acts_of steps)) middle (line_state unheard left written) stream
+
+-- all bytes that the steps send, in order
+abbrev pub sent_by : Act → List ℕ
+sent_by (send bytes) = bytes
+sent_by (await bytes) = []
+sent_by break = []
+sent_by (wait milliseconds) = []
+sent_by silence = []
+
+abbrev pub all_sent : List Act → List ℕ
+all_sent [] = []
+all_sent (act ∷ acts) = sent_by act ++ all_sent acts

@@ -1,0 +1,29 @@
+//! Where what comes differs from a script.
+
+use zvt_grammar::Why;
+
+/// Why a step could not be played.
+#[derive(Clone, Copy, Debug, Drop, PartialEq, Eq)]
+pub enum Difference {
+    /// Another message came, which the stream lends. Before it came the first `at` bytes of the step.
+    Other { at: usize },
+    /// So many bytes more came than the steps before await.
+    Surplus { count: usize },
+    /// The other side closed the connection, after `have` bytes of a message.
+    Closed { have: usize },
+    /// No message begins with the bytes that came, up to and with the one at `place`, which is counted from 0 at the first
+    /// byte of the message.
+    Malformed { place: usize, why: Why },
+    /// A read failed, or took longer than the device waits.
+    Read,
+    /// A write failed. A prefix of the step's bytes may have been written.
+    Write,
+}
+
+/// The first step that could not be played, counted from 0, and why. All steps before it were played. The end of the script
+/// counts as a step.
+#[derive(Clone, Copy, Debug, Drop, PartialEq, Eq)]
+pub struct Unplayed {
+    pub step: usize,
+    pub why: Difference,
+}

@@ -1,0 +1,22 @@
+//! Plays one side of a trace against a real other side.
+//!
+//! [`script`] reads what a trace has the player do, a step for each line. [`play`] makes the steps over one connection: it
+//! sends its own side's lines, and compares what comes with the other side's.
+#![tactic(auto)]
+
+mod difference;
+mod line;
+mod marks;
+mod messages;
+mod player;
+mod scripts;
+mod silence;
+mod step;
+mod unheard;
+
+pub use difference::{Difference, Unplayed};
+pub use line::ScriptLineError;
+pub use player::play;
+pub use scripts::{ScriptFault, script};
+pub use silence::stay_silent;
+pub use step::{Action, ScriptStep};

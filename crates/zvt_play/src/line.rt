@@ -1,0 +1,124 @@
+//! What a line of a trace has the player do.
+ghost use Rattle.std.specs.Prelude.{◌≡◌, ℕ, List, Ok, Err, IfErr, IfOk, IsErr, OnOk, option_map};
+ghost use Rattle.hex.specs.Hex.{decode_of};
+ghost use Rattle.zvt_trace.specs.Meanings.{piece_of, without_spaces};
+ghost use Rattle.zvt_play.specs.Script.{AwaitSays, CanCome, LineSays, SaysBy, act_of};
+ghost use Rattle.zvt_play.specs.declared.line.ScriptLineError.{ScriptLineError};
+ghost use Rattle.zvt_play.specs.declared.line.BadLine.TheVariants.{Memory};
+
+use crate::marks::read_comment;
+use crate::step::Action;
+use hex::FromHexError;
+use std::alloc::{AllocError, Global};
+use thiserror::Error;
+use zvt_grammar::Why;
+use zvt_stream::{FedView, FeedError, Stream};
+use zvt_trace::{Direction, TraceLineError};
+
+/// Why a line can't be played.
+#[derive(Clone, Copy, Debug, PartialEq, Eq, Error)]
+pub enum ScriptLineError {
+    /// It is no line of a trace.
+    #[error("{0}")]
+    Trace(TraceLineError),
+    /// It begins as a mark and is none.
+    #[error("expected '#~ silent', or '#~' and milliseconds, e.g. '#~ 1500'")]
+    Mark,
+    /// It is a line of the other side, and no message begins with its bytes up to and with the one at `at`, which is
+    /// counted from 0.
+    #[error("no message begins with these bytes, up to the one at {at} ({why}): give bytes that the other side can send, or the sign alone for any message")]
+    NoMessage { at: usize, why: Why },
+}
+
+/// Why a line is not read.
+#[derive(Clone, Copy, Debug, PartialEq, Eq)]
+pub(crate) enum BadLine {
+    Wrong(ScriptLineError),
+    Memory,
+}
+
+impl From<AllocError> for BadLine {
+    ghost from_gives = { λ _ bad. bad ≡ Memory };
+
+    fn from(_refused: AllocError) -> BadLine {
+        BadLine::Memory
+    }
+}
+
+/// Reads a line, which has lost its line feed, for the player of that side.
+pub(crate) fn read_line(
+    alloc: Global,
+    own: Direction,
+    line: &[u8],
+) -> Result<Option<Action>, BadLine>
+    ensures ok { IfOk result (λ read. LineSays own line.now (Ok (option_map act_of read))) }
+    ensures wrong { (why : ScriptLineError) → result ≡ Err (BadLine.Wrong why) → LineSays own line.now (Err why) }
+{
+    match line {
+        [] => Ok(None),
+        [b'#', ..] => match read_comment(line) {
+            Ok(action) => Ok(action),
+            Err(why) => Err(BadLine::Wrong(why)),
+        },
+        [b'>', text @ ..] => read_piece(alloc, own, Direction::FromTill, text),
+        [b'<', text @ ..] => read_piece(alloc, own, Direction::FromTerminal, text),
+        [b'!'] => Ok(Some(Action::Break)),
+        _ => Err(BadLine::Wrong(ScriptLineError::Trace(TraceLineError::Form))),
+    }
+}
+
+/// Reads the bytes of a side, spelled in hexadecimal with spaces.
+fn read_piece(
+    alloc: Global,
+    own: Direction,
+    from: Direction,
+    text: &[u8],
+) -> Result<Option<Action>, BadLine>
+    ensures ok { IfOk result (λ read. (line : List ℕ) → SaysBy own line (piece_of from (decode_of (without_spaces text.now))) (Ok (option_map act_of read))) }
+    ensures wrong { (why : ScriptLineError) → result ≡ Err (BadLine.Wrong why) → (line : List ℕ) → SaysBy own line (piece_of from (decode_of (without_spaces text.now))) (Err why) }
+{
+    let bytes = decode(alloc, text)?;
+    if own == from {
+        return Ok(Some(Action::Send(bytes)));
+    }
+    check(alloc, bytes.as_slice())?;
+    Ok(Some(Action::Await(bytes)))
+}
+
+/// The bytes that the text spells.
+fn decode(alloc: Global, text: &[u8]) -> Result<Vec<u8>, BadLine>
+    ensures ok { IfOk result (λ bytes. decode_of (without_spaces text.now) ≡ Ok bytes.items) }
+    ensures wrong { (why : ScriptLineError) → result ≡ Err (BadLine.Wrong why) → (why ≡ ScriptLineError.Trace TraceLineError.Hex) × IsErr (decode_of (without_spaces text.now)) }
+{
+    let digits: Vec<u8> = text
+        .iter()
+        .copied()
+        .filter(|character| *character != b' ')
+        .collect(alloc)?;
+    match hex::decode(alloc, digits) {
+        Ok(bytes) => Ok(bytes),
+        Err(FromHexError::OutOfMemory) => Err(BadLine::Memory),
+        Err(_) => Err(BadLine::Wrong(ScriptLineError::Trace(TraceLineError::Hex))),
+    }
+}
+
+/// Whether the other side can send these bytes: `Ok`, or where no message can go on.
+fn check(alloc: Global, bytes: &[u8]) -> Result<(), BadLine>
+    ensures ok { OnOk result (CanCome bytes.now) }
+    ensures wrong { (why : ScriptLineError) → result ≡ Err (BadLine.Wrong why) → AwaitSays bytes.now (Err why) }
+{
+    let mut stream = Stream::new(alloc);
+    let mut rest = bytes;
+    'messages: loop {
+        match stream.feed_view(rest) {
+            Ok(FedView::Message { taken }) => rest = &rest[taken..],
+            Ok(FedView::More) => return Ok(()),
+            Ok(FedView::Refused { place, why }) => {
+                let at = bytes.len() - rest.len() + place;
+                return Err(BadLine::Wrong(ScriptLineError::NoMessage { at, why }));
+            }
+            Err(FeedError::Stopped) => unreachable!(),
+            Err(FeedError::Memory) => return Err(BadLine::Memory),
+        }
+    }
+}

@@ -1,0 +1,66 @@
+//! The script of a trace.
+ghost use Rattle.std.specs.Prelude.{◌≡◌, ◌∷◌, [], ◌++◌, OnOk};
+ghost use Rattle.zvt_play.specs.Script.{ReadsScript};
+ghost use Rattle.zvt_play.specs.declared.scripts.ScriptFault.TheVariants.{Memory};
+
+use crate::line::{BadLine, ScriptLineError, read_line};
+use crate::step::ScriptStep;
+use std::alloc::{AllocError, Global};
+use thiserror::Error;
+use zvt_trace::{Direction, next_line, readable};
+
+/// Why a trace can't be played.
+#[derive(Clone, Copy, Debug, Drop, PartialEq, Eq, Error)]
+pub enum ScriptFault {
+    /// A line, counted from 1, is the first that can't be played.
+    #[error("line {line} of the trace: {why}")]
+    Line { line: usize, why: ScriptLineError },
+    #[error("out of memory: split the trace after a line '!'")]
+    Memory,
+}
+
+impl From<AllocError> for ScriptFault {
+    ghost from_gives = { λ _ fault. fault ≡ Memory };
+
+    fn from(_refused: AllocError) -> ScriptFault {
+        ScriptFault::Memory
+    }
+}
+
+/// The steps of the trace for the player of that side: one for each line of bytes, each `!` and each mark, in order.
+///
+/// Of a journal the lines before the first empty one are read. An own line may have any bytes. A line of the other side has
+/// messages, and perhaps the beginning of one, or no bytes.
+pub fn script(alloc: Global, own: Direction, trace: &[u8]) -> Result<Vec<ScriptStep>, ScriptFault>
+    ensures { ReadsScript own trace.now result }
+{
+    let mut steps = Vec::new(alloc);
+    let mut rest = readable(trace);
+    let mut number = 0;
+    'lines: while !rest.is_empty() {
+        let (line, after) = next_line(rest);
+        number += 1;
+        match read_line(alloc, own, line) {
+            Ok(None) => {}
+            Ok(Some(action)) => add(
+                &mut steps,
+                ScriptStep {
+                    line: number,
+                    action,
+                },
+            )?,
+            Err(BadLine::Wrong(why)) => return Err(ScriptFault::Line { line: number, why }),
+            Err(BadLine::Memory) => return Err(ScriptFault::Memory),
+        }
+        rest = after;
+    }
+    Ok(steps)
+}
+
+/// Adds a step.
+fn add(steps: &mut Vec<ScriptStep>, step: ScriptStep) -> Result<(), AllocError>
+    ensures { OnOk result (steps.new.items ≡ steps.old.items ++ step ∷ []) }
+{
+    steps.push(step)?;
+    Ok(())
+}

@@ -1,0 +1,75 @@
+//! Bytes that were read before the messages in them are awaited.
+ghost use Rattle.std.specs.Prelude.{◌≡◌, ◌≤◌, ◌<◌, [], length, drop, MatchResult, slice_range};
+ghost use Rattle.std.specs.Io.KnownBytes.{Consumes, IsAtEnd, Keeps};
+
+use zvt_io::{Failed, Source};
+
+/// How many bytes are read at once.
+const CHUNK: usize = 1_024;
+
+/// What a read brought and nobody heard yet.
+#[derive(Drop)]
+pub(crate) struct Unheard {
+    chunk: [u8; CHUNK],
+    from: usize,
+    to: usize,
+    ghost ordered: { from ≤ to },
+    ghost within: { to ≤ 1024 },
+}
+
+impl Unheard {
+    ghost use Rattle.zvt_play.specs.Unheard.{unheard_in};
+
+    /// Nothing.
+    pub(crate) fn new() -> Unheard
+        ensures { unheard_in result ≡ [] }
+    {
+        Unheard {
+            chunk: [0; CHUNK],
+            from: 0,
+            to: 0,
+        }
+    }
+
+    /// Its bytes.
+    pub(crate) fn bytes(&self) -> &[u8]
+        ensures { result.now ≡ unheard_in self.now }
+    {
+        &self.chunk[self.from..self.to]
+    }
+
+    /// How many bytes there are.
+    pub(crate) fn len(&self) -> usize
+        ensures { result ≡ length (unheard_in self.now) }
+    {
+        self.to - self.from
+    }
+
+    /// Takes the first bytes away.
+    pub(crate) fn drop_first(&mut self, count: usize)
+        requires { count ≤ length (unheard_in self.old) }
+        ensures { unheard_in self.new ≡ drop count (unheard_in self.old) }
+    {
+        self.from += count;
+    }
+
+    /// Takes all bytes away.
+    pub(crate) fn clear(&mut self)
+        ensures { unheard_in self.new ≡ [] }
+    {
+        self.from = self.to;
+    }
+
+    /// Reads once in place of what there was, and answers how many bytes came: 0 at the end.
+    pub(crate) fn refill<R: Source>(&mut self, reader: &mut R) -> Result<usize, Failed>
+        ensures read { MatchResult result
+            (λ count. Consumes (R.remaining reader.old) (R.remaining reader.new) (unheard_in self.new) × (length (unheard_in self.new) ≡ count) × (count ≡ 0 → IsAtEnd (R.remaining reader.new)))
+            (λ _. Keeps (R.remaining reader.old) (R.remaining reader.new) × (unheard_in self.new ≡ [])) }
+    {
+        self.from = 0;
+        self.to = 0;
+        let count = reader.read(&mut self.chunk)?;
+        self.to = count;
+        Ok(count)
+    }
+}

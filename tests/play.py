@@ -1,0 +1,284 @@
+#!/usr/bin/env python3
+"""Records dialogues of `zvt till` and `zvt terminal`, and plays each side of them with `zvt play` against the other program.
+
+    tests/play.py [PROGRAM] [DIALOGUES]
+
+PROGRAM is the one that `rt ci` built, unless another is named. Each of 30 random dialogues, or of DIALOGUES, is recorded at
+both ends. Each trace is played as a terminal against a till with the same steps, and as a till against a terminal: it ends
+with status 0, and the other program with what it came to in the recording. Then one byte of a message of the other side is
+changed, and the difference is told at its line. Lost lines, waits, silence, what comes besides, and wrong words and files
+follow. The status is 1 where anything is not as expected.
+"""
+import os
+import pathlib
+import random
+import re
+import socket
+import subprocess
+import sys
+import tempfile
+import time
+
+HERE = pathlib.Path(__file__).resolve().parent
+PROGRAM = os.path.abspath(sys.argv[1]) if len(sys.argv) > 1 else str(HERE.parent / "crates/zvt/out/zvt")
+DIALOGUES = int(sys.argv[2]) if len(sys.argv) > 2 else 30
+SECONDS = 20
+REGISTRATION, REGISTERED = "06 00 06 00 00 00 BE 09 78", "80 00 00 06 0F 08 29 12 34 56 78 49 09 78"
+AUTHORISATION = "06 01 07 04 00 00 00 00 10 00"
+failed, plays = [], 0
+
+
+def check(name, found, wanted):
+    if found != wanted:
+        failed.append(name)
+        print(f"NOT AS EXPECTED: {name}: {found!r:.600} instead of {wanted!r:.600}")
+
+
+class Listener:
+    """A command that listens: its port, and how it ended."""
+
+    def __init__(self, *words):
+        self.process = subprocess.Popen([PROGRAM, *words], stdout=subprocess.PIPE, stderr=subprocess.PIPE, text=True)
+        self.port = re.search(r":(\d+)$", self.process.stderr.readline())
+        self.port = int(self.port[1]) if self.port else 0
+
+    def ended(self):
+        said, errors = self.process.communicate(timeout=SECONDS)
+        return self.process.returncode, said, errors
+
+
+def run(*words):
+    done = subprocess.run([PROGRAM, *words], capture_output=True, text=True, timeout=SECONDS)
+    return done.returncode, done.stdout, done.stderr
+
+
+def till(port, steps, *words):
+    return run("till", "--port", str(port), *words, *steps)
+
+
+def play_terminal(trace, *words):
+    global plays
+    plays += 1
+    return Listener("play", "--terminal", str(trace), "--listen", "0", *words)
+
+
+def play_till(trace, port):
+    global plays
+    plays += 1
+    return run("play", "--till", str(trace), "--port", str(port))
+
+
+# ---- recorded dialogues
+
+
+def random_steps(chance):
+    """Steps of a till, and the words of its terminal."""
+    steps, paid = ["register"], 0
+    for _ in range(chance.randrange(5)):
+        word = chance.choice(["pay", "pay", "pay", "reverse", "close"])
+        if word == "pay":
+            steps.append(f"pay:{chance.randrange(1, 10 ** chance.randrange(1, 8))}")
+            paid += 1
+        elif word == "reverse":
+            steps.append(f"reverse:{chance.randrange(1, paid + 2)}")
+        else:
+            steps.append("close")
+    return steps, ["--decline", f"{chance.randrange(1, 256):02X}"] if chance.random() < 0.2 else []
+
+
+def record(folder, number, steps, words):
+    """The traces of both ends, and what the till and the terminal came to."""
+    traces = [folder / f"{number}.till", folder / f"{number}.terminal"]
+    terminal = Listener("terminal", "--port", "0", "--trace", str(traces[1]), *words)
+    paid = till(terminal.port, steps, "--trace", str(traces[0]))
+    return traces, paid, terminal.ended()[0]
+
+
+def plays_both(name, trace, steps, words, paid, served):
+    """Either side of the trace is played against the other program."""
+    terminal = play_terminal(trace)
+    check(f"{name}: the till", till(terminal.port, steps)[:2], paid[:2])
+    check(f"{name}: as a terminal", terminal.ended()[:2], (0, ""))
+    other = Listener("terminal", "--port", "0", *words)
+    check(f"{name}: as a till", play_till(trace, other.port), (0, "", ""))
+    check(f"{name}: the terminal", other.ended()[0], served)
+
+
+def whole(sign, candidates):
+    """Those of these byte strings that are whole messages."""
+    text = "!\n".join(f"{sign} {data.hex()}\n" for data in candidates)
+    done = subprocess.run([PROGRAM, "join"], input=text, capture_output=True, text=True, timeout=SECONDS)
+    for data, rows in zip(candidates, done.stdout.split("!\n")):
+        if rows.replace(f"{sign} ", "").replace("\n", "") == data.hex().upper():
+            yield data
+
+
+def changed(chance, trace, sign, folder):
+    """The trace with one byte of a line of that side changed, so that it has whole messages still, and the line's number."""
+    lines = trace.read_text().split("\n")
+    at = chance.choice([at for at, line in enumerate(lines) if line.startswith(sign)])
+    data = bytes.fromhex(lines[at][1:])
+    places = [chance.randrange(len(data)) for _ in range(30)]
+    found = [data[:place] + bytes([data[place] ^ 1 << chance.randrange(8)]) + data[place + 1:] for place in places]
+    other = next(whole(sign, found))
+    copy = folder / "changed.trace"
+    copy.write_text("\n".join(lines[:at] + [f"{sign} {other.hex()}"] + lines[at + 1:]))
+    return copy, at + 1
+
+
+def differs(name, chance, trace, steps, words, folder):
+    """A byte that differs is told at its line, on either side."""
+    copy, line = changed(chance, trace, ">", folder)
+    terminal = play_terminal(copy)
+    till(terminal.port, steps)
+    status, said, errors = terminal.ended()
+    check(f"{name}: another till", (status, said.split("\n")[0], errors), (1, f"line {line} awaits", ""))
+    copy, line = changed(chance, trace, "<", folder)
+    other = Listener("terminal", "--port", "0", *words)
+    status, said, errors = play_till(copy, other.port)
+    other.ended()
+    check(f"{name}: another terminal", (status, said.split("\n")[0], errors), (1, f"line {line} awaits", ""))
+
+
+def recorded(folder):
+    chance = random.Random(20261127)
+    for number in range(DIALOGUES):
+        steps, words = random_steps(chance)
+        traces, paid, served = record(folder, number, steps, words)
+        for trace in traces:
+            name = f"{' '.join(steps + words)}, {trace.suffix}"
+            plays_both(name, trace, steps, words, paid, served)
+            differs(name, chance, trace, steps, words, folder)
+
+
+# ---- single lines
+
+
+def written(folder, text):
+    trace = folder / "one.trace"
+    trace.write_text(text)
+    return trace
+
+
+def connect(port):
+    line = socket.create_connection(("127.0.0.1", port), SECONDS)
+    line.setsockopt(socket.IPPROTO_TCP, socket.TCP_NODELAY, 1)
+    return line
+
+
+def send(line, digits):
+    line.sendall(bytes.fromhex(digits))
+
+
+def hear(name, line, digits):
+    wanted, found = bytes.fromhex(digits), b""
+    while len(found) < len(wanted) and (more := line.recv(len(wanted) - len(found))):
+        found += more
+    check(f"{name}: what is sent", found.hex(" "), wanted.hex(" "))
+
+
+def as_terminal(name, folder, text, pieces, wanted, besides=""):
+    """Plays a terminal: pieces are sent, or heard where they begin with '<'. Then the till closes."""
+    terminal = play_terminal(written(folder, text))
+    with connect(terminal.port) as line:
+        for piece in pieces:
+            if piece.startswith("<"):
+                hear(name, line, piece[1:])
+            else:
+                send(line, piece)
+        if besides:
+            time.sleep(0.1)
+            send(line, besides)
+        try:
+            line.shutdown(socket.SHUT_WR)
+        except OSError:
+            pass  # the player has closed at a difference
+        status, said, _ = terminal.ended()
+    check(name, (status, said), wanted)
+
+
+def lines(folder):
+    answer = f"> 0600\n< {REGISTERED}\n"
+    any_line = f">\n< {REGISTERED}\n"
+    heard = "< " + REGISTERED
+    as_terminal("a line's beginning", folder, answer, [REGISTRATION, heard], (0, ""))
+    as_terminal("the sign alone", folder, any_line, [AUTHORISATION, heard], (0, ""))
+    as_terminal("a message in pieces", folder, answer, [REGISTRATION[:5], REGISTRATION[6:], heard], (0, ""))
+    as_terminal("two messages at once", folder, f">\n> 06 01\n< {REGISTERED}\n", [REGISTRATION + AUTHORISATION, heard], (0, ""))
+    as_terminal("another message", folder, answer, [AUTHORISATION], (1, "line 1 awaits\n> a message that begins with 0600, 2 bytes of it are given\nbut another message came\n> Authorisation\n  04 amount 1000\n"))
+    as_terminal("another amount", folder, f"> {AUTHORISATION}\n", [AUTHORISATION[:-2] + "01"], (1, "line 1 awaits\n> Authorisation\n  04 amount 1000\nbut another message came\n> Authorisation\n  04 amount 1001\n"))
+    as_terminal("the second of a line", folder, f"# two\n> 80 00 00 {AUTHORISATION}\n", ["80 00 00 80 00 00"], (1, "line 2 awaits\n> Authorisation\n  04 amount 1000\nbut another message came\n> Ack\n"))
+    as_terminal("what comes besides, before an own line", folder, answer, [REGISTRATION + " 80 00 00"], (1, "line 2: 3 bytes came before it that the trace does not have\n"))
+    as_terminal("what comes besides, at the end", folder, "> 0600\n", [REGISTRATION + " 80 00"], (1, "the end of the trace: 2 bytes came before it that the trace does not have\n"))
+    as_terminal("what comes besides, after a wait", folder, answer + "#~ 400\n", [REGISTRATION, heard], (1, "the end of the trace: 10 bytes came before it that the trace does not have\n"), AUTHORISATION)
+    as_terminal("what comes besides, before a lost line", folder, answer + "#~ 400\n!\n", [REGISTRATION, heard], (1, "line 4: 10 bytes came before it that the trace does not have\n"), AUTHORISATION)
+    as_terminal("a till that disconnects", folder, answer + "> 06 01\n", [REGISTRATION, heard, AUTHORISATION[:8]], (1, "line 3 awaits\n> a message that begins with 0601, 2 bytes of it are given\nbut the other side closed the connection after 3 bytes of a message\n"))
+    as_terminal("no message", folder, answer + ">\n", [REGISTRATION, heard, "06 01 02 FF 00"], (1, "line 3 awaits\n> any message\nbut no message begins with what came: refused at 3: UnknownField\n"))
+    as_terminal("silence", folder, "> 0600\n#~ silent\n< 80 00 00\n", [REGISTRATION, AUTHORISATION], (0, ""))
+    as_terminal("a malformed own line", folder, "> 0600\n< 06 0F 01 FF 00\n", [REGISTRATION, "< 06 0F 01 FF 00"], (0, ""))
+
+
+def waits(folder):
+    terminal = play_terminal(written(folder, f"> 0600\n# a comment\n#~ 500\n< {REGISTERED}\n"))
+    with connect(terminal.port) as line:
+        send(line, REGISTRATION)
+        begun = time.monotonic()
+        hear("a wait", line, REGISTERED)
+        check("a wait takes its time", time.monotonic() - begun >= 0.49, True)
+        check("a wait", terminal.ended()[:2], (0, ""))
+
+
+def lost_lines(folder):
+    """`!` breaks the connection, and another one is awaited or made."""
+    one = f"> {REGISTRATION}\n< {REGISTERED}\n> 80 00 00\n"
+    trace = written(folder, f"!\n{one}!\n!\n{one}!\n")
+    terminal = play_terminal(trace)
+    for number in range(2):
+        with connect(terminal.port) as line:
+            send(line, REGISTRATION)
+            hear(f"line {number}", line, REGISTERED)
+            send(line, "80 00 00")
+            check(f"line {number} is broken", line.recv(1), b"")
+    check("lost lines as a terminal", terminal.ended()[:2], (0, ""))
+    other = Listener("terminal", "--port", "0", "--connections", "2")
+    check("lost lines as a till", play_till(trace, other.port), (0, "", ""))
+    check("a terminal that lost lines", other.ended()[0], 0)
+
+
+# ---- wrong words and files
+
+
+def wrong(folder):
+    trace, port = str(written(folder, "> 0600\n")), "20007"
+    for words in (
+        [], ["--till", trace], ["--port", port], ["--till", trace, "--terminal", trace, "--port", port],
+        ["--till", trace, "--port", port, "--listen", "0"], ["--till", trace, "--port", "0"],
+    ):
+        status, said, errors = run("play", *words)
+        check(f"wrong words {words}", (status, said, errors.startswith("zvt: ") or errors.startswith("error: ")), (2, "", True))
+    for text, wanted in (
+        ("This is no trace\n", "line 1 of the trace: expected '>' or '<'"),
+        ("# one\n< 0\n", "line 2 of the trace: expected two hexadecimal digits"),
+        ("> 0600\n\n< 80 00 00 06 0F 02 FF 00\n", "line 3 of the trace: no message begins with these bytes, up to the one at 6 (UnknownField)"),
+        ("#~ soon\n", "line 1 of the trace: expected '#~ silent', or '#~' and milliseconds"),
+        ("#~ 12345678\n", "line 1 of the trace: expected '#~ silent', or '#~' and milliseconds"),
+    ):
+        # Nothing listens at port 1: the file is read before a connection is made.
+        status, said, errors = run("play", "--till", str(written(folder, text)), "--port", "1")
+        check(f"the file {text!r}", (status, said, wanted in errors), (3, "", True))
+    for path in (folder / "missing", folder):
+        status, said, errors = run("play", "--till", str(path), "--port", "1")
+        check(f"the file {path.name}", (status, said, errors.startswith("zvt: ")), (4, "", True))
+    status, said, errors = run("play", "--till", str(written(folder, "> 0600\n")), "--port", "1")
+    check("no other side", (status, said, "nothing listens at that host and port" in errors), (4, "", True))
+
+
+with tempfile.TemporaryDirectory() as name:
+    folder = pathlib.Path(name)
+    recorded(folder)
+    lines(folder)
+    waits(folder)
+    lost_lines(folder)
+    wrong(folder)
+print(f"{len(failed)} not as expected" if failed else f"ok: {plays} plays, {2 * DIALOGUES} traces on either side")
+sys.exit(1 if failed else 0)
