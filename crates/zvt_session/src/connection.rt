@@ -77,8 +77,9 @@ where
     Ok((till_end, terminal_end))
 }
 
-/// The till's end of a connection to a terminal that listens at this host and port.
-pub(crate) fn connect<R>(rt: &R, host: &str, port: u16) -> Result<TcpStream, NetFault>
+/// The till's end of a connection to a terminal that listens at this host and port. It waits 60 seconds at most, to be
+/// connected, for each read and for each write.
+pub fn connect<R>(rt: &R, host: &str, port: u16) -> Result<TcpStream, NetFault>
 where
     R: Net<Listener = TcpListener, Stream = TcpStream>,
 {
@@ -105,8 +106,8 @@ where
 
 /// Where tills come in. Contracts see how many connections it gave.
 #[derive(Drop)]
-pub(crate) struct Door {
-    pub(crate) listener: TcpListener,
+pub struct Door {
+    pub listener: TcpListener,
     gave: GhostCount,
 }
 
@@ -124,7 +125,7 @@ impl Door {
     }
 
     /// The terminal's end of the next connection, for which it waits as long as it takes.
-    pub(crate) fn next(&mut self) -> Result<TcpStream, NetFault>
+    pub fn next(&mut self) -> Result<TcpStream, NetFault>
         ensures { MatchResult result (λ _. given_by self.new ≡ given_by self.old + 1) (λ _. given_by self.new ≡ given_by self.old) }
     {
         match accept_next(&self.listener) {
@@ -138,7 +139,7 @@ impl Door {
 }
 
 /// Listens at this port of this host, where port 0 is a free one.
-pub(crate) fn listen<R>(rt: &R, host: &str, port: u16) -> Result<Door, NetFault>
+pub fn listen<R>(rt: &R, host: &str, port: u16) -> Result<Door, NetFault>
 where
     R: Net<Listener = TcpListener, Stream = TcpStream>,
     ensures { IfOk result (λ door. given_by door ≡ 0) }
