@@ -11,7 +11,7 @@ use zvt_tool::{AuditSummary, DeviceError, EndFault, JournalFileError, RecoveryEr
 pub const DONE: u8 = 0;
 
 /// A stream of the trace was refused or cut off, or a payment is unclear where that is checked.
-const BAD: u8 = 1;
+pub const BAD: u8 = 1;
 
 /// The command line or a step is wrong.
 pub const WORDS: u8 = 2;
