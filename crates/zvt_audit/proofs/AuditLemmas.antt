@@ -149,6 +149,9 @@ no_write {r = r} lines old new failed = by failed.stops
     by (inl (is, so_far, same)) = differ is
     by (inr (event, so_far, left)) = differ left
 
+pub none_written : (r : Reading) (lines : List (List ℕ)) (old new : Listening) (fault : TraceFault) → AnswersWalk r hears wants_memory WholeLine lines old new (Err fault) → fault ≡ Write → ⊥
+none_written r lines old new fault failed is = no_write lines old new (subst (λ (f : TraceFault). AnswersWalk r hears wants_memory WholeLine lines old new (Err f)) is failed)
+
 pub walk_failed : (r : Reading) (form : Form) (trace : List ℕ) (fault : TraceFault) (held : Option (List ℕ)) (old new : Listening)
     → AnswersWalk r hears wants_memory WholeLine (lines (readable trace)) old new (Err fault) → AnswersReadBy r form trace held held (Err fault)
 walk_failed r form trace (Trace number what) held old new walked = (walked.0, walked.1, keeps_same held)

@@ -1,4 +1,4 @@
--- What an auditor hears of a trace that comes piece by piece.
+-- What an audit hears of a trace that comes piece by piece.
 use Rattle.std.proofs.Common.{◌≡◌, ℕ, ◌<◌, ◌⊎◌, inr, List, [], ◌++◌, length, Option, Result, Ok, Err, sym, ◌∙◌, ap, subst, append-nil, take}
 use Rattle.std.proofs.KnownBytes.{Consumes-trans}
 use Rattle.std.specs.Io.KnownBytes.{Consumes, IsAtEnd}
@@ -6,7 +6,7 @@ use Rattle.std.specs.Str.Lines.{lines}
 use Rattle.zvt_grammar.specs.Reading.{Reading}
 use Rattle.zvt_trace.specs.Chunks.{AnswersFeed, FeedFaults, HasRead, IsEnded, IsOver, IsTaken, read_as, walker_reading, walker_scope}
 use Rattle.zvt_trace.specs.Journal.{readable}
-use Rattle.zvt_trace.specs.Listening.{AnswersFrom, AnswersWalk, HearsAll, most}
+use Rattle.zvt_trace.specs.Listening.{AnswersFrom, AnswersWalk, most}
 use Rattle.zvt_trace.specs.TraceEvent.{At}
 use Rattle.zvt_trace.specs.declared.chunks.Form.{Form}
 use Rattle.zvt_trace.specs.declared.chunks.Walker.{Walker}
@@ -18,7 +18,9 @@ use Rattle.zvt_trace.specs.declared.listener.Scope.TheVariants.{WholeLine}
 use Rattle.zvt_trace.proofs.EventLemmas.{hears_append}
 use Rattle.zvt_trace.proofs.WalkedLemmas.{from_before, whole_walk}
 use Rattle.zvt_trace.proofs.WalkerLemmas.{fault_before, still_read, too_long}
-use Rattle.zvt_audit.specs.Audited.{AnswersFollowed, AnswersHearing, AnswersReadBy, hears, wants_memory}
+use Rattle.zvt_audit.specs.Audited.{AnswersFollowed, AnswersReadBy, IsConnected, hears, wants_memory}
+use Rattle.zvt_audit.specs.Heard.{AnswersHearing, AnswersTurn, HasAudited, HasEnded, HasHeard, HearingFaults}
+use Rattle.zvt_audit.specs.declared.follow.Audit.{Audit}
 use Rattle.zvt_audit.specs.declared.auditor.Auditor.{Auditor}
 use Rattle.zvt_json.specs.declared.form.Form.{Form as Written}
 use Rattle.zvt_audit.specs.declared.summary.AuditSummary.{AuditSummary}
@@ -26,25 +28,19 @@ use Rattle.zvt_audit.proofs.AuditLemmas.{keeps_same, no_write}
 
 -- ---- turns
 
--- the walker has read these bytes, and the auditor has heard all that they say
-pub record HasHeard (r : Reading) (bytes : List ℕ) (start now : Auditor) (walker : Walker) : Type 0 where
-  pub events : List At
-  pub read : HasRead r WholeLine bytes events walker
-  pub heard : HearsAll hears (start, tt) events (now, tt)
-  pub reading : walker_reading walker ≡ r
-  pub whole_line : walker_scope walker ≡ WholeLine
-
 at_both : (P : Reading → Scope → Type 0) (r q : Reading) (s t : Scope) → r ≡ q → s ≡ t → P r s → P q t
 at_both P r q s t same_reading same_scope p = subst (λ (x : Scope). P q x) same_scope (subst (λ (x : Reading). P x s) same_reading p)
 
-turn_fed : (r : Reading) (bytes all : List ℕ) (start now next : Auditor) (old new : Walker) (answer : Result Unit TraceFault) → (has : HasHeard r bytes start now old)
-    → ((bytes : List ℕ) (earlier : List At) → HasRead (walker_reading old) (walker_scope old) bytes earlier old → AnswersFeed (walker_reading old) hears wants_memory (walker_scope old) (bytes ++ all) earlier new (now, tt) (next, tt) answer)
+abbrev Feeds : (old new : Walker) → (now next : Auditor) → (all : List ℕ) → Result Unit TraceFault → Type 0
+Feeds old new now next all answer =
+    (bytes : List ℕ) (earlier : List At) → HasRead (walker_reading old) (walker_scope old) bytes earlier old → AnswersFeed (walker_reading old) hears wants_memory (walker_scope old) (bytes ++ all) earlier new (now, tt) (next, tt) answer
+
+turn_fed : (r : Reading) (bytes all : List ℕ) (start now next : Auditor) (old new : Walker) (answer : Result Unit TraceFault) → (has : HasHeard r bytes start now old) → Feeds old new now next all answer
     → AnswersFeed r hears wants_memory WholeLine (bytes ++ all) has.events new (now, tt) (next, tt) answer
 turn_fed r bytes all start now next old new answer has feeds =
     at_both (λ q s. HasRead q s bytes has.events old → AnswersFeed q hears wants_memory s (bytes ++ all) has.events new (now, tt) (next, tt) answer) (walker_reading old) r (walker_scope old) WholeLine has.reading has.whole_line (feeds bytes has.events) has.read
 
-pub heard_on : (r : Reading) (bytes chunk : List ℕ) (start now next : Auditor) (old new : Walker) → (has : HasHeard r bytes start now old)
-    → ((bytes : List ℕ) (earlier : List At) → HasRead (walker_reading old) (walker_scope old) bytes earlier old → AnswersFeed (walker_reading old) hears wants_memory (walker_scope old) (bytes ++ chunk) earlier new (now, tt) (next, tt) (Ok tt))
+heard_on : (r : Reading) (bytes chunk : List ℕ) (start now next : Auditor) (old new : Walker) → (has : HasHeard r bytes start now old) → Feeds old new now next chunk (Ok tt)
     → walker_reading new ≡ walker_reading old → walker_scope new ≡ walker_scope old → HasHeard r (bytes ++ chunk) start next new
 heard_on r bytes chunk start now next old new has feeds same_reading same_scope =
     let fed = turn_fed r bytes chunk start now next old new (Ok tt) has feeds in record {
@@ -56,56 +52,67 @@ heard_on r bytes chunk start now next old new has feeds same_reading same_scope 
     }
 
 -- a turn failed
-pub turn_failed : (r : Reading) (bytes chunk : List ℕ) (rest : Option (List ℕ)) (start now next : Auditor) (old new : Walker) (fault : TraceFault) → (has : HasHeard r bytes start now old)
-    → ((bytes : List ℕ) (earlier : List At) → HasRead (walker_reading old) (walker_scope old) bytes earlier old → AnswersFeed (walker_reading old) hears wants_memory (walker_scope old) (bytes ++ chunk) earlier new (now, tt) (next, tt) (Err fault))
-    → AnswersHearing r (bytes ++ chunk) rest start next (Err fault) × (fault ≡ Read → ⊥)
-turn_failed r bytes chunk rest start now next old new fault has feeds =
+turn_failed : (r : Reading) (bytes chunk : List ℕ) (start now next : Auditor) (old new : Walker) (fault : TraceFault) → (has : HasHeard r bytes start now old) → Feeds old new now next chunk (Err fault)
+    → HearingFaults r (bytes ++ chunk) fault
+turn_failed r bytes chunk start now next old new fault has feeds =
     by fault (fault_before r hears wants_memory WholeLine (bytes ++ chunk) [] has.events (start, tt) (now, tt) (next, tt) fault has.heard (turn_fed r bytes chunk start now next old new (Err fault) has feeds))
   where
-    by : (fault : TraceFault) → FeedFaults r hears wants_memory WholeLine (bytes ++ chunk) [] (start, tt) (next, tt) fault → AnswersHearing r (bytes ++ chunk) rest start next (Err fault) × (fault ≡ Read → ⊥)
-    by (Trace number what) failed = (failed, λ is. cc is)
-    by Memory failed = (failed, λ is. cc is)
+    by : (fault : TraceFault) → FeedFaults r hears wants_memory WholeLine (bytes ++ chunk) [] (start, tt) (next, tt) fault → HearingFaults r (bytes ++ chunk) fault
+    by (Trace number what) failed = (failed.0, failed.1)
+    by Memory failed = tt
     by Write failed = absurd (no_write (lines (readable (bytes ++ chunk))) (start, tt) (next, tt) failed)
-    by TooLong (events, long, heard) = ((events, long), λ is. cc is)
+    by TooLong (events, long, heard) = (events, long)
     by Read never = absurd never
 
--- the end
-pub all_heard : (r : Reading) (bytes : List ℕ) (rest : Option (List ℕ)) (start now next : Auditor) (walker : Walker) (answer : Result Tally TraceFault) → (has : HasHeard r bytes start now walker) → IsAtEnd rest ⊎ IsEnded bytes
-    → ((bytes : List ℕ) (earlier : List At) → HasRead (walker_reading walker) (walker_scope walker) bytes earlier walker → AnswersFrom (walker_reading walker) hears wants_memory (walker_scope walker) (lines (readable bytes)) earlier (now, tt) (next, tt) answer)
-    → AnswersHearing r bytes rest start next answer × (answer ≡ Err Read → ⊥)
-all_heard r bytes rest start now next walker answer has end feeds = by answer (whole_walk r hears wants_memory WholeLine (lines (readable bytes)) answer (start, tt) (next, tt) (from_before r hears wants_memory WholeLine (lines (readable bytes)) [] has.events answer (start, tt) (now, tt) (next, tt) has.heard there))
-  where
-    there : AnswersFrom r hears wants_memory WholeLine (lines (readable bytes)) has.events (now, tt) (next, tt) answer
-    there = at_both (λ q s. HasRead q s bytes has.events walker → AnswersFrom q hears wants_memory s (lines (readable bytes)) has.events (now, tt) (next, tt) answer) (walker_reading walker) r (walker_scope walker) WholeLine has.reading has.whole_line (feeds bytes has.events) has.read
+-- what a turn answers
+pub turn_heard : (r : Reading) (bytes chunk : List ℕ) (old : Audit) (next : Auditor) (new : Walker) (answer : Result Unit TraceFault) → HasAudited r bytes old → Feeds old.walker new old.auditor next chunk answer
+    → walker_reading new ≡ walker_reading old.walker → walker_scope new ≡ walker_scope old.walker → AnswersTurn r (bytes ++ chunk) (record { auditor = next; walker = new }) answer
+turn_heard r bytes chunk old next new (Ok fed) has feeds same_reading same_scope = record {
+  start = has.start;
+  connected = has.connected;
+  has = heard_on r bytes chunk has.start old.auditor next old.walker new has.has feeds same_reading same_scope;
+}
+turn_heard r bytes chunk old next new (Err fault) has feeds same_reading same_scope = turn_failed r bytes chunk has.start old.auditor next old.walker new fault has.has feeds
 
-    by : (answer : Result Tally TraceFault) → AnswersWalk r hears wants_memory WholeLine (lines (readable bytes)) (start, tt) (next, tt) answer → AnswersHearing r bytes rest start next answer × (answer ≡ Err Read → ⊥)
-    by (Ok tally) walked = ((walked, end), λ is. cc is)
-    by (Err (Trace number what)) walked = (walked, λ is. cc is)
-    by (Err Memory) walked = (walked, λ is. cc is)
-    by (Err Write) walked = absurd (no_write (lines (readable bytes)) (start, tt) (next, tt) walked)
-    by (Err TooLong) never = absurd never
-    by (Err Read) never = absurd never
+-- ---- the end
+
+-- all that the bytes say was walked
+pub all_walked : (r : Reading) (bytes : List ℕ) (audit : Audit) (next : Auditor) (answer : Result Tally TraceFault) → (has : HasAudited r bytes audit)
+    → ((bytes : List ℕ) (earlier : List At) → HasRead (walker_reading audit.walker) (walker_scope audit.walker) bytes earlier audit.walker → AnswersFrom (walker_reading audit.walker) hears wants_memory (walker_scope audit.walker) (lines (readable bytes)) earlier (audit.auditor, tt) (next, tt) answer)
+    → AnswersWalk r hears wants_memory WholeLine (lines (readable bytes)) (has.start, tt) (next, tt) answer
+all_walked r bytes audit next answer has feeds = whole_walk r hears wants_memory WholeLine (lines (readable bytes)) answer (has.start, tt) (next, tt) (from_before r hears wants_memory WholeLine (lines (readable bytes)) [] has.has.events answer (has.start, tt) (audit.auditor, tt) (next, tt) has.has.heard there)
+  where
+    there : AnswersFrom r hears wants_memory WholeLine (lines (readable bytes)) has.has.events (audit.auditor, tt) (next, tt) answer
+    there = at_both (λ q s. HasRead q s bytes has.has.events audit.walker → AnswersFrom q hears wants_memory s (lines (readable bytes)) has.has.events (audit.auditor, tt) (next, tt) answer) (walker_reading audit.walker) r (walker_scope audit.walker) WholeLine has.has.reading has.has.whole_line (feeds bytes has.has.events) has.has.read
 
 -- a journal has ended
-pub hearing_ended : (r : Reading) (bytes : List ℕ) (start now : Auditor) (walker : Walker) → HasHeard r bytes start now walker → IsOver walker → IsEnded bytes
-hearing_ended r bytes start now walker has over more =
-    let to = has.read.to in
-    let reads : (more : List ℕ) → readable (bytes ++ more) ≡ to.done ++ [] = λ more. to.later more ∙ ap (λ (f : Option Form). to.done ++ read_as f (walker.begun.items ++ more)) over in
+pub hearing_ended : (r : Reading) (bytes : List ℕ) (audit : Audit) → HasAudited r bytes audit → HasEnded audit → IsEnded bytes
+hearing_ended r bytes audit has over more =
+    let to = has.has.read.to in
+    let reads : (more : List ℕ) → readable (bytes ++ more) ≡ to.done ++ [] = λ more. to.later more ∙ ap (λ (f : Option Form). to.done ++ read_as f (audit.walker.begun.items ++ more)) over in
     reads more ∙ sym (reads []) ∙ ap readable (append-nil bytes)
 
 -- no reader brings so many bytes
-pub hearing_endless : (r : Reading) (bytes : List ℕ) (rest : Option (List ℕ)) (start now : Auditor) (walker : Walker) → HasHeard r bytes start now walker → (IsOver walker → ⊥) → most < length bytes → AnswersHearing r bytes rest start now (Err TooLong)
-hearing_endless r bytes rest start now walker has never many =
-    (has.events, too_long r WholeLine bytes walker.begun.items walker.begun.items [] has.events walker.ended has.read.to never (sym (append-nil walker.begun.items)) (inr many))
+pub hearing_endless : (r : Reading) (bytes : List ℕ) (audit : Audit) → HasAudited r bytes audit → (HasEnded audit → ⊥) → most < length bytes → HearingFaults r bytes TooLong
+hearing_endless r bytes audit has never many =
+    (has.has.events, too_long r WholeLine bytes audit.walker.begun.items audit.walker.begun.items [] has.has.events audit.walker.ended has.has.read.to never (sym (append-nil audit.walker.begun.items)) (inr many))
+
+-- a turn failed over the last bytes that were taken
+pub faults_hearing : (r : Reading) (taken : List ℕ) (rest : Option (List ℕ)) (fault : TraceFault) → HearingFaults r taken fault → AnswersHearing r taken rest (Err fault) × (fault ≡ Read → ⊥)
+faults_hearing r taken rest (Trace number what) failed = (failed, λ is. cc is)
+faults_hearing r taken rest Memory failed = (failed, λ is. cc is)
+faults_hearing r taken rest Write never = absurd never
+faults_hearing r taken rest TooLong failed = (failed, λ is. cc is)
+faults_hearing r taken rest Read never = absurd never
 
 -- ---- the answer
 
-pub hearing_failed : (r : Reading) (form : Written) (taken : List ℕ) (rest held : Option (List ℕ)) (start now : Auditor) (fault : TraceFault) → AnswersHearing r taken rest start now (Err fault) → AnswersFollowed r form taken rest held held (Err fault)
-hearing_failed r form taken rest held start now (Trace number what) failed = (failed.0, failed.1, keeps_same held)
-hearing_failed r form taken rest held start now Memory failed = keeps_same held
-hearing_failed r form taken rest held start now Write never = absurd never
-hearing_failed r form taken rest held start now TooLong long = (long, keeps_same held)
-hearing_failed r form taken rest held start now Read unread = keeps_same held
+pub hearing_failed : (r : Reading) (form : Written) (taken : List ℕ) (rest held : Option (List ℕ)) (fault : TraceFault) → AnswersHearing r taken rest (Err fault) → AnswersFollowed r form taken rest held held (Err fault)
+hearing_failed r form taken rest held (Trace number what) failed = (failed.0, failed.1, keeps_same held)
+hearing_failed r form taken rest held Memory failed = keeps_same held
+hearing_failed r form taken rest held Write never = absurd never
+hearing_failed r form taken rest held TooLong long = (long, keeps_same held)
+hearing_failed r form taken rest held Read unread = keeps_same held
 
 pub books_followed : (r : Reading) (form : Written) (taken : List ℕ) (rest old new : Option (List ℕ)) (answer : Result AuditSummary TraceFault) → AnswersReadBy r form taken old new answer → IsAtEnd rest ⊎ IsEnded taken → AnswersFollowed r form taken rest old new answer
 books_followed r form taken rest old new (Ok audited) answers end = (answers, end)
@@ -124,3 +131,7 @@ none_more start before after taken buffer n none so more =
 -- no more bytes came
 pub none_taken : (r : Reading) (scope : Scope) (bytes : List ℕ) (events : List At) (walker : Walker) → HasRead r scope bytes events walker → (IsOver walker → ⊥) → IsTaken bytes
 none_taken r scope bytes events walker has never = subst IsTaken (append-nil bytes) (still_read r scope bytes [] events walker has never)
+
+-- writing books reads nothing
+pub books_unread : (r : Reading) (form : Written) (taken : List ℕ) (old new : Option (List ℕ)) (answer : Result AuditSummary TraceFault) → AnswersReadBy r form taken old new answer → answer ≡ Err Read → ⊥
+books_unread r form taken old new answer answers is = subst (λ (a : Result AuditSummary TraceFault). AnswersReadBy r form taken old new a) is answers

@@ -8,7 +8,7 @@ use Rattle.zvt_till.specs.Judging.{BooksSoFar, HasJudged}
 use Rattle.zvt_till.specs.declared.happenings.Happening.{Happening}
 use Rattle.zvt_till.specs.declared.happenings.Happening.TheVariants.{Connected}
 use Rattle.zvt_trace.specs.Chunks.{IsEnded, IsTooLong}
-use Rattle.zvt_trace.specs.Listening.{AnswersWalk, Fails, Hears}
+use Rattle.zvt_trace.specs.Listening.{Fails, Hears}
 use Rattle.zvt_trace.specs.TraceEvent.{At, Tallies}
 use Rattle.zvt_trace.specs.Emitting.{BrokenTrace, WholeTrace}
 use Rattle.zvt_trace.specs.Journal.{readable}
@@ -82,15 +82,6 @@ hears old event new = Becomes old.0 event new.0
 
 abbrev pub wants_memory : Fails (Auditor × Unit {0})
 wants_memory old event why new = why ≡ failure.Memory
-
--- What an auditor hears of these bytes that were taken of a trace, and what is left of them.
-abbrev pub AnswersHearing : Reading → (taken : List ℕ) → (rest : Option (List ℕ)) → (old new : Auditor) → Result Tally TraceFault → Type 0
-AnswersHearing r taken rest old new (Ok tally) = AnswersWalk r hears wants_memory WholeLine (lines (readable taken)) (old, tt) (new, tt) (Ok tally) × (IsAtEnd rest ⊎ IsEnded taken)
-AnswersHearing r taken rest old new (Err (Trace number what)) = AnswersWalk r hears wants_memory WholeLine (lines (readable taken)) (old, tt) (new, tt) (Err (Trace number what))
-AnswersHearing r taken rest old new (Err Memory) = AnswersWalk r hears wants_memory WholeLine (lines (readable taken)) (old, tt) (new, tt) (Err Memory)
-AnswersHearing r taken rest old new (Err Write) = ⊥
-AnswersHearing r taken rest old new (Err TooLong) = (events : List At) × IsTooLong r WholeLine taken events
-AnswersHearing r taken rest old new (Err Read) = Unit {0}
 
 -- the device has besides the text of the books of what the trace emits, by that reading of lengths
 abbrev pub WritesBooks : Reading → (trace : List ℕ) → Tally → (old new : Option (List ℕ)) → Type 0

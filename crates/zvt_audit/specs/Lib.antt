@@ -3,6 +3,7 @@ pub mod Booked
 pub mod Currencies
 pub mod Ends
 pub mod Happened
+pub mod Heard
 pub mod Json
 pub mod Orders
 pub mod Sums

@@ -1,17 +1,20 @@
 //! The books of a trace that comes piece by piece, as from a pipe or a file that grows.
-ghost use Rattle.std.specs.Prelude.{◌≡◌, ◌<◌, ℕ, List, Err};
+ghost use Rattle.std.specs.Prelude.{◌≡◌, ◌<◌, ◌≤◌, ◌++◌, [], ℕ, List, length, Err, IfOk, OnOk, false, true};
 ghost use Rattle.std.specs.Io.KnownBytes.{Consumes};
 ghost use Rattle.zvt_grammar.specs.Lengths.{reading_of};
+ghost use Rattle.zvt_grammar.specs.Reading.{Reading};
 ghost use Rattle.zvt_trace.specs.Chunks.{IsTaken};
-ghost use Rattle.zvt_audit.specs.Audited.{AnswersFollowed, AnswersHearing};
+ghost use Rattle.zvt_trace.specs.Written.{limit};
+ghost use Rattle.zvt_audit.specs.Audited.{AnswersFollowed, AnswersReadBy};
+ghost use Rattle.zvt_audit.specs.Heard.{AnswersHearing, AnswersTurn, HasAudited, HasEnded, IsAuditing};
 
 use crate::auditor::Auditor;
 use crate::summary::{AuditSummary, connected, write_books};
-use std::alloc::Global;
+use std::alloc::{AllocError, Global};
 use zvt_grammar::Lengths;
 use zvt_io::{Sink, Source};
 use zvt_json::Form;
-use zvt_trace::{Scope, Tally, TraceFault, Walker, read_chunk};
+use zvt_trace::{Scope, TraceFault, Walker, read_chunk};
 
 /// How many bytes are read at once.
 const CHUNK: usize = 65_536;
@@ -34,32 +37,86 @@ pub fn follow_audit<R: Source, W: Sink>(
     ensures read { result ≡ Err TraceFault.Read → R.failures reader.old < R.failures reader.new }
     ensures write { result ≡ Err TraceFault.Write → W.failures writer.old < W.failures writer.new }
 {
-    let mut auditor = connected(alloc)?;
-    let tally = hear_all(&mut auditor, alloc, lengths, reader)?;
-    write_books(alloc, form, auditor, tally, writer)
+    let audit = hear_all(alloc, lengths, reader)?;
+    audit.finish(alloc, form, writer)
 }
 
-/// Lets the auditor hear all that the reader brings, as it comes.
-fn hear_all<R: Source>(
-    auditor: &mut Auditor,
-    alloc: Global,
-    lengths: Lengths,
-    reader: &mut R,
-) -> Result<Tally, TraceFault>
-    ensures hears { (taken : List ℕ) × Consumes (R.remaining reader.old) (R.remaining reader.new) taken × IsTaken taken × AnswersHearing (reading_of lengths) taken (R.remaining reader.new) auditor.old auditor.new result }
+/// An audit that has heard all that the reader brings, as it comes.
+fn hear_all<R: Source>(alloc: Global, lengths: Lengths, reader: &mut R) -> Result<Audit, TraceFault>
+    ensures hears { (taken : List ℕ) × Consumes (R.remaining reader.old) (R.remaining reader.new) taken × IsTaken taken × AnswersHearing (reading_of lengths) taken (R.remaining reader.new) result }
+    ensures ready { IfOk result IsAuditing }
     ensures read { result ≡ Err TraceFault.Read → R.failures reader.old < R.failures reader.new }
 {
-    let mut walker = Walker::new(alloc, Scope::WholeLine, lengths);
+    let mut audit = Audit::new(alloc, lengths)?;
     let mut buffer = [0; CHUNK];
     for _turn in 0..u64::MAX {
         let taken = read_chunk(reader, &mut buffer)?;
         if taken == 0 {
-            return walker.finish(auditor, &mut ());
+            return Ok(audit);
         }
-        walker.feed(auditor, &mut (), &buffer[..taken])?;
-        if walker.is_over() {
-            return walker.finish(auditor, &mut ());
+        audit.feed(&buffer[..taken])?;
+        if audit.is_over() {
+            return Ok(audit);
         }
     }
     Err(TraceFault::TooLong)
+}
+
+/// An audit of a trace that comes turn by turn: at each turn it hears a chunk.
+#[derive(Drop)]
+pub struct Audit {
+    auditor: Auditor,
+    walker: Walker,
+}
+
+impl Audit {
+    /// An audit of a till that is connected, which has heard nothing else. Its streams take such lengths.
+    pub fn new(alloc: Global, lengths: Lengths) -> Result<Audit, AllocError>
+        ensures heard { IfOk result (λ audit. HasAudited (reading_of lengths) [] audit) }
+        ensures ready { IfOk result IsAuditing }
+        ensures hears_on { IfOk result (λ audit. ¬ HasEnded audit) }
+    {
+        let auditor = connected(alloc)?;
+        Ok(Audit {
+            auditor,
+            walker: Walker::new(alloc, Scope::WholeLine, lengths),
+        })
+    }
+
+    /// Whether nothing more is heard, since the trace is a journal and its first empty line has come.
+    pub fn is_over(&self) -> bool
+        ensures yes { result ≡ true → HasEnded self.now }
+        ensures no { result ≡ false → ¬ HasEnded self.now }
+    {
+        self.walker.is_over()
+    }
+
+    /// Hears all that the lines say which end in this chunk. After a fault the audit is of no use.
+    pub fn feed(&mut self, chunk: &[u8]) -> Result<(), TraceFault>
+        requires ready { IsAuditing self.old }
+        requires few { length chunk.now ≤ limit }
+        ensures hears { (r : Reading) (bytes : List ℕ) → HasAudited r bytes self.old → AnswersTurn r (bytes ++ chunk.now) self.new result }
+        ensures ready { OnOk result (IsAuditing self.new) }
+    {
+        self.walker.feed(&mut self.auditor, &mut (), chunk)
+    }
+
+    /// Writes the books of all that was heard, in this form, and what a last line without a line feed says.
+    pub fn finish<W: Sink>(
+        self,
+        alloc: Global,
+        form: Form,
+        writer: &mut W,
+    ) -> Result<AuditSummary, TraceFault>
+        requires ready { IsAuditing self }
+        ensures writes { (r : Reading) (bytes : List ℕ) → HasAudited r bytes self → AnswersReadBy r form bytes (W.written writer.old) (W.written writer.new) result }
+        ensures write { result ≡ Err TraceFault.Write → (r : Reading) (bytes : List ℕ) → HasAudited r bytes self → W.failures writer.old < W.failures writer.new }
+    {
+        let Audit {
+            mut auditor,
+            walker,
+        } = self;
+        let tally = walker.finish(&mut auditor, &mut ())?;
+        write_books(alloc, form, auditor, tally, writer)
+    }
 }

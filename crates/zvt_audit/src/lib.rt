@@ -13,6 +13,6 @@ mod orders;
 mod sum;
 mod summary;
 
-pub use follow::follow_audit;
+pub use follow::{Audit, follow_audit};
 pub use sum::Sum;
 pub use summary::{AuditSummary, audit_trace};

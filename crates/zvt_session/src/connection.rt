@@ -77,8 +77,8 @@ where
     Ok((till_end, terminal_end))
 }
 
-/// The till's end of a connection to a terminal that listens at this host and port. Each read and each write waits for 60
-/// seconds at most.
+/// The till's end of a connection to a terminal that listens at this host and port. It waits 60 seconds at most, to be
+/// connected, for each read and for each write.
 pub fn connect<R>(rt: &R, host: &str, port: u16) -> Result<TcpStream, NetFault>
 where
     R: Net<Listener = TcpListener, Stream = TcpStream>,
@@ -107,7 +107,7 @@ where
 /// Where tills come in. Contracts see how many connections it gave.
 #[derive(Drop)]
 pub struct Door {
-    pub(crate) listener: TcpListener,
+    pub listener: TcpListener,
     gave: GhostCount,
 }
 

@@ -2,7 +2,8 @@
 //!
 //! A run makes steps one after another, each named by a word ([`step_of`]), and writes what becomes of each:
 //! [`run_till_end`] at a till's end of a line, [`run_both_ends`] at both. [`serve`] is a terminal's end. [`run_loop`],
-//! [`run_till`] and [`run_terminal`] open sockets for them.
+//! [`run_till`] and [`run_terminal`] open sockets for them, by [`connect`] and [`listen`]. [`Recorded`] writes what goes
+//! through a device to a trace, whose lines [`spell_piece`] makes.
 #![tactic(auto)]
 
 mod arguments;
@@ -39,7 +40,7 @@ pub use kept_ends::run_both_ends_kept;
 pub use line_end::LineEnd;
 pub use options::{BookRun, LoopRun, TerminalRun, TillRun};
 pub use plans::{Planned, StepRun, plan};
-pub use recorder::{Recorded, Way, end_trace};
+pub use recorder::{MAX_CHUNK, MAX_LINE, Recorded, Way, end_trace, spell_piece};
 pub use service::serve;
 pub use settings::{config_of, currency_of, password_of};
 pub use tcp::{run_loop, run_terminal, run_till};

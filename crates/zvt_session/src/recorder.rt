@@ -28,8 +28,11 @@ impl Way {
     }
 }
 
-/// The size of the line of a chunk of 1,024 bytes. The devices of a connection read and write no more at once.
-const LINE: usize = 2 + 2 * 1024 + 1;
+/// The most bytes of a chunk: the devices of a connection read and write no more at once.
+pub const MAX_CHUNK: usize = 1024;
+
+/// The size of the line of the longest chunk.
+pub const MAX_LINE: usize = 2 + 2 * 1024 + 1;
 
 /// A device, and the trace of what goes through it: each read that brings bytes, and each write, is a line of its own.
 /// The device counts its bytes as it does without a trace. A trace that can't be written is broken, also for want of
@@ -54,7 +57,7 @@ impl<D: Drop, T: Drop> Recorded<D, T> {
         ensures way { IfOk result (λ recorded. recorded.way ≡ way) }
         ensures whole { IfOk result (λ recorded. recorded.broken ≡ false) }
     {
-        let text = Text::with_capacity(alloc, LINE)?;
+        let text = Text::with_capacity(alloc, MAX_LINE)?;
         Ok(Recorded {
             device,
             trace,
@@ -138,8 +141,8 @@ fn write_piece<T: Sink>(
     }
 }
 
-/// Makes the line of a chunk in this buffer.
-fn spell_piece(text: &mut Text, way: Way, bytes: &[u8]) -> Result<(), AllocError>
+/// Makes the line of a chunk in this buffer. It asks for no memory where the buffer has room for the line.
+pub fn spell_piece(text: &mut Text, way: Way, bytes: &[u8]) -> Result<(), AllocError>
     ensures { OnOk result (text.new ≡ piece_text way bytes.now) }
 {
     text.clear();

@@ -5,66 +5,59 @@ use Rattle.std.proofs.lemmas.Result.{err_from_is_err_and}
 use Rattle.zvt_grammar.specs.Lengths.{reading_of}
 use Rattle.zvt_trace.specs.Listening.{most}
 use Rattle.zvt_trace.proofs.WalkerLemmas.{still_read}
-use Rattle.zvt_audit.proofs.HearLemmas.{none_taken, all_heard, heard_on, hearing_ended, hearing_endless, none_more, turn_failed}
+use Rattle.zvt_audit.proofs.HearLemmas.{faults_hearing, hearing_ended, hearing_endless, none_more, none_taken}
 use Rattle.zvt_audit.proofs.follow.hear_all.Goals as goal
+
+pub returns-in_err-audit-clause-hears : goal.returns-in_err-audit-clause-hears
+returns-in_err-audit-clause-hears g c =
+    let p = err_from_is_err_and c.from_residual.result c.from_residual.ensures.1 in
+    ([], Consumes-nil (g.R.Source.remaining c.args.reader.now), ([], [], refl, refl), rw (p.1, p.2) tt)
 
 pub loop-turn-init : goal.loop-turn-init
 loop-turn-init g c = record {
-  so_far = ([], Consumes-nil (g.R.Source.remaining c.args.reader.now), omega arith, record { events = []; read = c.new-walker.ensures.read; heard = refl; reading = c.new-walker.ensures.reading; whole_line = c.new-walker.ensures.scope });
-  ready = c.new-walker.ensures.ready;
-  reads_on = c.new-walker.ensures.reads_on;
+  so_far = ([], Consumes-nil (g.R.Source.remaining c.args.reader.now), omega arith, c.in_ok-audit.ensures.heard);
+  ready = c.in_ok-audit.ensures.ready;
+  hears_on = c.in_ok-audit.ensures.hears_on;
   read = refl;
 }
 
 pub returns-in_err-taken-clause-hears : goal.returns-in_err-taken-clause-hears
 returns-in_err-taken-clause-hears g c =
-    let p = err_from_is_err_and c.from_residual.result c.from_residual.ensures.1 in
+    let p = err_from_is_err_and c.from_residual-in_err-taken.result c.from_residual-in_err-taken.ensures.1 in
     let so = c.loop-turn.invariant.so_far in
     let chunk = c.in_err-taken.ensures.chunk in
-    (so.0, Consumes-kept (g.R.Source.remaining c.args.reader.now) (g.R.Source.remaining c.loop-turn.reader) (g.R.Source.remaining c.read_chunk.new.reader) so.0 so.1 chunk.1, none_taken _ _ so.0 so.3.events c.loop-turn.walker so.3.read c.loop-turn.invariant.reads_on, rw (p.1, p.2, chunk.0) tt)
+    (so.0, Consumes-kept (g.R.Source.remaining c.args.reader.now) (g.R.Source.remaining c.loop-turn.reader) (g.R.Source.remaining c.read_chunk.new.reader) so.0 so.1 chunk.1, none_taken _ _ so.0 so.3.has.events c.loop-turn.audit.walker so.3.has.read c.loop-turn.invariant.hears_on, rw (p.1, p.2, chunk.0) tt)
 
 pub returns-then-taken-eq0-clause-hears : goal.returns-then-taken-eq0-clause-hears
 returns-then-taken-eq0-clause-hears g c =
     let so = c.loop-turn.invariant.so_far in
-    (so.0, none_more (g.R.Source.remaining c.args.reader.now) (g.R.Source.remaining c.loop-turn.reader) (g.R.Source.remaining c.read_chunk.new.reader) so.0 c.read_chunk.new.buffer c.in_ok-taken.taken c.if-taken-eq0.true so.1 c.in_ok-taken.ensures.chunk.1, none_taken _ _ so.0 so.3.events c.loop-turn.walker so.3.read c.loop-turn.invariant.reads_on, (all_heard (reading_of c.args.lengths) so.0 (g.R.Source.remaining c.read_chunk.new.reader) c.args.auditor.now c.loop-turn.auditor c.finish.new.listener c.loop-turn.walker c.finish.result so.3 (inl (c.in_ok-taken.ensures.chunk.2 c.if-taken-eq0.true)) c.finish.ensures).0)
-
-pub returns-then-taken-eq0-clause-read : goal.returns-then-taken-eq0-clause-read
-returns-then-taken-eq0-clause-read g c = λ is.
-    let so = c.loop-turn.invariant.so_far in
-    absurd ((all_heard (reading_of c.args.lengths) so.0 (g.R.Source.remaining c.read_chunk.new.reader) c.args.auditor.now c.loop-turn.auditor c.finish.new.listener c.loop-turn.walker c.finish.result so.3 (inl (c.in_ok-taken.ensures.chunk.2 c.if-taken-eq0.true)) c.finish.ensures).1 is)
+    (so.0, none_more (g.R.Source.remaining c.args.reader.now) (g.R.Source.remaining c.loop-turn.reader) (g.R.Source.remaining c.read_chunk.new.reader) so.0 c.read_chunk.new.buffer c.in_ok-taken.taken c.if-taken-eq0.true so.1 c.in_ok-taken.ensures.chunk.1, none_taken _ _ so.0 so.3.has.events c.loop-turn.audit.walker so.3.has.read c.loop-turn.invariant.hears_on, (so.3, inl (c.in_ok-taken.ensures.chunk.2 c.if-taken-eq0.true)))
 
 pub returns-in_err-feed-clause-hears : goal.returns-in_err-feed-clause-hears
 returns-in_err-feed-clause-hears g c =
     let p = err_from_is_err_and c.from_residual-in_err-feed.result c.from_residual-in_err-feed.ensures.1 in
     let so = c.loop-turn.invariant.so_far in
-    (so.0 ++ (take c.in_ok-taken.taken c.read_chunk.new.buffer), Consumes-trans (g.R.Source.remaining c.args.reader.now) (g.R.Source.remaining c.loop-turn.reader) (g.R.Source.remaining c.read_chunk.new.reader) so.0 _ so.1 c.in_ok-taken.ensures.chunk.1, still_read _ _ so.0 (take c.in_ok-taken.taken c.read_chunk.new.buffer) so.3.events c.loop-turn.walker so.3.read c.loop-turn.invariant.reads_on, rw (p.1, p.2) ((turn_failed (reading_of c.args.lengths) so.0 (take c.in_ok-taken.taken c.read_chunk.new.buffer) (g.R.Source.remaining c.read_chunk.new.reader) c.args.auditor.now c.loop-turn.auditor c.feed.new.listener c.loop-turn.walker c.feed.new.self c.in_err-feed.field-0.0 so.3 c.in_err-feed.ensures.reads).0))
+    (so.0 ++ (take c.in_ok-taken.taken c.read_chunk.new.buffer), Consumes-trans (g.R.Source.remaining c.args.reader.now) (g.R.Source.remaining c.loop-turn.reader) (g.R.Source.remaining c.read_chunk.new.reader) so.0 _ so.1 c.in_ok-taken.ensures.chunk.1, still_read _ _ so.0 (take c.in_ok-taken.taken c.read_chunk.new.buffer) so.3.has.events c.loop-turn.audit.walker so.3.has.read c.loop-turn.invariant.hears_on, rw (p.1, p.2) ((faults_hearing (reading_of c.args.lengths) (so.0 ++ (take c.in_ok-taken.taken c.read_chunk.new.buffer)) (g.R.Source.remaining c.read_chunk.new.reader) c.in_err-feed.field-0.0 (c.in_err-feed.ensures.hears (reading_of c.args.lengths) so.0 so.3)).0))
 
 pub returns-in_err-feed-clause-read : goal.returns-in_err-feed-clause-read
 returns-in_err-feed-clause-read g c = λ is.
     let p = err_from_is_err_and c.from_residual-in_err-feed.result c.from_residual-in_err-feed.ensures.1 in
     let so = c.loop-turn.invariant.so_far in
-    absurd ((turn_failed (reading_of c.args.lengths) so.0 (take c.in_ok-taken.taken c.read_chunk.new.buffer) (g.R.Source.remaining c.read_chunk.new.reader) c.args.auditor.now c.loop-turn.auditor c.feed.new.listener c.loop-turn.walker c.feed.new.self c.in_err-feed.field-0.0 so.3 c.in_err-feed.ensures.reads).1 cc)
+    absurd ((faults_hearing (reading_of c.args.lengths) (so.0 ++ (take c.in_ok-taken.taken c.read_chunk.new.buffer)) (g.R.Source.remaining c.read_chunk.new.reader) c.in_err-feed.field-0.0 (c.in_err-feed.ensures.hears (reading_of c.args.lengths) so.0 so.3)).1 cc)
 
 pub returns-then-is_over-clause-hears : goal.returns-then-is_over-clause-hears
 returns-then-is_over-clause-hears g c =
     let so = c.loop-turn.invariant.so_far in
-    let has = heard_on (reading_of c.args.lengths) so.0 (take c.in_ok-taken.taken c.read_chunk.new.buffer) c.args.auditor.now c.loop-turn.auditor c.feed.new.listener c.loop-turn.walker c.feed.new.self so.3 c.in_ok-feed.ensures.reads c.in_ok-feed.ensures.reading c.in_ok-feed.ensures.scope in
-    (so.0 ++ (take c.in_ok-taken.taken c.read_chunk.new.buffer), Consumes-trans (g.R.Source.remaining c.args.reader.now) (g.R.Source.remaining c.loop-turn.reader) (g.R.Source.remaining c.read_chunk.new.reader) so.0 _ so.1 c.in_ok-taken.ensures.chunk.1, still_read _ _ so.0 (take c.in_ok-taken.taken c.read_chunk.new.buffer) so.3.events c.loop-turn.walker so.3.read c.loop-turn.invariant.reads_on, (all_heard (reading_of c.args.lengths) (so.0 ++ (take c.in_ok-taken.taken c.read_chunk.new.buffer)) (g.R.Source.remaining c.read_chunk.new.reader) c.args.auditor.now c.feed.new.listener c.finish-then-is_over.new.listener c.feed.new.self c.finish-then-is_over.result has (inr (hearing_ended (reading_of c.args.lengths) (so.0 ++ (take c.in_ok-taken.taken c.read_chunk.new.buffer)) c.args.auditor.now c.feed.new.listener c.feed.new.self has (c.is_over.ensures.yes c.if-is_over.true))) c.finish-then-is_over.ensures).0)
-
-pub returns-then-is_over-clause-read : goal.returns-then-is_over-clause-read
-returns-then-is_over-clause-read g c = λ is.
-    let so = c.loop-turn.invariant.so_far in
-    let has = heard_on (reading_of c.args.lengths) so.0 (take c.in_ok-taken.taken c.read_chunk.new.buffer) c.args.auditor.now c.loop-turn.auditor c.feed.new.listener c.loop-turn.walker c.feed.new.self so.3 c.in_ok-feed.ensures.reads c.in_ok-feed.ensures.reading c.in_ok-feed.ensures.scope in
-    absurd ((all_heard (reading_of c.args.lengths) (so.0 ++ (take c.in_ok-taken.taken c.read_chunk.new.buffer)) (g.R.Source.remaining c.read_chunk.new.reader) c.args.auditor.now c.feed.new.listener c.finish-then-is_over.new.listener c.feed.new.self c.finish-then-is_over.result has (inr (hearing_ended (reading_of c.args.lengths) (so.0 ++ (take c.in_ok-taken.taken c.read_chunk.new.buffer)) c.args.auditor.now c.feed.new.listener c.feed.new.self has (c.is_over.ensures.yes c.if-is_over.true))) c.finish-then-is_over.ensures).1 is)
+    let has = c.in_ok-feed.ensures.hears (reading_of c.args.lengths) so.0 so.3 in
+    (so.0 ++ (take c.in_ok-taken.taken c.read_chunk.new.buffer), Consumes-trans (g.R.Source.remaining c.args.reader.now) (g.R.Source.remaining c.loop-turn.reader) (g.R.Source.remaining c.read_chunk.new.reader) so.0 _ so.1 c.in_ok-taken.ensures.chunk.1, still_read _ _ so.0 (take c.in_ok-taken.taken c.read_chunk.new.buffer) so.3.has.events c.loop-turn.audit.walker so.3.has.read c.loop-turn.invariant.hears_on, (has, inr (hearing_ended (reading_of c.args.lengths) _ c.feed.new.self has (c.is_over.ensures.yes c.if-is_over.true))))
 
 pub loop-turn-preserved : goal.loop-turn-preserved
 loop-turn-preserved g c =
     let so = c.loop-turn.invariant.so_far in
-    let has = heard_on (reading_of c.args.lengths) so.0 (take c.in_ok-taken.taken c.read_chunk.new.buffer) c.args.auditor.now c.loop-turn.auditor c.feed.new.listener c.loop-turn.walker c.feed.new.self so.3 c.in_ok-feed.ensures.reads c.in_ok-feed.ensures.reading c.in_ok-feed.ensures.scope in
     record {
-      so_far = (so.0 ++ (take c.in_ok-taken.taken c.read_chunk.new.buffer), Consumes-trans (g.R.Source.remaining c.args.reader.now) (g.R.Source.remaining c.loop-turn.reader) (g.R.Source.remaining c.read_chunk.new.reader) so.0 _ so.1 c.in_ok-taken.ensures.chunk.1, omega (arith, so.2, c.in_ok-taken.ensures.chunk.0, length-append so.0 (take c.in_ok-taken.taken c.read_chunk.new.buffer), length-take c.in_ok-taken.taken c.read_chunk.new.buffer), has);
+      so_far = (so.0 ++ (take c.in_ok-taken.taken c.read_chunk.new.buffer), Consumes-trans (g.R.Source.remaining c.args.reader.now) (g.R.Source.remaining c.loop-turn.reader) (g.R.Source.remaining c.read_chunk.new.reader) so.0 _ so.1 c.in_ok-taken.ensures.chunk.1, omega (arith, so.2, c.in_ok-taken.ensures.chunk.0, length-append so.0 (take c.in_ok-taken.taken c.read_chunk.new.buffer), length-take c.in_ok-taken.taken c.read_chunk.new.buffer), c.in_ok-feed.ensures.hears (reading_of c.args.lengths) so.0 so.3);
       ready = c.in_ok-feed.ensures.ready;
-      reads_on = c.is_over.ensures.no c.if-is_over.false;
+      hears_on = c.is_over.ensures.no c.if-is_over.false;
       read = c.in_ok-taken.ensures.counted ∙ c.loop-turn.invariant.read;
     }
 
@@ -72,4 +65,4 @@ pub returns-clause-hears : goal.returns-clause-hears
 returns-clause-hears g c =
     let so = c.loop-turn.invariant.so_far in
     let many : most < length so.0 = omega (arith, so.2, c.loop-turn-test.false) in
-    (so.0, so.1, none_taken _ _ so.0 so.3.events c.loop-turn.walker so.3.read c.loop-turn.invariant.reads_on, hearing_endless (reading_of c.args.lengths) so.0 (g.R.Source.remaining c.loop-turn.reader) c.args.auditor.now c.loop-turn.auditor c.loop-turn.walker so.3 c.loop-turn.invariant.reads_on many)
+    (so.0, so.1, none_taken _ _ so.0 so.3.has.events c.loop-turn.audit.walker so.3.has.read c.loop-turn.invariant.hears_on, hearing_endless (reading_of c.args.lengths) so.0 c.loop-turn.audit so.3 c.loop-turn.invariant.hears_on many)

@@ -1,0 +1,327 @@
+//! A tap between a till and its terminal, as the command line asks for it.
+use crate::output::Output;
+use crate::statuses::{BAD, DEVICE, DONE, MEMORY, WORDS};
+use crate::trace_file;
+use std::fs::File;
+use std::io::{self, ErrorKind, Write};
+use std::net::TcpStream;
+use zvt_io::{Counted, Sink};
+use zvt_session::{Door, Way, connect, listen};
+use zvt_tap::{Found, Nowhere, SocketTapped, TapFault, TapLog, Tracing, tap_sockets};
+use zvt_tool::{Lengths, Tally, TraceFault};
+
+/// Where a tap listens, `[HOST:]PORT`, where the terminal does, `HOST:PORT`, and how many lines it passes on.
+#[derive(Clone, Copy)]
+pub struct TapOptions<'a> {
+    pub listen: &'a str,
+    pub to: &'a str,
+    pub trace: Option<&'a str>,
+    pub trace_required: bool,
+    pub connections: u16,
+}
+
+/// The host of a tap that names none.
+const HERE: &str = "127.0.0.1";
+
+/// An address of the command line.
+#[derive(Clone, Copy)]
+struct Address<'a> {
+    host: &'a str,
+    port: u16,
+}
+
+impl<'a> Address<'a> {
+    /// The address that is written `HOST:PORT`. A host that has colons stands in brackets.
+    fn of(text: &'a str) -> Option<Address<'a>> {
+        let parts = match text.strip_prefix("[") {
+            Some(rest) => rest.split_once("]:"),
+            None => text.split_once(":"),
+        };
+        let (host, port) = parts?;
+        if host.is_empty() {
+            return None;
+        }
+        match port.parse::<u16>() {
+            Ok(port) => Some(Address { host, port }),
+            Err(_) => None,
+        }
+    }
+
+    /// The address that is written `HOST:PORT`, or as a port of this machine.
+    fn here(text: &'a str) -> Option<Address<'a>> {
+        match text.parse::<u16>() {
+            Ok(port) => Some(Address { host: HERE, port }),
+            Err(_) => Address::of(text),
+        }
+    }
+}
+
+/// The file of a trace, and whether it failed and lines may go on without it.
+#[derive(Drop)]
+struct TraceFile<'a> {
+    file: Option<&'a File>,
+    required: bool,
+    failed: bool,
+}
+
+/// Passes on one line after another between tills and a terminal, and answers the highest exit status.
+pub fn tap(rt: &HostRuntime, options: &TapOptions<'_>) -> io::Result<u8> {
+    let Some(from) = Address::here(options.listen) else {
+        eprintln!(rt;
+            "zvt: invalid address '{}': expected PORT or HOST:PORT, e.g. 20007",
+            options.listen
+        )?;
+        return Ok(WORDS);
+    };
+    let to = match Address::of(options.to) {
+        Some(to) if to.port > 0 => to,
+        _ => {
+            eprintln!(rt;
+                "zvt: invalid address '{}': expected HOST:PORT, e.g. 192.0.2.7:20007",
+                options.to
+            )?;
+            return Ok(WORDS);
+        }
+    };
+    if options.connections == 0 {
+        eprintln!(rt; "zvt: invalid number of connections '0': expected 1 to 65535")?;
+        return Ok(WORDS);
+    }
+    let file = match trace_file::opened(rt, options.trace)? {
+        Ok(file) => file,
+        Err(status) => return Ok(status),
+    };
+    let mut trace = TraceFile {
+        file: file.as_ref(),
+        required: options.trace_required,
+        failed: false,
+    };
+    match listen(rt, from.host, from.port) {
+        Ok(mut door) => tap_all(rt, options, to, &mut door, &mut trace),
+        Err(why) => {
+            eprintln!(rt; "zvt: cannot listen at '{}': {why}", options.listen)?;
+            Ok(DEVICE)
+        }
+    }
+}
+
+/// Passes on one line after another, and answers the highest exit status.
+fn tap_all(
+    rt: &HostRuntime,
+    options: &TapOptions<'_>,
+    to: Address<'_>,
+    door: &mut Door,
+    trace: &mut TraceFile<'_>,
+) -> io::Result<u8> {
+    if let Ok(address) = door.listener.local_addr() {
+        eprintln!(rt; "zvt: a tap listens at {address}")?;
+    }
+    let mut status = DONE;
+    for _line in 0..options.connections {
+        let till = match door.next() {
+            Ok(till) => till,
+            Err(why) => {
+                eprintln!(rt; "zvt: no connection from a till: {why}")?;
+                return Ok(DEVICE);
+            }
+        };
+        let answer = match connect(rt, to.host, to.port) {
+            Ok(terminal) => tap_one(rt, &till, &terminal, trace)?,
+            Err(why) => {
+                eprintln!(rt;
+                    "zvt: no connection to the terminal at '{}': {why}",
+                    options.to
+                )?;
+                DEVICE
+            }
+        };
+        status = status.max(answer);
+        if trace.failed && trace.required {
+            return Ok(status);
+        }
+    }
+    Ok(status)
+}
+
+/// Passes on one line, and answers its exit status.
+fn tap_one(
+    rt: &HostRuntime,
+    till: &TcpStream,
+    terminal: &TcpStream,
+    trace: &mut TraceFile<'_>,
+) -> io::Result<u8> {
+    match trace.file {
+        None => {
+            let tracing = Tracing {
+                device: Nowhere,
+                failed: false,
+                required: false,
+            };
+            Ok(tap_into(rt, till, terminal, tracing)?.0)
+        }
+        Some(file) => {
+            let tracing = Tracing {
+                device: Counted::new(Noted {
+                    rt,
+                    file,
+                    required: trace.required,
+                }),
+                failed: trace.failed,
+                required: trace.required,
+            };
+            let (status, failed) = tap_into(rt, till, terminal, tracing)?;
+            trace.failed = failed;
+            Ok(if failed { status.max(DEVICE) } else { status })
+        }
+    }
+}
+
+/// The file of a trace. A write that fails is reported at once.
+#[derive(Drop)]
+struct Noted<'a> {
+    rt: &'a HostRuntime,
+    file: &'a File,
+    required: bool,
+}
+
+impl Write for Noted<'_> {
+    fn write(&mut self, bytes: &[u8]) -> io::Result<usize> {
+        let mut file = self.file;
+        let answer = file.write(bytes);
+        if let Err(error) = &answer {
+            let _ = if self.required {
+                eprintln!(self.rt; "zvt: cannot write the trace file, so the line ends: {error}")
+            } else {
+                eprintln!(self.rt;
+                    "zvt: cannot write the trace file, so the line goes on without it: {error}"
+                )
+            };
+        }
+        answer
+    }
+
+    fn flush(&mut self) -> io::Result<()> {
+        Ok(())
+    }
+}
+
+/// Passes on one line, and answers its exit status and whether its trace failed.
+fn tap_into<T: Sink + Drop>(
+    rt: &HostRuntime,
+    till: &TcpStream,
+    terminal: &TcpStream,
+    tracing: Tracing<T>,
+) -> io::Result<(u8, bool)> {
+    let failed = tracing.failed;
+    let output = Counted::new(Output::new(io::writer(rt)));
+    let Ok(log) = TapLog::new(rt.alloc(), Lengths::Shortest, tracing, output) else {
+        return Ok((report_fault(rt, &TraceFault::Memory)?, failed));
+    };
+    let tapped = match tap_sockets(rt, rt.alloc(), till, terminal, log) {
+        Ok(tapped) => tapped,
+        Err(error) => {
+            eprintln!(rt; "zvt: the sockets of the line can't be used: {error}")?;
+            return Ok((DEVICE, failed));
+        }
+    };
+    let SocketTapped { tapped, error } = tapped;
+    let status = match tapped.ended {
+        Ok(()) => DONE,
+        Err(fault) => report_end(rt, fault, error)?,
+    };
+    let found = tapped.found;
+    let failed = found.tracing.failed;
+    let status = status.max(report_found(rt, found)?);
+    Ok((status, failed))
+}
+
+/// Reports why a line ended early, and answers the exit status of that.
+fn report_end(rt: &HostRuntime, fault: TapFault, error: Option<ErrorKind>) -> io::Result<u8> {
+    match fault {
+        TapFault::Read(way) => {
+            eprintln!(rt;
+                "zvt: the line to the {} broke: {}",
+                sender(way),
+                why(error)
+            )?;
+            Ok(DEVICE)
+        }
+        TapFault::Write(way) => {
+            eprintln!(rt;
+                "zvt: the line to the {} broke: {}",
+                receiver(way),
+                why(error)
+            )?;
+            Ok(DEVICE)
+        }
+        // It was reported when the trace failed.
+        TapFault::Trace => Ok(DEVICE),
+        TapFault::Memory => report_fault(rt, &TraceFault::Memory),
+        TapFault::Wait => {
+            eprintln!(rt;
+                "zvt: the system can't say which side has sent something, so the line ended"
+            )?;
+            Ok(DEVICE)
+        }
+    }
+}
+
+/// The side from which bytes that go this way come.
+fn sender(way: Way) -> &'static str {
+    match way {
+        Way::FromTill => "till",
+        Way::FromTerminal => "terminal",
+    }
+}
+
+/// The side to which bytes that go this way go.
+fn receiver(way: Way) -> &'static str {
+    match way {
+        Way::FromTill => "terminal",
+        Way::FromTerminal => "till",
+    }
+}
+
+/// What a system's error says of the side of a line.
+fn why(error: Option<ErrorKind>) -> &'static str {
+    match error {
+        Some(ErrorKind::ConnectionReset) => "it reset the connection",
+        Some(ErrorKind::BrokenPipe) =>
+            "it closed the connection while there was more to send to it",
+        Some(ErrorKind::WouldBlock | ErrorKind::TimedOut) => {
+            "it read nothing for 5 seconds: check whether it hangs"
+        }
+        _ => "check the network and the program there",
+    }
+}
+
+/// Reports how much of a line is bad, and what of its text could not be written. Answers the exit status of that.
+fn report_found<T: Sink + Drop, W: Write + Drop>(
+    rt: &HostRuntime,
+    found: Found<T, Counted<Output<W>>>,
+) -> io::Result<u8> {
+    let is_pipe_closed = found.output.inner.broken_pipe;
+    let shown = match found.shown {
+        Ok(Tally { messages, bad }) if bad > 0 => {
+            eprintln!(rt; "zvt: messages: {messages}, streams refused or cut off: {bad}")?;
+            BAD
+        }
+        Ok(_) => DONE,
+        Err(TraceFault::Write) if is_pipe_closed => return Ok(DEVICE),
+        Err(fault) => return report_fault(rt, &fault),
+    };
+    match found.audited {
+        Ok(_) => Ok(shown),
+        Err(TraceFault::Write) if is_pipe_closed => Ok(DEVICE),
+        Err(fault) => report_fault(rt, &fault),
+    }
+}
+
+/// Reports that what passes can't be shown, and answers the exit status of that.
+fn report_fault(rt: &HostRuntime, fault: &TraceFault) -> io::Result<u8> {
+    eprintln!(rt; "zvt: the line can't be shown: {fault}")?;
+    Ok(match fault {
+        TraceFault::Memory => MEMORY,
+        _ => DEVICE,
+    })
+}

@@ -1,0 +1,4 @@
+pub mod ChunkRows
+pub mod LineLemmas
+pub mod MoveLemmas
+pub mod RelayLemmas

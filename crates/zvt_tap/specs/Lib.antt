@@ -1,0 +1,4 @@
+pub mod Chunks
+pub mod Log
+pub mod Observing
+pub mod Relay

@@ -1,0 +1,29 @@
+//! Why a relay ends early.
+ghost use Rattle.std.specs.Prelude.{◌≡◌};
+ghost use Rattle.zvt_tap.specs.declared.fault.TapFault.TheVariants.{Memory};
+
+use std::alloc::{AllocError, AllocFailed};
+use zvt_session::Way;
+
+/// Why a relay ended before both sides had come to their end.
+#[derive(Clone, Copy, Debug, PartialEq, Eq)]
+pub enum TapFault {
+    /// The side could not be read from which the bytes go this way.
+    Read(Way),
+    /// The side could not be written to which the bytes go this way. Some prefix of the last chunk was written.
+    Write(Way),
+    /// The trace could not be written without which the line may not go on. The last chunk was not passed on.
+    Trace,
+    /// The last chunk was neither observed nor passed on.
+    Memory,
+    /// No side can be waited for, or it was waited as often as can be counted.
+    Wait,
+}
+
+impl From<AllocError> for TapFault {
+    ghost from_gives = { λ _ fault. fault ≡ Memory };
+
+    fn from(_refused: AllocError) -> TapFault {
+        TapFault::Memory
+    }
+}

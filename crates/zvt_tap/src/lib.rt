@@ -1,0 +1,23 @@
+//! A tap on the line between a till and its terminal: what comes from one side goes to the other, and a log observes it.
+//!
+//! [`tap_line`] passes a line's chunks on, in the order that a [`Readiness`] gives, over any devices. Its [`TapLog`] has the
+//! trace of the line, the text that is shown, and the audit. [`tap_sockets`] does that with two sockets.
+#![tactic(auto)]
+
+mod fault;
+mod heard;
+mod line;
+mod log;
+mod nowhere;
+mod relay;
+mod shown;
+mod sockets;
+mod tracing;
+
+pub use fault::TapFault;
+pub use line::{Tapped, tap_line};
+pub use log::{Found, TapLog};
+pub use nowhere::Nowhere;
+pub use relay::{Ends, Observer, Readiness, run_relay};
+pub use sockets::{SocketTapped, tap_sockets};
+pub use tracing::Tracing;

@@ -1,0 +1,279 @@
+//! A line between two sockets. What is proved of this module is that it is safe and ends: the system alone knows what
+//! sockets do.
+ghost use Rattle.zvt_tap.specs.Log.{MayObserve};
+
+use crate::fault::TapFault;
+use crate::line::{Tapped, tap_line};
+use crate::log::TapLog;
+use crate::relay::{Ends, Readiness};
+use mio::unix::SourceFd;
+use mio::{Events, Interest, Poll, Token};
+use std::alloc::Global;
+use std::io::{self, ErrorKind, Read, Write};
+use std::net::{Net, Shutdown, TcpListener, TcpStream};
+use std::os::fd::{AsRawFd, RawFd};
+use std::time::Duration;
+use zvt_io::{Counted, GhostCount, Sink};
+use zvt_session::Way;
+
+/// For that many seconds a side may leave so much unread that no more can be sent to it.
+const WRITE_SECONDS: u64 = 5;
+
+const TILL: Token = Token(0);
+
+const TERMINAL: Token = Token(1);
+
+/// How a line between two sockets ended.
+#[derive(Drop)]
+pub struct SocketTapped<T, O> {
+    pub tapped: Tapped<T, O>,
+    /// The system's error where a side could not be read or written.
+    pub error: Option<ErrorKind>,
+}
+
+/// Passes on what comes from each of two sockets to the other, as [`tap_line`] does. Small messages go out at once. A side
+/// that has closed its sending half is handed on. A side to which nothing could be written for five seconds is a fault.
+pub fn tap_sockets<R, T: Sink + Drop, O: Sink + Drop>(
+    rt: &R,
+    alloc: Global,
+    till: &TcpStream,
+    terminal: &TcpStream,
+    log: TapLog<T, O>,
+) -> io::Result<SocketTapped<T, O>>
+where
+    R: Net<Listener = TcpListener, Stream = TcpStream>,
+    requires { MayObserve log.parts.shown log.parts.heard }
+{
+    set_up(till)?;
+    set_up(terminal)?;
+    let mut line = SocketLine::new(rt, alloc, till, terminal)?;
+    let mut ends = Ends {
+        till: Counted::new(Half::of(till)),
+        terminal: Counted::new(Half::of(terminal)),
+        to_terminal: Counted::new(Half::of(terminal)),
+        to_till: Counted::new(Half::of(till)),
+    };
+    let tapped = tap_line(alloc, &mut line, &mut ends, log);
+    let error = match tapped.ended {
+        Err(TapFault::Read(Way::FromTill)) => ends.till.inner.error,
+        Err(TapFault::Read(Way::FromTerminal)) => ends.terminal.inner.error,
+        Err(TapFault::Write(Way::FromTill)) => ends.to_terminal.inner.error,
+        Err(TapFault::Write(Way::FromTerminal)) => ends.to_till.inner.error,
+        _ => None,
+    };
+    Ok(SocketTapped { tapped, error })
+}
+
+/// Small messages go out at once, and a write waits for a limited time.
+fn set_up(socket: &TcpStream) -> io::Result<()> {
+    socket.set_nodelay(true)?;
+    socket.set_read_timeout(None)?;
+    socket.set_write_timeout(Some(Duration::from_secs(WRITE_SECONDS)))
+}
+
+/// One half of a socket, which remembers why its last call failed.
+#[derive(Drop)]
+struct Half<'a> {
+    socket: &'a TcpStream,
+    error: Option<ErrorKind>,
+}
+
+impl<'a> Half<'a> {
+    fn of(socket: &'a TcpStream) -> Half<'a> {
+        Half {
+            socket,
+            error: None,
+        }
+    }
+}
+
+impl Read for Half<'_> {
+    fn read(&mut self, buffer: &mut [u8]) -> io::Result<usize> {
+        let answer = self.socket.read(buffer);
+        if let Err(error) = &answer {
+            self.error = Some(error.kind());
+        }
+        answer
+    }
+}
+
+impl Write for Half<'_> {
+    fn write(&mut self, bytes: &[u8]) -> io::Result<usize> {
+        let answer = self.socket.write(bytes);
+        if let Err(error) = &answer {
+            self.error = Some(error.kind());
+        }
+        answer
+    }
+
+    fn flush(&mut self) -> io::Result<()> {
+        Ok(())
+    }
+}
+
+/// One side of a line, as it is waited for.
+#[derive(Clone, Copy)]
+struct Side {
+    descriptor: RawFd,
+    token: Token,
+    /// Bytes can be read, or it has come to its end.
+    is_ready: bool,
+    /// It was read since it was waited for.
+    was_read: bool,
+    has_ended: bool,
+}
+
+impl Side {
+    fn of(socket: &TcpStream, token: Token) -> Side {
+        Side {
+            descriptor: socket.as_raw_fd(),
+            token,
+            is_ready: false,
+            was_read: false,
+            has_ended: false,
+        }
+    }
+
+    /// Has the system report it from now on.
+    fn begin(&self, poll: &Poll) -> io::Result<()> {
+        let mut source = SourceFd(&self.descriptor);
+        poll.registry()
+            .register(&mut source, self.token, Interest::READABLE)
+    }
+
+    /// Has the system report again what is left to read, where it was read since.
+    fn go_on(&mut self, poll: &Poll) -> io::Result<()> {
+        if !self.was_read || self.has_ended {
+            return Ok(());
+        }
+        self.was_read = false;
+        let mut source = SourceFd(&self.descriptor);
+        poll.registry()
+            .reregister(&mut source, self.token, Interest::READABLE)
+    }
+
+    /// Has the system report it no more.
+    fn end(&mut self, poll: &Poll) {
+        self.has_ended = true;
+        let _ = poll.registry().deregister(&mut SourceFd(&self.descriptor));
+    }
+
+    /// Whether it is to be read now.
+    fn take_ready(&mut self) -> bool {
+        let was_ready = self.is_ready;
+        self.is_ready = false;
+        self.was_read |= was_ready;
+        was_ready
+    }
+}
+
+/// Waits for two sockets at once.
+#[derive(Drop)]
+struct SocketLine<'a> {
+    poll: Poll,
+    events: Events,
+    till_socket: &'a TcpStream,
+    terminal_socket: &'a TcpStream,
+    till: Side,
+    terminal: Side,
+    /// The way of the last chunk: where both sides are ready, the other is read next.
+    last: Way,
+    waits: GhostCount,
+    failures: GhostCount,
+}
+
+impl<'a> SocketLine<'a> {
+    fn new<R: Net>(
+        rt: &R,
+        alloc: Global,
+        till_socket: &'a TcpStream,
+        terminal_socket: &'a TcpStream,
+    ) -> io::Result<SocketLine<'a>> {
+        let poll = Poll::new(rt)?;
+        let events = Events::with_capacity(alloc, 2)?;
+        let till = Side::of(till_socket, TILL);
+        let terminal = Side::of(terminal_socket, TERMINAL);
+        till.begin(&poll)?;
+        terminal.begin(&poll)?;
+        Ok(SocketLine {
+            poll,
+            events,
+            till_socket,
+            terminal_socket,
+            till,
+            terminal,
+            last: Way::FromTerminal,
+            waits: GhostCount::zero(),
+            failures: GhostCount::zero(),
+        })
+    }
+
+    /// The way of a side that is ready, if one is.
+    fn ready_way(&mut self) -> Option<Way> {
+        let way = match self.last {
+            Way::FromTill if self.terminal.take_ready() => Way::FromTerminal,
+            Way::FromTill if self.till.take_ready() => Way::FromTill,
+            Way::FromTerminal if self.till.take_ready() => Way::FromTill,
+            Way::FromTerminal if self.terminal.take_ready() => Way::FromTerminal,
+            _ => return None,
+        };
+        self.last = way;
+        Some(way)
+    }
+
+    /// Waits until a side is ready, or a signal comes.
+    fn wait(&mut self) -> io::Result<()> {
+        self.till.go_on(&self.poll)?;
+        self.terminal.go_on(&self.poll)?;
+        self.poll.poll(&mut self.events, None)?;
+        for event in self.events.iter() {
+            if event.token() == TILL {
+                self.till.is_ready = !self.till.has_ended;
+            } else {
+                self.terminal.is_ready = !self.terminal.has_ended;
+            }
+        }
+        Ok(())
+    }
+
+    /// Waits until a side is ready.
+    fn await_way(&mut self) -> io::Result<Way> {
+        for _try in 0..u64::MAX {
+            if let Some(way) = self.ready_way() {
+                return Ok(way);
+            }
+            self.wait()?;
+        }
+        Err(io::Error::from(ErrorKind::TimedOut))
+    }
+}
+
+impl Readiness for SocketLine<'_> {
+    ghost waits = { λ line. line.waits.count };
+
+    ghost failures = { λ line. line.failures.count };
+
+    fn next(&mut self) -> Option<Way> {
+        self.waits = self.waits.next();
+        match self.await_way() {
+            Ok(way) => Some(way),
+            Err(_) => {
+                self.failures = self.failures.next();
+                None
+            }
+        }
+    }
+
+    fn end(&mut self, way: Way) {
+        let _ = match way {
+            Way::FromTill => {
+                self.till.end(&self.poll);
+                self.terminal_socket.shutdown(Shutdown::Write)
+            }
+            Way::FromTerminal => {
+                self.terminal.end(&self.poll);
+                self.till_socket.shutdown(Shutdown::Write)
+            }
+        };
+    }
+}
