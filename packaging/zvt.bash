@@ -11,7 +11,8 @@ _zvt() {
         esac
     done
     case $command in
-    show | receipts) options='--loose --json --follow' ;;
+    show) options='--loose --json --follow --resync' ;;
+    receipts) options='--loose --json --follow' ;;
     join) options='--follow' ;;
     audit) options='--loose --check --json --follow' ;;
     normalise) ;;
@@ -19,15 +20,19 @@ _zvt() {
     loop) options='--trace --book --json' steps='register pay: decline: reverse: close' ;;
     till) options='--port --host --password --config --currency --trace --book --loose --json' steps='register pay: reverse: close' ;;
     terminal) options='--port --host --tid --connections --decline --trace --loose --json' ;;
-    '') options='--version -V' words='show join normalise audit receipts vectors book loop till terminal help' ;;
+    tap) options='--listen --to --trace --trace-required --connections' ;;
+    play) options='--till --terminal --port --listen --host' ;;
+    check-till) options='--listen --host --junit' ;;
+    check-terminal) options='--port --host --junit' ;;
+    '') options='--version -V' words='show join normalise audit receipts vectors book loop till terminal tap play check-till check-terminal help' ;;
     help)
-        [ "$COMP_CWORD" -ne $((position + 1)) ] || COMPREPLY=($(compgen -W 'show join normalise audit receipts vectors book loop till terminal' -- "$word"))
+        [ "$COMP_CWORD" -ne $((position + 1)) ] || COMPREPLY=($(compgen -W 'show join normalise audit receipts vectors book loop till terminal tap play check-till check-terminal' -- "$word"))
         return
         ;;
     *) return ;;
     esac
     case $before in
-    --trace | --book)
+    --trace | --book | --till | --terminal | --junit)
         compopt -o filenames 2> /dev/null
         COMPREPLY=($(compgen -f -- "$word"))
         return
@@ -36,13 +41,13 @@ _zvt() {
         COMPREPLY=($(compgen -A hostname -- "$word"))
         return
         ;;
-    --port | --password | --config | --currency | --tid | --connections | --decline) return ;;
+    --port | --listen | --to | --password | --config | --currency | --tid | --connections | --decline) return ;;
     esac
     case $word in
     -*) COMPREPLY=($(compgen -W "$options --help -h" -- "$word")); return ;;
     esac
     case $command in
-    show | join | normalise | audit | receipts | vectors | book)
+    show | join | normalise | audit | receipts | vectors | book | check-till | check-terminal)
         compopt -o filenames 2> /dev/null
         COMPREPLY=($(compgen -f -- "$word"))
         return

@@ -12,6 +12,10 @@ complete -c zvt -n __fish_use_subcommand -a book -d 'Write the payments of a boo
 complete -c zvt -n __fish_use_subcommand -a loop -d 'Run steps between a till and a terminal in this process'
 complete -c zvt -n __fish_use_subcommand -a till -d 'Connect to a terminal and run steps as its till'
 complete -c zvt -n __fish_use_subcommand -a terminal -d 'Listen as a simulated terminal'
+complete -c zvt -n __fish_use_subcommand -a tap -d 'Forward the line between a till and a terminal, and show it'
+complete -c zvt -n __fish_use_subcommand -a play -d 'Play one side of a trace against a real till or terminal'
+complete -c zvt -n __fish_use_subcommand -a check-till -d 'Play a terminal in one situation after another against a till'
+complete -c zvt -n __fish_use_subcommand -a check-terminal -d 'Play a till in one situation after another against a terminal'
 complete -c zvt -n __fish_use_subcommand -a help -d 'Print the help of a command'
 
 complete -c zvt -s h -l help -d 'Print help'
@@ -20,6 +24,7 @@ complete -c zvt -n __fish_use_subcommand -s V -l version -d 'Print the version'
 complete -c zvt -n '__fish_seen_subcommand_from show audit receipts' -l loose -d 'Also read lengths in longer forms than they need'
 complete -c zvt -n '__fish_seen_subcommand_from show audit receipts vectors book loop till terminal' -l json -d 'Write JSON, one object a line'
 complete -c zvt -n '__fish_seen_subcommand_from show join audit receipts' -l follow -d 'Read a trace as it comes'
+complete -c zvt -n '__fish_seen_subcommand_from show' -l resync -d 'Go on after a message that is refused'
 complete -c zvt -n '__fish_seen_subcommand_from audit' -l check -d 'End with status 1 where a payment is unclear'
 complete -c zvt -n '__fish_seen_subcommand_from show join normalise audit receipts vectors book' -F
 
@@ -45,4 +50,22 @@ complete -c zvt -n '__fish_seen_subcommand_from terminal' -l decline -x -d 'Decl
 complete -c zvt -n '__fish_seen_subcommand_from terminal' -l trace -rF -d 'Write a trace of the line to this file'
 complete -c zvt -n '__fish_seen_subcommand_from terminal' -l loose -d 'Also read lengths in longer forms than they need'
 
-complete -c zvt -n '__fish_seen_subcommand_from help' -a 'show join normalise audit receipts vectors book loop till terminal'
+complete -c zvt -n '__fish_seen_subcommand_from tap' -l listen -x -d 'Where the till connects'
+complete -c zvt -n '__fish_seen_subcommand_from tap' -l to -x -d 'Where the terminal listens'
+complete -c zvt -n '__fish_seen_subcommand_from tap' -l trace -rF -d 'Write a trace of the line to this file'
+complete -c zvt -n '__fish_seen_subcommand_from tap' -l trace-required -d 'Forward nothing where the trace cannot be written'
+complete -c zvt -n '__fish_seen_subcommand_from tap' -l connections -x -d 'Forward so many lines one after another'
+
+complete -c zvt -n '__fish_seen_subcommand_from play' -l till -rF -d 'Play the side of the till of this trace'
+complete -c zvt -n '__fish_seen_subcommand_from play' -l terminal -rF -d 'Play the side of the terminal of this trace'
+complete -c zvt -n '__fish_seen_subcommand_from play' -l port -x -d 'Connect to this TCP port'
+complete -c zvt -n '__fish_seen_subcommand_from play' -l listen -x -d 'Listen on this TCP port'
+complete -c zvt -n '__fish_seen_subcommand_from play' -l host -x -a '(__fish_print_hostnames)' -d 'The host of the other side'
+
+complete -c zvt -n '__fish_seen_subcommand_from check-till' -l listen -x -d 'The TCP port where the till connects'
+complete -c zvt -n '__fish_seen_subcommand_from check-terminal' -l port -x -d 'The TCP port where the terminal listens'
+complete -c zvt -n '__fish_seen_subcommand_from check-till check-terminal' -l host -x -d 'The address to listen on, or the host'
+complete -c zvt -n '__fish_seen_subcommand_from check-till check-terminal' -l junit -rF -d 'Also write the report in the form of JUnit'
+complete -c zvt -n '__fish_seen_subcommand_from check-till check-terminal' -F
+
+complete -c zvt -n '__fish_seen_subcommand_from help' -a 'show join normalise audit receipts vectors book loop till terminal tap play check-till check-terminal'

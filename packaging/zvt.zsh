@@ -13,7 +13,15 @@ _zvt() {
     local -a help
     help=('(- *)'{-h,--help}'[print help]')
     case $words[1] in
-    show|receipts)
+    show)
+        _arguments $help \
+            '--loose[also read lengths in longer forms than they need]' \
+            '--json[write JSON, one object a line]' \
+            '--follow[read a trace as it comes]' \
+            '--resync[go on after a message that is refused]' \
+            '*:trace:_files'
+        ;;
+    receipts)
         _arguments $help \
             '--loose[also read lengths in longer forms than they need]' \
             '--json[write JSON, one object a line]' \
@@ -78,6 +86,36 @@ _zvt() {
             '--loose[also read lengths in longer forms than they need]' \
             '--json[write JSON, one object a line, on standard output]'
         ;;
+    tap)
+        _arguments $help \
+            '--listen[where the till connects]:address:' \
+            '--to[where the terminal listens]:address:' \
+            '--trace[write a trace of the line to this file]:file:_files' \
+            "--trace-required[forward nothing where the trace can't be written]" \
+            '--connections[forward so many lines one after another]:number:'
+        ;;
+    play)
+        _arguments $help \
+            "--till[play the till's side of this trace]:file:_files" \
+            "--terminal[play the terminal's side of this trace]:file:_files" \
+            '--port[connect to this TCP port]:port:' \
+            '--listen[listen on this TCP port]:port:' \
+            "--host[the other side's host, or the address to listen on]:host:_hosts"
+        ;;
+    check-till)
+        _arguments $help \
+            '--listen[the TCP port where the till connects]:port:' \
+            '--host[the address to listen on]:host:_hosts' \
+            "--junit[also write the report in JUnit's form]:file:_files" \
+            '*:situation:_files'
+        ;;
+    check-terminal)
+        _arguments $help \
+            '--port[the TCP port where the terminal listens]:port:' \
+            "--host[the name or address of the terminal's host]:host:_hosts" \
+            "--junit[also write the report in JUnit's form]:file:_files" \
+            '*:situation:_files'
+        ;;
     help)
         _arguments '1:command:_zvt_commands'
         ;;
@@ -97,6 +135,10 @@ _zvt_commands() {
         'loop:run steps between a till and a terminal in this process'
         'till:connect to a terminal and run steps as its till'
         'terminal:listen as a simulated terminal'
+        'tap:forward the line between a till and a terminal, and show it'
+        'play:play one side of a trace against a real till or terminal'
+        'check-till:play a terminal in one situation after another against a till'
+        'check-terminal:play a till in one situation after another against a terminal'
         'help:print the help of a command'
     )
     _describe command commands

@@ -12,12 +12,12 @@ import sys
 
 HERE = os.path.dirname(os.path.abspath(__file__))
 PROGRAM = os.path.abspath(sys.argv[1]) if len(sys.argv) > 1 else os.path.join(HERE, "..", "crates", "zvt", "out", "zvt")
-COMMANDS = ["show", "join", "normalise", "audit", "receipts", "vectors", "book", "loop", "till", "terminal"]
+COMMANDS = ["show", "join", "normalise", "audit", "receipts", "vectors", "book", "loop", "till", "terminal", "tap", "play", "check-till", "check-terminal"]
 USAGE = f"Usage: zvt [{'|'.join(COMMANDS)}]"
 TILL, TERMINAL = ["till", "--port", "1"], ["terminal", "--port", "1"]
 # Words that make no command, and what is said of them.
 REFUSED = [
-    ("pay", f"error: unrecognized subcommand 'pay'\n\n{USAGE}\n"),
+    ("pay", f"error: unrecognized subcommand 'pay'\n\n  tip: a similar subcommand exists: 'play'\n\n{USAGE}\n"),
     ("receipt", f"error: unrecognized subcommand 'receipt'\n\n  tip: a similar subcommand exists: 'receipts'\n\n{USAGE}\n"),
     ("show --check x y", "error: unexpected argument '--check' found\n"),
     ("--port 1", "error: unexpected argument '--port' found\n"),
@@ -32,6 +32,15 @@ REFUSED = [
     ("terminal --port=1 --tid=100000000", "error: invalid value '100000000' for '--tid <TID>': 100000000 is not in 0..=99999999\n"),
     ("terminal --port=1 --connections=65536", "error: invalid value '65536' for '--connections <N>': 65536 is not in 0..=65535\n"),
     ("terminal --port=1 register", "error: unexpected argument 'register' found\n\nUsage: zvt terminal [OPTIONS] --port <PORT>\n"),
+    ("tap --listen 1", "error: the following required arguments were not provided:\n  --to <ADDRESS>\n"),
+    ("tap", "error: the following required arguments were not provided:\n  --listen <ADDRESS>\n  --to <ADDRESS>\n"),
+    ("tap --listen 1 --to h:2 --connections=x", "error: invalid value 'x' for '--connections <N>': invalid digit found in string\n"),
+    ("play --port=65536", "error: invalid value '65536' for '--port <PORT>': 65536 is not in 0..=65535\n"),
+    ("play --till", "error: a value is required for '--till <FILE>' but none was supplied\n"),
+    ("check-till x.trace", "error: the following required arguments were not provided:\n  --listen <PORT>\n"),
+    ("check-terminal --listen 1", "error: unexpected argument '--listen' found\n"),
+    ("check-till --listen 1 --junit", "error: a value is required for '--junit <FILE>' but none was supplied\n"),
+    ("join --resync", "error: unexpected argument '--resync' found\n"),
     ("till --port=1 --port=2", "error: the argument '--port <PORT>' cannot be used multiple times\n"),
 ]
 # Words that name no step of a loop: amounts, entries and codes that are none, and none of the names.

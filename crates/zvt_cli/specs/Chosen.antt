@@ -7,8 +7,9 @@ use Rattle.clap.specs.declared.error.Error.{Error}
 use Rattle.clap.specs.declared.error.kind.ErrorKind.TheVariants.{MissingRequiredArgument, OutOfMemory}
 use Rattle.zvt_cli.specs.Commands.{zvt_app}
 use Rattle.zvt_cli.specs.declared.choice.Choice.{Choice}
-use Rattle.zvt_cli.specs.declared.choice.Choice.TheVariants.{Audit, Book, Join, Loop, Normalise, Receipts, Show, Terminal, Till, Vectors}
+use Rattle.zvt_cli.specs.declared.choice.Choice.TheVariants.{Audit, Book, CheckTerminal, CheckTill, Join, Loop, Normalise, Play, Receipts, Show, Tap, Terminal, Till, Vectors}
 use Rattle.zvt_cli.specs.declared.choice.TraceOptions.{TraceOptions}
+use Rattle.zvt_cli.specs.declared.choice.CheckOptions.{CheckOptions}
 use Rattle.zvt_cli.specs.declared.choice.ChoiceFault.{ChoiceFault}
 use Rattle.zvt_cli.specs.declared.choice.ChoiceFault.TheVariants.{Memory, Words}
 
@@ -51,6 +52,14 @@ pub record AreTraceOptionsOf (rows : List Row) (options : TraceOptions) : Type 0
   pub check : IsFlagOf (codes "check") rows options.check
   pub json : IsFlagOf (codes "json") rows options.json
   pub follow : IsFlagOf (codes "follow") rows options.follow
+  pub resync : IsFlagOf (codes "resync") rows options.resync
+
+-- the options of a command that plays situations, whose port has this name
+pub record AreCheckOptionsOf (port : Text) (rows : List Row) (options : CheckOptions) : Type 0 where
+  pub gives_port : GivesNumber port rows 65535 options.port
+  pub host : first_of (codes "host") rows ≡ Some options.host.now
+  pub junit : IsTextOf (codes "junit") rows options.junit
+  pub files : map (λ file. file.now) options.files.items ≡ words_of (codes "file") rows
 
 -- the command of this name, given these, is the choice
 abbrev pub IsCommandOf : Text → List Row → Choice → Type 0
@@ -86,6 +95,27 @@ IsCommandOf name rows (Terminal options) =
     × IsTextOf (codes "trace") rows options.trace
     × IsFlagOf (codes "loose") rows options.loose
     × IsFlagOf (codes "json") rows options.json
+IsCommandOf name rows (Tap options) =
+    (name ≡ codes "tap") × (first_of (codes "listen") rows ≡ Some options.listen.now)
+    × (first_of (codes "to") rows ≡ Some options.to.now)
+    × IsTextOf (codes "trace") rows options.trace
+    × IsFlagOf (codes "trace-required") rows options.trace_required
+    × GivesNumber (codes "connections") rows 65535 options.connections
+IsCommandOf name rows (Play options) =
+    (name ≡ codes "play") × IsTextOf (codes "till") rows options.till
+    × IsTextOf (codes "terminal") rows options.terminal
+    × IsNumberOf (codes "port") rows 65535 options.port
+    × IsNumberOf (codes "listen") rows 65535 options.listen
+    × (first_of (codes "host") rows ≡ Some options.host.now)
+IsCommandOf name rows (CheckTill options) = (name ≡ codes "check-till") × AreCheckOptionsOf (codes "listen") rows options
+IsCommandOf name rows (CheckTerminal options) = (name ≡ codes "check-terminal") × AreCheckOptionsOf (codes "port") rows options
+
+-- the name of no command but those that play situations
+abbrev pub PlaysAtMost : Text → Type 0
+PlaysAtMost name =
+    (name ≢ codes "show") × (name ≢ codes "join") × (name ≢ codes "normalise") × (name ≢ codes "audit")
+    × (name ≢ codes "receipts") × (name ≢ codes "vectors") × (name ≢ codes "book") × (name ≢ codes "loop")
+    × (name ≢ codes "till") × (name ≢ codes "terminal") × (name ≢ codes "tap") × (name ≢ codes "play")
 
 -- no command is `show`
 abbrev pub IsChoiceOf : Option (Text × List Row) → Choice → Type 0

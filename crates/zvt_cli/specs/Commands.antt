@@ -29,6 +29,18 @@ port_rule = record (option_rule (codes "port")) {
   required = true;
 }
 
+-- an option that has the number of a TCP port
+abbrev pub port_option_rule : Text → Rule
+port_option_rule name = record (option_rule name) { parser = Some (parser.Signed (pos 0) (pos 65535)) }
+
+-- the same, which has to be there
+abbrev pub needed_port_rule : Text → Rule
+needed_port_rule name = record (port_option_rule name) { required = true }
+
+-- an option that has one value and has to be there
+abbrev pub needed_rule : Text → Rule
+needed_rule name = record (option_rule name) { required = true }
+
 abbrev pub host_rule : Rule
 host_rule = record (option_rule (codes "host")) { defaults = codes "127.0.0.1" ∷ [] }
 
@@ -66,6 +78,24 @@ terminal_app =
     (with_rule (with_rule (with_rule (with_rule (new_app (codes "terminal")) port_rule) host_rule) tid_rule) connections_rule)
     (codes "decline")) (codes "trace")) (flag_rule (codes "loose"))) (flag_rule (codes "json"))
 
+abbrev pub tap_app : App
+tap_app =
+    with_rule (with_rule (plain_option
+    (with_rule (with_rule (new_app (codes "tap")) (needed_rule (codes "listen"))) (needed_rule (codes "to")))
+    (codes "trace")) (flag_rule (codes "trace-required"))) connections_rule
+
+abbrev pub play_app : App
+play_app =
+    with_rule (with_rule (with_rule
+    (plain_option (plain_option (new_app (codes "play")) (codes "till")) (codes "terminal"))
+    (port_option_rule (codes "port"))) (port_option_rule (codes "listen"))) host_rule
+
+-- a command of this name that plays situations, over connections of the port with that name
+abbrev pub check_app : Text → Text → App
+check_app name port =
+    with_rule (with_rule (with_rule (with_rule (new_app name) (needed_port_rule port)) host_rule) (option_rule (codes "junit")))
+    (several_rule (codes "file"))
+
 -- a command of this line, whose options are its own
 abbrev pub IsLocalAppOf : App → Command → Type 0
 IsLocalAppOf app c = (app_of c ≡ app) × ((fields_of c).has_globals ≡ false)
@@ -90,6 +120,10 @@ loose_trace_app name = with_rule (on_trace_app name) (flag_rule (codes "loose"))
 abbrev pub written_app : Text → App
 written_app name = with_rule (with_rule (loose_trace_app name) (flag_rule (codes "json"))) (flag_rule (codes "follow"))
 
+-- text of a trace that may go on after a message that is refused
+abbrev pub show_app : App
+show_app = with_rule (written_app (codes "show")) (flag_rule (codes "resync"))
+
 abbrev pub join_app : App
 join_app = with_rule (on_trace_app (codes "join")) (flag_rule (codes "follow"))
 
@@ -103,10 +137,12 @@ audit_app = with_rule (with_rule (with_rule (loose_trace_app (codes "audit")) (f
 abbrev pub trace_app : App
 trace_app =
     with_command (with_command (with_command (with_command
-    (with_command (with_command program_app (written_app (codes "show"))) join_app)
+    (with_command (with_command program_app show_app) join_app)
     (on_trace_app (codes "normalise"))) audit_app) (written_app (codes "receipts")))
     vectors_app
 
 -- the program with its commands and their options
 abbrev pub zvt_app : App
-zvt_app = with_command (with_command (with_command (with_command trace_app book_app) loop_app) till_app) terminal_app
+zvt_app =
+    with_command (with_command (with_command (with_command (with_command (with_command (with_command (with_command trace_app book_app) loop_app) till_app) terminal_app) tap_app)
+    play_app) (check_app (codes "check-till") (codes "listen"))) (check_app (codes "check-terminal") (codes "port"))

@@ -1,9 +1,12 @@
 //! The arguments of the program, as a choice.
 ghost use Rattle.std.specs.Prelude.{◌≡◌, codes, IfErr, IfOk, map, option_map, Some, []};
-ghost use Rattle.clap.specs.Words.{first_of, found_of, kind_of, rows_of, subcommand_rows_of};
-ghost use Rattle.zvt_cli.specs.Chosen.{AreTraceOptionsOf, HasNoChoice, IsChoiceOf, IsFaultOf, IsFlagOf, IsMissing, IsNumberOf, IsTakenAs, MayBeChoiceOf, faults_of_arguments, reading_of_arguments, words_of};
+ghost use Rattle.clap.specs.Words.{Text, first_of, found_of, kind_of, rows_of, subcommand_rows_of};
+ghost use Rattle.zvt_cli.specs.Chosen.{AreCheckOptionsOf, AreTraceOptionsOf, GivesNumber, HasNoChoice, IsChoiceOf, IsFaultOf, IsFlagOf, IsMissing, IsNumberOf, IsTakenAs, MayBeChoiceOf, PlaysAtMost, faults_of_arguments, reading_of_arguments, words_of};
 
-use crate::choice::{Choice, ChoiceFault, TerminalOptions, TillOptions, TraceOptions};
+use crate::choice::{
+    CheckOptions, Choice, ChoiceFault, PlayOptions, TapOptions, TerminalOptions, TillOptions,
+    TraceOptions,
+};
 use crate::command;
 use clap::error::ErrorKind;
 use clap::{ArgMatches, Error};
@@ -97,7 +100,9 @@ fn chosen<'a>(
         }),
         "till" => till(alloc, inner)?,
         "terminal" => terminal(inner),
-        _ => None,
+        "tap" => tap(inner),
+        "play" => play(inner),
+        _ => check(alloc, name, inner)?,
     })
 }
 
@@ -111,6 +116,7 @@ fn on_traces<'a>(alloc: Global, inner: &ArgMatches<'a>) -> Result<TraceOptions<'
         check: flag(inner, "check"),
         json: flag(inner, "json"),
         follow: flag(inner, "follow"),
+        resync: flag(inner, "resync"),
     })
 }
 
@@ -124,6 +130,7 @@ fn nothing<'a>(alloc: Global) -> TraceOptions<'a>
         check: false,
         json: false,
         follow: false,
+        resync: false,
     }
 }
 
@@ -178,6 +185,96 @@ fn terminal<'a>(inner: &ArgMatches<'a>) -> Option<Choice<'a>>
         loose: flag(inner, "loose"),
         json: flag(inner, "json"),
     }))
+}
+
+fn tap<'a>(inner: &ArgMatches<'a>) -> Option<Choice<'a>>
+    ensures { MayBeChoiceOf (Some (codes "tap", rows_of (found_of inner.now))) result }
+{
+    let listen = text(inner, "listen")?;
+    let to = text(inner, "to")?;
+    let connections = number(inner, "connections")?;
+    Some(Choice::Tap(TapOptions {
+        listen,
+        to,
+        trace: text(inner, "trace"),
+        trace_required: flag(inner, "trace-required"),
+        connections,
+    }))
+}
+
+fn play<'a>(inner: &ArgMatches<'a>) -> Option<Choice<'a>>
+    ensures { MayBeChoiceOf (Some (codes "play", rows_of (found_of inner.now))) result }
+{
+    let host = text(inner, "host")?;
+    Some(Choice::Play(PlayOptions {
+        till: text(inner, "till"),
+        terminal: text(inner, "terminal"),
+        port: number(inner, "port"),
+        listen: number(inner, "listen"),
+        host,
+    }))
+}
+
+/// The choice of a command that plays situations, where the name is that of one.
+fn check<'a>(
+    alloc: Global,
+    name: &str,
+    inner: &ArgMatches<'a>,
+) -> Result<Option<Choice<'a>>, AllocError>
+    requires { PlaysAtMost name.now }
+    ensures { IfOk result (MayBeChoiceOf (Some (name.now, rows_of (found_of inner.now)))) }
+{
+    match name {
+        "check-till" => check_till(alloc, inner),
+        "check-terminal" => check_terminal(alloc, inner),
+        _ => Ok(None),
+    }
+}
+
+fn check_till<'a>(alloc: Global, inner: &ArgMatches<'a>) -> Result<Option<Choice<'a>>, AllocError>
+    ensures { IfOk result (MayBeChoiceOf (Some (codes "check-till", rows_of (found_of inner.now)))) }
+{
+    let Some(port) = number(inner, "listen") else {
+        return Ok(None);
+    };
+    let Some(host) = text(inner, "host") else {
+        return Ok(None);
+    };
+    let options = check_options(alloc, inner, port, host)?;
+    Ok(Some(Choice::CheckTill(options)))
+}
+
+fn check_terminal<'a>(
+    alloc: Global,
+    inner: &ArgMatches<'a>,
+) -> Result<Option<Choice<'a>>, AllocError>
+    ensures { IfOk result (MayBeChoiceOf (Some (codes "check-terminal", rows_of (found_of inner.now)))) }
+{
+    let Some(port) = number(inner, "port") else {
+        return Ok(None);
+    };
+    let Some(host) = text(inner, "host") else {
+        return Ok(None);
+    };
+    let options = check_options(alloc, inner, port, host)?;
+    Ok(Some(Choice::CheckTerminal(options)))
+}
+
+/// The situations of a command, and its other options, for this port of this host.
+fn check_options<'a>(
+    alloc: Global,
+    inner: &ArgMatches<'a>,
+    port: u16,
+    host: &'a str,
+) -> Result<CheckOptions<'a>, AllocError>
+    ensures { (name : Text) → GivesNumber name (rows_of (found_of inner.now)) 65535 port → first_of (codes "host") (rows_of (found_of inner.now)) ≡ Some host.entry.now → IfOk result (AreCheckOptionsOf name (rows_of (found_of inner.now))) }
+{
+    Ok(CheckOptions {
+        port,
+        host,
+        junit: text(inner, "junit"),
+        files: words(alloc, inner, "file")?,
+    })
 }
 
 /// The number of the option of this name.

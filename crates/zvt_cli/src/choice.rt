@@ -34,6 +34,10 @@ pub enum Choice<'a> {
     },
     Till(TillOptions<'a>),
     Terminal(TerminalOptions<'a>),
+    Tap(TapOptions<'a>),
+    Play(PlayOptions<'a>),
+    CheckTill(CheckOptions<'a>),
+    CheckTerminal(CheckOptions<'a>),
 }
 
 /// The files and the options of a command on traces. A flag that the command doesn't have is not set.
@@ -49,6 +53,8 @@ pub struct TraceOptions<'a> {
     pub json: bool,
     /// Whether each line is written as soon as it is read.
     pub follow: bool,
+    /// Whether a side goes on after a message that is refused.
+    pub resync: bool,
 }
 
 /// The options and the steps of `till`.
@@ -85,6 +91,48 @@ pub struct TerminalOptions<'a> {
     pub loose: bool,
     /// Whether the reports are JSON, on standard output.
     pub json: bool,
+}
+
+/// The options of `tap`.
+#[derive(Clone, Copy, Debug)]
+pub struct TapOptions<'a> {
+    /// Where the till connects: `[HOST:]PORT`.
+    pub listen: &'a str,
+    /// Where the terminal listens: `HOST:PORT`.
+    pub to: &'a str,
+    pub trace: Option<&'a str>,
+    /// Whether nothing is forwarded once the trace can't be written.
+    pub trace_required: bool,
+    /// The number of connections is 1 unless one is given. It may be 0.
+    pub connections: u16,
+}
+
+/// The options of `play`. The program takes one of `till` and `terminal`, and one of `port` and `listen`.
+#[derive(Clone, Copy, Debug)]
+pub struct PlayOptions<'a> {
+    /// A trace of which the till's side is played.
+    pub till: Option<&'a str>,
+    /// A trace of which the terminal's side is played.
+    pub terminal: Option<&'a str>,
+    /// Where the other side listens.
+    pub port: Option<u16>,
+    /// Where the other side connects.
+    pub listen: Option<u16>,
+    /// The host of either is 127.0.0.1 unless one is given.
+    pub host: &'a str,
+}
+
+/// The options of `check-till` and `check-terminal`.
+#[derive(Debug, Drop)]
+pub struct CheckOptions<'a> {
+    /// Where the till connects, or where the terminal listens.
+    pub port: u16,
+    /// The host is 127.0.0.1 unless one is given.
+    pub host: &'a str,
+    /// The file of the report in JUnit's form.
+    pub junit: Option<&'a str>,
+    /// The situations, in order.
+    pub files: Vec<&'a str>,
 }
 
 /// Why a command line names no command.

@@ -2,7 +2,7 @@
 ghost use Rattle.std.specs.Prelude.{◌≡◌, IfOk, IsOkAnd, false};
 ghost use Rattle.clap.specs.Words.{App, Rule, app_of, new_app, rule_of, with_rule};
 ghost use Rattle.clap.specs.declared.builder.command.Command.TheViews.{out-Command as fields_of};
-ghost use Rattle.zvt_cli.specs.Commands.{IsLocalAppOf, audit_app, book_app, join_app, loop_app, loose_trace_app, on_trace_app, program_app, terminal_app, till_app, trace_app, vectors_app, with_command, written_app, zvt_app};
+ghost use Rattle.zvt_cli.specs.Commands.{IsLocalAppOf, audit_app, book_app, check_app, join_app, loop_app, loose_trace_app, on_trace_app, play_app, program_app, show_app, tap_app, terminal_app, till_app, trace_app, vectors_app, with_command, written_app, zvt_app};
 
 use crate::{help, options};
 use clap::{Arg, Command};
@@ -17,15 +17,32 @@ pub fn zvt<'a>(alloc: Global) -> Result<Command<'a>, AllocError>
     let booking = with(trace_commands(alloc)?, book(alloc))?;
     let looping = with(booking, looping(alloc))?;
     let paying = with(looping, till(alloc))?;
-    with(paying, terminal(alloc))
+    let serving = with(paying, terminal(alloc))?;
+    let tapping = with(serving, tap(alloc))?;
+    let playing = with(tapping, play(alloc))?;
+    let tills = check(
+        alloc,
+        "check-till",
+        "listen",
+        help::CHECK_TILL,
+        help::CHECK_TILL_EXAMPLE,
+    );
+    let checking = with(playing, tills)?;
+    let terminals = check(
+        alloc,
+        "check-terminal",
+        "port",
+        help::CHECK_TERMINAL,
+        help::CHECK_TERMINAL_EXAMPLE,
+    );
+    with(checking, terminals)
 }
 
 /// The program with the commands that read a trace, or vectors.
 fn trace_commands<'a>(alloc: Global) -> Result<Command<'a>, AllocError>
     ensures { IfOk result (λ r. app_of r ≡ trace_app) }
 {
-    let show = written(alloc, "show", help::SHOW, help::SHOW_EXAMPLE);
-    let showing = with(program(alloc), show)?;
+    let showing = with(program(alloc), show(alloc))?;
     let joining = with(showing, join(alloc))?;
     let normalise = on_trace(alloc, "normalise", help::NORMALISE, help::NORMALISE_EXAMPLE);
     let normalising = with(joining, normalise)?;
@@ -77,6 +94,14 @@ fn written<'a>(
     let loose = loose_on_trace(alloc, name, about, more);
     let spoken = and(loose, options::flag(alloc, "json", help::JSON));
     and(spoken, options::flag(alloc, "follow", help::FOLLOW))
+}
+
+fn show<'a>(alloc: Global) -> Result<Command<'a>, AllocError>
+    ensures app { IfOk result (λ r. app_of r ≡ show_app) }
+    ensures local { IfOk result (λ r. (fields_of r).has_globals ≡ false) }
+{
+    let read = written(alloc, "show", help::SHOW, help::SHOW_EXAMPLE);
+    and(read, options::flag(alloc, "resync", help::RESYNC))
 }
 
 fn join<'a>(alloc: Global) -> Result<Command<'a>, AllocError>
@@ -207,7 +232,7 @@ fn terminal<'a>(alloc: Global) -> Result<Command<'a>, AllocError>
     let at_port = and(named, options::port(alloc, help::TERMINAL_PORT));
     let at_host = and(at_port, options::host(alloc, help::TERMINAL_HOST));
     let numbered = and(at_host, options::tid(alloc));
-    let counted = and(numbered, options::connections(alloc));
+    let counted = and(numbered, options::connections(alloc, help::CONNECTIONS));
     let decided = and(
         counted,
         options::text(alloc, "decline", "XX", help::DECLINE),
@@ -215,4 +240,70 @@ fn terminal<'a>(alloc: Global) -> Result<Command<'a>, AllocError>
     let traced = and(decided, options::text(alloc, "trace", "FILE", help::TRACE));
     let reading = and(traced, options::flag(alloc, "loose", help::TERMINAL_LOOSE));
     and(reading, options::flag(alloc, "json", help::TERMINAL_JSON))
+}
+
+fn tap<'a>(alloc: Global) -> Result<Command<'a>, AllocError>
+    ensures app { IfOk result (λ r. app_of r ≡ tap_app) }
+    ensures local { IfOk result (λ r. (fields_of r).has_globals ≡ false) }
+{
+    let named = Ok(plain(alloc, "tap", help::TAP, help::TAP_EXAMPLE));
+    let listening = and(
+        named,
+        options::needed(alloc, "listen", "ADDRESS", help::TAP_LISTEN),
+    );
+    let connecting = and(
+        listening,
+        options::needed(alloc, "to", "ADDRESS", help::TAP_TO),
+    );
+    let traced = and(
+        connecting,
+        options::text(alloc, "trace", "FILE", help::TAP_TRACE),
+    );
+    let bound = and(
+        traced,
+        options::flag(alloc, "trace-required", help::TRACE_REQUIRED),
+    );
+    and(bound, options::connections(alloc, help::TAP_CONNECTIONS))
+}
+
+fn play<'a>(alloc: Global) -> Result<Command<'a>, AllocError>
+    ensures app { IfOk result (λ r. app_of r ≡ play_app) }
+    ensures local { IfOk result (λ r. (fields_of r).has_globals ≡ false) }
+{
+    let named = Ok(plain(alloc, "play", help::PLAY, help::PLAY_EXAMPLE));
+    let as_till = and(named, options::text(alloc, "till", "FILE", help::PLAY_TILL));
+    let as_terminal = and(
+        as_till,
+        options::text(alloc, "terminal", "FILE", help::PLAY_TERMINAL),
+    );
+    let connecting = and(
+        as_terminal,
+        options::port_of(alloc, "port", help::PLAY_PORT),
+    );
+    let listening = and(
+        connecting,
+        options::port_of(alloc, "listen", help::PLAY_LISTEN),
+    );
+    and(listening, options::host(alloc, help::PLAY_HOST))
+}
+
+/// A command that plays situations, with the texts before and after its usage. The port has this name.
+fn check<'a>(
+    alloc: Global,
+    name: &'a str,
+    port: &'a str,
+    about: &'a str,
+    more: &'a str,
+) -> Result<Command<'a>, AllocError>
+    ensures app { IfOk result (λ r. app_of r ≡ check_app name.entry.now port.entry.now) }
+    ensures local { IfOk result (λ r. (fields_of r).has_globals ≡ false) }
+{
+    let named = Ok(plain(alloc, name, about, more));
+    let at_port = and(named, options::needed_port(alloc, port, help::CHECK_PORT));
+    let at_host = and(at_port, options::host(alloc, help::PLAY_HOST));
+    let reporting = and(at_host, options::text(alloc, "junit", "FILE", help::JUNIT));
+    and(
+        reporting,
+        options::several(alloc, "file", "FILE", help::SITUATIONS),
+    )
 }

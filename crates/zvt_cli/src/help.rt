@@ -27,13 +27,26 @@ pub const TILL: &str = "Connect to a terminal and run steps as its till";
 pub const TERMINAL: &str =
     "Simulate a terminal: listen, and serve one till, or N one after another";
 
+pub const TAP: &str =
+    "Stand between a till and a terminal: forward each byte, show each message, audit the line";
+
+pub const PLAY: &str =
+    "Play one side of a trace against a real till or terminal, and compare what that sends";
+
+pub const CHECK_TILL: &str =
+    "Play a terminal in one situation after another, and report which a till passes";
+
+pub const CHECK_TERMINAL: &str =
+    "Play a till in one situation after another, and report which a terminal passes";
+
 pub const VECTORS: &str =
     "Check the reader of messages against test vectors, and write those that differ";
 
 pub const FILES: &str = "The files to read, in order; standard input without one, or for '-'";
 
 /// The names of the commands, as a usage line shows them.
-pub const NAMES: &str = "show|join|normalise|audit|receipts|vectors|book|loop|till|terminal";
+pub const NAMES: &str =
+    "show|join|normalise|audit|receipts|vectors|book|loop|till|terminal|tap|play|check-till|check-terminal";
 
 /// What follows the commands.
 pub const MORE: &str =
@@ -117,6 +130,36 @@ Example:
 pub const TERMINAL_EXAMPLE: &str = "Example:
   zvt terminal --port 20007 --decline 6C";
 
+pub const TAP_EXAMPLE: &str = "Let the till connect here in place of the terminal.
+
+Example:
+  zvt tap --listen 20008 --to 192.168.1.20:20007 --trace day.trace";
+
+pub const PLAY_EXAMPLE: &str = "Give one of --till and --terminal, and one of --port and --listen.
+The lines of the side that is played are sent. A line of the other side is awaited:
+  > 0601     A message that begins with these bytes
+  >          Any message
+  !          Close the connection here
+  #~ 1500    Wait so many milliseconds
+  #~ silent  Answer nothing more
+The status is 1 where another message comes.
+
+Example:
+  zvt play --terminal payment.trace --listen 20007";
+
+pub const CHECK_TILL_EXAMPLE: &str =
+    "Each FILE is a trace, as 'zvt play' plays it. Its comments say what to do at the till.
+The report is in TAP's form. The status is 1 where a situation is not passed.
+
+Example:
+  zvt check-till --listen 20007 conformance/till/*.trace";
+
+pub const CHECK_TERMINAL_EXAMPLE: &str = "Each FILE is a trace, as 'zvt play' plays it.
+The report is in TAP's form. The status is 1 where a situation is not passed.
+
+Example:
+  zvt check-terminal --port 20007 conformance/terminal/*.trace";
+
 pub const LOOP_STEP: &str = "register, pay:N, decline:N:XX, reverse:N or close (see zvt --help)";
 
 pub const TILL_STEP: &str = "register, pay:N, reverse:N or close (see zvt --help)";
@@ -158,6 +201,9 @@ pub const TERMINAL_JSON: &str =
 pub const FOLLOW: &str =
     "Read FILE as it comes, of any size, and write the text of each line at once";
 
+pub const RESYNC: &str =
+    "Go on after a message that is refused, at the end that its length announces";
+
 pub const AUDIT_FOLLOW: &str =
     "Read FILE as it comes, of any size; the books are written at its end";
 
@@ -167,5 +213,35 @@ pub const TID: &str = "The terminal's number, at most 99999999";
 
 pub const CONNECTIONS: &str =
     "Serve N tills one after another, then end: 1 to 65535. The ledger is kept between tills.";
+
+pub const TAP_LISTEN: &str =
+    "Where the till connects: a TCP port, 0 for a free one, and the address to listen on before it (default 127.0.0.1)";
+
+pub const TAP_TO: &str = "Where the terminal listens: its host, a colon and its TCP port";
+
+pub const TAP_TRACE: &str =
+    "Write a trace of the line to this file, behind what the file has: each chunk before it is forwarded";
+
+pub const TRACE_REQUIRED: &str =
+    "End with status 4 where the trace can't be written, and forward nothing more";
+
+pub const TAP_CONNECTIONS: &str = "Forward N lines one after another, then end: 1 to 65535";
+
+pub const PLAY_TILL: &str = "Play the till's side of this trace";
+
+pub const PLAY_TERMINAL: &str = "Play the terminal's side of this trace";
+
+pub const PLAY_PORT: &str = "Connect to this TCP port, where the other side listens";
+
+pub const PLAY_LISTEN: &str = "Listen on this TCP port, where the other side connects";
+
+pub const PLAY_HOST: &str =
+    "The name or address of the other side's host, or the address to listen on";
+
+pub const CHECK_PORT: &str = "The TCP port of each situation's connections";
+
+pub const JUNIT: &str = "Also write the report to this file, in JUnit's form";
+
+pub const SITUATIONS: &str = "The situations, in order";
 
 pub const DECLINE: &str = "Decline every payment with this code: two hexadecimal digits, not 00";

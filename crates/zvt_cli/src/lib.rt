@@ -9,5 +9,8 @@ mod help;
 mod options;
 mod paths;
 
-pub use choice::{Choice, ChoiceFault, TerminalOptions, TillOptions, TraceOptions};
+pub use choice::{
+    CheckOptions, Choice, ChoiceFault, PlayOptions, TapOptions, TerminalOptions, TillOptions,
+    TraceOptions,
+};
 pub use paths::with_show;

@@ -1,7 +1,7 @@
 //! The options and steps of the commands.
 ghost use Rattle.std.specs.Prelude.{◌≡◌, false};
 ghost use Rattle.clap.specs.Words.{rule_of};
-ghost use Rattle.zvt_cli.specs.Commands.{book_file_rule, connections_rule, flag_rule, host_rule, option_rule, port_rule, several_rule, tid_rule};
+ghost use Rattle.zvt_cli.specs.Commands.{book_file_rule, connections_rule, flag_rule, host_rule, needed_port_rule, needed_rule, option_rule, port_option_rule, port_rule, several_rule, tid_rule};
 
 use crate::help;
 use clap::{Arg, ArgAction, value_parser};
@@ -40,6 +40,31 @@ pub fn port<'a>(alloc: Global, text: &'a str) -> Arg<'a>
         .help(text)
 }
 
+/// An option of this name that has the number of a TCP port, and no default.
+pub fn port_of<'a>(alloc: Global, name: &'a str, text: &'a str) -> Arg<'a>
+    ensures rule { rule_of result ≡ port_option_rule name.entry.now }
+    ensures local { result.global ≡ false }
+{
+    Arg::new(alloc, name)
+        .long(name)
+        .value_parser(value_parser!(u16))
+        .value_name("PORT")
+        .help(text)
+}
+
+/// An option of this name that has the number of a TCP port, and has to be there.
+pub fn needed_port<'a>(alloc: Global, name: &'a str, text: &'a str) -> Arg<'a>
+    ensures rule { rule_of result ≡ needed_port_rule name.entry.now }
+    ensures local { result.global ≡ false }
+{
+    Arg::new(alloc, name)
+        .long(name)
+        .value_parser(value_parser!(u16))
+        .required(true)
+        .value_name("PORT")
+        .help(text)
+}
+
 pub fn host<'a>(alloc: Global, text: &'a str) -> Arg<'a>
     ensures rule { rule_of result ≡ host_rule }
     ensures local { result.global ≡ false }
@@ -63,7 +88,7 @@ pub fn tid<'a>(alloc: Global) -> Arg<'a>
         .help(help::TID)
 }
 
-pub fn connections<'a>(alloc: Global) -> Arg<'a>
+pub fn connections<'a>(alloc: Global, text: &'a str) -> Arg<'a>
     ensures rule { rule_of result ≡ connections_rule }
     ensures local { result.global ≡ false }
 {
@@ -72,7 +97,19 @@ pub fn connections<'a>(alloc: Global) -> Arg<'a>
         .value_parser(value_parser!(u16))
         .default_value("1")
         .value_name("N")
-        .help(help::CONNECTIONS)
+        .help(text)
+}
+
+/// An option that has one value of this name, and has to be there.
+pub fn needed<'a>(alloc: Global, name: &'a str, value: &'a str, text: &'a str) -> Arg<'a>
+    ensures rule { rule_of result ≡ needed_rule name.entry.now }
+    ensures local { result.global ≡ false }
+{
+    Arg::new(alloc, name)
+        .long(name)
+        .required(true)
+        .value_name(value)
+        .help(text)
 }
 
 /// An option of this name that has no value.
