@@ -107,7 +107,7 @@ where
 /// Where tills come in. Contracts see how many connections it gave.
 #[derive(Drop)]
 pub struct Door {
-    pub listener: TcpListener,
+    pub(crate) listener: TcpListener,
     gave: GhostCount,
 }
 

@@ -9,6 +9,7 @@ use Rattle.zvt_audit.specs.Heard.{HasAudited, IsAuditing}
 use Rattle.zvt_audit.specs.declared.follow.Audit.{Audit}
 use Rattle.zvt_audit.specs.declared.summary.AuditSummary.{AuditSummary}
 use Rattle.zvt_json.specs.declared.form.Form.TheVariants.{Text}
+use Rattle.zvt_trace.specs.declared.listener.Scope.TheVariants.{OneSide}
 use Rattle.zvt_show.specs.Followed.{HasWritten, IsFollowing, TurnFaults}
 use Rattle.zvt_show.specs.Written.{AnswersLinesBy}
 use Rattle.zvt_show.specs.declared.follow.Follower.{Follower}
@@ -35,17 +36,17 @@ MayFollow (Some fault) follower = Unit {0}
 
 -- The text of this trace is shown, of all its whole lines; or showing failed over the last line of a prefix.
 abbrev pub HasShownBy : Option TraceFault → Reading → (trace : List ℕ) → (first now : Option (List ℕ)) → Follower → Type 0
-HasShownBy None r trace first now follower = HasWritten r Show trace first now follower
-HasShownBy (Some fault) r trace first now follower = (part : List ℕ) × IsPrefix part trace × TurnFaults r Show part first now fault
+HasShownBy None r trace first now follower = HasWritten r OneSide Show trace first now follower
+HasShownBy (Some fault) r trace first now follower = (part : List ℕ) × IsPrefix part trace × TurnFaults r OneSide Show part first now fault
 
 abbrev pub HasShown : Reading → (trace : List ℕ) → (first now : Option (List ℕ)) → Shown → Type 0
 HasShown r trace first now shown = HasShownBy shown.fault r trace first now shown.follower
 
 -- What is shown of a whole trace: its text; or showing failed at its end, or over the last line of a prefix.
 abbrev pub AnswersShown : Reading → (trace : List ℕ) → (first now : Option (List ℕ)) → Result Tally TraceFault → Type 0
-AnswersShown r trace first now (Ok tally) = AnswersLinesBy r Show (lines (readable trace)) first now (Ok tally)
+AnswersShown r trace first now (Ok tally) = AnswersLinesBy r OneSide Show (lines (readable trace)) first now (Ok tally)
 AnswersShown r trace first now (Err fault) =
-    AnswersLinesBy r Show (lines (readable trace)) first now (Err fault) ⊎ (part : List ℕ) × IsPrefix part trace × TurnFaults r Show part first now fault
+    AnswersLinesBy r OneSide Show (lines (readable trace)) first now (Err fault) ⊎ (part : List ℕ) × IsPrefix part trace × TurnFaults r OneSide Show part first now fault
 
 -- ---- the audit
 

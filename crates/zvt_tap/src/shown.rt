@@ -9,7 +9,7 @@ use std::alloc::Global;
 use zvt_grammar::Lengths;
 use zvt_io::Sink;
 use zvt_show::{Follower, Style};
-use zvt_trace::{Tally, TraceFault};
+use zvt_trace::{Scope, Tally, TraceFault};
 
 /// What is shown of a line. After a fault nothing more is.
 #[derive(Drop)]
@@ -25,7 +25,7 @@ impl Shown {
         ensures may { MayFollow result.fault result.follower }
     {
         Shown {
-            follower: Follower::new(alloc, Style::Show, lengths),
+            follower: Follower::new(alloc, Style::Show, Scope::OneSide, lengths),
             fault: None,
         }
     }

@@ -46,7 +46,11 @@ where
 {
     set_up(till)?;
     set_up(terminal)?;
-    let mut line = SocketLine::new(rt, alloc, till, terminal)?;
+    let mut line = SocketLine {
+        sockets: BothSockets::new(rt, alloc, till, terminal)?,
+        waits: GhostCount::zero(),
+        failures: GhostCount::zero(),
+    };
     let mut ends = Ends {
         till: Counted::new(Half::of(till)),
         terminal: Counted::new(Half::of(terminal)),
@@ -167,9 +171,9 @@ impl Side {
     }
 }
 
-/// Waits for two sockets at once.
+/// The sockets of both sides, and how they are waited for.
 #[derive(Drop)]
-struct SocketLine<'a> {
+struct BothSockets<'a> {
     poll: Poll,
     events: Events,
     till_socket: &'a TcpStream,
@@ -178,24 +182,22 @@ struct SocketLine<'a> {
     terminal: Side,
     /// The way of the last chunk: where both sides are ready, the other is read next.
     last: Way,
-    waits: GhostCount,
-    failures: GhostCount,
 }
 
-impl<'a> SocketLine<'a> {
+impl<'a> BothSockets<'a> {
     fn new<R: Net>(
         rt: &R,
         alloc: Global,
         till_socket: &'a TcpStream,
         terminal_socket: &'a TcpStream,
-    ) -> io::Result<SocketLine<'a>> {
+    ) -> io::Result<BothSockets<'a>> {
         let poll = Poll::new(rt)?;
         let events = Events::with_capacity(alloc, 2)?;
         let till = Side::of(till_socket, TILL);
         let terminal = Side::of(terminal_socket, TERMINAL);
         till.begin(&poll)?;
         terminal.begin(&poll)?;
-        Ok(SocketLine {
+        Ok(BothSockets {
             poll,
             events,
             till_socket,
@@ -203,8 +205,6 @@ impl<'a> SocketLine<'a> {
             till,
             terminal,
             last: Way::FromTerminal,
-            waits: GhostCount::zero(),
-            failures: GhostCount::zero(),
         })
     }
 
@@ -246,24 +246,8 @@ impl<'a> SocketLine<'a> {
         }
         Err(io::Error::from(ErrorKind::TimedOut))
     }
-}
 
-impl Readiness for SocketLine<'_> {
-    ghost waits = { λ line. line.waits.count };
-
-    ghost failures = { λ line. line.failures.count };
-
-    fn next(&mut self) -> Option<Way> {
-        self.waits = self.waits.next();
-        match self.await_way() {
-            Ok(way) => Some(way),
-            Err(_) => {
-                self.failures = self.failures.next();
-                None
-            }
-        }
-    }
-
+    /// Hands on to the other side that no more bytes go this way.
     fn end(&mut self, way: Way) {
         let _ = match way {
             Way::FromTill => {
@@ -275,5 +259,34 @@ impl Readiness for SocketLine<'_> {
                 self.till_socket.shutdown(Shutdown::Write)
             }
         };
+    }
+}
+
+/// Waits for two sockets at once. Contracts see how often it waited, and how often it could not.
+#[derive(Drop)]
+struct SocketLine<'a> {
+    sockets: BothSockets<'a>,
+    waits: GhostCount,
+    failures: GhostCount,
+}
+
+impl Readiness for SocketLine<'_> {
+    ghost waits = { λ line. line.waits.count };
+
+    ghost failures = { λ line. line.failures.count };
+
+    fn next(&mut self) -> Option<Way> {
+        self.waits = self.waits.next();
+        match self.sockets.await_way() {
+            Ok(way) => Some(way),
+            Err(_) => {
+                self.failures = self.failures.next();
+                None
+            }
+        }
+    }
+
+    fn end(&mut self, way: Way) {
+        self.sockets.end(way);
     }
 }
