@@ -10,8 +10,10 @@ use Rattle.zvt_show.specs.declared.render.Style.TheVariants.{Show, Join, Receipt
 use Rattle.zvt_json.specs.declared.form.Form.{Form}
 use Rattle.zvt_json.specs.declared.form.Form.TheVariants.{Text}
 use Rattle.zvt_json.specs.declared.form.Form.TheVariants as form
+use Rattle.zvt_trace.specs.declared.listener.Scope.{Scope}
+use Rattle.zvt_trace.specs.declared.listener.Scope.TheVariants.{OneMessage, OneSide}
 use Rattle.zvt.specs.declared.command.Command.{Command}
-use Rattle.zvt.specs.declared.command.Command.TheVariants.{OnTraces, Book, Loop, Till, Terminal}
+use Rattle.zvt.specs.declared.command.Command.TheVariants.{OnTraces, Book, CheckTerminal, CheckTill, Loop, Play, Tap, Till, Terminal}
 use Rattle.zvt.specs.declared.command.TraceCommand.{TraceCommand}
 use Rattle.zvt.specs.declared.command.TraceWork.{TraceWork}
 use Rattle.zvt.specs.declared.command.TraceWork.TheVariants.{Render, Audit, Vectors}
@@ -40,8 +42,13 @@ is_json (Audit form.Json) = true
 is_json (Vectors Text) = false
 is_json (Vectors form.Json) = true
 
+-- what a refusal leaves unread where a text is written: its side, or the refused message alone
+abbrev pub text_scope : (resync : Bool) → Scope
+text_scope false = OneSide
+text_scope true = OneMessage
+
 abbrev pub working : TraceWork → Lengths → TraceOptions → Option TraceCommand
-working work lengths options = Some (record { work = work; lengths = lengths; check = options.check; follow = options.follow })
+working work lengths options = Some (record { work = work; lengths = lengths; check = options.check; follow = options.follow; resync = options.resync })
 
 -- what is written of traces, and by which lengths, if the choice is a command on them; `normalise` joins what it reads loosely
 abbrev pub chosen_on_trace : Choice → Option TraceCommand
@@ -55,6 +62,10 @@ chosen_on_trace (choice.Book file objects) = None
 chosen_on_trace (choice.Loop trace book objects steps) = None
 chosen_on_trace (choice.Till options) = None
 chosen_on_trace (choice.Terminal options) = None
+chosen_on_trace (choice.Tap options) = None
+chosen_on_trace (choice.Play options) = None
+chosen_on_trace (choice.CheckTill options) = None
+chosen_on_trace (choice.CheckTerminal options) = None
 
 abbrev pub on_trace : Command → Option TraceCommand
 on_trace (OnTraces command files) = Some command
@@ -62,6 +73,10 @@ on_trace (Book file written) = None
 on_trace (Loop options) = None
 on_trace (Till options) = None
 on_trace (Terminal options) = None
+on_trace (Tap options) = None
+on_trace (Play options) = None
+on_trace (CheckTill options) = None
+on_trace (CheckTerminal options) = None
 
 -- a terminal's number has eight digits at most
 abbrev pub HasTerminalNumber : Command → Type 0
@@ -70,3 +85,7 @@ HasTerminalNumber (Book file written) = Unit {0}
 HasTerminalNumber (Loop options) = Unit {0}
 HasTerminalNumber (Till options) = Unit {0}
 HasTerminalNumber (Terminal options) = options.now.tid ≤ 99999999
+HasTerminalNumber (Tap options) = Unit {0}
+HasTerminalNumber (Play options) = Unit {0}
+HasTerminalNumber (CheckTill options) = Unit {0}
+HasTerminalNumber (CheckTerminal options) = Unit {0}

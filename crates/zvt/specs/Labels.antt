@@ -10,6 +10,10 @@ use Rattle.zvt.specs.declared.output.Labelling.{Labelling}
 abbrev pub text_label : List ℕ → Label
 text_label file = record { text = file ++ codes ": "; replaces = false }
 
+-- the sign of a comment
+abbrev pub comment_label : Label
+comment_label = record { text = codes "# "; replaces = false }
+
 -- the beginning of a JSON object whose first member is the name of a file
 abbrev pub json_label : List ℕ → Label
 json_label file = record { text = codes "{\"file\":" ++ compact_text (string file) ++ codes ","; replaces = true }

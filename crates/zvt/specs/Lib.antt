@@ -4,3 +4,4 @@ pub mod OnTrace
 pub mod Settings
 pub mod Notes
 pub mod Labels
+pub mod Verdicts

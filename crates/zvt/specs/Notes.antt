@@ -1,22 +1,23 @@
 -- The commands that report notes and hints.
-use Rattle.std.specs.Prelude.{ℕ, cond, is_some, Option, Some, None, Result, Ok, Err}
+use Rattle.std.specs.Prelude.{ℕ, Bool, cond, is_some, Option, Some, None, Result, Ok, Err}
 use Rattle.zvt_audit.specs.declared.summary.AuditSummary.{AuditSummary}
 use Rattle.zvt_trace.specs.declared.fault.TraceFault.{TraceFault}
 use Rattle.zvt_trace.specs.declared.fault.TraceFault.TheVariants as fault
 use Rattle.zvt_trace.specs.declared.listener.Scope.{Scope}
-use Rattle.zvt_trace.specs.declared.listener.Scope.TheVariants.{OneSide, WholeLine}
+use Rattle.zvt_trace.specs.declared.listener.Scope.TheVariants.{WholeLine}
+use Rattle.zvt.specs.Commands.{text_scope}
 use Rattle.zvt.specs.declared.command.TraceCommand.{TraceCommand}
 use Rattle.zvt.specs.declared.command.TraceWork.{TraceWork}
 use Rattle.zvt.specs.declared.command.TraceWork.TheVariants.{Render, Audit, Vectors}
 
-abbrev pub scope_by : TraceWork → Option Scope
-scope_by (Render style) = Some OneSide
-scope_by (Audit form) = Some WholeLine
-scope_by (Vectors written) = None
+abbrev pub scope_by : TraceWork → (resync : Bool) → Option Scope
+scope_by (Render style) resync = Some (text_scope resync)
+scope_by (Audit form) resync = Some WholeLine
+scope_by (Vectors written) resync = None
 
--- what is not read after a refusal: its side, or for the books the whole line
+-- what is not read after a refusal: its side or the refused message, or for the books the whole line
 abbrev pub scope_of : TraceCommand → Option Scope
-scope_of command = scope_by command.work
+scope_of command = scope_by command.work command.resync
 
 -- the line that can't be read, where a command on a line's messages ended for that
 abbrev pub faulty_line : TraceCommand → Result AuditSummary TraceFault → Option ℕ

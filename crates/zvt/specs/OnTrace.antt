@@ -4,6 +4,8 @@ use Rattle.std.specs.Io.KnownBytes.{Consumes}
 use Rattle.std.specs.Str.Lines.{lines}
 use Rattle.zvt_grammar.specs.Reading.{Reading}
 use Rattle.zvt_grammar.specs.Lengths.{reading_of}
+use Rattle.zvt_trace.specs.declared.listener.Scope.{Scope}
+use Rattle.zvt.specs.Commands.{text_scope}
 use Rattle.zvt.specs.declared.command.TraceCommand.{TraceCommand}
 use Rattle.zvt.specs.declared.command.TraceWork.{TraceWork}
 use Rattle.zvt.specs.declared.command.TraceWork.TheVariants.{Render, Audit, Vectors}
@@ -22,21 +24,21 @@ tally_of (Ok found) = Ok found.tally
 tally_of (Err fault) = Err fault
 
 -- what is answered and written of a trace by these lengths
-abbrev pub AnswersWork : TraceWork → Reading → (trace : List ℕ) → (old new : Option (List ℕ)) → Result AuditSummary TraceFault → Type 0
-AnswersWork (Render style) r trace old new result = AnswersLinesBy r style (lines (readable trace)) old new (tally_of result)
-AnswersWork (Audit form) r trace old new result = AnswersReadBy r form trace old new result
-AnswersWork (Vectors form) r trace old new result = AnswersVectors form trace old new (tally_of result)
+abbrev pub AnswersWork : TraceWork → Reading → Scope → (trace : List ℕ) → (old new : Option (List ℕ)) → Result AuditSummary TraceFault → Type 0
+AnswersWork (Render style) r scope trace old new result = AnswersLinesBy r scope style (lines (readable trace)) old new (tally_of result)
+AnswersWork (Audit form) r scope trace old new result = AnswersReadBy r form trace old new result
+AnswersWork (Vectors form) r scope trace old new result = AnswersVectors form trace old new (tally_of result)
 
 -- what the command answers for a trace that was read
 abbrev pub AnswersOnTrace : TraceCommand → (trace : List ℕ) → (old new : Option (List ℕ)) → Result AuditSummary TraceFault → Type 0
-AnswersOnTrace command trace old new result = AnswersWork command.work (reading_of command.lengths) trace old new result
+AnswersOnTrace command trace old new result = AnswersWork command.work (reading_of command.lengths) (text_scope command.resync) trace old new result
 
 -- what is answered and written of a trace that comes, by these lengths; vectors are read whole
-abbrev pub FollowsWork : TraceWork → Reading → (left rest old new : Option (List ℕ)) → Result AuditSummary TraceFault → Type 0
-FollowsWork (Render style) r left rest old new result = (taken : List ℕ) × Consumes left rest taken × AnswersFollow r style taken rest old new (tally_of result)
-FollowsWork (Audit form) r left rest old new result = (taken : List ℕ) × Consumes left rest taken × IsTaken taken × AnswersFollowed r form taken rest old new result
-FollowsWork (Vectors form) r left rest old new result = IfSome left (λ text. AnswersVectors form text old new (tally_of result))
+abbrev pub FollowsWork : TraceWork → Reading → Scope → (left rest old new : Option (List ℕ)) → Result AuditSummary TraceFault → Type 0
+FollowsWork (Render style) r scope left rest old new result = (taken : List ℕ) × Consumes left rest taken × AnswersFollow r scope style taken rest old new (tally_of result)
+FollowsWork (Audit form) r scope left rest old new result = (taken : List ℕ) × Consumes left rest taken × IsTaken taken × AnswersFollowed r form taken rest old new result
+FollowsWork (Vectors form) r scope left rest old new result = IfSome left (λ text. AnswersVectors form text old new (tally_of result))
 
 -- what the command answers for a trace that comes
 abbrev pub FollowsTrace : TraceCommand → (left rest old new : Option (List ℕ)) → Result AuditSummary TraceFault → Type 0
-FollowsTrace command left rest old new result = FollowsWork command.work (reading_of command.lengths) left rest old new result
+FollowsTrace command left rest old new result = FollowsWork command.work (reading_of command.lengths) (text_scope command.resync) left rest old new result

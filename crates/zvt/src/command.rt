@@ -2,10 +2,13 @@
 ghost use Rattle.std.specs.Prelude.{◌≡◌, Option, List};
 ghost use Rattle.clap.specs.Words.{Row, Text};
 ghost use Rattle.zvt_cli.specs.Chosen.{IsChoiceOf};
-ghost use Rattle.zvt.specs.Commands.{HasTerminalNumber, chosen_on_trace, form_by, is_json, lengths_by, on_trace, style_by, working};
+ghost use Rattle.zvt.specs.Commands.{HasTerminalNumber, chosen_on_trace, form_by, is_json, lengths_by, on_trace, style_by, text_scope, working};
 ghost use Rattle.zvt.specs.declared.command.TraceWork.TheVariants.{Render};
 
-use zvt_tool::{Choice, Form, Lengths, Style, TerminalOptions, TillOptions, TraceOptions};
+use zvt_tool::{
+    CheckOptions, Choice, Form, Lengths, PlayOptions, Scope, Style, TapOptions, TerminalOptions,
+    TillOptions, TraceOptions,
+};
 
 /// What is written of a trace, or of vectors.
 #[derive(Clone, Copy, Debug, PartialEq, Eq)]
@@ -18,17 +21,29 @@ pub enum TraceWork {
     Vectors(Form),
 }
 
-/// A command on traces: what it writes, the lengths that it reads, whether an unclear payment counts as bad, and whether
-/// the trace is written as it comes.
+/// A command on traces: what it writes, the lengths that it reads, whether an unclear payment counts as bad, whether the
+/// trace is written as it comes, and whether a side is read on after a message that is refused.
 #[derive(Clone, Copy)]
 pub struct TraceCommand {
     pub work: TraceWork,
     pub lengths: Lengths,
     pub check: bool,
     pub follow: bool,
+    pub resync: bool,
 }
 
 impl TraceCommand {
+    /// What a refusal leaves unread where the text of the trace is written.
+    pub fn scope(&self) -> Scope
+        ensures { result ≡ text_scope self.now.resync }
+    {
+        if self.resync {
+            Scope::OneMessage
+        } else {
+            Scope::OneSide
+        }
+    }
+
     /// Whether each line that is written is a JSON object.
     pub fn is_json(&self) -> bool
         ensures { result ≡ is_json self.now.work }
@@ -61,6 +76,10 @@ pub enum Command<'a> {
     Loop(LoopOptions<'a>),
     Till(&'a TillOptions<'a>),
     Terminal(&'a TerminalOptions<'a>),
+    Tap(&'a TapOptions<'a>),
+    Play(&'a PlayOptions<'a>),
+    CheckTill(&'a CheckOptions<'a>),
+    CheckTerminal(&'a CheckOptions<'a>),
 }
 
 /// The lengths that are read where a command is loose, or is not.
@@ -91,6 +110,7 @@ fn working<'a>(work: TraceWork, lengths: Lengths, options: &'a TraceOptions<'a>)
         lengths,
         check: options.check,
         follow: options.follow,
+        resync: options.resync,
     };
     Command::OnTraces(command, options.files.as_slice())
 }
@@ -141,5 +161,9 @@ pub fn command_of<'a>(chosen: &'a Choice<'a>) -> Command<'a>
         }),
         Choice::Till(options) => Command::Till(options),
         Choice::Terminal(options) => Command::Terminal(options),
+        Choice::Tap(options) => Command::Tap(options),
+        Choice::Play(options) => Command::Play(options),
+        Choice::CheckTill(options) => Command::CheckTill(options),
+        Choice::CheckTerminal(options) => Command::CheckTerminal(options),
     }
 }

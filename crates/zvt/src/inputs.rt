@@ -12,7 +12,7 @@ use std::fs::File;
 use std::io::{self, IsTerminal, Write};
 use zvt_io::{Counted, Sink, Source};
 use zvt_text::Text;
-use zvt_tool::{AuditSummary, Form, Lengths, Style, Sum, TraceFault, follow_trace, read_trace};
+use zvt_tool::{AuditSummary, Form, Sum, TraceFault, read_trace};
 
 /// A trace of a command: its file, or `-` for standard input, and whether it is one of several.
 #[derive(Clone, Copy)]

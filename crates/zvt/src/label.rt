@@ -1,6 +1,6 @@
 //! Labels at the head of lines, as where several files are read.
 ghost use Rattle.std.specs.Prelude.{◌≡◌, ◌++◌, ◌∷◌, [], IfOk, OnOk};
-ghost use Rattle.zvt.specs.Labels.{json_label, labelled, line_head, text_label};
+ghost use Rattle.zvt.specs.Labels.{comment_label, json_label, labelled, line_head, text_label};
 
 use serde_json::Value;
 use std::alloc::{AllocError, Global};
@@ -22,6 +22,18 @@ impl Label {
         let mut text = Text::new(alloc);
         text.word(file.as_bytes())?;
         text.word(b": ")?;
+        Ok(Label {
+            text,
+            replaces: false,
+        })
+    }
+
+    /// The sign of a comment.
+    pub fn of_comment(alloc: Global) -> Result<Label, AllocError>
+        ensures { IfOk result (λ label. label ≡ comment_label) }
+    {
+        let mut text = Text::new(alloc);
+        text.word(b"# ")?;
         Ok(Label {
             text,
             replaces: false,

@@ -6,6 +6,7 @@ ghost use Rattle.clap.specs.Words.{Row, Text};
 ghost use Rattle.zvt_cli.specs.Chosen.{IsChoiceOf};
 
 mod book;
+mod check;
 mod command;
 mod difference;
 mod ends;
@@ -19,7 +20,9 @@ mod play;
 mod progress;
 mod settings;
 mod statuses;
+mod tap;
 mod trace_file;
+mod verdicts;
 
 use crate::command::{Command, command_of};
 use crate::statuses::{DEVICE, DONE, MEMORY, WORDS};
@@ -100,5 +103,9 @@ fn execute(rt: &HostRuntime, chosen: &Choice<'_>) -> io::Result<u8>
         Command::Loop(options) => ends::both_ends(rt, &options),
         Command::Till(options) => ends::till(rt, options),
         Command::Terminal(options) => ends::terminal(rt, options),
+        Command::Tap(options) => tap::tap(rt, options),
+        Command::Play(options) => play::play(rt, options),
+        Command::CheckTill(options) => check::till(rt, options),
+        Command::CheckTerminal(options) => check::terminal(rt, options),
     }
 }

@@ -97,7 +97,7 @@ fn scope_of(command: &TraceCommand) -> Option<Scope>
     ensures { result ≡ scope_of command.now }
 {
     match command.work {
-        TraceWork::Render(_) => Some(Scope::OneSide),
+        TraceWork::Render(_) => Some(command.scope()),
         TraceWork::Audit(_) => Some(Scope::WholeLine),
         TraceWork::Vectors(_) => None,
     }

@@ -23,7 +23,10 @@ pub fn work_on_trace<W: Sink>(
 {
     let lengths = command.lengths;
     match command.work {
-        TraceWork::Render(style) => found(render_trace(alloc, style, lengths, trace, writer)),
+        TraceWork::Render(style) => {
+            let scope = command.scope();
+            found(render_trace(alloc, style, scope, lengths, trace, writer))
+        }
         TraceWork::Audit(form) => audit_trace(alloc, form, lengths, trace, writer),
         TraceWork::Vectors(form) => found(vectors(alloc, form, &mut Counted::new(trace), writer)),
     }
@@ -42,7 +45,10 @@ pub fn follow_work<R: Source, W: Sink>(
 {
     let lengths = command.lengths;
     match command.work {
-        TraceWork::Render(style) => found(follow_trace(alloc, style, lengths, reader, writer)),
+        TraceWork::Render(style) => {
+            let scope = command.scope();
+            found(follow_trace(alloc, style, scope, lengths, reader, writer))
+        }
         TraceWork::Audit(form) => follow_audit(alloc, form, lengths, reader, writer),
         TraceWork::Vectors(form) => found(vectors(alloc, form, reader, writer)),
     }

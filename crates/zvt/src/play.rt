@@ -13,29 +13,30 @@ use zvt_play::{Action, Difference, ScriptFault, ScriptStep, Unplayed, script, st
 use zvt_session::{Door, NetFault, connect, listen};
 use zvt_stream::{Endpoint, Stream};
 use zvt_text::Text;
-use zvt_tool::{EndFault, read_trace};
+use zvt_tool::{EndFault, PlayOptions, read_trace};
 use zvt_trace::Direction;
-
-/// The arguments of `zvt play`.
-#[derive(Clone, Copy, Debug)]
-pub struct PlayOptions<'a> {
-    pub till: Option<&'a str>,
-    pub terminal: Option<&'a str>,
-    pub port: Option<u16>,
-    pub listen: Option<u16>,
-    pub host: &'a str,
-}
 
 /// For that many seconds a silence goes on without a byte from the other side.
 const SILENCE_SECONDS: u64 = 60;
 
 /// Where the connections of a script come from.
 #[derive(Drop)]
-enum Place<'a> {
+pub enum Place<'a> {
     /// They are made to this port of this host.
     To(&'a str, u16),
     /// They come in here.
     From(Door),
+}
+
+/// How the play of a script ended.
+#[derive(Drop)]
+pub enum Played {
+    /// It was played to its end.
+    Whole,
+    /// What came differs: what was awaited, and what came.
+    Differs(Text),
+    /// There was no connection or no memory, or a write failed. That is reported, and this is the exit status.
+    Ended(u8),
 }
 
 /// An end of a connection.
@@ -63,16 +64,27 @@ pub fn play(rt: &HostRuntime, options: &PlayOptions<'_>) -> io::Result<u8> {
         eprintln!(rt; "zvt: invalid port '0': give the port that the other side listens at")?;
         return Ok(WORDS);
     }
-    let steps = match read_script(rt, own, path)? {
+    let text = match read_text(rt, path)? {
+        Ok(text) => text,
+        Err(status) => return Ok(status),
+    };
+    let steps = match script_of(rt, path, own, text.as_slice())? {
         Ok(steps) => steps,
         Err(status) => return Ok(status),
     };
-    let place = match place(rt, options) {
+    let mut place = match place_at(rt, options.port, options.listen, options.host) {
         Ok(place) => place,
         Err(why) => return finish_run(rt, false, Err(EndFault::Net(why))),
     };
     report_address(rt, &place)?;
-    play_script(rt, place, own, steps.as_slice())
+    match play_script(rt, &mut place, own, steps.as_slice())? {
+        Played::Whole => Ok(DONE),
+        Played::Differs(text) => {
+            io::writer(rt).write_all(text.bytes())?;
+            Ok(BAD)
+        }
+        Played::Ended(status) => Ok(status),
+    }
 }
 
 /// Whether the options say either to connect or to listen.
@@ -80,12 +92,8 @@ fn has_one_place(options: &PlayOptions<'_>) -> bool {
     options.port.is_some() != options.listen.is_some()
 }
 
-/// The script of the trace in this file. A file that is none is reported, and the exit status is answered.
-fn read_script(
-    rt: &HostRuntime,
-    own: Direction,
-    path: &str,
-) -> io::Result<Result<Vec<ScriptStep>, u8>> {
+/// The text of the trace in this file. A file that can't be read is reported, and the exit status is answered.
+pub fn read_text(rt: &HostRuntime, path: &str) -> io::Result<Result<Vec<u8>, u8>> {
     let file = match opened(rt, path) {
         Ok(file) => file,
         Err(error) => {
@@ -93,11 +101,20 @@ fn read_script(
             return Ok(Err(DEVICE));
         }
     };
-    let trace = match read_trace(rt.alloc(), &mut Counted::new(file)) {
-        Ok(trace) => trace,
-        Err(fault) => return Ok(Err(finish_trace(rt, Some(path), false, false, Err(fault))?)),
-    };
-    match script(rt.alloc(), own, trace.as_slice()) {
+    match read_trace(rt.alloc(), &mut Counted::new(file)) {
+        Ok(text) => Ok(Ok(text)),
+        Err(fault) => Ok(Err(finish_trace(rt, Some(path), false, false, Err(fault))?)),
+    }
+}
+
+/// The script of the trace with this text. A line that can't be played is reported, and the exit status is answered.
+pub fn script_of(
+    rt: &HostRuntime,
+    path: &str,
+    own: Direction,
+    text: &[u8],
+) -> io::Result<Result<Vec<ScriptStep>, u8>> {
+    match script(rt.alloc(), own, text) {
         Ok(steps) => Ok(Ok(steps)),
         Err(fault) => {
             eprintln!(rt; "zvt: '{path}': {fault}")?;
@@ -110,15 +127,20 @@ fn read_script(
 }
 
 /// Where the connections come from.
-fn place<'a>(rt: &HostRuntime, options: &PlayOptions<'a>) -> Result<Place<'a>, NetFault> {
-    match (options.port, options.listen) {
-        (None, Some(port)) => Ok(Place::From(listen(rt, options.host, port)?)),
-        (port, _) => Ok(Place::To(options.host, port.unwrap_or(0))),
+pub fn place_at<'a>(
+    rt: &HostRuntime,
+    port: Option<u16>,
+    awaited_at: Option<u16>,
+    host: &'a str,
+) -> Result<Place<'a>, NetFault> {
+    match (port, awaited_at) {
+        (None, Some(port)) => Ok(Place::From(listen(rt, host, port)?)),
+        (port, _) => Ok(Place::To(host, port.unwrap_or(0))),
     }
 }
 
 /// Reports where the other side is awaited.
-fn report_address(rt: &HostRuntime, place: &Place<'_>) -> io::Result<()> {
+pub fn report_address(rt: &HostRuntime, place: &Place<'_>) -> io::Result<()> {
     match place {
         Place::To(..) => Ok(()),
         Place::From(door) => {
@@ -136,28 +158,31 @@ fn next_connection(rt: &HostRuntime, place: &mut Place<'_>) -> Result<TcpStream,
     }
 }
 
-/// Plays the steps, over one connection after another, and answers the exit status.
-fn play_script(
+/// Plays the steps, over one connection after another.
+pub fn play_script(
     rt: &HostRuntime,
-    mut place: Place<'_>,
+    place: &mut Place<'_>,
     own: Direction,
     steps: &[ScriptStep],
-) -> io::Result<u8> {
+) -> io::Result<Played> {
     let mut rest = on_line(steps);
     for _ in 0..steps.len() {
         if rest.is_empty() {
-            return Ok(DONE);
+            return Ok(Played::Whole);
         }
-        let connection = match next_connection(rt, &mut place) {
+        let connection = match next_connection(rt, place) {
             Ok(connection) => connection,
-            Err(why) => return finish_run(rt, false, Err(EndFault::Net(why))),
+            Err(why) => {
+                let status = finish_run(rt, false, Err(EndFault::Net(why)))?;
+                return Ok(Played::Ended(status));
+            }
         };
         match play_line(rt, &connection, own, rest)? {
             Ok(after) => rest = on_line(after),
-            Err(status) => return Ok(status),
+            Err(ended) => return Ok(ended),
         }
     }
-    Ok(DONE)
+    Ok(Played::Whole)
 }
 
 /// The steps from the first that wants a connection on.
@@ -171,16 +196,15 @@ fn on_line(steps: &[ScriptStep]) -> &[ScriptStep] {
     &[]
 }
 
-/// Plays the steps of one connection, and answers those after it. A difference and a fault are reported, and the exit status
-/// is answered.
+/// Plays the steps of one connection, and answers those after it, or how the play ended.
 fn play_line<'s>(
     rt: &HostRuntime,
     connection: &TcpStream,
     own: Direction,
     steps: &'s [ScriptStep],
-) -> io::Result<Result<&'s [ScriptStep], u8>> {
+) -> io::Result<Result<&'s [ScriptStep], Played>> {
     let Ok(stream) = Stream::reserved(rt.alloc()) else {
-        return Ok(Err(without_memory(rt)?));
+        return Ok(Err(Played::Ended(without_memory(rt)?)));
     };
     let mut end = Endpoint {
         reader: Counted::new(connection),
@@ -199,7 +223,7 @@ fn end_line<'s>(
     connection: &TcpStream,
     end: &mut LineEnd<'_>,
     steps: &'s [ScriptStep],
-) -> io::Result<Result<&'s [ScriptStep], u8>> {
+) -> io::Result<Result<&'s [ScriptStep], Played>> {
     if is_silence(steps) {
         let _ = connection.set_read_timeout(Some(Duration::from_secs(SILENCE_SECONDS)));
         stay_silent(&mut end.reader);
@@ -208,7 +232,7 @@ fn end_line<'s>(
     let count = waiting(connection);
     if count > 0 {
         let text = more_came(rt.alloc(), steps.first(), count);
-        return Ok(Err(write(rt, text)?));
+        return Ok(Err(differing(rt, text)?));
     }
     Ok(Ok(after_break(steps)))
 }
@@ -247,21 +271,21 @@ fn waiting(connection: &TcpStream) -> usize {
     reader.read(&mut buffer).unwrap_or(0)
 }
 
-/// Reports the step that could not be played, and answers the exit status.
+/// How a play ended with a step that could not be played.
 fn differ(
     rt: &HostRuntime,
     end: &LineEnd<'_>,
     own: Direction,
     steps: &[ScriptStep],
     unplayed: Unplayed,
-) -> io::Result<u8> {
+) -> io::Result<Played> {
     let step = steps.get(unplayed.step);
     if unplayed.why == Difference::Write {
         let line = step.map_or(0, |step| step.line);
         eprintln!(rt;
             "zvt: line {line} of the trace can't be sent: the other side closed the connection, or it failed"
         )?;
-        return Ok(DEVICE);
+        return Ok(Played::Ended(DEVICE));
     }
     let text = text_of(
         rt.alloc(),
@@ -270,17 +294,14 @@ fn differ(
         unplayed.why,
         end.stream.lent().as_ref(),
     );
-    write(rt, text)
+    differing(rt, text)
 }
 
-/// Writes the text of a difference, and answers the exit status.
-fn write(rt: &HostRuntime, text: Result<Text, AllocError>) -> io::Result<u8> {
+/// How a play ended with this text of a difference.
+fn differing(rt: &HostRuntime, text: Result<Text, AllocError>) -> io::Result<Played> {
     match text {
-        Ok(text) => {
-            io::writer(rt).write_all(text.bytes())?;
-            Ok(BAD)
-        }
-        Err(_) => without_memory(rt),
+        Ok(text) => Ok(Played::Differs(text)),
+        Err(_) => Ok(Played::Ended(without_memory(rt)?)),
     }
 }
 

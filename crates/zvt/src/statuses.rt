@@ -10,7 +10,8 @@ use zvt_tool::{AuditSummary, DeviceError, EndFault, JournalFileError, RecoveryEr
 /// All was done, or help was asked for.
 pub const DONE: u8 = 0;
 
-/// A stream of the trace was refused or cut off, or a payment is unclear where that is checked.
+/// A stream of the trace was refused or cut off, a payment is unclear where that is checked, or a trace that was played and
+/// what came differ.
 pub const BAD: u8 = 1;
 
 /// The command line or a step is wrong.

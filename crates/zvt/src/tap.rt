@@ -8,17 +8,7 @@ use std::net::TcpStream;
 use zvt_io::{Counted, Sink};
 use zvt_session::{Door, Way, connect, listen};
 use zvt_tap::{Found, Nowhere, SocketTapped, TapFault, TapLog, Tracing, tap_sockets};
-use zvt_tool::{Lengths, Tally, TraceFault};
-
-/// Where a tap listens, `[HOST:]PORT`, where the terminal does, `HOST:PORT`, and how many lines it passes on.
-#[derive(Clone, Copy)]
-pub struct TapOptions<'a> {
-    pub listen: &'a str,
-    pub to: &'a str,
-    pub trace: Option<&'a str>,
-    pub trace_required: bool,
-    pub connections: u16,
-}
+use zvt_tool::{Lengths, Tally, TapOptions, TraceFault};
 
 /// The host of a tap that names none.
 const HERE: &str = "127.0.0.1";
@@ -113,7 +103,7 @@ fn tap_all(
     door: &mut Door,
     trace: &mut TraceFile<'_>,
 ) -> io::Result<u8> {
-    if let Ok(address) = door.listener.local_addr() {
+    if let Ok(address) = door.address() {
         eprintln!(rt; "zvt: a tap listens at {address}")?;
     }
     let mut status = DONE;

@@ -18,7 +18,8 @@ pub use traces::{
 };
 pub use zvt_audit::{AuditSummary, Sum, audit_trace, follow_audit};
 pub use zvt_cli::{
-    Choice, ChoiceFault, TerminalOptions, TillOptions, TraceOptions, arguments, with_show,
+    CheckOptions, Choice, ChoiceFault, PlayOptions, TapOptions, TerminalOptions, TillOptions,
+    TraceOptions, arguments, with_show,
 };
 pub use zvt_diagnostics::{hint_on, write_notes};
 pub use zvt_grammar::Lengths;

@@ -1,0 +1,209 @@
+//! Situations that are played one after another against a till or a terminal, and the report of them.
+
+use crate::finish::finish_run;
+use crate::label::Label;
+use crate::play::{Place, Played, place_at, play_script, read_text, report_address, script_of};
+use crate::statuses::{BAD, DEVICE, DONE, WORDS};
+use crate::verdicts::{add_case, add_plan, add_suite, add_verdict};
+use std::alloc::{AllocError, Global};
+use std::fs;
+use std::io::{self, Write};
+use zvt_play::ScriptStep;
+use zvt_text::Text;
+use zvt_tool::{CheckOptions, EndFault, NetFault};
+use zvt_trace::Direction;
+
+/// A situation: its name, the comments at its head, and what is played.
+#[derive(Drop)]
+struct Situation<'a> {
+    name: &'a str,
+    head: Text,
+    steps: Vec<ScriptStep>,
+}
+
+/// The verdicts so far: the cases of the report, and how many situations are not passed.
+#[derive(Drop)]
+struct Verdicts {
+    cases: Text,
+    failed: usize,
+}
+
+/// Plays a terminal in each situation against a till, and answers the exit status.
+pub fn till(rt: &HostRuntime, options: &CheckOptions<'_>) -> io::Result<u8> {
+    let situations = match read_all(rt, Direction::FromTerminal, options)? {
+        Ok(situations) => situations,
+        Err(status) => return Ok(status),
+    };
+    let place = place_at(rt, None, Some(options.port), options.host);
+    check(
+        rt,
+        "zvt check-till",
+        Direction::FromTerminal,
+        place,
+        situations.as_slice(),
+        options,
+    )
+}
+
+/// Plays a till in each situation against a terminal, and answers the exit status.
+pub fn terminal(rt: &HostRuntime, options: &CheckOptions<'_>) -> io::Result<u8> {
+    if options.port == 0 {
+        eprintln!(rt; "zvt: invalid port '0': give the port that the terminal listens at")?;
+        return Ok(WORDS);
+    }
+    let situations = match read_all(rt, Direction::FromTill, options)? {
+        Ok(situations) => situations,
+        Err(status) => return Ok(status),
+    };
+    let place = place_at(rt, Some(options.port), None, options.host);
+    check(
+        rt,
+        "zvt check-terminal",
+        Direction::FromTill,
+        place,
+        situations.as_slice(),
+        options,
+    )
+}
+
+/// Reads all situations. None, and one that can't be played, are reported, and the exit status is answered.
+fn read_all<'a>(
+    rt: &HostRuntime,
+    own: Direction,
+    options: &CheckOptions<'a>,
+) -> io::Result<Result<Vec<Situation<'a>>, u8>> {
+    if options.files.is_empty() {
+        eprintln!(rt; "zvt: name the situations to play, e.g. conformance/till/*.trace")?;
+        return Ok(Err(WORDS));
+    }
+    let mut situations = Vec::new(rt.alloc());
+    for path in options.files.as_slice() {
+        match read_situation(rt, own, path)? {
+            Ok(situation) => situations.push(situation)?,
+            Err(status) => return Ok(Err(status)),
+        }
+    }
+    Ok(Ok(situations))
+}
+
+/// Reads the situation in this file.
+fn read_situation<'a>(
+    rt: &HostRuntime,
+    own: Direction,
+    path: &'a str,
+) -> io::Result<Result<Situation<'a>, u8>> {
+    let text = match read_text(rt, path)? {
+        Ok(text) => text,
+        Err(status) => return Ok(Err(status)),
+    };
+    let steps = match script_of(rt, path, own, text.as_slice())? {
+        Ok(steps) => steps,
+        Err(status) => return Ok(Err(status)),
+    };
+    Ok(Ok(Situation {
+        name: name_of(path),
+        head: head_of(rt.alloc(), text.as_slice())?,
+        steps,
+    }))
+}
+
+/// The name of a situation: that of its file, without folder and ending.
+fn name_of(path: &str) -> &str {
+    let file = match path.rsplit_once('/') {
+        Some((_, file)) => file,
+        None => path,
+    };
+    file.strip_suffix(".trace").unwrap_or(file)
+}
+
+/// The comments at the head of a trace.
+fn head_of(alloc: Global, trace: &[u8]) -> Result<Text, AllocError> {
+    let mut head = Text::new(alloc);
+    for line in trace.split(|byte| *byte == b'\n') {
+        if !line.starts_with(b"#") {
+            break;
+        }
+        head.word(line)?;
+        head.push(b'\n')?;
+    }
+    Ok(head)
+}
+
+/// Plays the situations there, reports them, and answers the exit status.
+fn check(
+    rt: &HostRuntime,
+    name: &str,
+    own: Direction,
+    place: Result<Place<'_>, NetFault>,
+    situations: &[Situation<'_>],
+    options: &CheckOptions<'_>,
+) -> io::Result<u8> {
+    let mut place = match place {
+        Ok(place) => place,
+        Err(why) => return finish_run(rt, false, Err(EndFault::Net(why))),
+    };
+    report_address(rt, &place)?;
+    let mut verdicts = Verdicts {
+        cases: Text::new(rt.alloc()),
+        failed: 0,
+    };
+    let status = play_all(rt, own, &mut place, situations, &mut verdicts)?;
+    let Some(path) = options.junit else {
+        return Ok(status);
+    };
+    let mut text = Text::new(rt.alloc());
+    let Verdicts { cases, failed } = verdicts;
+    add_suite(&mut text, name, situations.len(), failed, cases.bytes())?;
+    if let Err(error) = fs::write(rt, path, text.bytes()) {
+        eprintln!(rt; "zvt: '{path}': cannot write the report: {error}")?;
+        return Ok(DEVICE);
+    }
+    Ok(status)
+}
+
+/// Plays one situation after another. Where there is no connection the rest is not played.
+fn play_all(
+    rt: &HostRuntime,
+    own: Direction,
+    place: &mut Place<'_>,
+    situations: &[Situation<'_>],
+    verdicts: &mut Verdicts,
+) -> io::Result<u8> {
+    let mut text = Text::new(rt.alloc());
+    add_plan(&mut text, situations.len())?;
+    io::writer(rt).write_all(text.bytes())?;
+    for (at, situation) in situations.iter().enumerate() {
+        io::writer(rt).write_all(situation.head.bytes())?;
+        match play_script(rt, place, own, situation.steps.as_slice())? {
+            Played::Whole => report_verdict(rt, at, situation, b"", verdicts)?,
+            Played::Differs(difference) => {
+                report_verdict(rt, at, situation, difference.bytes(), verdicts)?;
+            }
+            Played::Ended(status) => {
+                io::writer(rt).write_all(b"Bail out!\n")?;
+                return Ok(status);
+            }
+        }
+    }
+    Ok(if verdicts.failed == 0 { DONE } else { BAD })
+}
+
+/// Writes the verdict on a situation, and the difference as comments, if there is one.
+fn report_verdict(
+    rt: &HostRuntime,
+    at: usize,
+    situation: &Situation<'_>,
+    difference: &[u8],
+    verdicts: &mut Verdicts,
+) -> io::Result<()> {
+    let is_passed = difference.is_empty();
+    let mut text = Text::new(rt.alloc());
+    add_verdict(&mut text, is_passed, at.saturating_add(1), situation.name)?;
+    Label::of_comment(rt.alloc())?.add(&mut text, b'\n', difference)?;
+    io::writer(rt).write_all(text.bytes())?;
+    add_case(&mut verdicts.cases, situation.name, difference)?;
+    if !is_passed {
+        verdicts.failed = verdicts.failed.saturating_add(1);
+    }
+    Ok(())
+}
