@@ -35,7 +35,7 @@ class Audit:
         self.booked, self.unclear, self.messages, self.bad = [], [], 0, 0
         self.lines_of_booked, self.lines_of_unclear = [], []
         self.amount, self.statuses, self.taken_up, self.currency, self.named = None, [], False, None, set()
-        self.sides = {sign: json_model.Side(name, loose) for sign, name in json_model.SIDES.items()}
+        self.sides = {sign: json_model.Side(name, loose, False) for sign, name in json_model.SIDES.items()}
         self.malformed = False
         for number, row in json_model.lines_of(trace):
             if row == b"!":
