@@ -1,13 +1,15 @@
 /* Reads an authorisation and prints its text; then bytes that are refused. cc demo.c -lzvt */
 #include "zvt.h"
+#include <inttypes.h>
 #include <stdio.h>
 
 int main(void) {
+    if (zvt_abi() != ZVT_ABI) return 1; /* another library than that of zvt.h */
     const uint8_t row[] = {0x06, 0x01, 0x0A, 0x04, 0x00, 0x00, 0x00, 0x00, 0x12, 0x34, 0x49, 0x09, 0x78};
     uint8_t text[256];
     zvt_answer answer;
     size_t size = zvt_text(row, sizeof row, text, sizeof text, &answer);
-    printf("status %u, %zu bytes\n%.*s", answer.status, answer.size, (int)size, (const char *)text);
+    printf("status %u, %" PRIu64 " bytes\n%.*s", answer.status, answer.size, (int)size, (const char *)text);
     size = zvt_text(row, sizeof row, text, 3, &answer);
     printf("a room of 3 is too little for %zu\n", size);
     zvt_scan(row, sizeof row - 1, &answer);
@@ -15,7 +17,7 @@ int main(void) {
     const uint8_t bad[] = {0x06, 0x01, 0x02, 0xD0};
     zvt_scan(bad, sizeof bad, &answer);
     size = zvt_reason_name(answer.reason, text, sizeof text);
-    printf("refused at %zu for reason %u, %.*s\n", answer.place, answer.reason, (int)size, (const char *)text);
+    printf("refused at %" PRIu64 " for reason %u, %.*s\n", answer.place, answer.reason, (int)size, (const char *)text);
     zvt_scan(bad, 0, &answer);
     printf("no bytes: status %u\n", answer.status);
 
@@ -36,8 +38,8 @@ int main(void) {
     for (size_t at = 0; at < sizeof reply; at += step.taken) {
         uint32_t status = zvt_till_feed(&till, reply + at, sizeof reply - at, out, sizeof out, &step);
         size = zvt_outcome_name(step.outcome.kind, text, sizeof text);
-        printf("fed: status %u, taken %zu, message %u, send %zu, outcome %u%s%.*s\n", status, step.taken, step.message, step.send,
-               step.outcome.kind, size ? ", " : "", (int)size, (const char *)text);
+        printf("fed: status %u, taken %" PRIu64 ", message %u, send %" PRIu64 ", outcome %u%s%.*s\n", status, step.taken, step.message,
+               step.send, step.outcome.kind, size ? ", " : "", (int)size, (const char *)text);
         if (status != ZVT_OK || !step.message) break;
     }
     zvt_till_order(&till, ZVT_PAY, 1234, out, sizeof out, &step);
@@ -48,7 +50,7 @@ int main(void) {
     printf("the line is lost: outcome %u, %.*s\n", step.outcome.kind, (int)size, (const char *)text);
     zvt_entry entry;
     uint32_t shown = zvt_till_unclear(&till, 0, &entry);
-    printf("unclear: status %u, %llu for cause %u\n", shown, (unsigned long long)entry.amount, entry.cause);
+    printf("unclear: status %u, %" PRIu64 " for cause %u\n", shown, entry.amount, entry.cause);
     printf("no second one: status %u\n", zvt_till_unclear(&till, 1, &entry));
     printf("a number that names nothing: %zu\n", zvt_cause_name(0, text, sizeof text));
     zvt_till_free(&till);

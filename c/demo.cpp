@@ -1,5 +1,6 @@
 // Pays in memory, saves while a second payment runs, and goes on from what was saved: reverses until the line is lost, and again. c++ -std=c++17 demo.cpp -lzvt
 #include "zvt.hpp"
+#include <cinttypes>
 #include <cstdio>
 
 static void say(const char *what, const zvt::Reply &reply) {
@@ -27,11 +28,11 @@ static void show_journal(const uint8_t *registered, size_t length) {
     zvt::Till again(123456);
     again.recover(journal);
     for (const zvt_entry &entry : again.unclear())
-        std::printf("unclear %llu for cause %u\n", (unsigned long long)entry.amount, entry.cause);
+        std::printf("unclear %" PRIu64 " for cause %u\n", entry.amount, entry.cause);
     try {
         again.recover(journal + "< 8\n");
     } catch (const zvt::BadJournal &bad) {
-        std::printf("no journal: reason %u at %zu\n", bad.reason, bad.place);
+        std::printf("no journal: reason %u at %" PRIu64 "\n", bad.reason, bad.place);
     }
 }
 
@@ -55,9 +56,9 @@ int main() {
     till.order(ZVT_PAY, 777);
     zvt::Till again = zvt::Till::loaded(till.save());
     for (const zvt_entry &entry : again.book())
-        std::printf("booked %llu under trace number %06u\n", (unsigned long long)entry.amount, entry.trace);
+        std::printf("booked %" PRIu64 " under trace number %06u\n", entry.amount, entry.trace);
     for (const zvt_entry &entry : again.unclear())
-        std::printf("unclear %llu for cause %u\n", (unsigned long long)entry.amount, entry.cause);
+        std::printf("unclear %" PRIu64 " for cause %u\n", entry.amount, entry.cause);
     till = std::move(again);
     till.connected();
     till.order(ZVT_REGISTER);
@@ -66,7 +67,7 @@ int main() {
     const zvt_outcome lost = till.lost();
     std::printf("the line is lost: outcome %u for cause %u\n", lost.kind, lost.code);
     zvt::Till saved = zvt::Till::loaded(till.save());
-    std::printf("unclear reversals: %zu\n", saved.state().unclear_reversals);
+    std::printf("unclear reversals: %" PRIu64 "\n", saved.state().unclear_reversals);
     for (const zvt_entry &entry : saved.book())
         if (entry.doubt == ZVT_UNCLEAR_REVERSAL) std::printf("%06u may be taken back, for cause %u\n", entry.trace, entry.cause);
     saved.connected();
@@ -74,7 +75,7 @@ int main() {
     saved.feed(registered, sizeof registered);
     saved.order(ZVT_REVERSE, 0);
     say("reversed again", saved.feed(reversed_before, sizeof reversed_before));
-    std::printf("unclear reversals: %zu, doubt %u\n", saved.state().unclear_reversals, saved.book()[0].doubt);
-    std::printf("total %llu\n", (unsigned long long)till.state().total);
+    std::printf("unclear reversals: %" PRIu64 ", doubt %u\n", saved.state().unclear_reversals, saved.book()[0].doubt);
+    std::printf("total %" PRIu64 "\n", till.state().total);
     show_journal(registered, sizeof registered);
 }

@@ -70,7 +70,7 @@ int main(void) {
             uint32_t r = i & 1 ? zvt_till_feed(&t, b + at, n - at, out, 32, &s) : zvt_till_feed_all(&t, b + at, n - at, out, 32, line, 16, &s);
             at += s.taken; msgs += s.message;
             if (r == 2) { refused++; if (!s.reason || s.reason > 8 || s.place >= n - at) return 20; if (zvt_till_feed(&t, b, 1, out, 32, &s) != 7) return 21; break; }
-            if (r || !s.taken || at > n) { printf("r %u taken %zu of %zu\n", r, s.taken, n); return 22; }
+            if (r || !s.taken || at > n) { printf("r %u taken %lu of %zu\n", r, (unsigned long)s.taken, n); return 22; }
         }
         for (int k = 16; k < 24; k++) if (line[k] != 0xEE) return 25;
         for (int k = 32; k < 40; k++) if (out[k] != 0xEE) return 23;

@@ -3,6 +3,7 @@
 #define _DEFAULT_SOURCE
 #include "zvt.h"
 #include <fcntl.h>
+#include <inttypes.h>
 #include <stdio.h>
 #include <stdlib.h>
 #include <sys/file.h>
@@ -53,13 +54,13 @@ static void run(zvt_till *till, uint32_t order, uint64_t number, const uint8_t *
     if (zvt_till_order(till, order, number, out, sizeof out, &step)) exit(1);
     zvt_record_order(order, number, out, step.send, record, ZVT_RECORD_ROOM, &answer);
     append(answer.size);
-    printf("send %zu bytes\n", step.send); /* only now */
+    printf("send %" PRIu64 " bytes\n", step.send); /* only now */
     for (size_t at = 0; at < length; at += answer.size) {
         size_t size = zvt_record_heard(reply + at, length - at, record, ZVT_RECORD_ROOM, &answer);
         if (answer.status != ZVT_WHOLE) exit(1); /* ZVT_MORE: read on; ZVT_REFUSED: zvt_till_lost */
         append(size);
         zvt_till_feed(till, reply + at, answer.size, out, sizeof out, &step);
-        printf("heard %zu bytes, send %zu, outcome %u\n", answer.size, step.send, step.outcome.kind);
+        printf("heard %" PRIu64 " bytes, send %" PRIu64 ", outcome %u\n", answer.size, step.send, step.outcome.kind);
     }
 }
 
@@ -70,7 +71,7 @@ int main(int count, char **words) {
     zvt_till till = {0};
     zvt_state state;
     zvt_answer answer;
-    if (count != 2 || zvt_till_new(&till, 0, 0xBE, 978)) return 2;
+    if (count != 2 || zvt_abi() != ZVT_ABI || zvt_till_new(&till, 0, 0xBE, 978)) return 2;
     size_t size = open_book(words[1], text, sizeof text);
     if (size == 0) {
         zvt_record_opening(978, record, ZVT_RECORD_ROOM, &answer);
@@ -78,12 +79,12 @@ int main(int count, char **words) {
     } else {
         zvt_till_recover(&till, text, size, &answer);
         if (answer.status) {
-            printf("no book: status %u, reason %u at %zu\n", answer.status, answer.reason, answer.place);
+            printf("no book: status %u, reason %u at %" PRIu64 "\n", answer.status, answer.reason, answer.place);
             return 3;
         }
     }
     zvt_till_state(&till, &state);
-    printf("booked %zu, unclear %zu, total %llu\n", state.booked, state.unclear, (unsigned long long)state.total);
+    printf("booked %" PRIu64 ", unclear %" PRIu64 ", total %" PRIu64 "\n", state.booked, state.unclear, state.total);
     zvt_record_lost(record, ZVT_RECORD_ROOM, &answer);
     append(answer.size);
     zvt_till_connected(&till);

@@ -66,7 +66,7 @@ static int is_state(zvt_till *t, size_t booked, size_t unclear, uint64_t total) 
 static int wrong(zvt_till *t, const char *text, uint32_t reason, size_t place) {
     zvt_answer a;
     zvt_till_recover(t, (const uint8_t *)text, strlen(text), &a);
-    if (a.status != ZVT_REFUSED || a.reason != reason || a.place != place || a.size) { printf("%u %u at %zu: %s\n", a.status, a.reason, a.place, text); return 0; }
+    if (a.status != ZVT_REFUSED || a.reason != reason || a.place != place || a.size) { printf("%u %u at %lu: %s\n", a.status, a.reason, (unsigned long)a.place, text); return 0; }
     return is_state(t, 1, 1, 1234);
 }
 int main(void) {

@@ -17,12 +17,19 @@
  */
 #ifndef ZVT_H
 #define ZVT_H
-#include <stdbool.h>
 #include <stddef.h>
 #include <stdint.h>
 #ifdef __cplusplus
 extern "C" {
 #endif
+
+/* The layouts of the structs below and the arguments of the calls. Stop where zvt_abi() answers another number: the library
+ * is not the one that this header is of. */
+#define ZVT_ABI 1
+uint32_t zvt_abi(void);
+/* Writes the version of the library, as 0.2.0 (ASCII, no final zero), and answers its size; where the room is less, nothing is
+ * written. */
+size_t zvt_version(uint8_t *room, size_t room_length);
 
 /* Statuses. */
 enum {
@@ -44,8 +51,8 @@ enum {
 
 /* The reader. */
 typedef struct zvt_answer {
-    size_t size;     /* ZVT_WHOLE: the bytes of the message that stands first */
-    size_t place;    /* ZVT_REFUSED: the first byte after which no message can follow */
+    uint64_t size;   /* ZVT_WHOLE: the bytes of the message that stands first */
+    uint64_t place;  /* ZVT_REFUSED: the first byte after which no message can follow */
     uint32_t reason; /* ZVT_REFUSED: why */
     uint32_t status; /* ZVT_WHOLE, ZVT_MORE, ZVT_REFUSED or ZVT_NO_MEMORY */
 } zvt_answer;
@@ -59,7 +66,7 @@ size_t zvt_text(const uint8_t *bytes, size_t length, uint8_t *room, size_t room_
 /* The till. zvt_till till = {0}; is closed; zvt_till_new opens it, zvt_till_free closes it again. */
 typedef struct zvt_till {
     void *at;
-    bool full;
+    uint32_t full; /* 1 where there is a till, else 0 */
 } zvt_till;
 
 enum { ZVT_REGISTER = 1, ZVT_PAY, ZVT_REVERSE, ZVT_CLOSE_DAY, ZVT_CANCEL };
@@ -95,10 +102,10 @@ typedef struct zvt_outcome {
 } zvt_outcome;
 
 typedef struct zvt_step {
-    size_t taken;     /* bytes of the piece that were taken */
-    size_t send;      /* bytes at the front of `out` that are to be sent to the terminal, now */
-    size_t place;     /* ZVT_REFUSED: where, in the message that had begun */
-    size_t line;      /* bytes of the print line that was heard, at the front of `line` where they fit */
+    uint64_t taken;   /* bytes of the piece that were taken */
+    uint64_t send;    /* bytes at the front of `out` that are to be sent to the terminal, now */
+    uint64_t place;   /* ZVT_REFUSED: where, in the message that had begun */
+    uint64_t line;    /* bytes of the print line that was heard, at the front of `line` where they fit */
     uint32_t reason;  /* ZVT_REFUSED: why */
     uint32_t message; /* 1: a message ended; feed the rest of the piece */
     uint32_t printed; /* 1: the message that ended last is a print line, to be printed now */
@@ -107,9 +114,9 @@ typedef struct zvt_step {
 
 typedef struct zvt_state {
     uint64_t total;   /* of the payments that no completed reversal took back */
-    size_t booked, unclear;
-    size_t unclear_reversals; /* booked payments whose `doubt` is ZVT_UNCLEAR_REVERSAL */
-    size_t held;      /* bytes of an unfinished message */
+    uint64_t booked, unclear;
+    uint64_t unclear_reversals; /* booked payments whose `doubt` is ZVT_UNCLEAR_REVERSAL */
+    uint64_t held;    /* bytes of an unfinished message */
     uint32_t registered;
     uint32_t running; /* 0, or ZVT_REGISTER .. ZVT_CLOSE_DAY */
     zvt_outcome last;

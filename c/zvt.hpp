@@ -12,6 +12,7 @@ namespace zvt {
 /* The library lays its structs out so. */
 static_assert(sizeof(void *) != 8 || (sizeof(zvt_till) == 16 && sizeof(zvt_answer) == 24 && sizeof(zvt_step) == 64));
 static_assert(sizeof(void *) != 8 || (sizeof(zvt_state) == 72 && sizeof(zvt_entry) == 32));
+static_assert(sizeof(void *) != 8 || (offsetof(zvt_step, outcome) == 44 && offsetof(zvt_state, last) == 48 && offsetof(zvt_entry, doubt) == 28));
 
 /* A call that was refused; the till is as it was. */
 class Refused : public std::runtime_error {
@@ -25,12 +26,18 @@ struct Reply {
     std::vector<uint8_t> send;
     std::vector<std::string> lines; /* to print, in the terminal's character set */
     zvt_outcome outcome{};          /* how the running order ended, if it did */
-    size_t taken = 0;
+    uint64_t taken = 0;
     uint32_t status = ZVT_OK; /* ZVT_REFUSED: no message: give the line up, and call lost(). ZVT_NO_MEMORY: feed what was not taken again. */
 };
 
 inline void check(uint32_t status) {
     if (status != ZVT_OK) throw Refused(status);
+}
+
+/* The library's version, as 0.2.0. */
+inline std::string version() {
+    uint8_t room[32];
+    return {room, room + zvt_version(room, sizeof room)};
 }
 
 /* Records of a journal, each to be durable before what zvt.h says. */
@@ -75,13 +82,14 @@ class BadJournal : public Refused {
 public:
     explicit BadJournal(const zvt_answer &answer) : Refused(answer.status), reason(answer.reason), place(answer.place) {}
     const uint32_t reason; /* ZVT_WRONG_OPENING .. ZVT_WRONG_RECORD */
-    const size_t place;
+    const uint64_t place;
 };
 
 /* A till. It is moved, never copied. One thread at a time uses it. */
 class Till {
 public:
     explicit Till(uint32_t password = 0, uint8_t config = 0xBE, uint16_t currency = 978) {
+        if (zvt_abi() != ZVT_ABI) throw std::runtime_error("zvt: the library " + version() + " is not the one that zvt.h is of");
         check(zvt_till_new(&handle, password, config, currency));
     }
     static Till loaded(const std::vector<uint8_t> &saved) {
@@ -154,9 +162,9 @@ public:
     }
 
 private:
-    std::vector<zvt_entry> entries(size_t count, uint32_t (*show)(zvt_till *, size_t, zvt_entry *)) {
+    std::vector<zvt_entry> entries(uint64_t count, uint32_t (*show)(zvt_till *, size_t, zvt_entry *)) {
         std::vector<zvt_entry> entries(count);
-        for (size_t place = 0; place < count; place++) check(show(&handle, place, &entries[place]));
+        for (uint64_t place = 0; place < count; place++) check(show(&handle, place, &entries[place]));
         return entries;
     }
     zvt_till handle{};

@@ -2,7 +2,7 @@
 //! and link libzvt. It needs Rust alone.
 use std::fmt;
 use std::marker::PhantomData;
-use std::mem::size_of;
+use std::mem::{offset_of, size_of};
 use std::ptr::null_mut;
 
 const ROOM: usize = 32;
@@ -14,7 +14,7 @@ const RECORD_ROOM: usize = 131_200;
 #[repr(C)]
 struct Handle {
     at: *mut u8,
-    full: bool,
+    full: u32,
 }
 
 #[repr(C)]
@@ -30,10 +30,10 @@ struct OutcomeNumbers {
 #[repr(C)]
 #[derive(Default)]
 struct Step {
-    taken: usize,
-    send: usize,
-    place: usize,
-    line: usize,
+    taken: u64,
+    send: u64,
+    place: u64,
+    line: u64,
     reason: u32,
     message: u32,
     printed: u32,
@@ -44,10 +44,10 @@ struct Step {
 #[derive(Default)]
 struct State {
     total: u64,
-    booked: usize,
-    unclear: usize,
-    unclear_reversals: usize,
-    held: usize,
+    booked: u64,
+    unclear: u64,
+    unclear_reversals: u64,
+    held: u64,
     registered: u32,
     running: u32,
     last: OutcomeNumbers,
@@ -68,8 +68,8 @@ struct EntryNumbers {
 #[repr(C)]
 #[derive(Default)]
 struct Answer {
-    size: usize,
-    place: usize,
+    size: u64,
+    place: u64,
     reason: u32,
     status: u32,
 }
@@ -82,9 +82,24 @@ const _: () = assert!(
         && size_of::<State>() == 72
         && size_of::<EntryNumbers>() == 32
         && size_of::<Answer>() == 24
+        && offset_of!(Handle, full) == 8
+        && offset_of!(Step, line) == 24
+        && offset_of!(Step, printed) == 40
+        && offset_of!(Step, outcome) == 44
+        && offset_of!(State, held) == 32
+        && offset_of!(State, running) == 44
+        && offset_of!(State, last) == 48
+        && offset_of!(EntryNumbers, trace) == 8
+        && offset_of!(EntryNumbers, doubt) == 28
+        && offset_of!(Answer, status) == 20
 );
 
+/// The layouts and calls that this file is made for.
+const ABI: u32 = 1;
+
 unsafe extern "C" {
+    fn zvt_abi() -> u32;
+    fn zvt_version(room: *mut u8, room_length: usize) -> usize;
     fn zvt_text(bytes: *const u8, length: usize, room: *mut u8, room_length: usize, answer: *mut Answer) -> usize;
     fn zvt_till_new(till: *mut Handle, password: u32, config: u8, currency: u16) -> u32;
     fn zvt_till_free(till: *mut Handle);
@@ -127,6 +142,8 @@ pub enum Refused {
     UnknownEntry,
     AlreadyReversed,
     NoReceipt,
+    /// The library is not the one that this file is made for.
+    Library,
     /// A status that no call of this class answers.
     Other(u32),
 }
@@ -166,6 +183,7 @@ impl fmt::Display for Refused {
             Refused::UnknownEntry => "no such payment is booked",
             Refused::AlreadyReversed => "the payment is taken back",
             Refused::NoReceipt => "the payment has no receipt number",
+            Refused::Library => "the library is not the one that zvt.rs is made for",
             Refused::Other(status) => return write!(f, "status {status}"),
         })
     }
@@ -345,21 +363,24 @@ impl Drop for Till {
 // SAFETY of all calls below: the handle is zeroes or what the last call left in it and is borrowed for the call alone;
 // slices and structs are lent for the call, apart from each other, and laid out as zvt.h has them.
 impl Till {
-    fn closed() -> Till {
-        Till { handle: Handle { at: null_mut(), full: false }, _stays: PhantomData }
+    fn closed() -> Result<Till, Refused> {
+        if unsafe { zvt_abi() } != ABI {
+            return Err(Refused::Library);
+        }
+        Ok(Till { handle: Handle { at: null_mut(), full: 0 }, _stays: PhantomData })
     }
 
     /// A till whose book is empty. The password is a number of up to six digits, the currency one of ISO 4217 (978); 0xBE
     /// is a usual config byte.
     pub fn new(password: u32, config: u8, currency: u16) -> Result<Till, Refused> {
-        let mut till = Till::closed();
+        let mut till = Till::closed()?;
         checked(unsafe { zvt_till_new(&mut till.handle, password, config, currency) })?;
         Ok(till)
     }
 
     /// The till that the bytes were saved of. Its line is down.
     pub fn load(saved: &[u8]) -> Result<Till, Refused> {
-        let mut till = Till::closed();
+        let mut till = Till::closed()?;
         checked(unsafe { zvt_till_load(&mut till.handle, saved.as_ptr(), saved.len()) })?;
         Ok(till)
     }
@@ -371,10 +392,10 @@ impl Till {
             let mut answer = Answer::default();
             unsafe { zvt_till_save(&mut self.handle, bytes.as_mut_ptr(), bytes.len(), &mut answer) };
             checked(answer.status)?;
-            if answer.size == bytes.len() {
+            if answer.size as usize == bytes.len() {
                 return Ok(bytes);
             }
-            bytes.resize(answer.size, 0);
+            bytes.resize(answer.size as usize, 0);
         }
     }
 
@@ -386,8 +407,8 @@ impl Till {
         match (answer.status, answer.reason) {
             (0, _) => Ok(till),
             (REFUSED, 1) => Err(NoTill::Opening),
-            (REFUSED, 2) => Err(NoTill::Line(answer.place)),
-            (REFUSED, 3) => Err(NoTill::Record(answer.place)),
+            (REFUSED, 2) => Err(NoTill::Line(answer.place as usize)),
+            (REFUSED, 3) => Err(NoTill::Record(answer.place as usize)),
             (status, _) => Err(NoTill::Refused(Refused::of(status))),
         }
     }
@@ -409,7 +430,7 @@ impl Till {
         let (kind, number) = order.numbers();
         let (mut out, mut step) = ([0; ROOM], Step::default());
         checked(unsafe { zvt_till_order(&mut self.handle, kind, number, out.as_mut_ptr(), ROOM, &mut step) })?;
-        Ok(out[..step.send].to_vec())
+        Ok(out[..step.send as usize].to_vec())
     }
 
     /// Takes all that the terminal sent, up to bytes that are no message.
@@ -424,12 +445,12 @@ impl Till {
                 NO_MEMORY => reply.stop = Some(Stop::NoMemory),
                 status => checked(status)?,
             }
-            reply.send.extend_from_slice(&out[..step.send]);
+            reply.send.extend_from_slice(&out[..step.send as usize]);
             if step.printed == 1 {
-                reply.lines.push(line[..step.line].to_vec());
+                reply.lines.push(line[..step.line as usize].to_vec());
             }
             reply.outcome = step.outcome.outcome().or(reply.outcome);
-            reply.taken += step.taken;
+            reply.taken += step.taken as usize;
         }
         Ok(reply)
     }
@@ -442,7 +463,7 @@ impl Till {
 
     /// How many booked payments have a reversal that is unclear: their `doubt` is [`Doubt::Unclear`].
     pub fn unclear_reversals(&mut self) -> Result<usize, Refused> {
-        Ok(self.state()?.unclear_reversals)
+        Ok(self.state()?.unclear_reversals as usize)
     }
 
     /// What the payments that no completed reversal took back come to.
@@ -452,7 +473,7 @@ impl Till {
 
     /// The payments that are booked.
     pub fn book(&mut self) -> Result<Vec<Entry>, Refused> {
-        (0..self.state()?.booked)
+        (0..self.state()?.booked as usize)
             .map(|place| {
                 let mut entry = EntryNumbers::default();
                 checked(unsafe { zvt_till_entry(&mut self.handle, place, &mut entry) })?;
@@ -465,7 +486,7 @@ impl Till {
 
     /// The payments that are neither booked nor known not to be.
     pub fn unclear(&mut self) -> Result<Vec<Unclear>, Refused> {
-        (0..self.state()?.unclear)
+        (0..self.state()?.unclear as usize)
             .map(|place| {
                 let mut entry = EntryNumbers::default();
                 checked(unsafe { zvt_till_unclear(&mut self.handle, place, &mut entry) })?;
@@ -473,6 +494,14 @@ impl Till {
             })
             .collect()
     }
+}
+
+/// The version of the library, as 0.2.0.
+pub fn version() -> String {
+    let mut room = [0; 32];
+    // SAFETY: the room is lent for the call, and the declaration fits zvt.h.
+    let size = unsafe { zvt_version(room.as_mut_ptr(), room.len()) };
+    String::from_utf8_lossy(&room[..size.min(room.len())]).into_owned()
 }
 
 /// Why a text makes no till.
@@ -492,7 +521,7 @@ fn record(write: impl Fn(*mut u8, usize, *mut Answer)) -> Result<Vec<u8>, Refuse
     let (mut room, mut answer) = (vec![0; 128], Answer::default());
     write(room.as_mut_ptr(), room.len(), &mut answer);
     checked(answer.status)?;
-    room.truncate(answer.size);
+    room.truncate(answer.size as usize);
     Ok(room)
 }
 
@@ -522,7 +551,7 @@ pub fn record_heard(bytes: &[u8]) -> Result<(Vec<u8>, usize), NoText> {
     let size = unsafe { zvt_record_heard(bytes.as_ptr(), bytes.len(), room.as_mut_ptr(), room.len(), &mut answer) };
     no_text(&answer)?;
     room.truncate(size);
-    Ok((room, answer.size))
+    Ok((room, answer.size as usize))
 }
 
 /// Why no text is written: more bytes are needed, no message can follow the byte at a place, or memory is wanted.
@@ -537,7 +566,7 @@ fn no_text(answer: &Answer) -> Result<(), NoText> {
     match answer.status {
         0 => Ok(()),
         1 => Err(NoText::More),
-        REFUSED => Err(NoText::RefusedAt { place: answer.place, reason: answer.reason }),
+        REFUSED => Err(NoText::RefusedAt { place: answer.place as usize, reason: answer.reason }),
         _ => Err(NoText::Memory),
     }
 }
@@ -552,7 +581,7 @@ pub fn text(bytes: &[u8]) -> Result<(String, usize), NoText> {
         no_text(&answer)?;
         if size <= room.len() {
             room.truncate(size);
-            return Ok((String::from_utf8_lossy(&room).into_owned(), answer.size));
+            return Ok((String::from_utf8_lossy(&room).into_owned(), answer.size as usize));
         }
         room.resize(size, 0);
     }

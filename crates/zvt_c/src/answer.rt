@@ -10,9 +10,9 @@ use zvt_grammar::{Scan, Why};
 #[derive(Clone, Copy, Drop)]
 pub struct ZvtAnswer {
     /// The bytes of the message, where it is whole.
-    pub size: usize,
+    pub size: u64,
     /// The first byte after which no message can follow, where the bytes are refused.
-    pub place: usize,
+    pub place: u64,
     /// Why, where the bytes are refused: 1 to 8.
     pub reason: u32,
     /// 0 whole, 1 more bytes are needed, 2 refused, 3 out of memory.
@@ -40,7 +40,7 @@ pub fn found(size: usize) -> ZvtAnswer
     ensures { result ≡ record { size = size; place = 0; reason = 0; status = 0 } }
 {
     ZvtAnswer {
-        size,
+        size: size as u64,
         place: 0,
         reason: 0,
         status: 0,

@@ -21,7 +21,7 @@ pub extern "C" fn zvt_scan(alloc: Global, bytes: &[u8], answer: &mut ZvtAnswer)
         Ok(Scan::More) => bare(1),
         Ok(Scan::Refused { place, why }) => ZvtAnswer {
             size: 0,
-            place,
+            place: place as u64,
             reason: reason_code(why),
             status: 2,
         },
@@ -58,7 +58,7 @@ pub extern "C" fn zvt_text(
         Ok(Scan::Refused { place, why }) => {
             *answer = ZvtAnswer {
                 size: 0,
-                place,
+                place: place as u64,
                 reason: reason_code(why),
                 status: 2,
             };

@@ -14,6 +14,7 @@ mod session;
 mod snapshot;
 mod stream;
 mod till;
+mod version;
 
 pub use answer::ZvtAnswer;
 pub use handle::ZvtTill;

@@ -9,7 +9,7 @@ use zvt_grammar::Why;
 use zvt_till::{Cause, OrderRefusal};
 
 /// Writes a name where it fits, and answers its size.
-fn put_name(name: &str, buffer: &mut [u8]) -> usize
+pub(crate) fn put_name(name: &str, buffer: &mut [u8]) -> usize
     ensures { Written name.now result buffer.old buffer.new }
 {
     let bytes = name.as_bytes();

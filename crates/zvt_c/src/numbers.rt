@@ -27,13 +27,13 @@ pub struct ZvtOutcome {
 #[derive(Clone, Copy, Drop)]
 pub struct ZvtStep {
     /// How many bytes of the piece were taken.
-    pub taken: usize,
+    pub taken: u64,
     /// How many bytes are to be sent: they are at the start of `out`.
-    pub send: usize,
+    pub send: u64,
     /// Where the terminal's bytes are no message, the first byte after which none can follow.
-    pub place: usize,
+    pub place: u64,
     /// The size of the text of the print line that was heard, which is at the start of `line` where it fits.
-    pub line: usize,
+    pub line: u64,
     /// Why the terminal's bytes are no message.
     pub reason: u32,
     /// 1 where a message ended in what was taken.
@@ -50,12 +50,12 @@ pub struct ZvtStep {
 pub struct ZvtState {
     /// The sum of the payments that were not taken back.
     pub total: u64,
-    pub booked: usize,
-    pub unclear: usize,
+    pub booked: u64,
+    pub unclear: u64,
     /// The entries of the book whose last reversal is unclear.
-    pub unclear_reversals: usize,
+    pub unclear_reversals: u64,
     /// The bytes of an unfinished message that are held.
-    pub held: usize,
+    pub held: u64,
     pub registered: u32,
     /// The order that runs: 0 none, 1 register, 2 pay, 3 reverse, 4 close the day.
     pub running: u32,

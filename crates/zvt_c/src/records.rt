@@ -84,7 +84,7 @@ pub extern "C" fn zvt_record_heard(
     if answer.status != 0 {
         return 0;
     }
-    let message = &bytes[..answer.size];
+    let message = &bytes[..answer.size as usize];
     let answers = answers_to(&heard_view(&view(message)));
     let mut text = Text::new(alloc);
     match put_heard(&mut text, message, answers.bytes()) {

@@ -62,8 +62,8 @@ fn unrecovered(why: RecoveryError) -> ZvtAnswer
 {
     let (reason, place) = match why {
         RecoveryError::Opening => (1, 1),
-        RecoveryError::Line { number } => (2, number),
-        RecoveryError::Record { number } => (3, number),
+        RecoveryError::Line { number } => (2, number as u64),
+        RecoveryError::Record { number } => (3, number as u64),
         RecoveryError::Memory => return bare(3),
     };
     ZvtAnswer {

@@ -4,7 +4,7 @@ ghost use Rattle.zvt_c.specs.Saving.{Loads, Restores, RestoresFirst, Saves, Writ
 ghost use Rattle.zvt_snapshot.specs.Encoded.{saved, IsKept};
 ghost use Rattle.zvt_till.specs.Till.{step};
 
-use crate::answer::{ZvtAnswer, bare};
+use crate::answer::{ZvtAnswer, bare, found};
 use crate::handle::ZvtTill;
 use crate::session::Session;
 use std::alloc::Global;
@@ -44,12 +44,7 @@ pub extern "C" fn zvt_till_save(
         return;
     };
     *answer = match write_saved(alloc, &end.till, buffer) {
-        Some(size) => ZvtAnswer {
-            size,
-            place: 0,
-            reason: 0,
-            status: 0,
-        },
+        Some(size) => found(size),
         None => bare(3),
     };
     *till = ZvtTill::of(end);

@@ -84,8 +84,8 @@ fn feed_all(
         let mut one = no_step();
         let status = feed(
             end,
-            &piece[answer.taken..],
-            &mut out[answer.send..],
+            &piece[answer.taken as usize..],
+            &mut out[answer.send as usize..],
             line,
             &mut one,
         );
@@ -102,7 +102,7 @@ fn goes_on(piece: usize, buffer: usize, answer: &ZvtStep) -> bool
     requires { answer.now.send ≤ buffer }
     ensures { result ≡ goes_on piece buffer answer.now }
 {
-    answer.taken < piece && 32 <= buffer - answer.send && answer.printed == 0
+    answer.taken < piece as u64 && 32 <= buffer as u64 - answer.send && answer.printed == 0
 }
 
 /// Adds what one message came to.
@@ -173,10 +173,10 @@ fn report(
     let (send, outcome) = hear(till, apdu, out);
     let (size, printed) = put_line(apdu, line);
     ZvtStep {
-        taken,
-        send,
+        taken: taken as u64,
+        send: send as u64,
         place: 0,
-        line: size,
+        line: size as u64,
         reason: 0,
         message: 1,
         printed,
@@ -189,8 +189,8 @@ fn silent(taken: usize, place: usize, reason: u32, outcome: Option<Outcome>) -> 
     ensures { result ≡ silent taken place reason (outcome_of outcome) }
 {
     ZvtStep {
-        taken,
-        place,
+        taken: taken as u64,
+        place: place as u64,
         reason,
         outcome: outcome_numbers(outcome),
         ..no_step()

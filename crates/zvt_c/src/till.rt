@@ -153,7 +153,7 @@ fn give(end: &mut Session, order: Order, out: &mut [u8], answer: &mut ZvtStep) -
     match end.till.order(order) {
         Ok(outgoing) => {
             *answer = ZvtStep {
-                send: write_message(&outgoing, out),
+                send: write_message(&outgoing, out) as u64,
                 ..no_step()
             };
             0
@@ -176,10 +176,10 @@ pub extern "C" fn zvt_till_state(alloc: Global, till: &mut ZvtTill, state: &mut 
     };
     *state = ZvtState {
         total: end.till.total(),
-        booked: end.till.book().len(),
-        unclear: end.till.unclear().len(),
-        unclear_reversals: end.till.unclear_reversals(),
-        held: end.stream.held(),
+        booked: end.till.book().len() as u64,
+        unclear: end.till.unclear().len() as u64,
+        unclear_reversals: end.till.unclear_reversals() as u64,
+        held: end.stream.held() as u64,
         registered: u32::from(end.till.registered()),
         running: running_number(end.till.running()),
         last: outcome_numbers(end.till.last_outcome()),

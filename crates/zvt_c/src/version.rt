@@ -1,0 +1,23 @@
+//! Which library this is: its version, and the number of the layouts that a caller shares with it.
+ghost use Rattle.std.specs.Prelude.{◌≡◌};
+ghost use Rattle.zvt_c.specs.Version.{abi, version};
+ghost use Rattle.zvt_c.specs.Saving.{Written};
+
+use crate::names::put_name;
+
+/// The number of the structs' layouts and of the calls' arguments. A caller that was made for another number stops.
+#[unsafe(no_mangle)]
+pub extern "C" fn zvt_abi() -> u32
+    ensures { result ≡ abi }
+{
+    1
+}
+
+/// Writes the version (ASCII, no final zero) at the start of the room where it fits, and answers its size. Where the room
+/// is less than the size nothing is written.
+#[unsafe(no_mangle)]
+pub extern "C" fn zvt_version(buffer: &mut [u8]) -> usize
+    ensures { Written version result buffer.old buffer.new }
+{
+    put_name("0.2.0", buffer)
+}
