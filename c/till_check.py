@@ -1,6 +1,7 @@
 """What zvt.py owes a shop: till_check.py LIBRARY LAYOUTS. A terminal's bytes are played to a till over a pair of sockets.
 LAYOUTS is the file that layouts.c writes."""
 import ctypes
+import os
 import select
 import signal
 import socket
@@ -176,6 +177,18 @@ def a_question_that_raises_lets_the_payment_end():
     assert till.last().ending == zvt.Ending.PAID
 
 
+def a_payment_that_is_not_acknowledged_yet_is_cancelled_later():
+    terminal, asked = Terminal(), []
+
+    def cancels():
+        asked.append(terminal.was_sent())
+        terminal.says(ACK if len(asked) == 1 else "061E016C" if len(asked) == 3 else "")
+        return True
+    till = till_at(terminal)
+    assert till.pay(1234, wants_cancel=cancels).cause == zvt.Cause.LINE and len(asked) == 2
+    assert asked[0].startswith("0601") and asked[1] == "" and terminal.was_sent() == "06B000", asked
+
+
 def an_interrupt_gives_the_line_up():
     for place in ("print line", "question"):
         terminal, error = Terminal(), KeyboardInterrupt()
@@ -249,6 +262,62 @@ def a_reversal_is_saved_as_unclear_before_it_is_sent():
         with zvt.Till(sys.argv[1]) as again:
             again.load(saved)
             assert again.book() == [wanted] and len(saves) == 2
+
+
+def a_callback_that_gives_an_order_is_refused():
+    # in a running payment, and behind its completion, where the library would take another order
+    for said in (ACK + LINE + APPROVED + DONE, PAID + LINE):
+        terminal, raised = Terminal(), []
+
+        def orders(_line):
+            for call in (lambda: till.pay(1), till.disconnect, till.close, lambda: till.connect("a terminal", 0)):
+                try:
+                    call()
+                except RuntimeError as error:
+                    raised.append(str(error))
+        till = till_at(terminal, print_line=orders)
+        terminal.says(said)
+        assert till.pay(1234) == zvt.Outcome(zvt.Ending.PAID, trace=17, receipt=5)
+        assert raised == 4 * ["a callback can't give its till an order, a line or up"], raised
+        assert len(till.book()) == 1 and terminal.was_sent().endswith("0978" + said.count("06D1") * ACK + 2 * ACK)
+
+
+def wrong_arguments_are_refused():
+    till = zvt.Till(sys.argv[1])
+    for error, name, call in ((ValueError, "password", lambda: zvt.Till(sys.argv[1], password=12345678)),
+                              (ValueError, "config", lambda: zvt.Till(sys.argv[1], config=0x1BE)),
+                              (ValueError, "currency", lambda: zvt.Till(sys.argv[1], currency=65536 + 978)),
+                              (TypeError, "amount", lambda: till.pay(12.34)), (TypeError, "amount", lambda: till.pay(True)),
+                              (ValueError, "amount", lambda: till.pay(0)), (ValueError, "amount", lambda: till.pay(10 ** 12)),
+                              (ValueError, "place", lambda: till.reverse(-1)), (TypeError, "place", lambda: till.reverse("1"))):
+        try:
+            call()
+            assert False, name
+        except error as raised:
+            assert str(raised).startswith(f"{name} is a "), raised
+    try:
+        zvt.opened("libc.so.6")
+        assert False, "another library is none of this module's"
+    except OSError as error:
+        assert "lacks zvt_abi" in str(error), error
+
+
+def a_closed_till_refuses_each_call():
+    till = zvt.Till(sys.argv[1])
+    till.close()
+    till.close()
+    for call in (till.register, lambda: till.pay(1), lambda: till.reverse(0), till.close_day, till.book, till.unclear, till.unclear_reversals,
+                 till.state, till.last, till.save):
+        try:
+            call()
+            assert False, call
+        except zvt.Refused as refused:
+            assert refused.status == zvt.Status.CLOSED
+
+
+def the_version_is_that_of_the_release():
+    with open(os.path.join(os.path.dirname(os.path.abspath(__file__)), "..", "VERSION"), encoding="ascii") as file:
+        assert zvt.version(sys.argv[1]) == file.read().strip()
 
 
 def structs_are_those_of_the_header():

@@ -2,7 +2,7 @@
 
     import zvt
 
-    with zvt.Till("libzvt.so", keep=write_to_disk) as till:
+    with zvt.Till(keep=write_to_disk) as till:
         till.connect("192.0.2.7", 20007)
         till.register()
         print(till.pay(1000))          # paid, trace 000001, receipt 0001
@@ -10,16 +10,22 @@
 With `book="day.trace"` the till keeps its book in that file, through every crash of the process and the machine. Opened
 anew, it has the payments of the file. zvt_journal.py is needed for it too.
 
-Amounts are in the smallest unit of the currency. One thread at a time uses a Till.
+Amounts are in the smallest unit of the currency. One thread at a time uses a Till. Where no library is named, that of the
+Python package is taken, or else that of the system.
 """
 import ctypes as c
 import enum
+import os
 import select
 import socket
 import time
 from typing import NamedTuple, Optional
 
 ROOM, LINE_ROOM, RECORD_ROOM = 8 * 32, 65534, 131200
+# The layouts and calls that this module is made for.
+ABI = 1
+# The amount that a message can hold at most.
+MAX_AMOUNT = 999_999_999_999
 
 
 class Order(enum.IntEnum):
@@ -125,14 +131,13 @@ class _Outcome(c.Structure):
 
 
 class _Step(c.Structure):
-    _fields_ = ([(n, c.c_size_t) for n in ("taken", "send", "place", "line")]
+    _fields_ = ([(n, c.c_uint64) for n in ("taken", "send", "place", "line")]
                 + [(n, c.c_uint32) for n in ("reason", "message", "printed")] + [("outcome", _Outcome)])
 
 
 class _State(c.Structure):
-    _fields_ = [("total", c.c_uint64), ("booked", c.c_size_t), ("unclear", c.c_size_t),
-                ("unclear_reversals", c.c_size_t), ("held", c.c_size_t),
-                ("registered", c.c_uint32), ("running", c.c_uint32), ("last", _Outcome)]
+    _fields_ = ([(n, c.c_uint64) for n in ("total", "booked", "unclear", "unclear_reversals", "held")]
+                + [("registered", c.c_uint32), ("running", c.c_uint32), ("last", _Outcome)])
 
 
 class _Entry(c.Structure):
@@ -141,14 +146,16 @@ class _Entry(c.Structure):
 
 
 class _Answer(c.Structure):
-    _fields_ = [("size", c.c_size_t), ("place", c.c_size_t), ("reason", c.c_uint32), ("status", c.c_uint32)]
+    _fields_ = [("size", c.c_uint64), ("place", c.c_uint64), ("reason", c.c_uint32), ("status", c.c_uint32)]
 
 
 class _Handle(c.Structure):
-    _fields_ = [("at", c.c_void_p), ("full", c.c_bool)]
+    _fields_ = [("at", c.c_void_p), ("full", c.c_uint32)]
 
 
 _TYPES = {
+    "zvt_abi": [],
+    "zvt_version": [c.c_void_p, c.c_size_t],
     "zvt_till_new": [c.c_void_p, c.c_uint32, c.c_uint8, c.c_uint16],
     "zvt_till_free": [c.c_void_p],
     "zvt_till_connected": [c.c_void_p],
@@ -168,7 +175,38 @@ _TYPES = {
 }
 # What the calls answer that answer no status.
 _RESULTS = {name: None for name in ("zvt_till_free", "zvt_till_save", "zvt_till_recover", "zvt_record_opening", "zvt_record_order",
-                                    "zvt_record_lost")} | {"zvt_record_heard": c.c_size_t}
+                                    "zvt_record_lost")} | {name: c.c_size_t for name in ("zvt_record_heard", "zvt_version")}
+
+
+def whole(name, number, least, most):
+    """Raises a TypeError or a ValueError where the argument is no whole number from `least` to `most`."""
+    if isinstance(number, bool) or not isinstance(number, int):
+        raise TypeError(f"{name} is a whole number, and not {number!r}")
+    if not least <= number <= most:
+        raise ValueError(f"{name} is a number from {least} to {most}, and not {number}")
+
+
+def opened(library=None):
+    """The library, with the types of its calls. Where none is named, that beside this module, or else that of the system."""
+    if library is None:
+        beside = os.path.join(os.path.dirname(os.path.abspath(__file__)), "libzvt.so.0")
+        library = beside if os.path.exists(beside) else "libzvt.so.0"
+    library = c.CDLL(os.fspath(library))
+    for name, types in _TYPES.items():
+        function = getattr(library, name, None)
+        if function is None:
+            raise OSError(f"the library lacks {name}: it is not the one that zvt.py is made for")
+        function.argtypes, function.restype = types, _RESULTS.get(name, c.c_uint32)
+    if library.zvt_abi() != ABI:
+        raise OSError(f"the library's calls are of number {library.zvt_abi()}, and zvt.py is made for {ABI}")
+    return library
+
+
+def version(library=None):
+    """The version of the library, as 0.2.0."""
+    room = c.create_string_buffer(32)
+    size = opened(library).zvt_version(room, len(room))
+    return room.raw[:size].decode("ascii")
 
 
 class Till:
@@ -186,15 +224,15 @@ class Till:
     the till hears it. Where it can't be opened or written a zvt_journal.BookError is raised, nothing more is sent, and a till
     is made anew from it. A line that brings what is no message is a lost line to such a till."""
 
-    def __init__(self, library, password=0, config=0xBE, currency=978, keep=None, print_line=None, book=None):
-        self._library = c.CDLL(library)
-        for name, types in _TYPES.items():
-            function = getattr(self._library, name)
-            function.argtypes, function.restype = types, _RESULTS.get(name, c.c_uint32)
+    def __init__(self, library=None, password=0, config=0xBE, currency=978, keep=None, print_line=None, book=None):
+        whole("password", password, 0, 999_999)
+        whole("config", config, 0, 0xFF)
+        whole("currency", currency, 0, 9999)
+        self._library = opened(library)
         self._handle, self._step = _Handle(), _Step()
         self._out, self._text = c.create_string_buffer(ROOM), c.create_string_buffer(LINE_ROOM)
         self._keep, self._print_line, self._line = keep, print_line, None
-        self._timeout, self._raised, self._outcome = None, None, None
+        self._timeout, self._raised, self._outcome, self._running = None, None, None, False
         self.journal, self._unheard, self._record_room = None, b"", None
         self._call("new", password, config, currency)
         if book is not None:
@@ -228,8 +266,14 @@ class Till:
     def __exit__(self, *_):
         self.close()
 
+    def _refuse_within(self):
+        """A callback of a till that gave it an order would change what the running order has not read yet."""
+        if self._running:
+            raise RuntimeError("a callback can't give its till an order, a line or up")
+
     def close(self):
         """Gives the line and the till up."""
+        self._refuse_within()
         if self._line is not None:
             self._line.close()
             self._line = None
@@ -260,6 +304,7 @@ class Till:
 
     def disconnect(self):
         """Gives the line up, and answers how the running order ended, if one ran."""
+        self._refuse_within()
         if self._line is None:
             return None
         self._raised = None
@@ -301,11 +346,13 @@ class Till:
     def pay(self, amount, wants_cancel=None):
         """`wants_cancel`, where it is given, is asked five times a second whether the payment is to be cancelled; the
         terminal says what comes of it."""
+        whole("amount", amount, 1, MAX_AMOUNT)
         return self._run(Order.PAY, amount, wants_cancel)
 
     def reverse(self, place):
         """Takes back the payment at that place of the book, from 0. Where the outcome is UNCLEAR, nobody knows whether it
         did: `unclear_reversals` has the payment until a later reversal of it tells."""
+        whole("place", place, 0, (1 << 64) - 1)
         return self._run(Order.REVERSE, place)
 
     def close_day(self):
@@ -366,8 +413,10 @@ class Till:
     def _run(self, order, number=0, wants_cancel=None):
         """One order from end to end. A line that breaks, falls silent or brings what is no message is given up, and the
         outcome says so."""
+        self._refuse_within()
         message = self._order(order, number)
         self._raised = self._outcome = None
+        self._running = True
         try:
             self._keep_and_send(order, number, message)
             self._hear_out(wants_cancel)
@@ -378,6 +427,8 @@ class Till:
             if self._must_stop(error) and error is not self._raised:
                 self._give_book_up()
             raise
+        finally:
+            self._running = False
         if self._raised is not None:
             raise self._raised
         return self._outcome
@@ -389,12 +440,23 @@ class Till:
             if self._must_stop(self._raised):
                 raise self._raised
             if wants_cancel is not None and self._raised is None and not self._brings(since):
-                if self._tell(wants_cancel):
+                if self._tell(wants_cancel) and self._cancels():
                     wants_cancel = None
-                    self._keep_and_send(Order.CANCEL, 0, self._order(Order.CANCEL, 0))
                 continue
             self._hear(self._receive())
             since = time.monotonic()
+
+    def _cancels(self):
+        """Asks the terminal to cancel the payment: False where it has not acknowledged the payment yet, and is to be asked
+        later."""
+        try:
+            message = self._order(Order.CANCEL, 0)
+        except Refused as refused:
+            if refused.status != Status.NOTHING_TO_CANCEL:
+                raise
+            return False
+        self._keep_and_send(Order.CANCEL, 0, message)
+        return True
 
     def _brings(self, since):
         """Whether the terminal sends something within a fifth of a second. It may be silent for the line's time-out."""
