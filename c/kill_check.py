@@ -1,6 +1,6 @@
 """Kills a till during reversals, and starts it again from what it saved: kill_check.py LIBRARY [KILLS [SEED [PROGRAM]]].
-With --book before LIBRARY the till keeps its book in a file, and is killed at any moment, the opening of its book too; no
-PROGRAM is taken then.
+With --book before LIBRARY the till keeps its book in a file, and is killed at any moment, the opening of its book too; in the
+place of PROGRAM stand the words of a till in another language, if any, which is killed in the place of that over zvt.py.
 
 The till is a process of its own, over zvt.py. It pays and reverses at a terminal in this process, which keeps its own ledger
 and knows nothing of the library; or, where the program `zvt` is given, at the terminal of that program. After each kill the saved till is held against the ledger: what the terminal took back is
@@ -351,10 +351,17 @@ class Check:
 
 class BookCheck(Check):
     """A till that keeps its book in a file, which is killed at any moment."""
+    till = []
 
     def __init__(self, library, seed, folder, terminal):
         super().__init__(library, seed, folder, terminal)
         self.path += ".trace"
+
+    def start(self, number):
+        if not self.till:
+            return super().start(number)
+        words = [*self.till, str(self.terminal.port), self.path, f"{self.seed} {number}"]
+        return subprocess.Popen(words, stdout=subprocess.PIPE, text=True)
 
     def kills(self, number, spared):
         child = self.start(number)
@@ -426,6 +433,7 @@ def main(kind, library, kills=500, seed=1, program=None):
 if sys.argv[1] == "till":
     pay_and_reverse(*sys.argv[2:])
 elif sys.argv[1] == "--book":
+    BookCheck.till = sys.argv[5:]
     main(BookCheck, *sys.argv[2:5])
 else:
     main(Check, *sys.argv[1:])

@@ -7,8 +7,9 @@ and `zvt loop --book` over a new one. Behind each call the files that may be lef
 model reads the records: every order and answer that was sent is among them, every outcome that was written is in the book,
 and what was durable stays.
 
-journal_calls.py [PROGRAM]: without a word the program of `rt ci`. It needs strace, else nothing is tried. The status is 1
-where anything does not hold.
+journal_calls.py [PROGRAM [TILL]...]: without a word the program of `rt ci`. The words of TILL, if any, run a till in the place
+of `zvt till`: a host, a port, the file of a book and steps come after them. It needs strace, else nothing is tried. The
+status is 1 where anything does not hold.
 """
 import os
 import pathlib
@@ -22,8 +23,9 @@ import journal_model
 
 HERE = pathlib.Path(__file__).resolve().parent
 ZVT = sys.argv[1] if len(sys.argv) > 1 else str(HERE.parent / "crates/zvt/out/zvt")
+TILL = sys.argv[2:]
 SECONDS = 60
-CALLS = "openat,close,dup,fcntl,connect,write,pwrite64,ftruncate,fsync,fdatasync,sendto"
+CALLS = "openat,close,dup,fcntl,connect,write,pwrite64,ftruncate,fsync,fdatasync,sendto,sendmsg"
 STEPS = ["register", "pay:1000", "pay:20", "reverse:1", "close", "pay:3"]
 OTHERS = b"\n#<>!0\0"
 
@@ -95,7 +97,8 @@ class Run:
         number = int(words[0]) if words[0].lstrip("-").isdigit() else None
         if name == "openat" and text(words[1]).decode(errors="replace") == self.path and answer >= 0:
             self.journal = answer
-        elif name == "connect" and answer == 0:
+        elif name == "connect" and f"htons({self.trial.port})" in ", ".join(words):
+            # (some wait for the end of a connect that goes on)
             self.line = number
         elif name == "pwrite64" and number == self.journal:
             self.disk.since.append(("write", int(words[3]), text(words[1])[:answer]))
@@ -103,7 +106,9 @@ class Run:
             self.disk.since.append(("cut", int(words[1]), b""))
         elif name in ("fsync", "fdatasync") and number == self.journal and answer == 0:
             self.disk.syncs()
-        elif name == "sendto" and number == self.line:
+        elif name == "sendmsg" and number == self.line:
+            self.trial.differs("a message is sent by a call that this script does not read", words)
+        elif name in ("sendto", "write") and number == self.line:
             self.sent.append(masked(text(words[1])[:answer]))
         elif name == "write" and number == 1:
             self.told += re.findall(r"^(\S+) -> (.*)\n", text(words[1]).decode(), flags=re.M)
@@ -117,6 +122,7 @@ class Run:
         """Each file that may be left has all that was sent and told."""
         if len(self.disk.since) > 1:
             self.trial.differs(f"two calls without a sync between them: {self.disk.since}")
+            self.disk.syncs()
         for file in self.disk.left():
             self.trial.files += 1
             try:
@@ -139,13 +145,14 @@ def text(word):
 def holds(book, step, what):
     kind, _, number = step.partition(":")
     if kind == "pay":
+        what = what.replace(",", "").lower()
         return any(f"paid trace {entry.trace:06} receipt {entry.receipt.hex()}" == what and entry.amount == int(number) for entry in book.entries)
     return kind != "reverse" or (what == "reversed") == book.entries[int(number) - 1].reversed
 
 
 class Trial:
     def __init__(self, work):
-        self.work, self.wrong, self.files, self.calls, self.syncs = work, 0, 0, 0, 0
+        self.work, self.wrong, self.files, self.calls, self.syncs, self.port = work, 0, 0, 0, 0, None
 
     def differs(self, *what):
         self.wrong += 1
@@ -154,18 +161,30 @@ class Trial:
 
     def traces(self, words):
         """A run of the program under strace."""
-        strace = ["strace", "-f", "-xx", "-s", "100000", "-e", f"trace={CALLS}", "-o", self.work / "calls"]
-        return subprocess.run([*strace, ZVT, *words], stdout=subprocess.PIPE, stderr=subprocess.PIPE, timeout=SECONDS)
+        for old in self.work.glob("calls.*"):
+            old.unlink()
+        strace = ["strace", "-ff", "-ttt", "-xx", "-s", "100000", "-e", f"trace={CALLS}", "-o", self.work / "calls"]
+        return subprocess.run([*strace, *words], stdout=subprocess.PIPE, stderr=subprocess.PIPE, timeout=SECONDS)
+
+    def traced(self):
+        """The calls of the run in the order of their beginnings, whatever thread made them."""
+        lines = [line.partition(" ") for file in self.work.glob("calls.*") for line in file.read_text().splitlines()]
+        return [call for _, _, call in sorted(lines, key=lambda line: float(line[0]))]
 
     def till(self, path, steps):
         """One run of a till over the file, against a terminal."""
         with subprocess.Popen([ZVT, "terminal", "--port", "0"], stdout=subprocess.DEVNULL, stderr=subprocess.PIPE) as terminal:
-            port = terminal.stderr.readline().decode().strip().rsplit(":", 1)[1]
-            self.looks(path, steps, lambda: self.traces(["till", "--port", port, "--book", path, *steps]))
+            self.port = terminal.stderr.readline().decode().strip().rsplit(":", 1)[1]
+            words = [*TILL, "127.0.0.1", self.port, path] if TILL else [ZVT, "till", "--port", self.port, "--book", path]
+            try:
+                self.looks(path, steps, lambda: self.traces([*words, *steps]))
+            finally:
+                # (it waits for a till that may not have come)
+                terminal.kill()
 
     def loop(self, path, steps):
         """One run of both ends over the file."""
-        self.looks(path, steps, lambda: self.traces(["loop", "--book", path, *steps]))
+        self.looks(path, steps, lambda: self.traces([ZVT, "loop", "--book", path, *steps]))
 
     def looks(self, path, steps, runs):
         """What the calls of a run leave at each moment."""
@@ -173,8 +192,8 @@ class Trial:
         before = journal_model.book_of(file)
         ended = runs()
         run = Run(self, path, file)
-        for line in (self.work / "calls").read_text().splitlines():
-            if found := re.fullmatch(r"(?:\d+ +)?(\w+)\((.*)\) += (-?\d+).*", line):
+        for line in self.traced():
+            if found := re.fullmatch(r"(\w+)\((.*)\) += (-?\d+).*", line):
                 run.takes(found[1], found[2].split(", "), int(found[3]))
                 self.calls += 1
                 self.syncs += found[1] == "fdatasync"
@@ -190,7 +209,8 @@ class Trial:
         self.till(path, ["register", "close"])
         path.write_bytes(path.read_bytes() + b" pay 7\n> 0601")
         self.till(path, ["register"])
-        self.loop(self.work / "loop", STEPS)
+        if not TILL:
+            self.loop(self.work / "loop", STEPS)
         print(f"{'NOT AS EXPECTED' if self.wrong else 'ok'}: {self.calls} calls, {self.syncs} syncs of data, "
               f"{self.files} files that a loss of power may leave; {self.wrong} wrong")
         return 1 if self.wrong else 0

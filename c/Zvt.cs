@@ -1,0 +1,773 @@
+// Zvt.cs: the till of zvt.h for C# 7 and later, over libzvt. Copy this file into your project.
+//
+//     using (var till = new Zvt.Till(new Zvt.Settings { Book = "day.trace" })) {
+//         till.Connect("192.0.2.7", 20007, TimeSpan.FromSeconds(60));
+//         till.Register();
+//         Console.WriteLine(till.Pay(1000)); // paid, trace 000001, receipt 0001
+//     }
+//
+// The library keeps the till and its book; this class moves the bytes. Amounts are in the smallest unit of the currency. One
+// thread at a time uses a till. The system is Linux on x86-64, as for the library.
+using System;
+using System.Collections.Generic;
+using System.IO;
+using System.Net.Sockets;
+using System.Runtime.InteropServices;
+using System.Text;
+using System.Threading;
+using System.Threading.Tasks;
+
+namespace Zvt {
+    /// <summary>How an order ended.</summary>
+    public enum Ending { None, Registered, Paid, Declined, OrderRefused, Aborted, Unclear, Reversed, DayClosed }
+
+    /// <summary>Why a payment or a reversal is unclear: ask the terminal's journal, and book nothing by guess.</summary>
+    public enum Cause {
+        NoStatus = 1, Conflict, AmountDiffers, NoTrace, TraceUsed, AbortAfterApproval, Line, Malformed, Unfinished, WrongCurrency
+    }
+
+    /// <summary>What the reversals of a booked payment leave open. UnclearReversal: the last one took the payment back or not, and
+    /// nobody knows. Reverse it again when the line is back. TakenBack: the terminal said with the code B4 that it took it back
+    /// before.</summary>
+    public enum Doubt { No, UnclearReversal, TakenBack }
+
+    /// <summary>Why a call was refused; the till is as it was.</summary>
+    public enum Status {
+        NoTill = 2, NoMemory, NoRoom, Argument, Closed, Stopped,
+        Offline = 10, NotRegistered, Busy, NothingToCancel, BookFull, UnknownEntry, AlreadyReversed, NoReceipt
+    }
+
+    public sealed class RefusedException : InvalidOperationException {
+        public Status Status { get; }
+        internal RefusedException(uint status) : base(Words.Of((Status)status)) { Status = (Status)status; }
+    }
+
+    /// <summary>The line ended, broke, fell silent or brought what is no message, and was given up. The outcome says how the
+    /// order ended by it: a payment or a reversal is unclear.</summary>
+    public sealed class LineException : IOException {
+        public Outcome Outcome { get; }
+        internal LineException(Outcome outcome, Exception cause) : base("the line is lost: " + outcome, cause) { Outcome = outcome; }
+    }
+
+    /// <summary>A book that can't be opened or written. The till that had it sends nothing more: make a new one, which opens it
+    /// again.</summary>
+    public sealed class BookException : IOException {
+        internal BookException(string text, Exception cause = null) : base(text, cause) { }
+    }
+
+    /// <summary>How an order ended. What it does not have is null.</summary>
+    public sealed class Outcome {
+        public Ending Ending { get; }
+        /// <summary>The terminal's code, where it declined, refused or aborted.</summary>
+        public int? Code { get; }
+        /// <summary>Where the payment or the reversal is unclear.</summary>
+        public Cause? Cause { get; }
+        /// <summary>Where it is paid.</summary>
+        public int? Trace { get; }
+        /// <summary>Where it is paid and the terminal gave one.</summary>
+        public int? Receipt { get; }
+
+        internal Outcome(Native.Outcome from) {
+            Ending = (Ending)from.kind;
+            if (Ending == Ending.Declined || Ending == Ending.OrderRefused || Ending == Ending.Aborted) Code = (int)from.code;
+            if (Ending == Ending.Unclear) Cause = (Cause)from.code;
+            if (Ending == Ending.Paid) Trace = (int)from.trace;
+            if (Ending == Ending.Paid && from.has_receipt == 1) Receipt = (int)from.receipt;
+        }
+
+        /// <summary>Whether the order ended by its line, and not by what the terminal said.</summary>
+        public bool IsByLine { get { return Cause == Zvt.Cause.Line || Cause == Zvt.Cause.Malformed; } }
+
+        public override string ToString() {
+            return Words.Of(Ending) + (Code == null ? "" : $", code {Code:X2}") + (Cause == null ? "" : ": " + Words.Of(Cause))
+                + Words.Numbers(Trace, Receipt);
+        }
+    }
+
+    /// <summary>A payment that is booked, or one that is unclear for a cause.</summary>
+    public sealed class Entry {
+        public long Amount { get; }
+        /// <summary>Of a booked payment.</summary>
+        public int? Trace { get; }
+        /// <summary>Of a booked payment to which the terminal gave one.</summary>
+        public int? Receipt { get; }
+        /// <summary>Whether a completed reversal took it back.</summary>
+        public bool Reversed { get; }
+        /// <summary>Why the payment is unclear, or its last reversal; else null.</summary>
+        public Cause? Cause { get; }
+        public Doubt Doubt { get; }
+
+        internal Entry(Native.Entry from, bool booked) {
+            Amount = (long)from.amount;
+            if (booked) Trace = (int)from.trace;
+            if (from.has_receipt == 1) Receipt = (int)from.receipt;
+            Reversed = from.reversed == 1;
+            if (from.cause != 0) Cause = (Cause)from.cause;
+            Doubt = (Doubt)from.doubt;
+        }
+
+        public override string ToString() {
+            return Amount + Words.Numbers(Trace, Receipt) + (Reversed ? ", taken back" : "")
+                + (Doubt == Doubt.TakenBack ? ", taken back before, said the terminal" : Doubt == Doubt.UnclearReversal ? ", unclear reversal" : "")
+                + (Cause == null ? "" : ": " + Words.Of(Cause));
+        }
+    }
+
+    static class Words {
+        /// <summary>The words of a name: "unclear reversal" of UnclearReversal.</summary>
+        public static string Of(object name) {
+            var text = new StringBuilder();
+            foreach (char letter in name.ToString()) text.Append(char.IsUpper(letter) && text.Length > 0 ? " " : "").Append(char.ToLowerInvariant(letter));
+            return text.ToString();
+        }
+
+        public static string Of(Status status) {
+            switch (status) {
+                case Status.NoTill: return "the bytes are no till's";
+                case Status.NoMemory: return "no memory";
+                case Status.Stopped: return "this line brought bytes before that begin no message";
+                case Status.Offline: return "the line is down";
+                case Status.NotRegistered: return "the till is not registered";
+                case Status.Busy: return "an order runs";
+                case Status.NothingToCancel: return "no payment runs that could be cancelled";
+                case Status.BookFull: return "the book is full";
+                case Status.UnknownEntry: return "no such payment is booked";
+                case Status.AlreadyReversed: return "the payment is taken back";
+                case Status.NoReceipt: return "the payment has no receipt number";
+                default: return "status " + (uint)status;
+            }
+        }
+
+        public static string Numbers(int? trace, int? receipt) {
+            return (trace == null ? "" : $", trace {trace:D6}") + (receipt == null ? "" : $", receipt {receipt:X4}");
+        }
+
+        public static long Whole(string name, long number, long least, long most) {
+            if (number < least || number > most) throw new ArgumentOutOfRangeException(name, number, $"{name} is a number from {least} to {most}");
+            return number;
+        }
+    }
+
+    /// <summary>What a till is made with.</summary>
+    public sealed class Settings {
+        int password, config = 0xBE, currency = 978;
+        /// <summary>A number of up to six digits.</summary>
+        public int Password { get { return password; } set { password = (int)Words.Whole(nameof(Password), value, 0, 999999); } }
+        public int Config { get { return config; } set { config = (int)Words.Whole(nameof(Config), value, 0, 0xFF); } }
+        /// <summary>The number of ISO 4217: 978 is the euro.</summary>
+        public int Currency { get { return currency; } set { currency = (int)Words.Whole(nameof(Currency), value, 0, 9999); } }
+        /// <summary>The file in which the till keeps its book, through every end of the process; null for none.</summary>
+        public string Book { get; set; }
+        /// <summary>Takes the bytes of each print line, in the terminal's character set. What it throws waits for the order's
+        /// outcome.</summary>
+        public Action<byte[]> PrintLine { get; set; }
+    }
+
+    /// <summary>A till, which keeps its book in a file where the settings name one.</summary>
+    public sealed class Till : IDisposable {
+        const int Room = 8 * 32, LineRoom = 65534, RecordRoom = 131200;
+        readonly Native.TillHandle handle = new Native.TillHandle();
+        readonly Action<byte[]> printLine;
+        readonly byte[] output = new byte[Room], text = new byte[LineRoom], record;
+        readonly Journal journal;
+        Stream line;
+        TimeSpan timeout;
+        byte[] unheard = new byte[0];
+        Outcome outcome;
+        Exception raised;
+        bool running;
+
+        /// <summary>Where the file of a book is there, the till goes on from it.</summary>
+        public Till(Settings settings = null) {
+            settings = settings ?? new Settings();
+            if (Native.zvt_abi() != Native.Abi) {
+                handle.Dispose();
+                throw new DllNotFoundException($"the calls of {Native.Library} are of number {Native.zvt_abi()}, and Zvt.cs is made for {Native.Abi}");
+            }
+            printLine = settings.PrintLine;
+            try {
+                Check(Native.zvt_till_new(handle, (uint)settings.Password, (byte)settings.Config, (ushort)settings.Currency));
+                if (settings.Book == null) return;
+                record = new byte[RecordRoom];
+                journal = new Journal(settings.Book);
+                Begin(settings);
+            } catch {
+                Dispose();
+                throw;
+            }
+        }
+
+        /// <summary>The version of the library, as 0.2.0.</summary>
+        public static string Version {
+            get {
+                var room = new byte[32];
+                return Encoding.ASCII.GetString(room, 0, (int)Native.zvt_version(room, Native.Size(room)));
+            }
+        }
+
+        /// <summary>Makes the till that of the book, or begins the book.</summary>
+        void Begin(Settings settings) {
+            if (journal.Text.Length > 0) {
+                Native.zvt_till_recover(handle, journal.Text, Native.Size(journal.Text), out var answer);
+                string[] why = { "line {0} is not the first line of a journal of its currency", "line {0} is no line of a till's record",
+                    "record {0} can't follow from those before it" };
+                if (answer.status == (uint)Status.NoTill)
+                    throw new BookException(settings.Book + " is no book of such a till: " + string.Format(why[answer.reason - 1], answer.place));
+                Check(answer.status);
+            }
+            journal.Settle();
+            if (journal.Text.Length == 0) {
+                Native.zvt_record_opening((ushort)settings.Currency, record, Native.Size(record), out var answer);
+                MakeDurable(answer);
+            }
+        }
+
+        /// <summary>Gives the line and the till up. A book is complete on the disk before.</summary>
+        public void Dispose() {
+            RefuseWithin();
+            line?.Dispose();
+            line = null;
+            journal?.Dispose();
+            handle.Dispose();
+        }
+
+        void RefuseWithin() {
+            if (running) throw new InvalidOperationException("a callback can't give its till an order, a line or up");
+        }
+
+        static void Check(uint status) {
+            if (status != 0) throw new RefusedException(status);
+        }
+
+        /// <summary>Opens a line by TCP; one that stood before is lost. The terminal may be silent for the time-out within an
+        /// order.</summary>
+        public void Connect(string host, int port, TimeSpan timeout) {
+            Words.Whole(nameof(port), port, 1, 65535);
+            Milliseconds(timeout);
+            Disconnect();
+            // Each message goes out at once: without this the system may hold an acknowledgement back for 40 ms.
+            var client = new TcpClient { NoDelay = true };
+            try {
+                if (!client.ConnectAsync(host, port).Wait(timeout)) throw new IOException($"{host}:{port} does not answer");
+                Connect(client.GetStream(), timeout);
+            } catch (AggregateException error) {
+                client.Close();
+                throw new IOException($"cannot connect to {host}:{port}: {error.InnerException.Message}", error.InnerException);
+            } catch {
+                client.Close();
+                throw;
+            }
+        }
+
+        /// <summary>Takes a line that is up: it is closed with the till.</summary>
+        public void Connect(Stream opened, TimeSpan timeout) {
+            Milliseconds(timeout);
+            Disconnect();
+            try {
+                if (journal != null) {
+                    Native.zvt_record_lost(record, Native.Size(record), out var answer);
+                    MakeDurable(answer);
+                }
+                Check(Native.zvt_till_connected(handle));
+            } catch {
+                opened.Dispose();
+                throw;
+            }
+            line = opened;
+            this.timeout = timeout;
+            unheard = new byte[0];
+        }
+
+        static void Milliseconds(TimeSpan timeout) {
+            if (!(timeout.TotalMilliseconds >= 1 && timeout.TotalMilliseconds <= int.MaxValue))
+                throw new ArgumentOutOfRangeException(nameof(timeout), timeout, "timeout is from a millisecond to 24 days");
+        }
+
+        /// <summary>Gives the line up.</summary>
+        public void Disconnect() {
+            RefuseWithin();
+            GiveUp();
+        }
+
+        void GiveUp() {
+            if (line == null) return;
+            line.Dispose();
+            line = null;
+            Check(Native.zvt_till_lost(handle, out var step));
+            Ended(step);
+        }
+
+        public Outcome Register() { return Run(Native.Register, 0, CancellationToken.None); }
+
+        /// <summary>Pays. Where the token asks for it, the till asks the terminal to cancel, and the terminal says what comes of
+        /// it.</summary>
+        public Outcome Pay(long amount, CancellationToken cancel = default(CancellationToken)) {
+            return Run(Native.Pay, Words.Whole(nameof(amount), amount, 1, 999999999999), cancel);
+        }
+
+        /// <summary>Takes back the payment at that place of the book, from 0.</summary>
+        public Outcome Reverse(int place) { return Run(Native.Reverse, Words.Whole(nameof(place), place, 0, int.MaxValue), CancellationToken.None); }
+
+        public Outcome CloseDay() { return Run(Native.CloseDay, 0, CancellationToken.None); }
+
+        /// <summary>One order from end to end. Throws a LineException where the order ended by the line, a BookException where the
+        /// book failed, a RefusedException where the library refuses it, and what a callback threw, once the order has
+        /// ended.</summary>
+        Outcome Run(uint order, long number, CancellationToken cancel) {
+            RefuseWithin();
+            var message = Order(order, number);
+            raised = null;
+            outcome = null;
+            running = true;
+            Exception broken = null;
+            try {
+                KeepAndSend(order, number, message);
+                HearOut(cancel);
+            } catch (BookException) {
+                GiveUp();
+                throw;
+            } catch (Exception error) when (error is IOException || error is SocketException || error is ObjectDisposedException) {
+                GiveUp();
+                broken = outcome == null || outcome.IsByLine ? error : null;
+            } catch {
+                journal?.GiveUp();
+                GiveUp();
+                throw;
+            } finally {
+                running = false;
+            }
+            if (raised != null) System.Runtime.ExceptionServices.ExceptionDispatchInfo.Capture(raised).Throw();
+            if (broken != null) throw new LineException(outcome, broken);
+            return outcome;
+        }
+
+        byte[] Order(uint order, long number) {
+            Check(Native.zvt_till_order(handle, order, (ulong)number, output, Native.Size(output), out var step));
+            return Part(output, 0, (int)step.send);
+        }
+
+        static byte[] Part(byte[] bytes, int start, int end) {
+            var part = new byte[end - start];
+            Array.Copy(bytes, start, part, 0, part.Length);
+            return part;
+        }
+
+        /// <summary>Makes the order durable, and only then sends it.</summary>
+        void KeepAndSend(uint order, long number, byte[] message) {
+            if (journal != null) {
+                Native.zvt_record_order(order, (ulong)number, message, Native.Size(message), record, Native.Size(record), out var answer);
+                MakeDurable(answer);
+            }
+            line.Write(message, 0, message.Length);
+            line.Flush();
+        }
+
+        /// <summary>After an error the book may lack a record that the till lives through: this till adds no more to it.</summary>
+        void MakeDurable(Native.Answer answer) {
+            if (answer.status != 0) journal.GiveUp();
+            Check(answer.status);
+            journal.Append(record, (int)answer.size);
+        }
+
+        void Ended(Native.Step step) {
+            if (step.outcome.kind != 0) outcome = new Outcome(step.outcome);
+        }
+
+        /// <summary>Hears the terminal until the order has ended.</summary>
+        void HearOut(CancellationToken cancel) {
+            var room = new byte[4096];
+            while (outcome == null) {
+                var reading = line.ReadAsync(room, 0, room.Length);
+                if (!Ends(reading, cancel)) {
+                    if (Cancels()) cancel = CancellationToken.None;
+                    Ends(reading, CancellationToken.None);
+                }
+                if (reading.Result == 0) throw new EndOfStreamException("the terminal ended the line");
+                Hear(Part(room, 0, reading.Result));
+            }
+        }
+
+        /// <summary>Asks the terminal to cancel the payment: false where it has not acknowledged the payment yet, and it is to be
+        /// asked later.</summary>
+        bool Cancels() {
+            byte[] message;
+            try {
+                message = Order(Native.Cancel, 0);
+            } catch (RefusedException refused) when (refused.Status == Status.NothingToCancel) {
+                return false;
+            }
+            KeepAndSend(Native.Cancel, 0, message);
+            return true;
+        }
+
+        /// <summary>Waits for a read: false where the payment is to be cancelled first.</summary>
+        bool Ends(Task<int> reading, CancellationToken cancel) {
+            try {
+                if (!reading.Wait((int)timeout.TotalMilliseconds, cancel)) throw new IOException("the terminal is silent");
+                return true;
+            } catch (OperationCanceledException) when (cancel.IsCancellationRequested) {
+                return false;
+            } catch (AggregateException error) {
+                throw new IOException(error.InnerException.Message, error.InnerException);
+            }
+        }
+
+        /// <summary>Feeds a whole piece and sends what answers it. Where the line takes no answer, the rest is heard all the
+        /// same.</summary>
+        void Hear(byte[] piece) {
+            Exception broken = null;
+            if (journal == null) {
+                Feed(piece, ref broken);
+            } else {
+                var all = new byte[unheard.Length + piece.Length];
+                unheard.CopyTo(all, 0);
+                piece.CopyTo(all, unheard.Length);
+                unheard = all;
+                while (unheard.Length > 0) {
+                    var size = (int)Native.zvt_record_heard(unheard, Native.Size(unheard), record, Native.Size(record), out var answer);
+                    if (answer.status == Native.More) break;
+                    if (answer.status == (uint)Status.NoTill) throw new IOException("the terminal sent what is no message");
+                    Check(answer.status);
+                    journal.Append(record, size);
+                    var message = Part(unheard, 0, (int)answer.size);
+                    unheard = Part(unheard, message.Length, unheard.Length);
+                    Feed(message, ref broken);
+                }
+            }
+            if (broken != null) throw broken;
+        }
+
+        void Feed(byte[] piece, ref Exception broken) {
+            while (piece.Length > 0) {
+                var status = Native.zvt_till_feed_all(handle, piece, Native.Size(piece), output, Native.Size(output), text, Native.Size(text), out var step);
+                Ended(step);
+                if (step.send > 0 && broken == null) {
+                    try {
+                        line.Write(output, 0, (int)step.send);
+                        line.Flush();
+                    } catch (Exception error) when (error is IOException || error is SocketException || error is ObjectDisposedException) {
+                        broken = new IOException(error.Message, error);
+                    }
+                }
+                if (step.printed == 1 && printLine != null) Print(Part(text, 0, (int)step.line));
+                if (status == (uint)Status.NoTill) throw new IOException("the terminal sent what is no message");
+                Check(status);
+                piece = Part(piece, (int)step.taken, piece.Length);
+            }
+        }
+
+        /// <summary>What the callback throws waits until what the terminal sent is heard and answered; the first goes on.</summary>
+        void Print(byte[] printed) {
+            try {
+                printLine(printed);
+            } catch (Exception error) {
+                raised = raised ?? error;
+            }
+        }
+
+        Native.State State() {
+            Check(Native.zvt_till_state(handle, out var state));
+            return state;
+        }
+
+        /// <summary>What the payments that no completed reversal took back come to.</summary>
+        public long Total { get { return (long)State().total; } }
+
+        public bool IsRegistered { get { return State().registered == 1; } }
+
+        /// <summary>The last outcome, or null.</summary>
+        public Outcome Last {
+            get {
+                var last = new Outcome(State().last);
+                return last.Ending == Ending.None ? null : last;
+            }
+        }
+
+        /// <summary>The payments that are booked.</summary>
+        public IReadOnlyList<Entry> Book {
+            get {
+                var entries = new Entry[State().booked];
+                for (int place = 0; place < entries.Length; place++) {
+                    Check(Native.zvt_till_entry(handle, (UIntPtr)place, out var entry));
+                    entries[place] = new Entry(entry, true);
+                }
+                return entries;
+            }
+        }
+
+        /// <summary>The payments that are neither booked nor known not to be.</summary>
+        public IReadOnlyList<Entry> Unclear {
+            get {
+                var entries = new Entry[State().unclear];
+                for (int place = 0; place < entries.Length; place++) {
+                    Check(Native.zvt_till_unclear(handle, (UIntPtr)place, out var entry));
+                    entries[place] = new Entry(entry, false);
+                }
+                return entries;
+            }
+        }
+
+        /// <summary>The places of the booked payments whose last reversal is unclear: reverse these again.</summary>
+        public IReadOnlyList<int> UnclearReversals {
+            get {
+                var book = Book;
+                var places = new List<int>();
+                for (int place = 0; place < book.Count; place++)
+                    if (book[place].Doubt == Doubt.UnclearReversal) places.Add(place);
+                return places;
+            }
+        }
+
+        /// <summary>The bytes that the till is saved in: those of the till after its line was lost. They have the password in
+        /// clear.</summary>
+        public byte[] Save() {
+            var room = new byte[0];
+            while (true) {
+                Native.zvt_till_save(handle, room, Native.Size(room), out var answer);
+                Check(answer.status);
+                if ((int)answer.size == room.Length) return room;
+                room = new byte[answer.size];
+            }
+        }
+
+        /// <summary>Makes this the till that the bytes were saved of. Its line is down then.</summary>
+        public void Load(byte[] saved) {
+            if (journal != null) throw new InvalidOperationException("a till that keeps a book is that of its book, and of no save");
+            Disconnect();
+            Check(Native.zvt_till_load(handle, saved, Native.Size(saved)));
+        }
+    }
+
+    /// <summary>The file of a book: text records, each of which is there whole or not at all, whenever the process ends. At rest the
+    /// file is its records and one line feed, the closed gate, which reads as an empty line. What it stands for is its whole lines up
+    /// to the first empty one. A record is added in two steps, each durable before the next: the record without its first byte after
+    /// the gate, with the next gate; and then the first byte over the gate.</summary>
+    sealed class Journal : IDisposable {
+        static readonly byte[] Format = Encoding.ASCII.GetBytes("# zvt journal 1");
+        const int OpeningRoom = 1 << 8, MostAfter = (1 << 18) + 1;
+        static readonly byte[] Gate = { (byte)'\n' };
+        readonly string path;
+        int file = -1;
+        long gate;
+        bool failed;
+        /// <summary>The records of the file as it was opened.</summary>
+        public byte[] Text { get; }
+        readonly byte[] cut;
+
+        /// <summary>Opens the file, or makes it; nothing is written yet.</summary>
+        public Journal(string path) {
+            this.path = path;
+            try {
+                file = OpenOrMake();
+                if (Native.flock(file, Native.LOCK_EX | Native.LOCK_NB) != 0) {
+                    if (Marshal.GetLastWin32Error() != Native.EAGAIN) throw Failure("open");
+                    throw new BookException($"another till has the book {path} open: end that till first, or name another file");
+                }
+                var held = Durable();
+                var end = Accepted(held);
+                Text = Part(held, 0, end);
+                cut = Part(held, end < held.Length && held[end] == '\n' ? end + 1 : end, held.Length);
+                gate = end;
+            } catch {
+                Dispose();
+                throw;
+            }
+        }
+
+        static byte[] Part(byte[] bytes, int start, int end) {
+            var part = new byte[end - start];
+            Array.Copy(bytes, start, part, 0, part.Length);
+            return part;
+        }
+
+        BookException Failure(string what) {
+            return new BookException($"cannot {what} the book {path}: {Marshal.PtrToStringAnsi(Native.strerror(Marshal.GetLastWin32Error()))}");
+        }
+
+        /// <summary>The result of a call that answers -1 where it fails.</summary>
+        long Done(long result, string what) {
+            if (result < 0) throw Failure(what);
+            return result;
+        }
+
+        /// <summary>The file, which its owner alone may read where it is made.</summary>
+        int OpenOrMake() {
+            int made = Native.open(path, Native.O_RDWR | Native.O_CREAT | Native.O_EXCL | Native.O_CLOEXEC, 0x180);
+            if (made >= 0) return made;
+            if (Marshal.GetLastWin32Error() != Native.EEXIST) throw Failure("open");
+            if (!File.Exists(path) || (File.GetAttributes(path) & (FileAttributes.Directory | FileAttributes.Device)) != 0)
+                throw new BookException(path + " is no regular file: name a regular file, or one that is not there yet");
+            return (int)Done(Native.open(path, Native.O_RDWR | Native.O_CLOEXEC, 0), "open");
+        }
+
+        /// <summary>The bytes of the file, all of them durable: after a kill, what a read returns need not be on the
+        /// disk.</summary>
+        byte[] Durable() {
+            Done(Native.fsync(file), "open");
+            Native.posix_fadvise(file, 0, 0, Native.POSIX_FADV_DONTNEED);
+            var held = new MemoryStream();
+            var room = new byte[1 << 16];
+            for (long size = 1; size > 0; held.Write(room, 0, (int)size))
+                size = Done((long)Native.pread(file, room, Native.Size(room), held.Length), "open");
+            return held.ToArray();
+        }
+
+        /// <summary>How many bytes of whole lines come before the first empty line, if the file of a book may hold these
+        /// bytes.</summary>
+        int Accepted(byte[] held) {
+            bool begun = held.Length <= 1 || held[0] == '\n' && held.Length <= OpeningRoom + 1;
+            bool named = held.Length >= Format.Length;
+            for (int at = 0; named && at < Format.Length; at++) named = held[at] == Format[at];
+            if (!begun && !named)
+                throw new BookException(path + " is no journal, and it was left as it is: name a journal, or a file that is not there yet");
+            int end = 0;
+            for (int at = 0; at < held.Length && !(held[at] == '\n' && at == end); at++)
+                if (held[at] == '\n') end = at + 1;
+            if (held.Length - end > MostAfter)
+                throw new BookException($"{held.Length - end} bytes come after the first empty line of {path}, more than a crash leaves: "
+                    + "remove that line if an editor put it there");
+            return end;
+        }
+
+        /// <summary>Makes the file one at rest. What is cut is at the end of the file of this name and .cut first.</summary>
+        public void Settle() {
+            if (cut.Length > 0) KeepCut();
+            SyncFolder();
+            // The cut is on the disk before a gate is written: after a torn gate what was there would count.
+            Done(Native.ftruncate(file, gate), "open");
+            Done(Native.fdatasync(file), "open");
+            Write(Gate, gate, "open");
+        }
+
+        void KeepCut() {
+            int rest = (int)Done(Native.open(path + ".cut", Native.O_WRONLY | Native.O_APPEND | Native.O_CREAT | Native.O_CLOEXEC, 0x180), "open");
+            try {
+                for (var left = cut; left.Length > 0; )
+                    left = Part(left, (int)Done((long)Native.write(rest, left, Native.Size(left)), "open"), left.Length);
+                Done(Native.fsync(rest), "open");
+            } finally {
+                Native.close(rest);
+            }
+        }
+
+        /// <summary>Makes the name of the file durable.</summary>
+        void SyncFolder() {
+            int folder = (int)Done(Native.open(Path.GetDirectoryName(Path.GetFullPath(path)), Native.O_CLOEXEC, 0), "open");
+            try {
+                Done(Native.fsync(folder), "open");
+            } finally {
+                Native.close(folder);
+            }
+        }
+
+        /// <summary>Makes a record durable: the first so many bytes, whole lines, none of them empty.</summary>
+        public void Append(byte[] record, int size) {
+            if (failed || file < 0) throw new BookException("the book failed before, and takes no record any more: open it anew");
+            failed = true;
+            var after = Part(record, 1, size + 1);
+            after[size - 1] = (byte)'\n';
+            Write(after, gate + 1, "write");
+            Write(new[] { record[0] }, gate, "write");
+            failed = false;
+            gate += size;
+        }
+
+        void Write(byte[] bytes, long place, string what) {
+            while (bytes.Length > 0) {
+                long size = Done((long)Native.pwrite(file, bytes, Native.Size(bytes), place), what);
+                bytes = Part(bytes, (int)size, bytes.Length);
+                place += size;
+            }
+            Done(Native.fdatasync(file), what);
+        }
+
+        /// <summary>Takes no record from now on.</summary>
+        public void GiveUp() { failed = true; }
+
+        public void Dispose() {
+            if (file >= 0) Native.close(file);
+            file = -1;
+        }
+    }
+
+    /// <summary>The calls and structs of zvt.h, by its names, and calls of the C library.</summary>
+    static class Native {
+        public const string Library = "libzvt.so.0";
+        /// <summary>The layouts and calls that this file is made for.</summary>
+        public const uint Abi = 1;
+        public const uint More = 1;
+        public const uint Register = 1, Pay = 2, Reverse = 3, CloseDay = 4, Cancel = 5;
+
+        public static UIntPtr Size(byte[] bytes) { return (UIntPtr)bytes.Length; }
+
+        [StructLayout(LayoutKind.Sequential)]
+        public struct Answer { public ulong size, place; public uint reason, status; }
+
+        [StructLayout(LayoutKind.Sequential)]
+        public struct Outcome { public uint kind, code, trace, receipt, has_receipt; }
+
+        [StructLayout(LayoutKind.Sequential)]
+        public struct Step { public ulong taken, send, place, line; public uint reason, message, printed; public Outcome outcome; }
+
+        [StructLayout(LayoutKind.Sequential)]
+        public struct State { public ulong total, booked, unclear, unclear_reversals, held; public uint registered, running; public Outcome last; }
+
+        [StructLayout(LayoutKind.Sequential)]
+        public struct Entry { public ulong amount; public uint trace, receipt, has_receipt, reversed, cause, doubt; }
+
+        /// <summary>The struct zvt_till. It stays where it is, and is freed once.</summary>
+        public sealed class TillHandle : SafeHandle {
+            const int Bytes = 16;
+
+            public TillHandle() : base(IntPtr.Zero, true) {
+                SetHandle(Marshal.AllocHGlobal(Bytes));
+                Marshal.Copy(new byte[Bytes], 0, handle, Bytes);
+            }
+
+            public override bool IsInvalid { get { return handle == IntPtr.Zero; } }
+
+            protected override bool ReleaseHandle() {
+                zvt_till_free(handle);
+                Marshal.FreeHGlobal(handle);
+                return true;
+            }
+        }
+
+        [DllImport(Library)] public static extern uint zvt_abi();
+        [DllImport(Library)] public static extern UIntPtr zvt_version(byte[] room, UIntPtr length);
+        [DllImport(Library)] public static extern uint zvt_till_new(TillHandle till, uint password, byte config, ushort currency);
+        [DllImport(Library)] static extern void zvt_till_free(IntPtr till);
+        [DllImport(Library)] public static extern uint zvt_till_connected(TillHandle till);
+        [DllImport(Library)] public static extern uint zvt_till_lost(TillHandle till, out Step step);
+        [DllImport(Library)] public static extern uint zvt_till_order(TillHandle till, uint order, ulong number, [Out] byte[] room, UIntPtr length, out Step step);
+        [DllImport(Library)] public static extern uint zvt_till_feed_all(TillHandle till, byte[] piece, UIntPtr length, [Out] byte[] room,
+            UIntPtr roomLength, [Out] byte[] line, UIntPtr lineLength, out Step step);
+        [DllImport(Library)] public static extern uint zvt_till_state(TillHandle till, out State state);
+        [DllImport(Library)] public static extern uint zvt_till_entry(TillHandle till, UIntPtr place, out Entry entry);
+        [DllImport(Library)] public static extern uint zvt_till_unclear(TillHandle till, UIntPtr place, out Entry entry);
+        [DllImport(Library)] public static extern void zvt_till_save(TillHandle till, [Out] byte[] room, UIntPtr length, out Answer answer);
+        [DllImport(Library)] public static extern uint zvt_till_load(TillHandle till, byte[] bytes, UIntPtr length);
+        [DllImport(Library)] public static extern void zvt_till_recover(TillHandle till, byte[] text, UIntPtr length, out Answer answer);
+        [DllImport(Library)] public static extern void zvt_record_opening(ushort currency, [Out] byte[] room, UIntPtr length, out Answer answer);
+        [DllImport(Library)] public static extern void zvt_record_order(uint order, ulong number, byte[] sent, UIntPtr sentLength, [Out] byte[] room,
+            UIntPtr length, out Answer answer);
+        [DllImport(Library)] public static extern UIntPtr zvt_record_heard(byte[] bytes, UIntPtr length, [Out] byte[] room, UIntPtr roomLength, out Answer answer);
+        [DllImport(Library)] public static extern void zvt_record_lost([Out] byte[] room, UIntPtr length, out Answer answer);
+
+        // Numbers of Linux.
+        public const int O_WRONLY = 1, O_RDWR = 2, O_CREAT = 0x40, O_EXCL = 0x80, O_APPEND = 0x400, O_CLOEXEC = 0x80000;
+        public const int LOCK_EX = 2, LOCK_NB = 4, POSIX_FADV_DONTNEED = 4, EAGAIN = 11, EEXIST = 17;
+
+        [DllImport("libc", SetLastError = true)] public static extern int open(string path, int flags, int mode);
+        [DllImport("libc")] public static extern int close(int file);
+        [DllImport("libc", SetLastError = true)] public static extern int flock(int file, int operation);
+        [DllImport("libc", SetLastError = true)] public static extern int fsync(int file);
+        [DllImport("libc", SetLastError = true)] public static extern int fdatasync(int file);
+        [DllImport("libc", SetLastError = true)] public static extern int ftruncate(int file, long size);
+        [DllImport("libc")] public static extern int posix_fadvise(int file, long start, long size, int advice);
+        [DllImport("libc", SetLastError = true)] public static extern IntPtr pread(int file, [Out] byte[] room, UIntPtr size, long place);
+        [DllImport("libc", SetLastError = true)] public static extern IntPtr pwrite(int file, byte[] bytes, UIntPtr size, long place);
+        [DllImport("libc", SetLastError = true)] public static extern IntPtr write(int file, byte[] bytes, UIntPtr size);
+        [DllImport("libc")] public static extern IntPtr strerror(int number);
+    }
+}

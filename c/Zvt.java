@@ -1,0 +1,950 @@
+import com.sun.jna.LastErrorException;
+import com.sun.jna.Library;
+import com.sun.jna.Memory;
+import com.sun.jna.Native;
+import com.sun.jna.NativeLong;
+import com.sun.jna.Pointer;
+import com.sun.jna.Structure;
+import java.io.ByteArrayOutputStream;
+import java.io.EOFException;
+import java.io.IOException;
+import java.net.InetSocketAddress;
+import java.net.Socket;
+import java.net.SocketTimeoutException;
+import java.nio.charset.StandardCharsets;
+import java.nio.file.Files;
+import java.nio.file.Path;
+import java.nio.file.Paths;
+import java.time.Duration;
+import java.util.ArrayList;
+import java.util.Arrays;
+import java.util.List;
+import java.util.Locale;
+import java.util.function.BooleanSupplier;
+import java.util.function.Consumer;
+
+/**
+ * The till of zvt.h for Java 8 and later, over libzvt and JNA. Copy this file, and put your package line at its top.
+ *
+ * <pre>
+ * try (Zvt.Till till = new Zvt.Till(new Zvt.Settings().book(Paths.get("day.trace")))) {
+ *     till.connect("192.0.2.7", 20007, Duration.ofSeconds(60));
+ *     till.register();
+ *     System.out.println(till.pay(1000)); // paid, trace 000001, receipt 0001
+ * }
+ * </pre>
+ *
+ * The library keeps the till and its book; this class moves the bytes. Amounts are in the smallest unit of the currency. One
+ * thread at a time uses a till. The system is Linux on x86-64, as for the library.
+ */
+public final class Zvt {
+    private Zvt() {}
+
+    /** The layouts and calls that this file is made for. */
+    static final int ABI = 1;
+    private static final int ROOM = 8 * 32, LINE_ROOM = 65534, RECORD_ROOM = 131200;
+    private static final long MAX_AMOUNT = 999_999_999_999L;
+
+    /** How an order ended. */
+    public enum Ending { NONE, REGISTERED, PAID, DECLINED, ORDER_REFUSED, ABORTED, UNCLEAR, REVERSED, DAY_CLOSED }
+
+    /** Why a payment or a reversal is unclear: ask the terminal's journal, and book nothing by guess. */
+    public enum Cause {
+        NO_STATUS, CONFLICT, AMOUNT_DIFFERS, NO_TRACE, TRACE_USED, ABORT_AFTER_APPROVAL, LINE, MALFORMED, UNFINISHED, WRONG_CURRENCY
+    }
+
+    /**
+     * What the reversals of a booked payment leave open. UNCLEAR_REVERSAL: the last one took the payment back or not, and nobody
+     * knows. Reverse it again when the line is back. TAKEN_BACK: the terminal said with the code B4 that it took it back before.
+     */
+    public enum Doubt { NO, UNCLEAR_REVERSAL, TAKEN_BACK }
+
+    private static final int OK = 0, MORE = 1, REFUSED = 2, CLOSED = 6, NOTHING_TO_CANCEL = 13;
+    private static final int REGISTER = 1, PAY = 2, REVERSE = 3, CLOSE_DAY = 4, CANCEL = 5;
+
+    /** A call that the library refused; the till is as it was. The status is one of zvt.h's. */
+    public static final class RefusedException extends RuntimeException {
+        private static final long serialVersionUID = 1;
+        public final int status;
+
+        RefusedException(int status) {
+            super(wordsOf(status));
+            this.status = status;
+        }
+
+        private static String wordsOf(int status) {
+            switch (status) {
+                case 2: return "the bytes are no till's";
+                case 3: return "no memory";
+                case 7: return "this line brought bytes before that begin no message";
+                case 10: return "the line is down";
+                case 11: return "the till is not registered";
+                case 12: return "an order runs";
+                case 13: return "no payment runs that could be cancelled";
+                case 14: return "the book is full";
+                case 15: return "no such payment is booked";
+                case 16: return "the payment is taken back";
+                case 17: return "the payment has no receipt number";
+                default: return "status " + status;
+            }
+        }
+    }
+
+    /** The line ended, broke, fell silent or brought what is no message, and was given up. */
+    public static final class LineException extends IOException {
+        private static final long serialVersionUID = 1;
+        /** How the order ended by it: a payment or a reversal is unclear. */
+        public final transient Outcome outcome;
+
+        LineException(Outcome outcome, IOException cause) {
+            super("the line is lost: " + outcome, cause);
+            this.outcome = outcome;
+        }
+    }
+
+    /** A book that can't be opened or written. The till that had it sends nothing more: make a new one, which opens it again. */
+    public static final class BookException extends IOException {
+        private static final long serialVersionUID = 1;
+
+        BookException(String text, Throwable cause) {
+            super(text, cause);
+        }
+    }
+
+    /** How an order ended. What it does not have is null. */
+    public static final class Outcome {
+        public final Ending ending;
+        /** The terminal's code, where it declined, refused or aborted. */
+        public final Integer code;
+        /** Where the payment or the reversal is unclear. */
+        public final Cause cause;
+        /** Where it is paid; the receipt number only where the terminal gave one. */
+        public final Integer trace, receipt;
+
+        Outcome(OutcomeNumbers from) {
+            ending = Ending.values()[from.kind];
+            boolean coded = ending == Ending.DECLINED || ending == Ending.ORDER_REFUSED || ending == Ending.ABORTED;
+            code = coded ? from.code : null;
+            cause = ending == Ending.UNCLEAR ? Cause.values()[from.code - 1] : null;
+            trace = ending == Ending.PAID ? from.trace : null;
+            receipt = ending == Ending.PAID && from.has_receipt == 1 ? from.receipt : null;
+        }
+
+        /** Whether the order ended by its line, and not by what the terminal said. */
+        public boolean isByLine() { return cause == Cause.LINE || cause == Cause.MALFORMED; }
+
+        @Override public String toString() {
+            String text = words(ending) + (code == null ? "" : String.format(", code %02X", code));
+            return text + (cause == null ? "" : ": " + words(cause)) + numbers(trace, receipt);
+        }
+    }
+
+    /** A payment that is booked, or one that is unclear for a cause. */
+    public static final class Entry {
+        public final long amount;
+        /** Of a booked payment; the receipt number only where the terminal gave one. */
+        public final Integer trace, receipt;
+        /** Whether a completed reversal took it back. */
+        public final boolean reversed;
+        /** Why the payment is unclear, or its last reversal; else null. */
+        public final Cause cause;
+        public final Doubt doubt;
+
+        Entry(EntryNumbers from, boolean booked) {
+            amount = from.amount;
+            trace = booked ? from.trace : null;
+            receipt = from.has_receipt == 1 ? from.receipt : null;
+            reversed = from.reversed == 1;
+            cause = from.cause == 0 ? null : Cause.values()[from.cause - 1];
+            doubt = Doubt.values()[from.doubt];
+        }
+
+        @Override public String toString() {
+            String text = amount + numbers(trace, receipt) + (reversed ? ", taken back" : "");
+            text += doubt == Doubt.TAKEN_BACK ? ", taken back before, said the terminal" : doubt == Doubt.UNCLEAR_REVERSAL ? ", unclear reversal" : "";
+            return text + (cause == null ? "" : ": " + words(cause));
+        }
+    }
+
+    private static String words(Enum<?> it) {
+        return it.name().toLowerCase(Locale.ROOT).replace('_', ' ');
+    }
+
+    private static String numbers(Integer trace, Integer receipt) {
+        return (trace == null ? "" : String.format(", trace %06d", trace)) + (receipt == null ? "" : String.format(", receipt %04X", receipt));
+    }
+
+    private static long whole(String name, long number, long least, long most) {
+        if (number < least || number > most) {
+            throw new IllegalArgumentException(name + " is a number from " + least + " to " + most + ", and not " + number);
+        }
+        return number;
+    }
+
+    /** What a till is made with. */
+    public static final class Settings {
+        private String library = "libzvt.so.0";
+        private int password = 0, config = 0xBE, currency = 978;
+        private Path book;
+        private Consumer<byte[]> printLine;
+
+        /** The library's name or path. */
+        public Settings library(String name) { library = name; return this; }
+        /** A number of up to six digits. */
+        public Settings password(int number) { password = (int) whole("password", number, 0, 999_999); return this; }
+        public Settings config(int bits) { config = (int) whole("config", bits, 0, 0xFF); return this; }
+        /** The number of ISO 4217: 978 is the euro. */
+        public Settings currency(int number) { currency = (int) whole("currency", number, 0, 9999); return this; }
+        /** The file in which the till keeps its book, through every end of the process. */
+        public Settings book(Path file) { book = file; return this; }
+        /** Takes the bytes of each print line, in the terminal's character set. What it throws waits for the order's outcome. */
+        public Settings printLine(Consumer<byte[]> taker) { printLine = taker; return this; }
+    }
+
+    /** A line to a terminal. */
+    public interface Line extends AutoCloseable {
+        /** Reads what comes within that time. -1 at the end of the line, 0 where nothing came. */
+        int read(byte[] room, int milliseconds) throws IOException;
+        void write(byte[] bytes) throws IOException;
+        @Override void close();
+    }
+
+    private static final class TcpLine implements Line {
+        private final Socket socket = new Socket();
+
+        TcpLine(String host, int port, int milliseconds) throws IOException {
+            try {
+                // Each message goes out at once: without this the system may hold an acknowledgement back for 40 ms.
+                socket.setTcpNoDelay(true);
+                socket.connect(new InetSocketAddress(host, port), milliseconds);
+            } catch (IOException error) {
+                close();
+                throw error;
+            }
+        }
+
+        @Override public int read(byte[] room, int milliseconds) throws IOException {
+            socket.setSoTimeout(milliseconds);
+            try {
+                return socket.getInputStream().read(room);
+            } catch (SocketTimeoutException silent) {
+                return 0;
+            }
+        }
+
+        @Override public void write(byte[] bytes) throws IOException {
+            socket.getOutputStream().write(bytes);
+        }
+
+        @Override public void close() {
+            try {
+                socket.close();
+            } catch (IOException gone) {
+                // It is given up either way.
+            }
+        }
+    }
+
+    /** The version of the library of that name or path, as 0.2.0. */
+    public static String version(String library) {
+        byte[] room = new byte[32];
+        long size = open(library).zvt_version(room, new NativeLong(room.length)).longValue();
+        return new String(room, 0, (int) size, StandardCharsets.US_ASCII);
+    }
+
+    private static Calls open(String name) {
+        Calls calls = Native.load(name, Calls.class);
+        if (calls.zvt_abi() != ABI) {
+            throw new UnsatisfiedLinkError("the calls of " + name + " are of number " + calls.zvt_abi() + ", and Zvt.java is made for " + ABI);
+        }
+        return calls;
+    }
+
+    /** A till, which keeps its book in a file where the settings name one. */
+    public static final class Till implements AutoCloseable {
+        private final Calls calls;
+        private final Consumer<byte[]> printLine;
+        private final Memory handle = new Memory(16);
+        private final byte[] out = new byte[ROOM], text = new byte[LINE_ROOM], record;
+        private final Book book;
+        private Line line;
+        private int timeout;
+        private byte[] unheard = new byte[0];
+        private Outcome outcome;
+        private Throwable raised;
+        private boolean running, closed;
+
+        /** Where the file of a book is there, the till goes on from it. */
+        public Till(Settings settings) throws BookException {
+            calls = open(settings.library);
+            printLine = settings.printLine;
+            handle.clear();
+            check(calls.zvt_till_new(handle, settings.password, (byte) settings.config, (short) settings.currency));
+            record = settings.book == null ? null : new byte[RECORD_ROOM];
+            book = settings.book == null ? null : openBook(settings.book, settings.currency);
+        }
+
+        private Book openBook(Path path, int currency) throws BookException {
+            Book opened = null;
+            try {
+                opened = new Book(path);
+                if (opened.text.length > 0) {
+                    recover(path, opened.text);
+                }
+                opened.settle();
+                if (opened.text.length == 0) {
+                    Answer answer = new Answer();
+                    calls.zvt_record_opening((short) currency, record, new NativeLong(RECORD_ROOM), answer);
+                    check(answer.status);
+                    opened.append(record, (int) answer.size);
+                }
+                return opened;
+            } catch (BookException | RuntimeException | Error error) {
+                if (opened != null) {
+                    opened.close();
+                }
+                calls.zvt_till_free(handle);
+                closed = true;
+                throw error;
+            }
+        }
+
+        /** Makes the till that of the book's records. */
+        private void recover(Path path, byte[] records) throws BookException {
+            Answer answer = new Answer();
+            calls.zvt_till_recover(handle, records, new NativeLong(records.length), answer);
+            if (answer.status == REFUSED) {
+                String[] why = {"line %d is not the first line of a journal of its currency", "line %d is no line of a till's record",
+                    "record %d can't follow from those before it"};
+                throw new BookException(path + " is no book of such a till: " + String.format(why[answer.reason - 1], answer.place), null);
+            }
+            check(answer.status);
+        }
+
+        /** Gives the line and the till up. A book is complete on the disk before. */
+        @Override public void close() {
+            refuseWithin();
+            if (closed) {
+                return;
+            }
+            if (line != null) {
+                line.close();
+                line = null;
+            }
+            if (book != null) {
+                book.close();
+            }
+            calls.zvt_till_free(handle);
+            closed = true;
+        }
+
+        private void refuseWithin() {
+            if (running) {
+                throw new IllegalStateException("a callback can't give its till an order, a line or up");
+            }
+        }
+
+        private void check(int status) {
+            if (status == CLOSED) {
+                throw new IllegalStateException("the till is closed");
+            }
+            if (status != OK) {
+                throw new RefusedException(status);
+            }
+        }
+
+        /** Opens a line by TCP; one that stood before is lost. The terminal may be silent for the time-out within an order. */
+        public void connect(String host, int port, Duration timeout) throws IOException {
+            whole("port", port, 1, 65535);
+            int milliseconds = (int) whole("timeout in milliseconds", timeout.toMillis(), 1, Integer.MAX_VALUE);
+            refuseWithin();
+            disconnect();
+            connect(new TcpLine(host, port, milliseconds), timeout);
+        }
+
+        /** Takes a line that is up. */
+        public void connect(Line opened, Duration timeout) throws IOException {
+            int milliseconds = (int) whole("timeout in milliseconds", timeout.toMillis(), 1, Integer.MAX_VALUE);
+            refuseWithin();
+            disconnect();
+            try {
+                if (book != null) {
+                    Answer answer = new Answer();
+                    calls.zvt_record_lost(record, new NativeLong(RECORD_ROOM), answer);
+                    makeDurable(answer);
+                }
+                check(calls.zvt_till_connected(handle));
+            } catch (IOException | RuntimeException | Error error) {
+                opened.close();
+                throw error;
+            }
+            line = opened;
+            this.timeout = milliseconds;
+            unheard = new byte[0];
+        }
+
+        /** Gives the line up. */
+        public void disconnect() {
+            refuseWithin();
+            giveUp();
+        }
+
+        private void giveUp() {
+            if (line == null) {
+                return;
+            }
+            line.close();
+            line = null;
+            Step step = new Step();
+            check(calls.zvt_till_lost(handle, step));
+            ended(step);
+        }
+
+        public Outcome register() throws IOException { return run(REGISTER, 0, null); }
+
+        public Outcome pay(long amount) throws IOException { return pay(amount, null); }
+
+        /** Pays. Five times a second the till asks whether to cancel the payment; the terminal says what comes of it. */
+        public Outcome pay(long amount, BooleanSupplier wantsCancel) throws IOException {
+            return run(PAY, whole("amount", amount, 1, MAX_AMOUNT), wantsCancel);
+        }
+
+        /** Takes back the payment at that place of the book, from 0. */
+        public Outcome reverse(int place) throws IOException {
+            return run(REVERSE, whole("place", place, 0, Integer.MAX_VALUE), null);
+        }
+
+        public Outcome closeDay() throws IOException { return run(CLOSE_DAY, 0, null); }
+
+        /** One order from end to end. Throws a LineException where the order ended by the line, a BookException where the book
+         * failed, a RefusedException where the library refuses it, and what a callback threw, once the order has ended. */
+        private Outcome run(int order, long number, BooleanSupplier wantsCancel) throws IOException {
+            refuseWithin();
+            byte[] message = order(order, number);
+            raised = null;
+            outcome = null;
+            running = true;
+            IOException broken = null;
+            try {
+                keepAndSend(order, number, message);
+                hearOut(wantsCancel);
+            } catch (BookException error) {
+                giveUp();
+                throw error;
+            } catch (IOException error) {
+                giveUp();
+                broken = outcome == null || outcome.isByLine() ? error : null;
+            } catch (RuntimeException | Error error) {
+                giveBookUp();
+                giveUp();
+                throw error;
+            } finally {
+                running = false;
+            }
+            if (raised instanceof Error) {
+                throw (Error) raised;
+            }
+            if (raised != null) {
+                throw (RuntimeException) raised;
+            }
+            if (broken != null) {
+                throw new LineException(outcome, broken);
+            }
+            return outcome;
+        }
+
+        private byte[] order(int order, long number) {
+            Step step = new Step();
+            check(calls.zvt_till_order(handle, order, number, out, new NativeLong(ROOM), step));
+            return Arrays.copyOf(out, (int) step.send);
+        }
+
+        /** Makes the order durable, and only then sends it. */
+        private void keepAndSend(int order, long number, byte[] message) throws IOException {
+            if (book != null) {
+                Answer answer = new Answer();
+                calls.zvt_record_order(order, number, message, new NativeLong(message.length), record, new NativeLong(RECORD_ROOM), answer);
+                makeDurable(answer);
+            }
+            line.write(message);
+        }
+
+        private void makeDurable(Answer answer) throws BookException {
+            if (answer.status != OK) {
+                giveBookUp();
+                check(answer.status);
+            }
+            book.append(record, (int) answer.size);
+        }
+
+        /** The book may have a record that the till has not lived through, or lack one: this till adds no more to it. */
+        private void giveBookUp() {
+            if (book != null) {
+                book.giveUp();
+            }
+        }
+
+        private void ended(Step step) {
+            if (step.outcome.kind != 0) {
+                outcome = new Outcome(step.outcome);
+            }
+        }
+
+        /** Hears the terminal until the order has ended. An Error of a callback gives the line up at once. */
+        private void hearOut(BooleanSupplier wantsCancel) throws IOException {
+            byte[] room = new byte[4096];
+            long since = System.nanoTime();
+            while (outcome == null) {
+                if (raised instanceof Error) {
+                    throw new IOException("a callback ended the order");
+                }
+                boolean asks = wantsCancel != null && raised == null;
+                long rest = timeout - (System.nanoTime() - since) / 1_000_000;
+                if (rest <= 0) {
+                    throw new SocketTimeoutException("the terminal is silent");
+                }
+                int size = line.read(room, (int) (asks ? Math.min(200, rest) : rest));
+                if (size < 0) {
+                    throw new EOFException("the terminal ended the line");
+                }
+                if (size > 0) {
+                    hear(Arrays.copyOf(room, size));
+                    since = System.nanoTime();
+                } else if (asks && wants(wantsCancel) && cancels()) {
+                    wantsCancel = null;
+                }
+            }
+        }
+
+        /** Asks the terminal to cancel the payment: false where it has not acknowledged the payment yet, and is to be asked later. */
+        private boolean cancels() throws IOException {
+            byte[] message;
+            try {
+                message = order(CANCEL, 0);
+            } catch (RefusedException refused) {
+                if (refused.status != NOTHING_TO_CANCEL) {
+                    throw refused;
+                }
+                return false;
+            }
+            keepAndSend(CANCEL, 0, message);
+            return true;
+        }
+
+        private boolean wants(BooleanSupplier question) {
+            boolean[] answer = {false};
+            tell(() -> answer[0] = question.getAsBoolean());
+            return answer[0];
+        }
+
+        /** Calls a callback. What it throws waits until what the terminal sent is heard and answered; the first goes on. */
+        private void tell(Runnable callback) {
+            try {
+                callback.run();
+            } catch (RuntimeException | Error error) {
+                if (raised == null || error instanceof Error && !(raised instanceof Error)) {
+                    raised = error;
+                }
+            }
+        }
+
+        /** Feeds a whole piece and sends what answers it. Where the line takes no answer, the rest is heard all the same. */
+        private void hear(byte[] piece) throws IOException {
+            if (book == null) {
+                feed(piece);
+                return;
+            }
+            unheard = joined(unheard, piece);
+            IOException broken = null;
+            while (unheard.length > 0) {
+                Answer answer = new Answer();
+                long size = calls.zvt_record_heard(unheard, new NativeLong(unheard.length), record, new NativeLong(RECORD_ROOM), answer).longValue();
+                if (answer.status == MORE) {
+                    break;
+                }
+                if (answer.status == REFUSED) {
+                    throw new IOException("the terminal sent what is no message");
+                }
+                check(answer.status);
+                book.append(record, (int) size);
+                byte[] message = Arrays.copyOf(unheard, (int) answer.size);
+                unheard = Arrays.copyOfRange(unheard, message.length, unheard.length);
+                try {
+                    feed(message);
+                } catch (LineWriteException error) {
+                    broken = error;
+                }
+            }
+            if (broken != null) {
+                throw broken;
+            }
+        }
+
+        private void feed(byte[] piece) throws IOException {
+            IOException broken = null;
+            while (piece.length > 0) {
+                Step step = new Step();
+                int status = calls.zvt_till_feed_all(
+                    handle, piece, new NativeLong(piece.length), out, new NativeLong(ROOM), text, new NativeLong(LINE_ROOM), step);
+                ended(step);
+                if (step.send > 0 && broken == null) {
+                    try {
+                        line.write(Arrays.copyOf(out, (int) step.send));
+                    } catch (IOException error) {
+                        broken = new LineWriteException(error);
+                    }
+                }
+                if (step.printed == 1 && printLine != null) {
+                    byte[] printed = Arrays.copyOf(text, (int) step.line);
+                    tell(() -> printLine.accept(printed));
+                }
+                if (status == REFUSED) {
+                    throw new IOException("the terminal sent what is no message");
+                }
+                check(status);
+                piece = Arrays.copyOfRange(piece, (int) step.taken, piece.length);
+            }
+            if (broken != null) {
+                throw broken;
+            }
+        }
+
+        private State state() {
+            State state = new State();
+            check(calls.zvt_till_state(handle, state));
+            return state;
+        }
+
+        /** What the payments that no completed reversal took back come to. */
+        public long total() { return state().total; }
+
+        public boolean isRegistered() { return state().registered == 1; }
+
+        /** The last outcome, or null. */
+        public Outcome last() {
+            Outcome last = new Outcome(state().last);
+            return last.ending == Ending.NONE ? null : last;
+        }
+
+        /** The payments that are booked. */
+        public List<Entry> book() {
+            List<Entry> entries = new ArrayList<>();
+            for (long place = 0, count = state().booked; place < count; place++) {
+                EntryNumbers entry = new EntryNumbers();
+                check(calls.zvt_till_entry(handle, new NativeLong(place), entry));
+                entries.add(new Entry(entry, true));
+            }
+            return entries;
+        }
+
+        /** The payments that are neither booked nor known not to be. */
+        public List<Entry> unclear() {
+            List<Entry> entries = new ArrayList<>();
+            for (long place = 0, count = state().unclear; place < count; place++) {
+                EntryNumbers entry = new EntryNumbers();
+                check(calls.zvt_till_unclear(handle, new NativeLong(place), entry));
+                entries.add(new Entry(entry, false));
+            }
+            return entries;
+        }
+
+        /** The places of the booked payments whose last reversal is unclear: reverse these again. */
+        public List<Integer> unclearReversals() {
+            List<Entry> entries = book();
+            List<Integer> places = new ArrayList<>();
+            for (int place = 0; place < entries.size(); place++) {
+                if (entries.get(place).doubt == Doubt.UNCLEAR_REVERSAL) {
+                    places.add(place);
+                }
+            }
+            return places;
+        }
+
+        /** The bytes that the till is saved in: those of the till after its line was lost. They have the password in clear. */
+        public byte[] save() {
+            byte[] room = new byte[0];
+            while (true) {
+                Answer answer = new Answer();
+                calls.zvt_till_save(handle, room, new NativeLong(room.length), answer);
+                check(answer.status);
+                if (answer.size == room.length) {
+                    return room;
+                }
+                room = new byte[(int) answer.size];
+            }
+        }
+
+        /** Makes this the till that the bytes were saved of. Its line is down then. */
+        public void load(byte[] saved) {
+            if (book != null) {
+                throw new IllegalStateException("a till that keeps a book is that of its book, and of no save");
+            }
+            disconnect();
+            state();
+            check(calls.zvt_till_load(handle, saved, new NativeLong(saved.length)));
+        }
+    }
+
+    /** The line took no answer. */
+    private static final class LineWriteException extends IOException {
+        private static final long serialVersionUID = 1;
+
+        LineWriteException(IOException cause) {
+            super(cause.getMessage(), cause);
+        }
+    }
+
+    private static byte[] joined(byte[] first, byte[] second) {
+        byte[] both = Arrays.copyOf(first, first.length + second.length);
+        System.arraycopy(second, 0, both, first.length, second.length);
+        return both;
+    }
+
+    /**
+     * The file of a book: text records, each of which is there whole or not at all, whenever the process ends.
+     *
+     * At rest the file is its records and one line feed, the closed gate, which reads as an empty line. What it stands for is its
+     * whole lines up to the first empty one. A record is added in two steps, each durable before the next: the record without its
+     * first byte after the gate, with the next gate; and then the first byte over the gate.
+     */
+    private static final class Book {
+        private static final byte[] FORMAT = "# zvt journal 1".getBytes(StandardCharsets.US_ASCII);
+        private static final int OPENING_ROOM = 1 << 8, MOST_AFTER = (1 << 18) + 1;
+        private static final Posix POSIX = Native.load("c", Posix.class);
+        private final Path path;
+        private final int file;
+        private long gate;
+        private boolean failed, closed;
+        /** The records of the file as it was opened, and what comes after them. */
+        final byte[] text, cut;
+
+        /** Opens the file, or makes it; nothing is written yet. */
+        Book(Path path) throws BookException {
+            this.path = path;
+            int opened = -1;
+            try {
+                opened = openOrMake();
+                lock(opened);
+                byte[] held = durable(opened);
+                int end = accepted(held);
+                text = Arrays.copyOf(held, end);
+                int rest = end < held.length && held[end] == '\n' ? end + 1 : end;
+                cut = Arrays.copyOfRange(held, rest, held.length);
+            } catch (LastErrorException | BookException error) {
+                if (opened >= 0) {
+                    POSIX.close(opened);
+                }
+                throw error instanceof BookException ? (BookException) error
+                    : new BookException("cannot open the book " + path + ": " + words((LastErrorException) error), error);
+            }
+            file = opened;
+            gate = text.length;
+        }
+
+        private static String words(LastErrorException error) {
+            return POSIX.strerror(error.getErrorCode());
+        }
+
+        /** The file, which its owner alone may read where it is made. */
+        private int openOrMake() throws BookException {
+            try {
+                return POSIX.open(path.toString(), O_RDWR | O_CREAT | O_EXCL | O_CLOEXEC, 0600);
+            } catch (LastErrorException error) {
+                if (error.getErrorCode() != EEXIST) {
+                    throw error;
+                }
+            }
+            if (!Files.isRegularFile(path)) {
+                throw new BookException(path + " is no regular file: name a regular file, or one that is not there yet", null);
+            }
+            return POSIX.open(path.toString(), O_RDWR | O_CLOEXEC);
+        }
+
+        private void lock(int file) throws BookException {
+            try {
+                POSIX.flock(file, LOCK_EX | LOCK_NB);
+            } catch (LastErrorException error) {
+                if (error.getErrorCode() != EAGAIN) {
+                    throw error;
+                }
+                throw new BookException("another till has the book " + path + " open: end that till first, or name another file", error);
+            }
+        }
+
+        /** The bytes of the file, all of them durable: after a kill, what a read returns need not be on the disk. */
+        private static byte[] durable(int file) {
+            POSIX.fsync(file);
+            POSIX.posix_fadvise(file, 0, 0, POSIX_FADV_DONTNEED);
+            ByteArrayOutputStream held = new ByteArrayOutputStream();
+            byte[] room = new byte[1 << 16];
+            for (int size = 1; size > 0; held.write(room, 0, size)) {
+                size = POSIX.pread(file, room, new NativeLong(room.length), held.size()).intValue();
+            }
+            return held.toByteArray();
+        }
+
+        /** How many bytes of whole lines come before the first empty line, if the file of a book may hold these bytes. */
+        private int accepted(byte[] held) throws BookException {
+            boolean begun = held.length <= 1 || held[0] == '\n' && held.length <= OPENING_ROOM + 1;
+            if (!begun && !Arrays.equals(Arrays.copyOf(held, FORMAT.length), FORMAT)) {
+                throw new BookException(path + " is no journal, and it was left as it is: name a journal, or a file that is not there yet", null);
+            }
+            int end = 0;
+            for (int at = 0; at < held.length && !(held[at] == '\n' && at == end); at++) {
+                end = held[at] == '\n' ? at + 1 : end;
+            }
+            if (held.length - end > MOST_AFTER) {
+                throw new BookException(held.length - end + " bytes come after the first empty line of " + path
+                    + ", more than a crash leaves: remove that line if an editor put it there", null);
+            }
+            return end;
+        }
+
+        /** Makes the file one at rest. What is cut is at the end of the file of this name and .cut first. */
+        void settle() throws BookException {
+            try {
+                if (cut.length > 0) {
+                    int rest = POSIX.open(path + ".cut", O_WRONLY | O_APPEND | O_CREAT | O_CLOEXEC, 0600);
+                    try {
+                        for (byte[] left = cut; left.length > 0; ) {
+                            int size = POSIX.write(rest, left, new NativeLong(left.length)).intValue();
+                            left = Arrays.copyOfRange(left, size, left.length);
+                        }
+                        POSIX.fsync(rest);
+                    } finally {
+                        POSIX.close(rest);
+                    }
+                }
+                syncFolder();
+                // The cut is on the disk before a gate is written: after a torn gate what was there would count.
+                POSIX.ftruncate(file, gate);
+                POSIX.fdatasync(file);
+                write(new byte[] {'\n'}, gate);
+            } catch (LastErrorException | IOException error) {
+                String why = error instanceof LastErrorException ? words((LastErrorException) error) : error.getMessage();
+                throw new BookException("cannot open the book " + path + ": " + why, error);
+            }
+        }
+
+        /** Makes the name of the file durable. */
+        private void syncFolder() throws IOException {
+            int folder = POSIX.open(path.toRealPath().getParent().toString(), O_CLOEXEC);
+            try {
+                POSIX.fsync(folder);
+            } finally {
+                POSIX.close(folder);
+            }
+        }
+
+        /** Makes a record durable: the first so many bytes, whole lines, none of them empty. */
+        void append(byte[] record, int size) throws BookException {
+            if (failed || closed) {
+                throw new BookException("the book failed before, and takes no record any more: open it anew", null);
+            }
+            byte[] after = Arrays.copyOfRange(record, 1, size + 1);
+            after[size - 1] = '\n';
+            try {
+                write(after, gate + 1);
+                write(new byte[] {record[0]}, gate);
+            } catch (LastErrorException error) {
+                failed = true;
+                throw new BookException("cannot write the book " + path + ": " + words(error), error);
+            }
+            gate += size;
+        }
+
+        private void write(byte[] bytes, long place) {
+            while (bytes.length > 0) {
+                int size = POSIX.pwrite(file, bytes, new NativeLong(bytes.length), place).intValue();
+                bytes = Arrays.copyOfRange(bytes, size, bytes.length);
+                place += size;
+            }
+            POSIX.fdatasync(file);
+        }
+
+        void giveUp() {
+            failed = true;
+        }
+
+        void close() {
+            if (!closed) {
+                POSIX.close(file);
+                closed = true;
+            }
+        }
+    }
+
+    // Numbers of Linux.
+    private static final int O_WRONLY = 1, O_RDWR = 2, O_CREAT = 0100, O_EXCL = 0200, O_APPEND = 02000, O_CLOEXEC = 02000000;
+    private static final int LOCK_EX = 2, LOCK_NB = 4, POSIX_FADV_DONTNEED = 4, EAGAIN = 11, EEXIST = 17;
+
+    /** Calls of the C library. */
+    interface Posix extends Library {
+        int open(String path, int flags, Object... mode) throws LastErrorException;
+        int close(int file);
+        int flock(int file, int operation) throws LastErrorException;
+        int fsync(int file) throws LastErrorException;
+        int fdatasync(int file) throws LastErrorException;
+        int ftruncate(int file, long size) throws LastErrorException;
+        int posix_fadvise(int file, long start, long size, int advice);
+        NativeLong pread(int file, byte[] room, NativeLong size, long place) throws LastErrorException;
+        NativeLong pwrite(int file, byte[] bytes, NativeLong size, long place) throws LastErrorException;
+        NativeLong write(int file, byte[] bytes, NativeLong size) throws LastErrorException;
+        String strerror(int number);
+    }
+
+    /** The calls of zvt.h. */
+    interface Calls extends Library {
+        int zvt_abi();
+        NativeLong zvt_version(byte[] room, NativeLong length);
+        int zvt_till_new(Pointer till, int password, byte config, short currency);
+        void zvt_till_free(Pointer till);
+        int zvt_till_connected(Pointer till);
+        int zvt_till_lost(Pointer till, Step step);
+        int zvt_till_order(Pointer till, int order, long number, byte[] out, NativeLong length, Step step);
+        int zvt_till_feed_all(Pointer till, byte[] piece, NativeLong length, byte[] out, NativeLong outLength, byte[] line, NativeLong lineLength, Step step);
+        int zvt_till_state(Pointer till, State state);
+        int zvt_till_entry(Pointer till, NativeLong place, EntryNumbers entry);
+        int zvt_till_unclear(Pointer till, NativeLong place, EntryNumbers entry);
+        void zvt_till_save(Pointer till, byte[] room, NativeLong length, Answer answer);
+        int zvt_till_load(Pointer till, byte[] bytes, NativeLong length);
+        void zvt_till_recover(Pointer till, byte[] text, NativeLong length, Answer answer);
+        void zvt_record_opening(short currency, byte[] room, NativeLong length, Answer answer);
+        void zvt_record_order(int order, long number, byte[] sent, NativeLong sentLength, byte[] room, NativeLong length, Answer answer);
+        NativeLong zvt_record_heard(byte[] bytes, NativeLong length, byte[] room, NativeLong roomLength, Answer answer);
+        void zvt_record_lost(byte[] room, NativeLong length, Answer answer);
+    }
+
+    // The structs of zvt.h, by its names. JNA wants them public.
+
+    @Structure.FieldOrder({"size", "place", "reason", "status"})
+    public static class Answer extends Structure {
+        public long size, place;
+        public int reason, status;
+    }
+
+    @Structure.FieldOrder({"kind", "code", "trace", "receipt", "has_receipt"})
+    public static class OutcomeNumbers extends Structure {
+        public int kind, code, trace, receipt, has_receipt;
+    }
+
+    @Structure.FieldOrder({"taken", "send", "place", "line", "reason", "message", "printed", "outcome"})
+    public static class Step extends Structure {
+        public long taken, send, place, line;
+        public int reason, message, printed;
+        public OutcomeNumbers outcome;
+    }
+
+    @Structure.FieldOrder({"total", "booked", "unclear", "unclear_reversals", "held", "registered", "running", "last"})
+    public static class State extends Structure {
+        public long total, booked, unclear, unclear_reversals, held;
+        public int registered, running;
+        public OutcomeNumbers last;
+    }
+
+    @Structure.FieldOrder({"amount", "trace", "receipt", "has_receipt", "reversed", "cause", "doubt"})
+    public static class EntryNumbers extends Structure {
+        public long amount;
+        public int trace, receipt, has_receipt, reversed, cause, doubt;
+    }
+}

@@ -1,0 +1,1083 @@
+{ zvt.pas: the till of zvt.h for Free Pascal (3.2) and Delphi, over libzvt. Copy this file into your project.
+
+      Till := TZvtTill.Create(ZvtSettings('day.trace'));
+      try
+        Till.Connect('192.0.2.7', 20007, 60000);
+        Till.Register;
+        WriteLn(Till.Pay(1000).ToString); // paid, trace 000001, receipt 0001
+      finally
+        Till.Free;
+      end;
+
+  The library keeps the till and its book; this unit moves the bytes. Amounts are in the smallest unit of the currency. One thread
+  at a time uses a till. The system is Linux on x86-64, as for the library. Delphi has no unit ssockets: give Connect a line of
+  your own there. }
+unit zvt;
+
+{$IFDEF FPC}{$MODE DELPHI}{$ENDIF}
+
+interface
+
+uses
+  SysUtils;
+
+const
+  { The layouts and calls that this unit is made for. }
+  ZvtAbi = 1;
+  ZvtMaxAmount = 999999999999;
+  { What a number is where an outcome or an entry does not have it. }
+  ZvtNone = -1;
+
+type
+  { How an order ended. }
+  TZvtEnding = (zeNone, zeRegistered, zePaid, zeDeclined, zeOrderRefused, zeAborted, zeUnclear, zeReversed, zeDayClosed);
+  { Why a payment or a reversal is unclear: ask the terminal's journal, and book nothing by guess. }
+  TZvtCause = (zcNone, zcNoStatus, zcConflict, zcAmountDiffers, zcNoTrace, zcTraceUsed, zcAbortAfterApproval, zcLine,
+    zcMalformed, zcUnfinished, zcWrongCurrency);
+  { What the reversals of a booked payment leave open. zdUnclearReversal: the last one took the payment back or not, and nobody
+    knows. Reverse it again when the line is back. zdTakenBack: the terminal said with the code B4 that it took it back before. }
+  TZvtDoubt = (zdNo, zdUnclearReversal, zdTakenBack);
+
+  TZvtOutcome = record
+    Ending: TZvtEnding;
+    { The terminal's code, where it declined, refused or aborted. }
+    Code: Integer;
+    { Where the payment or the reversal is unclear. }
+    Cause: TZvtCause;
+    { Where it is paid; the receipt number only where the terminal gave one. }
+    Trace, Receipt: Integer;
+    { Whether the order ended by its line, and not by what the terminal said. }
+    function IsByLine: Boolean;
+    function ToString: string;
+  end;
+
+  { A payment that is booked, or one that is unclear for a cause. }
+  TZvtEntry = record
+    Amount: Int64;
+    { Of a booked payment; the receipt number only where the terminal gave one. }
+    Trace, Receipt: Integer;
+    { Whether a completed reversal took it back. }
+    Reversed: Boolean;
+    { Why the payment is unclear, or its last reversal. }
+    Cause: TZvtCause;
+    Doubt: TZvtDoubt;
+    function ToString: string;
+  end;
+
+  TZvtEntries = array of TZvtEntry;
+  TZvtPlaces = array of Integer;
+
+  { An argument that the library can't take. }
+  EZvtArgument = class(EArgumentException);
+  { The till is closed, or a callback gives its till an order. }
+  EZvtUse = class(EInvalidOpException);
+
+  { A call that the library refused; the till is as it was. The status is one of zvt.h's. }
+  EZvtRefused = class(Exception)
+  public
+    Status: Cardinal;
+    constructor Create(AStatus: Cardinal);
+  end;
+
+  { The line ended, broke, fell silent or brought what is no message, and was given up. The outcome says how the order ended by
+    it: a payment or a reversal is unclear. }
+  EZvtLine = class(Exception)
+  public
+    Outcome: TZvtOutcome;
+    constructor Create(const AOutcome: TZvtOutcome; const Why: string);
+  end;
+
+  { A book that can't be opened or written. The till that had it sends nothing more: make a new one, which opens it again. }
+  EZvtBook = class(Exception);
+
+  { What a line raises where it ends, breaks or is silent. }
+  EZvtBroken = class(Exception);
+
+  { A line to a terminal. }
+  TZvtConnection = class
+  public
+    { Reads what comes within that time: 0 where nothing came. Raises EZvtBroken at the end of the line. }
+    function Read(var Buffer: TBytes; Milliseconds: Integer): Integer; virtual; abstract;
+    procedure Write(const Bytes: TBytes); virtual; abstract;
+  end;
+
+  TZvtPrintLine = procedure(const Line: TBytes) of object;
+  TZvtQuestion = function: Boolean of object;
+
+  { What a till is made with. }
+  TZvtSettings = record
+    { A number of up to six digits. }
+    Password: Integer;
+    Config: Integer;
+    { The number of ISO 4217: 978 is the euro. }
+    Currency: Integer;
+    { The file in which the till keeps its book, through every end of the process; empty for none. }
+    Book: string;
+    { Takes the bytes of each print line, in the terminal's character set. What it raises waits for the order's outcome. }
+    PrintLine: TZvtPrintLine;
+  end;
+
+  TZvtAnswer = record
+    Size, Place: UInt64;
+    Reason, Status: Cardinal;
+  end;
+
+  TZvtOutcomeNumbers = record
+    Kind, Code, Trace, Receipt, HasReceipt: Cardinal;
+  end;
+
+  TZvtStep = record
+    Taken, Send, Place, Line: UInt64;
+    Reason, Message, Printed: Cardinal;
+    Outcome: TZvtOutcomeNumbers;
+  end;
+
+  TZvtState = record
+    Total, Booked, Unclear, UnclearReversals, Held: UInt64;
+    Registered, Running: Cardinal;
+    Last: TZvtOutcomeNumbers;
+  end;
+
+  TZvtEntryNumbers = record
+    Amount: UInt64;
+    Trace, Receipt, HasReceipt, Reversed, Cause, Doubt: Cardinal;
+  end;
+
+  TZvtHandle = record
+    At: Pointer;
+    Full: Cardinal;
+  end;
+
+  { The file of a book: text records, each of which is there whole or not at all, whenever the process ends. At rest the file is
+    its records and one line feed, the closed gate, which reads as an empty line. What it stands for is its whole lines up to the
+    first empty one. A record is added in two steps, each durable before the next: the record without its first byte after the
+    gate, with the next gate; and then the first byte over the gate. }
+  TZvtJournal = class
+  private
+    FPath: string;
+    FFile: Integer;
+    FGate: Int64;
+    FFailed: Boolean;
+    FText, FCut: TBytes;
+    procedure RaiseLast(const What: string);
+    function Done(Answer: Int64; const What: string): Int64;
+    function OpenOrMake: Integer;
+    function Durable: TBytes;
+    function Accepted(const Held: TBytes): Integer;
+    procedure KeepCut;
+    procedure SyncFolder;
+    procedure Write(const Bytes: TBytes; Place: Int64; const What: string);
+  public
+    { Opens the file, or makes it; nothing is written yet. }
+    constructor Create(const Path: string);
+    destructor Destroy; override;
+    { Makes the file one at rest. What is cut is at the end of the file of this name and .cut first. }
+    procedure Settle;
+    { Makes a record durable: the first so many bytes, whole lines, none of them empty. }
+    procedure Append(const Bytes: TBytes; Size: Integer);
+    { Takes no record from now on. }
+    procedure GiveUp;
+    { The records of the file as it was opened. }
+    property Text: TBytes read FText;
+  end;
+
+  { A till, which keeps its book in a file where the settings name one. }
+  TZvtTill = class
+  private
+    FHandle: TZvtHandle;
+    FPrintLine: TZvtPrintLine;
+    FOut, FText, FRecord, FUnheard: TBytes;
+    FJournal: TZvtJournal;
+    FLine: TZvtConnection;
+    FTimeout: Integer;
+    FOutcome: TZvtOutcome;
+    FRaised: TObject;
+    FRunning: Boolean;
+    procedure BeginBook(const Settings: TZvtSettings);
+    procedure Recover(const Path: string);
+    procedure RefuseWithin;
+    procedure Check(Status: Cardinal);
+    procedure DropLine;
+    function Run(Order: Cardinal; Number: Int64; WantsCancel: TZvtQuestion): TZvtOutcome;
+    function GiveOrder(Order: Cardinal; Number: Int64): TBytes;
+    procedure KeepAndSend(Order: Cardinal; Number: Int64; const Bytes: TBytes);
+    procedure MakeDurable(const Answer: TZvtAnswer);
+    procedure Ended(const Step: TZvtStep);
+    procedure HearOut(WantsCancel: TZvtQuestion);
+    function Cancels: Boolean;
+    function Wants(Question: TZvtQuestion): Boolean;
+    procedure Hear(const Piece: TBytes);
+    procedure Feed(Piece: TBytes; var Broken: string);
+    procedure Print(const Line: TBytes);
+    function State: TZvtState;
+    function LastOutcome: TZvtOutcome;
+    function IsRegistered: Boolean;
+    function SumOfBook: Int64;
+  public
+    { Where the file of a book is there, the till goes on from it. }
+    constructor Create(const Settings: TZvtSettings);
+    { Gives the line and the till up. A book is complete on the disk before. }
+    destructor Destroy; override;
+    {$IFDEF FPC}
+    { Opens a line by TCP; one that stood before is lost. The terminal may be silent for the time-out within an order. }
+    procedure Connect(const Host: string; Port: Word; Milliseconds: Integer); overload;
+    {$ENDIF}
+    { Takes a line that is up, which the till frees. }
+    procedure Connect(Line: TZvtConnection; Milliseconds: Integer); overload;
+    { Gives the line up. }
+    procedure Disconnect;
+    function Register: TZvtOutcome;
+    { Pays. Five times a second the till asks whether to cancel the payment; the terminal says what comes of it. }
+    function Pay(Amount: Int64; WantsCancel: TZvtQuestion = nil): TZvtOutcome;
+    { Takes back the payment at that place of the book, from 0. }
+    function Reverse(Place: Integer): TZvtOutcome;
+    function CloseDay: TZvtOutcome;
+    { The payments that are booked. }
+    function Book: TZvtEntries;
+    { The payments that are neither booked nor known not to be. }
+    function Unclear: TZvtEntries;
+    { The places of the booked payments whose last reversal is unclear: reverse these again. }
+    function UnclearReversals: TZvtPlaces;
+    { The bytes that the till is saved in: those of the till after its line was lost. They have the password in clear. }
+    function Save: TBytes;
+    { Makes this the till that the bytes were saved of. Its line is down then. }
+    procedure Load(const Saved: TBytes);
+    { What the payments that no completed reversal took back come to. }
+    property Total: Int64 read SumOfBook;
+    property Registered: Boolean read IsRegistered;
+    { The last outcome; its ending is zeNone where there is none. }
+    property Last: TZvtOutcome read LastOutcome;
+  end;
+
+{ Settings of a till with this book, empty for none: no password, the usual config byte, and the euro. }
+function ZvtSettings(const Book: string = ''): TZvtSettings;
+{ The version of the library, as 0.2.0. }
+function ZvtVersion: string;
+
+implementation
+
+uses
+  {$IFDEF FPC}Sockets, ssockets, {$ENDIF}Math;
+
+const
+  Library_ = 'zvt';
+  C = 'c';
+  RoomSize = 8 * 32;
+  LineRoom = 65534;
+  RecordRoom = 131200;
+  OpeningRoom = 1 shl 8;
+  MostAfter = (1 shl 18) + 1;
+  Format_ = '# zvt journal 1';
+  OrderRegister = 1;
+  OrderPay = 2;
+  OrderReverse = 3;
+  OrderCloseDay = 4;
+  OrderCancel = 5;
+  StatusMore = 1;
+  StatusRefused = 2;
+  StatusClosed = 6;
+  StatusNothingToCancel = 13;
+  { Numbers of Linux. }
+  O_WRONLY = 1; O_RDWR = 2; O_CREAT = $40; O_EXCL = $80; O_APPEND = $400; O_CLOEXEC = $80000;
+  LOCK_EX = 2; LOCK_NB = 4; POSIX_FADV_DONTNEED = 4; EAGAIN = 11; EEXIST = 17; POLLIN = 1; MSG_NOSIGNAL = $4000;
+
+type
+  TPoll = record
+    Socket: Integer;
+    Events, Found: SmallInt;
+  end;
+
+function zvt_abi: Cardinal; cdecl; external Library_;
+function zvt_version(Room: PByte; Length: NativeUInt): NativeUInt; cdecl; external Library_;
+function zvt_till_new(var Till: TZvtHandle; Password: Cardinal; Config: Byte; Currency: Word): Cardinal; cdecl; external Library_;
+procedure zvt_till_free(var Till: TZvtHandle); cdecl; external Library_;
+function zvt_till_connected(var Till: TZvtHandle): Cardinal; cdecl; external Library_;
+function zvt_till_lost(var Till: TZvtHandle; var Step: TZvtStep): Cardinal; cdecl; external Library_;
+function zvt_till_order(var Till: TZvtHandle; Order: Cardinal; Number: UInt64; Room: PByte; Length: NativeUInt; var Step: TZvtStep): Cardinal;
+  cdecl; external Library_;
+function zvt_till_feed_all(var Till: TZvtHandle; Piece: PByte; Length: NativeUInt; Room: PByte; RoomLength: NativeUInt; Line: PByte;
+  LineLength: NativeUInt; var Step: TZvtStep): Cardinal; cdecl; external Library_;
+function zvt_till_state(var Till: TZvtHandle; var State: TZvtState): Cardinal; cdecl; external Library_;
+function zvt_till_entry(var Till: TZvtHandle; Place: NativeUInt; var Entry: TZvtEntryNumbers): Cardinal; cdecl; external Library_;
+function zvt_till_unclear(var Till: TZvtHandle; Place: NativeUInt; var Entry: TZvtEntryNumbers): Cardinal; cdecl; external Library_;
+procedure zvt_till_save(var Till: TZvtHandle; Room: PByte; Length: NativeUInt; var Answer: TZvtAnswer); cdecl; external Library_;
+function zvt_till_load(var Till: TZvtHandle; Bytes: PByte; Length: NativeUInt): Cardinal; cdecl; external Library_;
+procedure zvt_till_recover(var Till: TZvtHandle; Text: PByte; Length: NativeUInt; var Answer: TZvtAnswer); cdecl; external Library_;
+procedure zvt_record_opening(Currency: Word; Room: PByte; Length: NativeUInt; var Answer: TZvtAnswer); cdecl; external Library_;
+procedure zvt_record_order(Order: Cardinal; Number: UInt64; Sent: PByte; SentLength: NativeUInt; Room: PByte; Length: NativeUInt;
+  var Answer: TZvtAnswer); cdecl; external Library_;
+function zvt_record_heard(Bytes: PByte; Length: NativeUInt; Room: PByte; RoomLength: NativeUInt; var Answer: TZvtAnswer): NativeUInt;
+  cdecl; external Library_;
+procedure zvt_record_lost(Room: PByte; Length: NativeUInt; var Answer: TZvtAnswer); cdecl; external Library_;
+
+function posix_open(Path: PAnsiChar; Flags: Integer; Mode: Cardinal): Integer; cdecl; external C name 'open';
+function posix_close(AFile: Integer): Integer; cdecl; external C name 'close';
+function flock(AFile, Operation: Integer): Integer; cdecl; external C;
+function fsync(AFile: Integer): Integer; cdecl; external C;
+function fdatasync(AFile: Integer): Integer; cdecl; external C;
+function ftruncate(AFile: Integer; Size: Int64): Integer; cdecl; external C;
+function posix_fadvise(AFile: Integer; Start, Size: Int64; Advice: Integer): Integer; cdecl; external C;
+function pread(AFile: Integer; Room: PByte; Size: NativeUInt; Place: Int64): NativeInt; cdecl; external C;
+function pwrite(AFile: Integer; Bytes: PByte; Size: NativeUInt; Place: Int64): NativeInt; cdecl; external C;
+function posix_write(AFile: Integer; Bytes: PByte; Size: NativeUInt): NativeInt; cdecl; external C name 'write';
+function posix_recv(Socket: Integer; Room: PByte; Size: NativeUInt; Flags: Integer): NativeInt; cdecl; external C name 'recv';
+function posix_send(Socket: Integer; Bytes: PByte; Size: NativeUInt; Flags: Integer): NativeInt; cdecl; external C name 'send';
+function poll(var Polled: TPoll; Count: NativeUInt; Milliseconds: Integer): Integer; cdecl; external C;
+function errno_location: PInteger; cdecl; external C name '__errno_location';
+function strerror(Number: Integer): PAnsiChar; cdecl; external C;
+
+const
+  Endings: array[TZvtEnding] of string = ('none', 'registered', 'paid', 'declined', 'order refused', 'aborted', 'unclear',
+    'reversed', 'day closed');
+  Causes: array[TZvtCause] of string = ('', 'no status', 'conflict', 'amount differs', 'no trace', 'trace used',
+    'abort after approval', 'line', 'malformed', 'unfinished', 'wrong currency');
+
+function WordsOf(Status: Cardinal): string;
+begin
+  case Status of
+    2: Result := 'the bytes are no till''s';
+    3: Result := 'no memory';
+    7: Result := 'this line brought bytes before that begin no message';
+    10: Result := 'the line is down';
+    11: Result := 'the till is not registered';
+    12: Result := 'an order runs';
+    13: Result := 'no payment runs that could be cancelled';
+    14: Result := 'the book is full';
+    15: Result := 'no such payment is booked';
+    16: Result := 'the payment is taken back';
+    17: Result := 'the payment has no receipt number';
+  else
+    Result := 'status ' + IntToStr(Status);
+  end;
+end;
+
+function LastError: string;
+begin
+  Result := string(AnsiString(strerror(errno_location()^)));
+end;
+
+procedure Whole(const Name: string; Number, Least, Most: Int64);
+begin
+  if (Number < Least) or (Number > Most) then
+    raise EZvtArgument.CreateFmt('%s is a number from %d to %d, and not %d', [Name, Least, Most, Number]);
+end;
+
+{ The first byte of the bytes, or nil. }
+function First(const Bytes: TBytes): PByte;
+begin
+  if Length(Bytes) = 0 then Result := nil else Result := @Bytes[0];
+end;
+
+function Numbers(Trace, Receipt: Integer): string;
+begin
+  Result := '';
+  if Trace <> ZvtNone then Result := Result + Format(', trace %.6d', [Trace]);
+  if Receipt <> ZvtNone then Result := Result + Format(', receipt %.4x', [Receipt]);
+end;
+
+function OutcomeOf(const From: TZvtOutcomeNumbers): TZvtOutcome;
+begin
+  Result.Ending := TZvtEnding(From.Kind);
+  Result.Code := ZvtNone;
+  Result.Cause := zcNone;
+  Result.Trace := ZvtNone;
+  Result.Receipt := ZvtNone;
+  case Result.Ending of
+    zeDeclined, zeOrderRefused, zeAborted: Result.Code := From.Code;
+    zeUnclear: Result.Cause := TZvtCause(From.Code);
+    zePaid:
+      begin
+        Result.Trace := From.Trace;
+        if From.HasReceipt = 1 then Result.Receipt := From.Receipt;
+      end;
+  end;
+end;
+
+function TZvtOutcome.IsByLine: Boolean;
+begin
+  Result := Cause in [zcLine, zcMalformed];
+end;
+
+function TZvtOutcome.ToString: string;
+begin
+  Result := Endings[Ending];
+  if Code <> ZvtNone then Result := Result + Format(', code %.2x', [Code]);
+  if Cause <> zcNone then Result := Result + ': ' + Causes[Cause];
+  Result := Result + Numbers(Trace, Receipt);
+end;
+
+function EntryOf(const From: TZvtEntryNumbers; Booked: Boolean): TZvtEntry;
+begin
+  Result.Amount := From.Amount;
+  Result.Trace := ZvtNone;
+  Result.Receipt := ZvtNone;
+  if Booked then Result.Trace := From.Trace;
+  if From.HasReceipt = 1 then Result.Receipt := From.Receipt;
+  Result.Reversed := From.Reversed = 1;
+  Result.Cause := TZvtCause(From.Cause);
+  Result.Doubt := TZvtDoubt(From.Doubt);
+end;
+
+function TZvtEntry.ToString: string;
+begin
+  Result := IntToStr(Amount) + Numbers(Trace, Receipt);
+  if Reversed then Result := Result + ', taken back';
+  if Doubt = zdTakenBack then Result := Result + ', taken back before, said the terminal';
+  if Doubt = zdUnclearReversal then Result := Result + ', unclear reversal';
+  if Cause <> zcNone then Result := Result + ': ' + Causes[Cause];
+end;
+
+constructor EZvtRefused.Create(AStatus: Cardinal);
+begin
+  inherited Create(WordsOf(AStatus));
+  Status := AStatus;
+end;
+
+constructor EZvtLine.Create(const AOutcome: TZvtOutcome; const Why: string);
+begin
+  inherited Create('the line is lost: ' + AOutcome.ToString + ' (' + Why + ')');
+  Outcome := AOutcome;
+end;
+
+function ZvtSettings(const Book: string): TZvtSettings;
+begin
+  Result.Password := 0;
+  Result.Config := $BE;
+  Result.Currency := 978;
+  Result.Book := Book;
+  Result.PrintLine := nil;
+end;
+
+function ZvtVersion: string;
+var
+  Room: array[0..31] of AnsiChar;
+  Size: NativeUInt;
+begin
+  Size := zvt_version(PByte(@Room[0]), SizeOf(Room));
+  SetString(Result, PAnsiChar(@Room[0]), Min(Size, SizeOf(Room)));
+end;
+
+{$IFDEF FPC}
+type
+  TTcpConnection = class(TZvtConnection)
+  private
+    FSocket: TInetSocket;
+  public
+    constructor Create(const Host: string; Port: Word; Milliseconds: Integer);
+    destructor Destroy; override;
+    function Read(var Buffer: TBytes; Milliseconds: Integer): Integer; override;
+    procedure Write(const Bytes: TBytes); override;
+  end;
+
+constructor TTcpConnection.Create(const Host: string; Port: Word; Milliseconds: Integer);
+var
+  Yes: Integer;
+begin
+  try
+    FSocket := TInetSocket.Create(Host, Port, Milliseconds);
+  except
+    on Error: ESocketError do raise EZvtBroken.CreateFmt('cannot connect to %s:%d: %s', [Host, Port, Error.Message]);
+  end;
+  { Each message goes out at once: without this the system may hold an acknowledgement back for 40 ms. }
+  Yes := 1;
+  fpSetSockOpt(FSocket.Handle, IPPROTO_TCP, TCP_NODELAY, @Yes, SizeOf(Yes));
+end;
+
+destructor TTcpConnection.Destroy;
+begin
+  FSocket.Free;
+  inherited;
+end;
+
+function TTcpConnection.Read(var Buffer: TBytes; Milliseconds: Integer): Integer;
+var
+  Polled: TPoll;
+  Found: Integer;
+begin
+  Polled.Socket := FSocket.Handle;
+  Polled.Events := POLLIN;
+  Found := poll(Polled, 1, Milliseconds);
+  if Found = 0 then Exit(0);
+  if Found > 0 then Found := posix_recv(FSocket.Handle, First(Buffer), Length(Buffer), 0);
+  if Found < 0 then raise EZvtBroken.Create(LastError);
+  if Found = 0 then raise EZvtBroken.Create('the terminal ended the line');
+  Result := Found;
+end;
+
+procedure TTcpConnection.Write(const Bytes: TBytes);
+var
+  At, Size: NativeInt;
+begin
+  At := 0;
+  while At < Length(Bytes) do
+  begin
+    Size := posix_send(FSocket.Handle, @Bytes[At], Length(Bytes) - At, MSG_NOSIGNAL);
+    if Size < 0 then raise EZvtBroken.Create(LastError);
+    At := At + Size;
+  end;
+end;
+
+procedure TZvtTill.Connect(const Host: string; Port: Word; Milliseconds: Integer);
+begin
+  Whole('port', Port, 1, 65535);
+  Whole('time-out in milliseconds', Milliseconds, 1, MaxInt);
+  Disconnect;
+  Connect(TTcpConnection.Create(Host, Port, Milliseconds), Milliseconds);
+end;
+{$ENDIF}
+
+constructor TZvtTill.Create(const Settings: TZvtSettings);
+begin
+  Whole('password', Settings.Password, 0, 999999);
+  Whole('config', Settings.Config, 0, $FF);
+  Whole('currency', Settings.Currency, 0, 9999);
+  if zvt_abi <> ZvtAbi then
+    raise EZvtUse.CreateFmt('the calls of libzvt are of number %d, and zvt.pas is made for %d', [zvt_abi, ZvtAbi]);
+  FPrintLine := Settings.PrintLine;
+  SetLength(FOut, RoomSize);
+  SetLength(FText, LineRoom);
+  Check(zvt_till_new(FHandle, Settings.Password, Settings.Config, Settings.Currency));
+  if Settings.Book <> '' then BeginBook(Settings);
+end;
+
+{ Makes the till that of the book, or begins the book. }
+procedure TZvtTill.BeginBook(const Settings: TZvtSettings);
+var
+  Answer: TZvtAnswer;
+begin
+  SetLength(FRecord, RecordRoom);
+  FJournal := TZvtJournal.Create(Settings.Book);
+  if Length(FJournal.Text) > 0 then Recover(Settings.Book);
+  FJournal.Settle;
+  if Length(FJournal.Text) = 0 then
+  begin
+    zvt_record_opening(Settings.Currency, First(FRecord), RecordRoom, Answer);
+    MakeDurable(Answer);
+  end;
+end;
+
+{ Makes the till that of the book's records. }
+procedure TZvtTill.Recover(const Path: string);
+const
+  Why: array[1..3] of string = ('line %d is not the first line of a journal of its currency', 'line %d is no line of a till''s record',
+    'record %d can''t follow from those before it');
+var
+  Answer: TZvtAnswer;
+begin
+  zvt_till_recover(FHandle, First(FJournal.Text), Length(FJournal.Text), Answer);
+  if Answer.Status = StatusRefused then
+    raise EZvtBook.Create(Path + ' is no book of such a till: ' + Format(Why[Answer.Reason], [Answer.Place]));
+  Check(Answer.Status);
+end;
+
+destructor TZvtTill.Destroy;
+begin
+  FreeAndNil(FLine);
+  FreeAndNil(FJournal);
+  zvt_till_free(FHandle);
+  inherited;
+end;
+
+procedure TZvtTill.RefuseWithin;
+begin
+  if FRunning then raise EZvtUse.Create('a callback can''t give its till an order or a line');
+end;
+
+procedure TZvtTill.Check(Status: Cardinal);
+begin
+  if Status = StatusClosed then raise EZvtUse.Create('the till is closed');
+  if Status <> 0 then raise EZvtRefused.Create(Status);
+end;
+
+procedure TZvtTill.Connect(Line: TZvtConnection; Milliseconds: Integer);
+var
+  Answer: TZvtAnswer;
+begin
+  try
+    Whole('time-out in milliseconds', Milliseconds, 1, MaxInt);
+    Disconnect;
+    if FJournal <> nil then
+    begin
+      zvt_record_lost(First(FRecord), RecordRoom, Answer);
+      MakeDurable(Answer);
+    end;
+    Check(zvt_till_connected(FHandle));
+  except
+    Line.Free;
+    raise;
+  end;
+  FLine := Line;
+  FTimeout := Milliseconds;
+  SetLength(FUnheard, 0);
+end;
+
+procedure TZvtTill.Disconnect;
+begin
+  RefuseWithin;
+  DropLine;
+end;
+
+procedure TZvtTill.DropLine;
+var
+  Step: TZvtStep;
+begin
+  if FLine = nil then Exit;
+  FreeAndNil(FLine);
+  Check(zvt_till_lost(FHandle, Step));
+  Ended(Step);
+end;
+
+function TZvtTill.Register: TZvtOutcome;
+begin
+  Result := Run(OrderRegister, 0, nil);
+end;
+
+function TZvtTill.Pay(Amount: Int64; WantsCancel: TZvtQuestion): TZvtOutcome;
+begin
+  Whole('amount', Amount, 1, ZvtMaxAmount);
+  Result := Run(OrderPay, Amount, WantsCancel);
+end;
+
+function TZvtTill.Reverse(Place: Integer): TZvtOutcome;
+begin
+  Whole('place', Place, 0, MaxInt);
+  Result := Run(OrderReverse, Place, nil);
+end;
+
+function TZvtTill.CloseDay: TZvtOutcome;
+begin
+  Result := Run(OrderCloseDay, 0, nil);
+end;
+
+{ One order from end to end. Raises EZvtLine where the order ended by the line, EZvtBook where the book failed, EZvtRefused where
+  the library refuses it, and what a callback raised, once the order has ended. }
+function TZvtTill.Run(Order: Cardinal; Number: Int64; WantsCancel: TZvtQuestion): TZvtOutcome;
+var
+  Bytes: TBytes;
+  Why: string;
+  Raised: TObject;
+begin
+  RefuseWithin;
+  Bytes := GiveOrder(Order, Number);
+  FRaised := nil;
+  FOutcome.Ending := zeNone;
+  FRunning := True;
+  Why := '';
+  try
+    try
+      KeepAndSend(Order, Number, Bytes);
+      HearOut(WantsCancel);
+    except
+      on Error: EZvtBroken do
+      begin
+        DropLine;
+        if (FOutcome.Ending = zeNone) or FOutcome.IsByLine then Why := Error.Message;
+      end;
+      else
+      begin
+        if FJournal <> nil then FJournal.GiveUp;
+        DropLine;
+        raise;
+      end;
+    end;
+  finally
+    FRunning := False;
+  end;
+  Raised := FRaised;
+  FRaised := nil;
+  if Raised <> nil then raise Raised;
+  if Why <> '' then raise EZvtLine.Create(FOutcome, Why);
+  Result := FOutcome;
+end;
+
+function TZvtTill.GiveOrder(Order: Cardinal; Number: Int64): TBytes;
+var
+  Step: TZvtStep;
+begin
+  Check(zvt_till_order(FHandle, Order, Number, First(FOut), RoomSize, Step));
+  Result := Copy(FOut, 0, Step.Send);
+end;
+
+{ Makes the order durable, and only then sends it. }
+procedure TZvtTill.KeepAndSend(Order: Cardinal; Number: Int64; const Bytes: TBytes);
+var
+  Answer: TZvtAnswer;
+begin
+  if FJournal <> nil then
+  begin
+    zvt_record_order(Order, Number, First(Bytes), Length(Bytes), First(FRecord), RecordRoom, Answer);
+    MakeDurable(Answer);
+  end;
+  FLine.Write(Bytes);
+end;
+
+{ After an error the book may lack a record that the till lives through: this till adds no more to it. }
+procedure TZvtTill.MakeDurable(const Answer: TZvtAnswer);
+begin
+  if Answer.Status <> 0 then FJournal.GiveUp;
+  Check(Answer.Status);
+  FJournal.Append(FRecord, Answer.Size);
+end;
+
+procedure TZvtTill.Ended(const Step: TZvtStep);
+begin
+  if Step.Outcome.Kind <> 0 then FOutcome := OutcomeOf(Step.Outcome);
+end;
+
+{ Hears the terminal until the order has ended. }
+procedure TZvtTill.HearOut(WantsCancel: TZvtQuestion);
+var
+  Room: TBytes;
+  Size, Rest: Integer;
+  Since: UInt64;
+  Asks: Boolean;
+begin
+  SetLength(Room, 4096);
+  Since := GetTickCount64;
+  while FOutcome.Ending = zeNone do
+  begin
+    Asks := Assigned(WantsCancel) and (FRaised = nil);
+    Rest := FTimeout - Int64(GetTickCount64 - Since);
+    if Rest <= 0 then raise EZvtBroken.Create('the terminal is silent');
+    if Asks then Rest := Min(Rest, 200);
+    Size := FLine.Read(Room, Rest);
+    if Size > 0 then
+    begin
+      Hear(Copy(Room, 0, Size));
+      Since := GetTickCount64;
+    end
+    else if Asks and Wants(WantsCancel) and Cancels then
+      WantsCancel := nil;
+  end;
+end;
+
+{ Asks the terminal to cancel the payment: False where it has not acknowledged the payment yet, and is to be asked later. }
+function TZvtTill.Cancels: Boolean;
+var
+  Bytes: TBytes;
+begin
+  try
+    Bytes := GiveOrder(OrderCancel, 0);
+  except
+    on Refused: EZvtRefused do
+    begin
+      if Refused.Status <> StatusNothingToCancel then raise;
+      Exit(False);
+    end;
+  end;
+  KeepAndSend(OrderCancel, 0, Bytes);
+  Result := True;
+end;
+
+{ What a callback raises waits until what the terminal sent is heard and answered; the first goes on. }
+function TZvtTill.Wants(Question: TZvtQuestion): Boolean;
+begin
+  try
+    Result := Question;
+  except
+    Result := False;
+    if FRaised = nil then FRaised := TObject(AcquireExceptionObject);
+  end;
+end;
+
+procedure TZvtTill.Print(const Line: TBytes);
+begin
+  try
+    FPrintLine(Line);
+  except
+    if FRaised = nil then FRaised := TObject(AcquireExceptionObject);
+  end;
+end;
+
+{ Feeds a whole piece and sends what answers it. Where the line takes no answer, the rest is heard all the same. }
+procedure TZvtTill.Hear(const Piece: TBytes);
+var
+  Answer: TZvtAnswer;
+  Size: NativeUInt;
+  Bytes: TBytes;
+  Broken: string;
+begin
+  Broken := '';
+  if FJournal = nil then
+    Feed(Piece, Broken)
+  else
+  begin
+    FUnheard := Concat(FUnheard, Piece);
+    while Length(FUnheard) > 0 do
+    begin
+      Size := zvt_record_heard(First(FUnheard), Length(FUnheard), First(FRecord), RecordRoom, Answer);
+      if Answer.Status = StatusMore then Break;
+      if Answer.Status = StatusRefused then raise EZvtBroken.Create('the terminal sent what is no message');
+      Check(Answer.Status);
+      FJournal.Append(FRecord, Size);
+      Bytes := Copy(FUnheard, 0, Answer.Size);
+      FUnheard := Copy(FUnheard, Answer.Size, Length(FUnheard));
+      Feed(Bytes, Broken);
+    end;
+  end;
+  if Broken <> '' then raise EZvtBroken.Create(Broken);
+end;
+
+procedure TZvtTill.Feed(Piece: TBytes; var Broken: string);
+var
+  Step: TZvtStep;
+  Status: Cardinal;
+begin
+  while Length(Piece) > 0 do
+  begin
+    Status := zvt_till_feed_all(FHandle, First(Piece), Length(Piece), First(FOut), RoomSize, First(FText), LineRoom, Step);
+    Ended(Step);
+    if (Step.Send > 0) and (Broken = '') then
+      try
+        FLine.Write(Copy(FOut, 0, Step.Send));
+      except
+        on Error: EZvtBroken do Broken := Error.Message;
+      end;
+    if (Step.Printed = 1) and Assigned(FPrintLine) then Print(Copy(FText, 0, Step.Line));
+    if Status = StatusRefused then raise EZvtBroken.Create('the terminal sent what is no message');
+    Check(Status);
+    Piece := Copy(Piece, Step.Taken, Length(Piece));
+  end;
+end;
+
+function TZvtTill.State: TZvtState;
+begin
+  Check(zvt_till_state(FHandle, Result));
+end;
+
+function TZvtTill.SumOfBook: Int64;
+begin
+  Result := State.Total;
+end;
+
+function TZvtTill.IsRegistered: Boolean;
+begin
+  Result := State.Registered = 1;
+end;
+
+function TZvtTill.LastOutcome: TZvtOutcome;
+begin
+  Result := OutcomeOf(State.Last);
+end;
+
+function TZvtTill.Book: TZvtEntries;
+var
+  Entry: TZvtEntryNumbers;
+  Place: Integer;
+begin
+  Result := nil;
+  SetLength(Result, State.Booked);
+  for Place := 0 to High(Result) do
+  begin
+    Check(zvt_till_entry(FHandle, Place, Entry));
+    Result[Place] := EntryOf(Entry, True);
+  end;
+end;
+
+function TZvtTill.Unclear: TZvtEntries;
+var
+  Entry: TZvtEntryNumbers;
+  Place: Integer;
+begin
+  Result := nil;
+  SetLength(Result, State.Unclear);
+  for Place := 0 to High(Result) do
+  begin
+    Check(zvt_till_unclear(FHandle, Place, Entry));
+    Result[Place] := EntryOf(Entry, False);
+  end;
+end;
+
+function TZvtTill.UnclearReversals: TZvtPlaces;
+var
+  Entries: TZvtEntries;
+  Place: Integer;
+begin
+  Result := nil;
+  Entries := Book;
+  for Place := 0 to High(Entries) do
+    if Entries[Place].Doubt = zdUnclearReversal then
+    begin
+      SetLength(Result, Length(Result) + 1);
+      Result[High(Result)] := Place;
+    end;
+end;
+
+function TZvtTill.Save: TBytes;
+var
+  Answer: TZvtAnswer;
+begin
+  Result := nil;
+  repeat
+    zvt_till_save(FHandle, First(Result), Length(Result), Answer);
+    Check(Answer.Status);
+    if Answer.Size = UInt64(Length(Result)) then Exit;
+    SetLength(Result, Answer.Size);
+  until False;
+end;
+
+procedure TZvtTill.Load(const Saved: TBytes);
+begin
+  if FJournal <> nil then raise EZvtUse.Create('a till that keeps a book is that of its book, and of no save');
+  Disconnect;
+  Check(zvt_till_load(FHandle, First(Saved), Length(Saved)));
+end;
+
+constructor TZvtJournal.Create(const Path: string);
+var
+  Held: TBytes;
+  Stop, Rest: Integer;
+begin
+  FPath := Path;
+  FFile := -1;
+  FFile := OpenOrMake;
+  if flock(FFile, LOCK_EX or LOCK_NB) <> 0 then
+  begin
+    if errno_location()^ <> EAGAIN then RaiseLast('open');
+    raise EZvtBook.Create('another till has the book ' + FPath + ' open: end that till first, or name another file');
+  end;
+  Held := Durable;
+  Stop := Accepted(Held);
+  FText := Copy(Held, 0, Stop);
+  Rest := Stop;
+  if (Rest < Length(Held)) and (Held[Rest] = 10) then Inc(Rest);
+  FCut := Copy(Held, Rest, Length(Held));
+  FGate := Stop;
+end;
+
+destructor TZvtJournal.Destroy;
+begin
+  if FFile >= 0 then posix_close(FFile);
+  inherited;
+end;
+
+procedure TZvtJournal.RaiseLast(const What: string);
+begin
+  raise EZvtBook.CreateFmt('cannot %s the book %s: %s', [What, FPath, LastError]);
+end;
+
+{ The answer of a call that answers -1 where it fails. }
+function TZvtJournal.Done(Answer: Int64; const What: string): Int64;
+begin
+  if Answer < 0 then RaiseLast(What);
+  Result := Answer;
+end;
+
+{ The file, which its owner alone may read where it is made. }
+function TZvtJournal.OpenOrMake: Integer;
+begin
+  Result := posix_open(PAnsiChar(AnsiString(FPath)), O_RDWR or O_CREAT or O_EXCL or O_CLOEXEC, $180);
+  if Result >= 0 then Exit;
+  if errno_location()^ <> EEXIST then RaiseLast('open');
+  if not FileExists(FPath) then
+    raise EZvtBook.Create(FPath + ' is no regular file: name a regular file, or one that is not there yet');
+  Result := Done(posix_open(PAnsiChar(AnsiString(FPath)), O_RDWR or O_CLOEXEC, 0), 'open');
+end;
+
+{ The bytes of the file, all of them durable: after a kill, what a read returns need not be on the disk. }
+function TZvtJournal.Durable: TBytes;
+var
+  Room: TBytes;
+  Size: Int64;
+begin
+  Done(fsync(FFile), 'open');
+  posix_fadvise(FFile, 0, 0, POSIX_FADV_DONTNEED);
+  Result := nil;
+  SetLength(Room, 1 shl 16);
+  repeat
+    Size := Done(pread(FFile, First(Room), Length(Room), Length(Result)), 'open');
+    Result := Concat(Result, Copy(Room, 0, Size));
+  until Size = 0;
+end;
+
+{ How many bytes of whole lines come before the first empty line, if the file of a book may hold these bytes. }
+function TZvtJournal.Accepted(const Held: TBytes): Integer;
+var
+  At: Integer;
+  Begun, Named: Boolean;
+begin
+  Begun := (Length(Held) <= 1) or ((Held[0] = 10) and (Length(Held) <= OpeningRoom + 1));
+  Named := Length(Held) >= Length(Format_);
+  for At := 1 to Length(Format_) do
+    if Named then Named := Held[At - 1] = Ord(Format_[At]);
+  if not (Begun or Named) then
+    raise EZvtBook.Create(FPath + ' is no journal, and it was left as it is: name a journal, or a file that is not there yet');
+  Result := 0;
+  for At := 0 to High(Held) do
+  begin
+    if Held[At] <> 10 then Continue;
+    if At = Result then Break;
+    Result := At + 1;
+  end;
+  if Length(Held) - Result > MostAfter then
+    raise EZvtBook.CreateFmt('%d bytes come after the first empty line of %s, more than a crash leaves: remove that line if an editor put it there',
+      [Length(Held) - Result, FPath]);
+end;
+
+procedure TZvtJournal.Settle;
+begin
+  if Length(FCut) > 0 then KeepCut;
+  SyncFolder;
+  { The cut is on the disk before a gate is written: after a torn gate what was there would count. }
+  Done(ftruncate(FFile, FGate), 'open');
+  Done(fdatasync(FFile), 'open');
+  Write(TBytes.Create(10), FGate, 'open');
+end;
+
+procedure TZvtJournal.KeepCut;
+var
+  Rest: Integer;
+  At: Int64;
+begin
+  Rest := Done(posix_open(PAnsiChar(AnsiString(FPath + '.cut')), O_WRONLY or O_APPEND or O_CREAT or O_CLOEXEC, $180), 'open');
+  try
+    At := 0;
+    while At < Length(FCut) do At := At + Done(posix_write(Rest, @FCut[At], Length(FCut) - At), 'open');
+    Done(fsync(Rest), 'open');
+  finally
+    posix_close(Rest);
+  end;
+end;
+
+{ Makes the name of the file durable. }
+procedure TZvtJournal.SyncFolder;
+var
+  Folder: Integer;
+begin
+  Folder := Done(posix_open(PAnsiChar(AnsiString(ExtractFilePath(ExpandFileName(FPath)))), O_CLOEXEC, 0), 'open');
+  try
+    Done(fsync(Folder), 'open');
+  finally
+    posix_close(Folder);
+  end;
+end;
+
+procedure TZvtJournal.Append(const Bytes: TBytes; Size: Integer);
+var
+  After: TBytes;
+begin
+  if FFailed then raise EZvtBook.Create('the book failed before, and takes no record any more: open it anew');
+  FFailed := True;
+  After := Copy(Bytes, 1, Size);
+  After[Size - 1] := 10;
+  Write(After, FGate + 1, 'write');
+  Write(TBytes.Create(Bytes[0]), FGate, 'write');
+  FFailed := False;
+  FGate := FGate + Size;
+end;
+
+procedure TZvtJournal.Write(const Bytes: TBytes; Place: Int64; const What: string);
+var
+  At: Int64;
+begin
+  At := 0;
+  while At < Length(Bytes) do At := At + Done(pwrite(FFile, @Bytes[At], Length(Bytes) - At, Place + At), What);
+  Done(fdatasync(FFile), What);
+end;
+
+procedure TZvtJournal.GiveUp;
+begin
+  FFailed := True;
+end;
+
+end.
