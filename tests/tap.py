@@ -86,6 +86,10 @@ class Tap:
         self.said = self.run.stderr.readline().decode()
         found = re.fullmatch(r"zvt: a tap listens at 127\.0\.0\.1:(\d+)\n", self.said)
         self.port = int(found[1]) if found else None
+        # It says a line or two of each connection, more than a pipe holds where there are many.
+        self.says = []
+        self.reader = threading.Thread(target=lambda: self.says.extend(self.run.stderr), daemon=True)
+        self.reader.start()
 
     def till(self):
         till = socket.socket()
@@ -96,8 +100,9 @@ class Tap:
 
     def end(self):
         """The status, the trace, what was written, and what was said besides the address."""
-        said = self.run.stderr.read().decode()
         status = self.run.wait(SECONDS)
+        self.reader.join(SECONDS)
+        said = b"".join(self.says).decode()
         trace = b""
         if self.trace and os.path.isfile(self.trace):
             trace = pathlib.Path(self.trace).read_bytes()
@@ -377,7 +382,8 @@ def missing():
     door = listener()
     port = door.getsockname()[1]
     tap = Tap(port, listen=str(port), trace=None)
-    said = tap.said + tap.run.stderr.read().decode()
+    tap.reader.join(SECONDS)
+    said = tap.said + b"".join(tap.says).decode()
     check("the port is in use", (tap.run.wait(SECONDS), "is in use" in said), (4, True))
     door.close()
     tap = Tap(port, "--connections", "2")
