@@ -1,13 +1,12 @@
 // Runs the steps of a shop's day at a terminal: Pay HOST PORT BOOK STEP... Start `zvt terminal --port PORT` first.
 using System;
-using System.Text;
 using Zvt;
 
 static class Pay {
     static void Main(string[] words) {
         var settings = new Settings {
             Book = words[2],
-            PrintLine = line => Console.WriteLine("  | " + Encoding.ASCII.GetString(line)),
+            PrintLine = line => Console.WriteLine("  | " + Till.TextOfLine(line)),
         };
         using (var till = new Till(settings)) {
             till.Connect(words[0], int.Parse(words[1]), TimeSpan.FromSeconds(60));

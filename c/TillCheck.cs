@@ -182,6 +182,14 @@ static class TillCheck {
         Console.WriteLine($"after: {till.Last}, booked {till.Book.Count}");
         till.Dispose();
 
+        var status = new Memory();
+        var texts = new StringBuilder();
+        till = Registered(new Settings { Book = Environment.GetEnvironmentVariable("ZVT_BOOK"), Heard = text => texts.Append(text) }, status);
+        status.Says(Ack + "04FF010A" + Approved + Done);
+        Tells("heard", () => till.Pay(1234));
+        Console.Write(texts);
+        till.Dispose();
+
         var third = new Memory();
         till = Registered(new Settings(), third);
         third.IsSilent = true;

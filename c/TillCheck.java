@@ -172,6 +172,14 @@ public final class TillCheck {
         System.out.println("after: " + till[0].last() + ", booked " + till[0].book().size());
         till[0].close();
 
+        Memory status = new Memory();
+        StringBuilder texts = new StringBuilder();
+        till[0] = registered(settings().book(Paths.get(System.getenv("ZVT_BOOK"))).heard(texts::append), status);
+        status.says(ACK + "04FF010A" + APPROVED + DONE);
+        tells("heard", () -> till[0].pay(1234));
+        System.out.print(texts);
+        till[0].close();
+
         Memory third = new Memory();
         till[0] = registered(settings(), third);
         third.isSilent = true;

@@ -60,6 +60,8 @@ namespace Zvt {
         public Ending Ending { get; }
         /// <summary>The terminal's code, where it declined, refused or aborted.</summary>
         public int? Code { get; }
+        /// <summary>What the code means, where it has a meaning of its own.</summary>
+        public string Meaning { get; }
         /// <summary>Where the payment or the reversal is unclear.</summary>
         public Cause? Cause { get; }
         /// <summary>Where it is paid.</summary>
@@ -69,7 +71,12 @@ namespace Zvt {
 
         internal Outcome(Native.Outcome from) {
             Ending = (Ending)from.kind;
-            if (Ending == Ending.Declined || Ending == Ending.OrderRefused || Ending == Ending.Aborted) Code = (int)from.code;
+            if (Ending == Ending.Declined || Ending == Ending.OrderRefused || Ending == Ending.Aborted) {
+                Code = (int)from.code;
+                var room = new byte[64];
+                var size = (int)Native.zvt_result_name(from.code, room, Native.Size(room));
+                if (size > 0) Meaning = Encoding.ASCII.GetString(room, 0, size);
+            }
             if (Ending == Ending.Unclear) Cause = (Cause)from.code;
             if (Ending == Ending.Paid) Trace = (int)from.trace;
             if (Ending == Ending.Paid && from.has_receipt == 1) Receipt = (int)from.receipt;
@@ -79,7 +86,7 @@ namespace Zvt {
         public bool IsByLine { get { return Cause == Zvt.Cause.Line || Cause == Zvt.Cause.Malformed; } }
 
         public override string ToString() {
-            return Words.Of(Ending) + (Code == null ? "" : $", code {Code:X2}") + (Cause == null ? "" : ": " + Words.Of(Cause))
+            return Words.Of(Ending) + (Code == null ? "" : $", code {Code:X2}") + (Meaning == null ? "" : $" ({Meaning})") + (Cause == null ? "" : ": " + Words.Of(Cause))
                 + Words.Numbers(Trace, Receipt);
         }
     }
@@ -161,6 +168,8 @@ namespace Zvt {
         /// <summary>Takes the bytes of each print line, in the terminal's character set. What it throws waits for the order's
         /// outcome.</summary>
         public Action<byte[]> PrintLine { get; set; }
+        /// <summary>Takes the text of each message of the terminal, as the program zvt shows it; what it throws waits, too.</summary>
+        public Action<string> Heard { get; set; }
     }
 
     /// <summary>A till, which keeps its book in a file where the settings name one.</summary>
@@ -168,6 +177,7 @@ namespace Zvt {
         const int Room = 8 * 32, LineRoom = 65534, RecordRoom = 131200;
         readonly Native.TillHandle handle = new Native.TillHandle();
         readonly Action<byte[]> printLine;
+        readonly Action<string> heard;
         readonly byte[] output = new byte[Room], text = new byte[LineRoom], record;
         readonly Journal journal;
         Stream line;
@@ -185,6 +195,7 @@ namespace Zvt {
                 throw new DllNotFoundException($"the calls of {Native.Library} are of number {Native.zvt_abi()}, and Zvt.cs is made for {Native.Abi}");
             }
             printLine = settings.PrintLine;
+            heard = settings.Heard;
             try {
                 Check(Native.zvt_till_new(handle, (uint)settings.Password, (byte)settings.Config, (ushort)settings.Currency));
                 if (settings.Book == null) return;
@@ -196,6 +207,23 @@ namespace Zvt {
                 throw;
             }
         }
+
+        /// <summary>The text of a print line in code page 437, which most terminals write, and which some systems lack.</summary>
+        public static string TextOfLine(byte[] line) {
+            var text = new StringBuilder();
+            foreach (var it in line) text.Append(it < 128 ? (char)it : CodePage437[it - 128]);
+            return text.ToString();
+        }
+
+        const string CodePage437 =
+            "\u00C7\u00FC\u00E9\u00E2\u00E4\u00E0\u00E5\u00E7\u00EA\u00EB\u00E8\u00EF\u00EE\u00EC\u00C4\u00C5"
+            + "\u00C9\u00E6\u00C6\u00F4\u00F6\u00F2\u00FB\u00F9\u00FF\u00D6\u00DC\u00A2\u00A3\u00A5\u20A7\u0192"
+            + "\u00E1\u00ED\u00F3\u00FA\u00F1\u00D1\u00AA\u00BA\u00BF\u2310\u00AC\u00BD\u00BC\u00A1\u00AB\u00BB"
+            + "\u2591\u2592\u2593\u2502\u2524\u2561\u2562\u2556\u2555\u2563\u2551\u2557\u255D\u255C\u255B\u2510"
+            + "\u2514\u2534\u252C\u251C\u2500\u253C\u255E\u255F\u255A\u2554\u2569\u2566\u2560\u2550\u256C\u2567"
+            + "\u2568\u2564\u2565\u2559\u2558\u2552\u2553\u256B\u256A\u2518\u250C\u2588\u2584\u258C\u2590\u2580"
+            + "\u03B1\u00DF\u0393\u03C0\u03A3\u03C3\u00B5\u03C4\u03A6\u0398\u03A9\u03B4\u221E\u03C6\u03B5\u2229"
+            + "\u2261\u00B1\u2265\u2264\u2320\u2321\u00F7\u2248\u00B0\u2219\u00B7\u221A\u207F\u00B2\u25A0\u00A0";
 
         /// <summary>The version of the library, as 0.2.0.</summary>
         public static string Version {
@@ -412,29 +440,42 @@ namespace Zvt {
             }
         }
 
-        /// <summary>Feeds a whole piece and sends what answers it. Where the line takes no answer, the rest is heard all the
-        /// same.</summary>
+        /// <summary>Feeds the messages that end in a piece, and sends what answers them. Where the line takes no answer, the rest
+        /// is heard all the same. Bytes that are no message come last: to a till that keeps a book they are a lost line.</summary>
         void Hear(byte[] piece) {
             Exception broken = null;
-            if (journal == null) {
-                Feed(piece, ref broken);
-            } else {
-                var all = new byte[unheard.Length + piece.Length];
-                unheard.CopyTo(all, 0);
-                piece.CopyTo(all, unheard.Length);
-                unheard = all;
-                while (unheard.Length > 0) {
-                    var size = (int)Native.zvt_record_heard(unheard, Native.Size(unheard), record, Native.Size(record), out var answer);
-                    if (answer.status == Native.More) break;
-                    if (answer.status == (uint)Status.NoTill) throw new IOException("the terminal sent what is no message");
-                    Check(answer.status);
-                    journal.Append(record, size);
-                    var message = Part(unheard, 0, (int)answer.size);
-                    unheard = Part(unheard, message.Length, unheard.Length);
-                    Feed(message, ref broken);
-                }
+            var all = new byte[unheard.Length + piece.Length];
+            unheard.CopyTo(all, 0);
+            piece.CopyTo(all, unheard.Length);
+            unheard = all;
+            while (unheard.Length > 0) {
+                int size = First(out var answer);
+                if (answer.status == Native.More) break;
+                bool isMessage = answer.status != (uint)Status.NoTill;
+                if (!isMessage && journal != null) throw new IOException("the terminal sent what is no message");
+                if (isMessage) Check(answer.status);
+                journal?.Append(record, size);
+                var message = Part(unheard, 0, isMessage ? (int)answer.size : unheard.Length);
+                unheard = Part(unheard, message.Length, unheard.Length);
+                Feed(message, ref broken);
+                if (heard != null) Tell(() => heard(TextOf(message)));
             }
             if (broken != null) throw broken;
+        }
+
+        /// <summary>The size of the record of the message that stands first, of a till that keeps a book; the answer says what
+        /// stands first.</summary>
+        int First(out Native.Answer answer) {
+            if (journal != null) return (int)Native.zvt_record_heard(unheard, Native.Size(unheard), record, Native.Size(record), out answer);
+            Native.zvt_scan(unheard, Native.Size(unheard), out answer);
+            return 0;
+        }
+
+        static string TextOf(byte[] message) {
+            var room = new byte[1024];
+            int size = (int)Native.zvt_text(message, Native.Size(message), room, Native.Size(room), out _);
+            if (size > room.Length) size = (int)Native.zvt_text(message, Native.Size(message), room = new byte[size], Native.Size(room), out _);
+            return Encoding.ASCII.GetString(room, 0, size);
         }
 
         void Feed(byte[] piece, ref Exception broken) {
@@ -449,17 +490,20 @@ namespace Zvt {
                         broken = new IOException(error.Message, error);
                     }
                 }
-                if (step.printed == 1 && printLine != null) Print(Part(text, 0, (int)step.line));
+                if (step.printed == 1 && printLine != null) {
+                    var printed = Part(text, 0, (int)step.line);
+                    Tell(() => printLine(printed));
+                }
                 if (status == (uint)Status.NoTill) throw new IOException("the terminal sent what is no message");
                 Check(status);
                 piece = Part(piece, (int)step.taken, piece.Length);
             }
         }
 
-        /// <summary>What the callback throws waits until what the terminal sent is heard and answered; the first goes on.</summary>
-        void Print(byte[] printed) {
+        /// <summary>What a callback throws waits until what the terminal sent is heard and answered; the first goes on.</summary>
+        void Tell(Action callback) {
             try {
-                printLine(printed);
+                callback();
             } catch (Exception error) {
                 raised = raised ?? error;
             }
@@ -735,6 +779,9 @@ namespace Zvt {
 
         [DllImport(Library)] public static extern uint zvt_abi();
         [DllImport(Library)] public static extern UIntPtr zvt_version(byte[] room, UIntPtr length);
+        [DllImport(Library)] public static extern UIntPtr zvt_result_name(uint code, byte[] room, UIntPtr length);
+        [DllImport(Library)] public static extern void zvt_scan(byte[] bytes, UIntPtr length, out Answer answer);
+        [DllImport(Library)] public static extern UIntPtr zvt_text(byte[] bytes, UIntPtr length, [Out] byte[] room, UIntPtr roomLength, out Answer answer);
         [DllImport(Library)] public static extern uint zvt_till_new(TillHandle till, uint password, byte config, ushort currency);
         [DllImport(Library)] static extern void zvt_till_free(IntPtr till);
         [DllImport(Library)] public static extern uint zvt_till_connected(TillHandle till);

@@ -116,25 +116,34 @@ public final class Zvt {
         public final Ending ending;
         /** The terminal's code, where it declined, refused or aborted. */
         public final Integer code;
+        /** What the code means, where it has a meaning of its own. */
+        public final String meaning;
         /** Where the payment or the reversal is unclear. */
         public final Cause cause;
         /** Where it is paid; the receipt number only where the terminal gave one. */
         public final Integer trace, receipt;
 
-        Outcome(OutcomeNumbers from) {
+        Outcome(OutcomeNumbers from, Calls calls) {
             ending = Ending.values()[from.kind];
             boolean coded = ending == Ending.DECLINED || ending == Ending.ORDER_REFUSED || ending == Ending.ABORTED;
             code = coded ? from.code : null;
+            meaning = coded ? meaningOf(from.code, calls) : null;
             cause = ending == Ending.UNCLEAR ? Cause.values()[from.code - 1] : null;
             trace = ending == Ending.PAID ? from.trace : null;
             receipt = ending == Ending.PAID && from.has_receipt == 1 ? from.receipt : null;
+        }
+
+        private static String meaningOf(int code, Calls calls) {
+            byte[] room = new byte[64];
+            int size = calls.zvt_result_name(code, room, new NativeLong(room.length)).intValue();
+            return size == 0 ? null : new String(room, 0, size, StandardCharsets.US_ASCII);
         }
 
         /** Whether the order ended by its line, and not by what the terminal said. */
         public boolean isByLine() { return cause == Cause.LINE || cause == Cause.MALFORMED; }
 
         @Override public String toString() {
-            String text = words(ending) + (code == null ? "" : String.format(", code %02X", code));
+            String text = words(ending) + (code == null ? "" : String.format(", code %02X", code)) + (meaning == null ? "" : " (" + meaning + ")");
             return text + (cause == null ? "" : ": " + words(cause)) + numbers(trace, receipt);
         }
     }
@@ -187,6 +196,7 @@ public final class Zvt {
         private int password = 0, config = 0xBE, currency = 978;
         private Path book;
         private Consumer<byte[]> printLine;
+        private Consumer<String> heard;
 
         /** The library's name or path. */
         public Settings library(String name) { library = name; return this; }
@@ -199,6 +209,8 @@ public final class Zvt {
         public Settings book(Path file) { book = file; return this; }
         /** Takes the bytes of each print line, in the terminal's character set. What it throws waits for the order's outcome. */
         public Settings printLine(Consumer<byte[]> taker) { printLine = taker; return this; }
+        /** Takes the text of each message of the terminal, as the program zvt shows it; what it throws waits, too. */
+        public Settings heard(Consumer<String> taker) { heard = taker; return this; }
     }
 
     /** A line to a terminal. */
@@ -264,6 +276,7 @@ public final class Zvt {
     public static final class Till implements AutoCloseable {
         private final Calls calls;
         private final Consumer<byte[]> printLine;
+        private final Consumer<String> heard;
         private final Memory handle = new Memory(16);
         private final byte[] out = new byte[ROOM], text = new byte[LINE_ROOM], record;
         private final Book book;
@@ -278,6 +291,7 @@ public final class Zvt {
         public Till(Settings settings) throws BookException {
             calls = open(settings.library);
             printLine = settings.printLine;
+            heard = settings.heard;
             handle.clear();
             check(calls.zvt_till_new(handle, settings.password, (byte) settings.config, (short) settings.currency));
             record = settings.book == null ? null : new byte[RECORD_ROOM];
@@ -486,7 +500,7 @@ public final class Zvt {
 
         private void ended(Step step) {
             if (step.outcome.kind != 0) {
-                outcome = new Outcome(step.outcome);
+                outcome = new Outcome(step.outcome, calls);
             }
         }
 
@@ -548,31 +562,35 @@ public final class Zvt {
             }
         }
 
-        /** Feeds a whole piece and sends what answers it. Where the line takes no answer, the rest is heard all the same. */
+        /**
+         * Feeds the messages that end in a piece, and sends what answers them. Where the line takes no answer, the rest is heard
+         * all the same. Bytes that are no message come last: to a till that keeps a book they are a lost line.
+         */
         private void hear(byte[] piece) throws IOException {
-            if (book == null) {
-                feed(piece);
-                return;
-            }
             unheard = joined(unheard, piece);
             IOException broken = null;
             while (unheard.length > 0) {
                 Answer answer = new Answer();
-                long size = calls.zvt_record_heard(unheard, new NativeLong(unheard.length), record, new NativeLong(RECORD_ROOM), answer).longValue();
+                int size = first(answer);
                 if (answer.status == MORE) {
                     break;
                 }
-                if (answer.status == REFUSED) {
+                if (answer.status == REFUSED && book != null) {
                     throw new IOException("the terminal sent what is no message");
                 }
-                check(answer.status);
-                book.append(record, (int) size);
+                if (answer.status == REFUSED) {
+                    answer.size = unheard.length;
+                } else {
+                    check(answer.status);
+                }
+                if (book != null) {
+                    book.append(record, size);
+                }
                 byte[] message = Arrays.copyOf(unheard, (int) answer.size);
                 unheard = Arrays.copyOfRange(unheard, message.length, unheard.length);
-                try {
-                    feed(message);
-                } catch (LineWriteException error) {
-                    broken = error;
+                broken = feed(message, broken);
+                if (heard != null) {
+                    tell(() -> heard.accept(textOf(message)));
                 }
             }
             if (broken != null) {
@@ -580,8 +598,28 @@ public final class Zvt {
             }
         }
 
-        private void feed(byte[] piece) throws IOException {
-            IOException broken = null;
+        /** The size of the record of the message that stands first, of a till that keeps a book; the answer says what stands first. */
+        private int first(Answer answer) {
+            if (book != null) {
+                return calls.zvt_record_heard(unheard, new NativeLong(unheard.length), record, new NativeLong(RECORD_ROOM), answer).intValue();
+            }
+            calls.zvt_scan(unheard, new NativeLong(unheard.length), answer);
+            return 0;
+        }
+
+        private String textOf(byte[] message) {
+            byte[] room = new byte[1024];
+            int size = room.length;
+            do {
+                room = new byte[size];
+                size = calls.zvt_text(message, new NativeLong(message.length), room, new NativeLong(room.length), new Answer()).intValue();
+            } while (size > room.length);
+            return new String(room, 0, size, StandardCharsets.US_ASCII);
+        }
+
+        /** Feeds a message, and answers why the line took no answer, if it did not. */
+        private IOException feed(byte[] piece, IOException earlier) throws IOException {
+            IOException broken = earlier;
             while (piece.length > 0) {
                 Step step = new Step();
                 int status = calls.zvt_till_feed_all(
@@ -591,7 +629,7 @@ public final class Zvt {
                     try {
                         line.write(Arrays.copyOf(out, (int) step.send));
                     } catch (IOException error) {
-                        broken = new LineWriteException(error);
+                        broken = error;
                     }
                 }
                 if (step.printed == 1 && printLine != null) {
@@ -604,9 +642,7 @@ public final class Zvt {
                 check(status);
                 piece = Arrays.copyOfRange(piece, (int) step.taken, piece.length);
             }
-            if (broken != null) {
-                throw broken;
-            }
+            return broken;
         }
 
         private State state() {
@@ -622,7 +658,7 @@ public final class Zvt {
 
         /** The last outcome, or null. */
         public Outcome last() {
-            Outcome last = new Outcome(state().last);
+            Outcome last = new Outcome(state().last, calls);
             return last.ending == Ending.NONE ? null : last;
         }
 
@@ -682,15 +718,6 @@ public final class Zvt {
             disconnect();
             state();
             check(calls.zvt_till_load(handle, saved, new NativeLong(saved.length)));
-        }
-    }
-
-    /** The line took no answer. */
-    private static final class LineWriteException extends IOException {
-        private static final long serialVersionUID = 1;
-
-        LineWriteException(IOException cause) {
-            super(cause.getMessage(), cause);
         }
     }
 
@@ -897,6 +924,9 @@ public final class Zvt {
     interface Calls extends Library {
         int zvt_abi();
         NativeLong zvt_version(byte[] room, NativeLong length);
+        NativeLong zvt_result_name(int code, byte[] room, NativeLong length);
+        void zvt_scan(byte[] bytes, NativeLong length, Answer answer);
+        NativeLong zvt_text(byte[] bytes, NativeLong length, byte[] room, NativeLong roomLength, Answer answer);
         int zvt_till_new(Pointer till, int password, byte config, short currency);
         void zvt_till_free(Pointer till);
         int zvt_till_connected(Pointer till);

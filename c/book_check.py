@@ -184,7 +184,7 @@ def a_full_disk_stops_the_till():
             finally:
                 zvt_journal.os.pwrite = pwrite
             assert len(sent) == min(record, 1), "an order whose record failed was sent, or a message was answered"
-            assert till.state().running == 0 and [entry.cause for entry in till.unclear()] == [zvt.Cause.LINE]
+            assert till.state().running is None and [entry.cause for entry in till.unclear()] == [zvt.Cause.LINE]
             # the same process writes nothing more
             text = shop.reads()
             try:
@@ -215,7 +215,7 @@ def an_interrupt_in_a_write_ends_the_book():
             assert raises(lambda: till.pay(1234), error)
         finally:
             zvt_journal.os.fdatasync = fdatasync
-        assert till.state().running == 0
+        assert till.state().running is None
         try:
             goes_to(Terminal(), till)
             assert False, "it takes a record"

@@ -52,6 +52,8 @@ int main(void) {
     uint32_t shown = zvt_till_unclear(&till, 0, &entry);
     printf("unclear: status %u, %" PRIu64 " for cause %u\n", shown, entry.amount, entry.cause);
     printf("no second one: status %u\n", zvt_till_unclear(&till, 1, &entry));
+    size = zvt_result_name(0x6C, text, sizeof text);
+    printf("result code 6C: %.*s\n", (int)size, (const char *)text);
     printf("a number that names nothing: %zu\n", zvt_cause_name(0, text, sizeof text));
     zvt_till_free(&till);
     zvt_till_free(&till);

@@ -45,9 +45,21 @@ ARGUMENTS = ["password: argument: {password} is a number from 0 to 999999, and n
              "offline: refused: the line is down"]
 CLOSED = [f"closed {call}: use: the till is closed" for call in (
     "register", "pay", "reverse", "close day", "book", "unclear", "unclear reversals", "total", "registered", "last", "save", "load", "connect")]
+# What a callback is told of a registration and of a payment, whose book is kept.
+HEARD = """heard: paid, trace 000017, receipt 0005
+Ack
+Completion
+Ack
+Intermediate 0A
+Status
+  27 result 00 success
+  04 amount 1234
+  0B trace 000017
+  87 receipt 0005
+Completion""".splitlines()
 USES = ["raises: {raised}: no paper", "after: paid, trace 000017, receipt 0005, lines 2, sent " + 4 * ACK, "goes on: day closed",
         "within: use: a callback can't give its till an order{within}", "after: paid, trace 000017, receipt 0005, booked 1",
-        "cancels: aborted, code 6C", "sent 06B000" + ACK,
+        *HEARD, "cancels: aborted, code 6C (abort by time-out or abort key)", "sent 06B000" + ACK,
         "silent: line: the line is lost: unclear: line{why}", "unclear [1234: line], line closed true"]
 
 
@@ -129,7 +141,7 @@ def a_day_at_the_terminal(language, folder, program):
     check(language, "a day", DAY + BOOK + "total 1000\n", language.says(folder, "Pay", "127.0.0.1", port, book, *STEPS))
     running.wait(timeout=10)
     running, port = terminal(program, "--decline", "6C")
-    wanted = "register -> registered\npay:700 -> aborted, code 6C\n" + BOOK + "total 1000\n"
+    wanted = "register -> registered\npay:700 -> aborted, code 6C (abort by time-out or abort key)\n" + BOOK + "total 1000\n"
     check(language, "a decline", wanted, language.says(folder, "Pay", "127.0.0.1", port, book, "register", "pay:700"))
     running.wait(timeout=10)
 
@@ -156,7 +168,7 @@ def a_kill_in_the_middle(language, folder, _program):
                     running.kill()
             running.wait(timeout=10)
             running.stdout.close()
-    wanted = "register -> registered\npay:1234 -> aborted, code 6C\nunclear 1234: line\ntotal 0\n"
+    wanted = "register -> registered\npay:1234 -> aborted, code 6C (abort by time-out or abort key)\nunclear 1234: line\ntotal 0\n"
     check(language, "a kill while a payment runs", wanted, found)
 
 
@@ -334,6 +346,7 @@ def main(library, layouts, program, *names):
             found = language.says(folder, "TillCheck", "layouts").splitlines()
             check(language, "layouts", [f"version {zvt.version(path)}"] + [row for row in rows if row.split()[0] not in language.without], found)
             check(language, "arguments", [row.format(**language.names) for row in ARGUMENTS], language.says(folder, "TillCheck", "arguments").splitlines())
+            os.environ["ZVT_BOOK"] = f"{folder}/heard.trace"
             uses = [row.format(raised=language.raised, within=language.within, why=language.why) for row in USES]
             check(language, "uses", (CLOSED if language.closes else []) + uses, language.says(folder, "TillCheck", "uses").splitlines())
             a_day_at_the_terminal(language, folder, program)

@@ -162,7 +162,7 @@ def a_save_that_fails_before_an_order_sends_nothing():
             raise error
     till = till_at(terminal, keep=keep)
     assert raises(lambda: till.pay(1234), error)
-    assert terminal.was_sent() == "" and till.state().running == 0
+    assert terminal.was_sent() == "" and till.state().running is None
     assert [entry.cause for entry in till.unclear()] == [zvt.Cause.LINE]
 
 
@@ -201,7 +201,7 @@ def an_interrupt_gives_the_line_up():
         else:
             assert raises(lambda: till.pay(1234, wants_cancel=thrower(error)), error)
         assert time.monotonic() - began < 0.5, "it waits for the terminal first"
-        assert till.state().running == 0 and till.last().cause == zvt.Cause.LINE
+        assert till.state().running is None and till.last().cause == zvt.Cause.LINE
 
 
 def a_line_that_takes_no_answer_hides_no_outcome():
@@ -280,6 +280,16 @@ def a_callback_that_gives_an_order_is_refused():
         assert till.pay(1234) == zvt.Outcome(zvt.Ending.PAID, trace=17, receipt=5)
         assert raised == 4 * ["a callback can't give its till an order, a line or up"], raised
         assert len(till.book()) == 1 and terminal.was_sent().endswith("0978" + said.count("06D1") * ACK + 2 * ACK)
+
+
+def the_text_of_each_message_is_told():
+    texts, terminal = [], Terminal()
+    till = till_at(terminal, heard=texts.append)
+    terminal.says(ACK + "04FF010A" + "061E016C")
+    paid = till.pay(1234)
+    assert str(paid) == "aborted, code 6C (abort by time-out or abort key)", paid
+    assert texts == ["Ack\n", "Completion\n", "Ack\n", "Intermediate 0A\n", "Abort 6C abort by time-out or abort key\n"], texts
+    assert till.state() == zvt.State(0, 0, 0, 0, 0, True, None, paid), till.state()
 
 
 def wrong_arguments_are_refused():

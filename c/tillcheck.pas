@@ -35,7 +35,9 @@ type
     Lines: Integer;
     Asked: Boolean;
     Step: string;
-    procedure Registers(PrintLine: TZvtPrintLine);
+    Texts: string;
+    procedure Registers(PrintLine: TZvtPrintLine; const Book: string = '');
+    procedure Hears(const Text: string);
     procedure Raises(const Line: TBytes);
     procedure Orders(const Line: TBytes);
     function Cancels: Boolean;
@@ -117,12 +119,18 @@ begin
   Sent := Sent + Digits(Bytes);
 end;
 
-procedure TCheck.Registers(PrintLine: TZvtPrintLine);
+procedure TCheck.Hears(const Text: string);
+begin
+  Texts := Texts + Text;
+end;
+
+procedure TCheck.Registers(PrintLine: TZvtPrintLine; const Book: string);
 var
   Settings: TZvtSettings;
 begin
-  Settings := ZvtSettings;
+  Settings := ZvtSettings(Book);
   Settings.PrintLine := PrintLine;
+  if Book <> '' then Settings.Heard := Hears;
   FreeAndNil(Till);
   Till := TZvtTill.Create(Settings);
   Memory := TMemory.Create;
@@ -163,7 +171,7 @@ begin
   else if Name = 'offline' then Till.Pay(1)
   else if Name = 'goes on' then Result := Till.CloseDay.ToString
   else if Name = 'cancels' then Result := Till.Pay(1234, Cancels).ToString
-  else if (Name = 'raises') or (Name = 'within') or (Name = 'silent') then Result := Till.Pay(1234).ToString
+  else if (Name = 'raises') or (Name = 'within') or (Name = 'heard') or (Name = 'silent') then Result := Till.Pay(1234).ToString
   else TZvtTill.Create(Settings).Free;
 end;
 
@@ -241,6 +249,11 @@ begin
   Memory.Says(Ack + PrintLine + Approved + Done);
   Tells('within');
   Say('after: ' + Till.Last.ToString + ', booked ' + IntToStr(Length(Till.Book)));
+
+  Registers(nil, GetEnvironmentVariable('ZVT_BOOK'));
+  Memory.Says(Ack + '04FF010A' + Approved + Done);
+  Tells('heard');
+  Write(Texts);
 
   Registers(nil);
   Memory.Silent := True;

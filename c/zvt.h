@@ -199,6 +199,8 @@ size_t zvt_reason_name(uint32_t reason, uint8_t *room, size_t room_length);   /*
 size_t zvt_cause_name(uint32_t cause, uint8_t *room, size_t room_length);     /* ZVT_NO_STATUS .. ZVT_WRONG_CURRENCY */
 size_t zvt_outcome_name(uint32_t kind, uint8_t *room, size_t room_length);    /* ZVT_REGISTERED .. ZVT_DAY_CLOSED */
 size_t zvt_refusal_name(uint32_t status, uint8_t *room, size_t room_length);  /* ZVT_OFFLINE .. ZVT_NO_RECEIPT, ZVT_NO_MEMORY */
+/* What a terminal's result code means, as 6F is "wrong currency": the code of an outcome. 0: it has no meaning of its own. */
+size_t zvt_result_name(uint32_t code, uint8_t *room, size_t room_length);
 
 #ifdef __cplusplus
 }

@@ -42,6 +42,8 @@ type
     Ending: TZvtEnding;
     { The terminal's code, where it declined, refused or aborted. }
     Code: Integer;
+    { What the code means, where it has a meaning of its own; else empty. }
+    Meaning: string;
     { Where the payment or the reversal is unclear. }
     Cause: TZvtCause;
     { Where it is paid; the receipt number only where the terminal gave one. }
@@ -102,6 +104,7 @@ type
   end;
 
   TZvtPrintLine = procedure(const Line: TBytes) of object;
+  TZvtHeard = procedure(const Text: string) of object;
   TZvtQuestion = function: Boolean of object;
 
   { What a till is made with. }
@@ -115,6 +118,8 @@ type
     Book: string;
     { Takes the bytes of each print line, in the terminal's character set. What it raises waits for the order's outcome. }
     PrintLine: TZvtPrintLine;
+    { Takes the text of each message of the terminal, as the program zvt shows it; what it raises waits, too. }
+    Heard: TZvtHeard;
   end;
 
   TZvtAnswer = record
@@ -186,6 +191,7 @@ type
   private
     FHandle: TZvtHandle;
     FPrintLine: TZvtPrintLine;
+    FHeard: TZvtHeard;
     FOut, FText, FRecord, FUnheard: TBytes;
     FJournal: TZvtJournal;
     FLine: TZvtConnection;
@@ -208,7 +214,9 @@ type
     function Wants(Question: TZvtQuestion): Boolean;
     procedure Hear(const Piece: TBytes);
     procedure Feed(Piece: TBytes; var Broken: string);
+    function FindFirst(var Answer: TZvtAnswer): Integer;
     procedure Print(const Line: TBytes);
+    procedure Tell(const Message: TBytes);
     function State: TZvtState;
     function LastOutcome: TZvtOutcome;
     function IsRegistered: Boolean;
@@ -289,6 +297,10 @@ type
 
 function zvt_abi: Cardinal; cdecl; external Library_;
 function zvt_version(Room: PByte; Length: NativeUInt): NativeUInt; cdecl; external Library_;
+function zvt_result_name(Code: Cardinal; Room: PByte; Length: NativeUInt): NativeUInt; cdecl; external Library_;
+procedure zvt_scan(Bytes: PByte; Length: NativeUInt; var Answer: TZvtAnswer); cdecl; external Library_;
+function zvt_text(Bytes: PByte; Length: NativeUInt; Room: PByte; RoomLength: NativeUInt; var Answer: TZvtAnswer): NativeUInt;
+  cdecl; external Library_;
 function zvt_till_new(var Till: TZvtHandle; Password: Cardinal; Config: Byte; Currency: Word): Cardinal; cdecl; external Library_;
 procedure zvt_till_free(var Till: TZvtHandle); cdecl; external Library_;
 function zvt_till_connected(var Till: TZvtHandle): Cardinal; cdecl; external Library_;
@@ -375,15 +387,44 @@ begin
   if Receipt <> ZvtNone then Result := Result + Format(', receipt %.4x', [Receipt]);
 end;
 
+function MeaningOf(Code: Cardinal): string;
+var
+  Room: array[0..63] of AnsiChar;
+begin
+  SetString(Result, PAnsiChar(@Room[0]), Min(zvt_result_name(Code, PByte(@Room[0]), SizeOf(Room)), SizeOf(Room)));
+end;
+
+{ The text of a message, as the program zvt shows it. }
+function TextOf(const Message: TBytes): string;
+var
+  Answer: TZvtAnswer;
+  Room: TBytes;
+  Size: NativeUInt;
+begin
+  SetLength(Room, 1024);
+  Size := zvt_text(First(Message), Length(Message), First(Room), Length(Room), Answer);
+  if Size > NativeUInt(Length(Room)) then
+  begin
+    SetLength(Room, Size);
+    Size := zvt_text(First(Message), Length(Message), First(Room), Length(Room), Answer);
+  end;
+  SetString(Result, PAnsiChar(First(Room)), Size);
+end;
+
 function OutcomeOf(const From: TZvtOutcomeNumbers): TZvtOutcome;
 begin
   Result.Ending := TZvtEnding(From.Kind);
   Result.Code := ZvtNone;
+  Result.Meaning := '';
   Result.Cause := zcNone;
   Result.Trace := ZvtNone;
   Result.Receipt := ZvtNone;
   case Result.Ending of
-    zeDeclined, zeOrderRefused, zeAborted: Result.Code := From.Code;
+    zeDeclined, zeOrderRefused, zeAborted:
+      begin
+        Result.Code := From.Code;
+        Result.Meaning := MeaningOf(From.Code);
+      end;
     zeUnclear: Result.Cause := TZvtCause(From.Code);
     zePaid:
       begin
@@ -402,6 +443,7 @@ function TZvtOutcome.ToString: string;
 begin
   Result := Endings[Ending];
   if Code <> ZvtNone then Result := Result + Format(', code %.2x', [Code]);
+  if Meaning <> '' then Result := Result + ' (' + Meaning + ')';
   if Cause <> zcNone then Result := Result + ': ' + Causes[Cause];
   Result := Result + Numbers(Trace, Receipt);
 end;
@@ -446,6 +488,7 @@ begin
   Result.Currency := 978;
   Result.Book := Book;
   Result.PrintLine := nil;
+  Result.Heard := nil;
 end;
 
 function ZvtVersion: string;
@@ -534,6 +577,7 @@ begin
   if zvt_abi <> ZvtAbi then
     raise EZvtUse.CreateFmt('the calls of libzvt are of number %d, and zvt.pas is made for %d', [zvt_abi, ZvtAbi]);
   FPrintLine := Settings.PrintLine;
+  FHeard := Settings.Heard;
   SetLength(FOut, RoomSize);
   SetLength(FText, LineRoom);
   Check(zvt_till_new(FHandle, Settings.Password, Settings.Config, Settings.Currency));
@@ -789,33 +833,49 @@ begin
   end;
 end;
 
-{ Feeds a whole piece and sends what answers it. Where the line takes no answer, the rest is heard all the same. }
+procedure TZvtTill.Tell(const Message: TBytes);
+begin
+  try
+    FHeard(TextOf(Message));
+  except
+    if FRaised = nil then FRaised := TObject(AcquireExceptionObject);
+  end;
+end;
+
+{ Feeds the messages that end in a piece, and sends what answers them. Where the line takes no answer, the rest is heard all the
+  same. Bytes that are no message come last: to a till that keeps a book they are a lost line. }
 procedure TZvtTill.Hear(const Piece: TBytes);
 var
   Answer: TZvtAnswer;
-  Size: NativeUInt;
+  Size: Integer;
   Bytes: TBytes;
   Broken: string;
 begin
   Broken := '';
-  if FJournal = nil then
-    Feed(Piece, Broken)
-  else
+  FUnheard := Concat(FUnheard, Piece);
+  while Length(FUnheard) > 0 do
   begin
-    FUnheard := Concat(FUnheard, Piece);
-    while Length(FUnheard) > 0 do
-    begin
-      Size := zvt_record_heard(First(FUnheard), Length(FUnheard), First(FRecord), RecordRoom, Answer);
-      if Answer.Status = StatusMore then Break;
-      if Answer.Status = StatusRefused then raise EZvtBroken.Create('the terminal sent what is no message');
-      Check(Answer.Status);
-      FJournal.Append(FRecord, Size);
-      Bytes := Copy(FUnheard, 0, Answer.Size);
-      FUnheard := Copy(FUnheard, Answer.Size, Length(FUnheard));
-      Feed(Bytes, Broken);
-    end;
+    Size := FindFirst(Answer);
+    if Answer.Status = StatusMore then Break;
+    if (Answer.Status = StatusRefused) and (FJournal <> nil) then raise EZvtBroken.Create('the terminal sent what is no message');
+    if Answer.Status = StatusRefused then Answer.Size := Length(FUnheard) else Check(Answer.Status);
+    if FJournal <> nil then FJournal.Append(FRecord, Size);
+    Bytes := Copy(FUnheard, 0, Answer.Size);
+    FUnheard := Copy(FUnheard, Answer.Size, Length(FUnheard));
+    Feed(Bytes, Broken);
+    if Assigned(FHeard) then Tell(Bytes);
   end;
   if Broken <> '' then raise EZvtBroken.Create(Broken);
+end;
+
+{ The size of the record of the message that stands first, of a till that keeps a book; the answer says what stands first. }
+function TZvtTill.FindFirst(var Answer: TZvtAnswer): Integer;
+begin
+  Result := 0;
+  if FJournal = nil then
+    zvt_scan(First(FUnheard), Length(FUnheard), Answer)
+  else
+    Result := zvt_record_heard(First(FUnheard), Length(FUnheard), First(FRecord), RecordRoom, Answer);
 end;
 
 procedure TZvtTill.Feed(Piece: TBytes; var Broken: string);

@@ -77,11 +77,14 @@ class Outcome(NamedTuple):
     cause: Optional[Cause] = None    # where the payment or the reversal is unclear
     trace: Optional[int] = None      # where it is paid
     receipt: Optional[int] = None    # where it is paid and the terminal gave one
+    meaning: Optional[str] = None    # of the code, where it has one of its own
 
     def __str__(self):
         text = words(self.ending)
         if self.code is not None:
             text += f", code {self.code:02X}"
+        if self.meaning is not None:
+            text += f" ({self.meaning})"
         if self.cause is not None:
             text += f": {words(self.cause)}"
         return text + numbers(self.trace, self.receipt)
@@ -107,6 +110,19 @@ class Entry(NamedTuple):
         return text if self.cause is None else text + f": {words(self.cause)}"
 
 
+class State(NamedTuple):
+    """The state of a till. `total` is of the payments that no completed reversal took back, `held` the bytes of an unfinished
+    message."""
+    total: int
+    booked: int
+    unclear: int
+    unclear_reversals: int
+    held: int
+    registered: bool
+    running: Optional[Order]         # the order that runs
+    last: Optional[Outcome]          # how the order that ended last ended
+
+
 def words(name):
     return name.name.lower().replace("_", " ")
 
@@ -119,14 +135,17 @@ def numbers(trace, receipt):
 class _Outcome(c.Structure):
     _fields_ = [(n, c.c_uint32) for n in ("kind", "code", "trace", "receipt", "has_receipt")]
 
-    def value(self):
+    def value(self, library):
+        """None where no order ended."""
         ending = Ending(self.kind)
+        if ending == Ending.NONE:
+            return None
         if ending == Ending.PAID:
             return Outcome(ending, trace=self.trace, receipt=self.receipt if self.has_receipt else None)
         if ending == Ending.UNCLEAR:
             return Outcome(ending, cause=Cause(self.code))
         if ending in (Ending.DECLINED, Ending.ORDER_REFUSED, Ending.ABORTED):
-            return Outcome(ending, code=self.code)
+            return Outcome(ending, code=self.code, meaning=written(library.zvt_result_name, self.code) or None)
         return Outcome(ending)
 
 
@@ -156,6 +175,9 @@ class _Handle(c.Structure):
 _TYPES = {
     "zvt_abi": [],
     "zvt_version": [c.c_void_p, c.c_size_t],
+    "zvt_result_name": [c.c_uint32, c.c_void_p, c.c_size_t],
+    "zvt_scan": [c.c_char_p, c.c_size_t, c.c_void_p],
+    "zvt_text": [c.c_char_p, c.c_size_t, c.c_void_p, c.c_size_t, c.c_void_p],
     "zvt_till_new": [c.c_void_p, c.c_uint32, c.c_uint8, c.c_uint16],
     "zvt_till_free": [c.c_void_p],
     "zvt_till_connected": [c.c_void_p],
@@ -174,8 +196,9 @@ _TYPES = {
     "zvt_record_lost": [c.c_void_p, c.c_size_t, c.c_void_p],
 }
 # What the calls answer that answer no status.
-_RESULTS = {name: None for name in ("zvt_till_free", "zvt_till_save", "zvt_till_recover", "zvt_record_opening", "zvt_record_order",
-                                    "zvt_record_lost")} | {name: c.c_size_t for name in ("zvt_record_heard", "zvt_version")}
+_RESULTS = {name: None for name in ("zvt_scan", "zvt_till_free", "zvt_till_save", "zvt_till_recover", "zvt_record_opening",
+                                    "zvt_record_order", "zvt_record_lost")}
+_RESULTS |= {name: c.c_size_t for name in ("zvt_record_heard", "zvt_result_name", "zvt_text", "zvt_version")}
 
 
 def whole(name, number, least, most):
@@ -204,8 +227,13 @@ def opened(library=None):
 
 def version(library=None):
     """The version of the library, as 0.2.0."""
-    room = c.create_string_buffer(32)
-    size = opened(library).zvt_version(room, len(room))
+    return written(opened(library).zvt_version)
+
+
+def written(call, *arguments):
+    """The text that a call writes into a room, after these arguments."""
+    room = c.create_string_buffer(64)
+    size = call(*arguments, room, len(room))
     return room.raw[:size].decode("ascii")
 
 
@@ -213,7 +241,8 @@ class Till:
     """A till on a socket. `keep`, where it is given, is called with the bytes that the till is saved in: before an order
     goes out, and after each outcome. What it raises before an order stops the order: nothing was sent, and the line is
     given up. `print_line`, where it is given, is called with the bytes of each print line of the terminal, in the
-    terminal's character set.
+    terminal's character set. `heard`, where it is given, is called with the text of each message of the terminal, as the
+    program `zvt` shows it: the state of a payment is in those of the kind Intermediate.
 
     A callback that raises loses nothing. What the terminal sent is heard to its end and answered, the order goes on to
     its outcome, and then the exception goes on; `last()` has the outcome. An exception that is to end the program, as
@@ -224,14 +253,15 @@ class Till:
     the till hears it. Where it can't be opened or written a zvt_journal.BookError is raised, nothing more is sent, and a till
     is made anew from it. A line that brings what is no message is a lost line to such a till."""
 
-    def __init__(self, library=None, password=0, config=0xBE, currency=978, keep=None, print_line=None, book=None):
+    def __init__(self, library=None, password=0, config=0xBE, currency=978, keep=None, print_line=None, book=None,
+                 heard=None):
         whole("password", password, 0, 999_999)
         whole("config", config, 0, 0xFF)
         whole("currency", currency, 0, 9999)
         self._library = opened(library)
         self._handle, self._step = _Handle(), _Step()
         self._out, self._text = c.create_string_buffer(ROOM), c.create_string_buffer(LINE_ROOM)
-        self._keep, self._print_line, self._line = keep, print_line, None
+        self._keep, self._print_line, self._heard, self._line = keep, print_line, heard, None
         self._timeout, self._raised, self._outcome, self._running = None, None, None, False
         self.journal, self._unheard, self._record_room = None, b"", None
         self._call("new", password, config, currency)
@@ -402,8 +432,8 @@ class Till:
 
     def _ended(self):
         """How the order ended by the last step, if it did: the till is saved then."""
-        outcome = self._step.outcome.value()
-        if outcome.ending == Ending.NONE:
+        outcome = self._step.outcome.value(self._library)
+        if outcome is None:
             return None
         self._outcome = outcome
         if self._keep is not None:
@@ -470,7 +500,8 @@ class Till:
     def _hear(self, piece):
         """Feeds a whole piece and sends what answers it. Where the line takes no answer, the rest is heard all the same."""
         broken = None
-        for part in self._parts(piece):
+        for message in self._messages(piece):
+            part = message
             while part:
                 status = self._library.zvt_till_feed_all(
                     c.byref(self._handle), part, len(part), self._out, ROOM, self._text, LINE_ROOM, c.byref(self._step))
@@ -488,39 +519,59 @@ class Till:
                     self._give_book_up()
                     raise Refused(status)
                 part = part[self._step.taken:]
+            if self._heard is not None and message:
+                self._tell(self._heard, self._text_of(message))
         if broken is not None:
             raise broken
 
-    def _parts(self, piece):
-        """What is fed of a piece: all of it; of a till that keeps a book each message by itself, once the book has it."""
-        if self.journal is None:
-            yield piece
-            return
+    def _messages(self, piece):
+        """The messages that end in a piece, each once the book has it, if the till keeps one. Bytes that are no message come
+        last: to a till that keeps a book they are a lost line."""
         self._unheard += piece
         while self._unheard:
-            answer = _Answer()
-            size = self._library.zvt_record_heard(self._unheard, len(self._unheard), self._record_room, RECORD_ROOM, c.byref(answer))
+            size, answer = self._first()
             if answer.status == Status.MORE:
                 return
-            if answer.status == Status.REFUSED:
+            if answer.status == Status.REFUSED and self.journal is not None:
                 raise _BrokenLine
-            if answer.status:
+            if answer.status == Status.REFUSED:
+                answer.size = len(self._unheard)
+            elif answer.status:
                 raise Refused(answer.status)
-            self.journal.append(self._record_room[:size])
+            if self.journal is not None:
+                self.journal.append(self._record_room[:size])
             message, self._unheard = self._unheard[:answer.size], self._unheard[answer.size:]
             yield message
+
+    def _first(self):
+        """The size of the record of the message that stands first, of a till that keeps a book, and what stands first."""
+        answer, size = _Answer(), 0
+        if self.journal is None:
+            self._library.zvt_scan(self._unheard, len(self._unheard), c.byref(answer))
+        else:
+            size = self._library.zvt_record_heard(self._unheard, len(self._unheard), self._record_room, RECORD_ROOM, c.byref(answer))
+        return size, answer
+
+    def _text_of(self, message):
+        """The text of a message, as the program shows it."""
+        answer, room = _Answer(), c.create_string_buffer(0)
+        while True:
+            size = self._library.zvt_text(message, len(message), room, len(room), c.byref(answer))
+            if size <= len(room):
+                return room.raw[:size].decode("ascii")
+            room = c.create_string_buffer(size)
 
     def state(self):
         """The total, the counts of booked and unclear payments and of unclear reversals, whether the till is registered, the
         last outcome."""
         state = _State()
         self._call("state", c.byref(state))
-        return state
+        return State(state.total, state.booked, state.unclear, state.unclear_reversals, state.held, bool(state.registered),
+                     Order(state.running) if state.running else None, state.last.value(self._library))
 
     def last(self):
         """The last outcome, or None."""
-        outcome = self.state().last.value()
-        return None if outcome.ending == Ending.NONE else outcome
+        return self.state().last
 
     def book(self):
         """The payments that are booked."""

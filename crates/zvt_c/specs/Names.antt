@@ -1,5 +1,5 @@
 -- The names of what numbers represent: each table has the numbers and the names that are elsewhere.
-use Rattle.std.specs.Prelude.{ℕ, ◌==◌, List, [], ◌∷◌, None, option_map, unwrap_or, find, codes}
+use Rattle.std.specs.Prelude.{ℕ, ◌==◌, nat_lt, cond, List, [], ◌∷◌, None, option_map, unwrap_or, find, codes}
 use Rattle.zvt_grammar.specs.Names.{why_name}
 use Rattle.zvt_grammar.specs.declared.why.Why.TheVariants.{NotShortest, DoesNotFit, LengthForm, TooDeep, TagTooLong, UnknownField, NotDigit, LengthDigit}
 use Rattle.zvt_till.specs.Names.{cause_name, refusal_name}
@@ -10,6 +10,7 @@ use Rattle.zvt_c.specs.Answers.{code_of_why}
 use Rattle.zvt_snapshot.specs.Encoded.{cause_code}
 use Rattle.zvt_c.specs.Numbers.{ended}
 use Rattle.zvt_c.specs.Ordering.{status_of}
+use Rattle.zvt_text.specs.Results.{meaning_of}
 
 -- The name after a number, or nothing, where the table lacks it.
 abbrev pub name_in : List (ℕ × List ℕ) → (number : ℕ) → List ℕ
@@ -66,3 +67,7 @@ refusals =
     (status_of AlreadyReversed, refusal_name AlreadyReversed) ∷
     (status_of NoReceipt, refusal_name NoReceipt) ∷
     []
+
+-- What a result code means, or nothing: a code is one byte.
+abbrev pub meaning_in : (code : ℕ) → List ℕ
+meaning_in code = cond (nat_lt code 256) (unwrap_or (meaning_of code) []) []

@@ -2,10 +2,11 @@
 //! the start of the room where it fits, and answers its size: 0 where the number names nothing. Where the room is less
 //! than the size nothing is written.
 ghost use Rattle.std.specs.Prelude.{◌≡◌};
-ghost use Rattle.zvt_c.specs.Names.{causes, name_in, outcomes, reasons, refusals};
+ghost use Rattle.zvt_c.specs.Names.{causes, meaning_in, name_in, outcomes, reasons, refusals};
 ghost use Rattle.zvt_c.specs.Saving.{Written};
 
 use zvt_grammar::Why;
+use zvt_text::meaning;
 use zvt_till::{Cause, OrderRefusal};
 
 /// Writes a name where it fits, and answers its size.
@@ -91,6 +92,16 @@ fn refusal_word(number: u32) -> &'static str
     }
 }
 
+/// What a result code of the terminal means, or nothing.
+fn result_word(code: u32) -> &'static str
+    ensures { result.now ≡ meaning_in code }
+{
+    match u8::try_from(code) {
+        Ok(code) => meaning(code).unwrap_or(""),
+        Err(_) => "",
+    }
+}
+
 /// The name of the reason why a byte is refused, 1 to 8.
 #[unsafe(no_mangle)]
 pub extern "C" fn zvt_reason_name(number: u32, buffer: &mut [u8]) -> usize
@@ -121,4 +132,13 @@ pub extern "C" fn zvt_refusal_name(number: u32, buffer: &mut [u8]) -> usize
     ensures { Written (name_in refusals number) result buffer.old buffer.new }
 {
     put_name(refusal_word(number), buffer)
+}
+
+/// What a result code of the terminal means: the code of an outcome that is declined, refused or aborted. 0 where the
+/// code has no meaning of its own.
+#[unsafe(no_mangle)]
+pub extern "C" fn zvt_result_name(code: u32, buffer: &mut [u8]) -> usize
+    ensures { Written (meaning_in code) result buffer.old buffer.new }
+{
+    put_name(result_word(code), buffer)
 }
