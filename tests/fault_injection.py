@@ -10,7 +10,7 @@ crates/harness sees to the calls of the libraries: each that wants memory leaves
 again.
 
 The same with each read and each write failing, where the status is 4, and with writes of one byte at a time, where all is as
-ever. It takes half a minute, and needs gcc, else nothing is tried. Give the program's path, or none for that of `rt ci`.
+ever. The same of a tap between both ends, through which no approval is forgotten, and of a side that is played. It takes half a minute, and needs gcc, else nothing is tried. Give the program's path, or none for that of `rt ci`.
 """
 import concurrent.futures
 import os
@@ -78,6 +78,7 @@ class Trial:
         for end in ("till", "terminal"):
             self.fails_each_of(end)
         self.both_ends("both ends, a byte at a time", "one", {end: {"WRITES_OF_ONE": 1} for end in ("till", "terminal")}, 0)
+        self.fails_between()
         self.refuses_each_call()
         print("all as expected" if self.wrong == 0 else f"{self.wrong} not as expected")
         return 1 if self.wrong else 0
@@ -291,6 +292,53 @@ class Trial:
         if not PAID.startswith(text) and not is_prefix(text, PAID):
             self.differs(name, "the till's lines:", text)
         self.compare_books(name, of_terminal, of_till, text, as_ever)
+        return refused
+
+    # ---- a tap between both ends, and one side that is played
+
+    def fails_between(self):
+        self.both_ends("a run to play", "between", {}, 0)
+        recorded = self.work / "recorded.trace"
+        joined = subprocess.run([ZVT, "join", self.work / "between.till.trace"], stdout=subprocess.PIPE, check=True).stdout
+        recorded.write_bytes(joined)
+        for name, words in (("a tap", ["tap", "--listen", "0", "--to", "127.0.0.1:{port}", "--trace", "{}"]),
+                            ("a side that is played", ["play", "--till", str(recorded), "--port", "{port}"])):
+            for kind, setting, status in (("request refused", "REFUSED_REQUEST", 5), ("read failing", "FAILED_READ", 4), ("write failing", "FAILED_WRITE", 4)):
+                def look(at, words=words, name=name, kind=kind, status=status, **setting):
+                    return self.between(f"{name}, {kind} {at}", f"between.{at}", words, setting, status)
+
+                self.each(f"{name}, each {kind}", setting, look)
+        self.between("a tap, a byte at a time", "between.one", ["tap", "--listen", "0", "--to", "127.0.0.1:{port}", "--trace", "{}"], {"WRITES_OF_ONE": 1}, 0)
+
+    def between(self, name, tag, words, setting, status):
+        """A run of the program at a terminal that has all it needs. Where it is a tap, a till like that runs through it. Answers
+        whether something was refused."""
+        of_terminal, of_till = f"{tag}.terminal", f"{tag}.till"
+        terminal, _ = self.start(["terminal", "--port", "0", "--trace", "{}"], of_terminal)
+        port = re.search(rb":(\d+)\n", terminal.stderr.readline())[1].decode()
+        run, mark = self.start([word.replace("{port}", port) for word in words], tag, **setting)
+        said, till = b"", (0, PAID, b"", False)
+        if words[0] == "tap":
+            said = run.stderr.readline()
+            listens = re.fullmatch(rb"zvt: a tap listens at 127.0.0.1:(\d+)\n", said)
+            till = (4, b"", b"", False)
+            if listens:
+                till = self.end_of(["till", "--port", listens[1].decode(), "--trace", "{}", *STEPS], b"", of_till)
+                release(int(listens[1]))
+        text, more = run.communicate(timeout=SECONDS)
+        release(int(port))
+        terminal.communicate(timeout=SECONDS)
+        refused, as_ever = mark.exists(), (run.returncode, till[:2]) == (0, (0, PAID))
+        if not refused and not as_ever:
+            self.differs(name, "nothing was refused:", run.returncode, text[-200:], said + more, till)
+        # To a side that is played a line that breaks is a difference, which is on standard output.
+        broke = words[0] == "play" and run.returncode == 1 and text.endswith(b"\n")
+        if refused and not as_ever and not broke and (run.returncode != status or not re.search(rb"(zvt|error): .*\n\Z", said + more)):
+            self.differs(name, "status", run.returncode, said + more, till)
+        if not PAID.startswith(till[1]) and not is_prefix(till[1], PAID):
+            self.differs(name, "the till's lines:", till[1])
+        if words[0] == "tap":
+            self.compare_books(name, of_terminal, of_till, till[1], as_ever)
         return refused
 
     def compare_books(self, name, of_terminal, of_till, text, as_ever):

@@ -20,6 +20,22 @@ abbrev pub escaped : List ℕ → List ℕ
 escaped [] = []
 escaped (byte ∷ bytes) = escaped_byte byte ++ escaped bytes
 
+-- the version and the number of situations
+abbrev pub plan : (situations : ℕ) → List ℕ
+plan situations = codes "TAP version 13\n1.." ++ (decimal situations ++ 10 ∷ [])
+
+-- a situation in a report: with what came, where that differs from what was awaited
+abbrev pub case : (name difference : List ℕ) → List ℕ
+case name [] = codes "  <testcase name=\"" ++ (escaped name ++ codes "\"/>\n")
+case name (byte ∷ more) =
+    codes "  <testcase name=\"" ++ (escaped name ++ (codes "\"><failure>" ++ (escaped (byte ∷ more) ++ codes "</failure></testcase>\n")))
+
+-- a report: its head, and its cases
+abbrev pub suite : (name : List ℕ) → (situations failed : ℕ) → (cases : List ℕ) → List ℕ
+suite name situations failed cases =
+    codes "<?xml version=\"1.0\" encoding=\"UTF-8\"?>\n<testsuite name=\"" ++ (name ++ (codes "\" tests=\"" ++ (decimal situations
+    ++ (codes "\" failures=\"" ++ (decimal failed ++ (codes "\">\n" ++ (cases ++ codes "</testsuite>\n")))))))
+
 passed : verdict_line true 3 (codes "decline") ≡ codes "ok 3 - decline\n"
 unfolding digits
 passed = refl
@@ -30,3 +46,17 @@ failed = refl
 
 special : escaped (codes "a&b > \"") ≡ codes "a&amp;b &gt; &quot;"
 special = refl
+
+planned : plan 3 ≡ codes "TAP version 13\n1..3\n"
+unfolding digits
+planned = refl
+
+passes : case (codes "a<b") [] ≡ codes "  <testcase name=\"a&lt;b\"/>\n"
+passes = refl
+
+differs : case (codes "decline") (codes "a&b") ≡ codes "  <testcase name=\"decline\"><failure>a&amp;b</failure></testcase>\n"
+differs = refl
+
+reported : suite (codes "check-till") 2 1 (codes "x") ≡ codes "<?xml version=\"1.0\" encoding=\"UTF-8\"?>\n<testsuite name=\"check-till\" tests=\"2\" failures=\"1\">\nx</testsuite>\n"
+unfolding digits
+reported = refl

@@ -209,6 +209,9 @@ fn tap_into<T: Sink + Drop>(
     };
     let tapped = match tap_sockets(rt, rt.alloc(), till, terminal, log) {
         Ok(tapped) => tapped,
+        Err(error) if matches!(error.kind(), ErrorKind::OutOfMemory) => {
+            return Ok((report_fault(rt, &TraceFault::Memory)?, failed));
+        }
         Err(error) => {
             eprintln!(rt; "zvt: the sockets of the line can't be used: {error}")?;
             return Ok((DEVICE, failed));

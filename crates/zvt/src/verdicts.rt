@@ -1,12 +1,14 @@
 //! The verdicts of situations: lines of TAP (the Test Anything Protocol), and a report in JUnit's form.
 ghost use Rattle.std.specs.Prelude.{◌≡◌, ◌++◌, OnOk};
-ghost use Rattle.zvt.specs.Verdicts.{escaped, escaped_byte, verdict_line};
+ghost use Rattle.zvt.specs.Verdicts.{case, escaped, escaped_byte, plan, suite, verdict_line};
 
 use std::alloc::AllocError;
 use zvt_text::Text;
 
 /// Adds the first lines: the version, and how many situations there are.
-pub fn add_plan(text: &mut Text, situations: usize) -> Result<(), AllocError> {
+pub fn add_plan(text: &mut Text, situations: usize) -> Result<(), AllocError>
+    ensures { OnOk result (text.new ≡ text.old ++ plan situations) }
+{
     text.word(b"TAP version 13\n1..")?;
     text.number(situations)?;
     text.push(b'\n')
@@ -33,7 +35,9 @@ pub fn add_verdict(
 
 /// Adds the case of a situation to the cases of a report. `difference` is what came in place of what was awaited: nothing
 /// where it is passed.
-pub fn add_case(text: &mut Text, name: &str, difference: &[u8]) -> Result<(), AllocError> {
+pub fn add_case(text: &mut Text, name: &str, difference: &[u8]) -> Result<(), AllocError>
+    ensures { OnOk result (text.new ≡ text.old ++ case name.now difference.now) }
+{
     text.word(b"  <testcase name=\"")?;
     add_escaped(text, name.as_bytes())?;
     if difference.is_empty() {
@@ -51,7 +55,9 @@ pub fn add_suite(
     situations: usize,
     failed: usize,
     cases: &[u8],
-) -> Result<(), AllocError> {
+) -> Result<(), AllocError>
+    ensures { OnOk result (text.new ≡ text.old ++ suite name.now situations failed cases.now) }
+{
     text.word(b"<?xml version=\"1.0\" encoding=\"UTF-8\"?>\n<testsuite name=\"")?;
     text.word(name.as_bytes())?;
     text.word(b"\" tests=\"")?;
