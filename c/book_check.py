@@ -7,7 +7,7 @@ import tempfile
 
 import zvt
 import zvt_journal
-from till_check import ACK, APPROVED, DONE, LINE, PAID, REGISTERED, REVERSED, Terminal, goes_to, holds, raises, thrower
+from till_check import ACK, APPROVED, DONE, LINE, PAID, REGISTERED, REVERSED, Terminal, goes_to, holds, loses_the_line, raises, thrower
 
 OPENING = "# zvt journal 1, currency 978\n"
 REGISTER = "!\n# register\n> 060006000000BE0978\n< 800000\n< 060F00\n> 800000\n"
@@ -155,7 +155,7 @@ def what_is_no_message_is_a_lost_line():
     shop, terminal = Shop(), Terminal()
     till = shop.till_at(terminal)
     terminal.says(ACK + "040FFF0000")
-    assert till.pay(1234).cause == zvt.Cause.LINE
+    assert loses_the_line(lambda: till.pay(1234)).cause == zvt.Cause.LINE
     assert shop.reads().endswith(PAY + "< 800000\n\n"), shop.reads()
     till.close()
     assert is_recovered(shop.reads(), [], [UNCLEAR])

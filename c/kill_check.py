@@ -213,6 +213,14 @@ def open_till(library, path):
     return till
 
 
+def ended(order):
+    """How an order ended, by its line too."""
+    try:
+        return order()
+    except zvt.LineError as lost:
+        return lost.outcome
+
+
 def pay_and_reverse(library, port, path, seed):
     """The till that is killed. It says what it begins, of a reversal the place, and when that has ended."""
     chance = random.Random(seed)
@@ -340,7 +348,7 @@ class Check:
                     till.pay(4711)
                     self.terminal.breaks, place = True, len(till.book()) - 1
                 unclear = till.state().unclear_reversals
-                last, entry = till.reverse(place), till.book()[place]
+                last, entry = ended(lambda: till.reverse(place)), till.book()[place]
                 grown = till.state().unclear_reversals - unclear
             self.line_ended()
             if (last.cause, last.code) != (cause, code) or grown != (-1 if cause is None else 1):

@@ -316,8 +316,9 @@ def played(rows, library):
             at += 1
         try:
             call = {"register": till.register, "pay": till.pay, "reverse": till.reverse, "close": till.close_day}[words[0]]
-            outcome = call(*map(int, words[1:]))
-            said.append(str(outcome) + (", and the line is lost" if outcome.cause in (zvt.Cause.LINE, zvt.Cause.MALFORMED) else ""))
+            said.append(str(call(*map(int, words[1:]))))
+        except zvt.LineError as lost:
+            said.append(f"{lost.outcome}, and the line is lost")
         except zvt.Refused as refused:
             said.append(f"refused: {refused.status}")
     show()

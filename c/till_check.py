@@ -97,6 +97,15 @@ def raises(call, error):
     return False
 
 
+def loses_the_line(call):
+    """The outcome of an order that ends by its line."""
+    try:
+        return call()
+    except zvt.LineError as lost:
+        assert lost.outcome.is_by_line() and str(lost) == f"the line is lost: {lost.outcome}", lost
+        return lost.outcome
+
+
 def thrower(error, when=lambda *_: True):
     """A callback that raises whenever it is called so."""
     def callback(*arguments):
@@ -185,7 +194,7 @@ def a_payment_that_is_not_acknowledged_yet_is_cancelled_later():
         terminal.says(ACK if len(asked) == 1 else "061E016C" if len(asked) == 3 else "")
         return True
     till = till_at(terminal)
-    assert till.pay(1234, wants_cancel=cancels).cause == zvt.Cause.LINE and len(asked) == 2
+    assert loses_the_line(lambda: till.pay(1234, wants_cancel=cancels)).cause == zvt.Cause.LINE and len(asked) == 2
     assert asked[0].startswith("0601") and asked[1] == "" and terminal.was_sent() == "06B000", asked
 
 
@@ -226,7 +235,7 @@ def a_reversal_whose_line_breaks_is_unclear():
         assert has_doubt(till, None)
         terminal.says(heard)
         terminal.end.shutdown(socket.SHUT_WR)
-        assert till.reverse(0) == zvt.Outcome(zvt.Ending.UNCLEAR, cause=zvt.Cause.LINE)
+        assert loses_the_line(lambda: till.reverse(0)) == zvt.Outcome(zvt.Ending.UNCLEAR, cause=zvt.Cause.LINE)
         assert has_doubt(till, zvt.Doubt.UNCLEAR_REVERSAL, zvt.Cause.LINE)
         assert str(till.book()[0]) == "1234, trace 000017, receipt 0005, unclear reversal: line"
         assert till.unclear_reversals() == [(0, till.book()[0])] and till.unclear() == []
@@ -241,7 +250,7 @@ def a_second_reversal_ends_the_doubt():
         till.disconnect()
         goes_to(terminal, till)
         terminal.end.shutdown(socket.SHUT_WR)
-        till.reverse(0)
+        loses_the_line(lambda: till.reverse(0))
         terminal = Terminal()
         goes_to(terminal, till)
         terminal.says(answer)
@@ -344,7 +353,7 @@ def silence_ends_a_payment_that_may_be_cancelled():
     for question in (None, lambda: False):
         till = till_at(Terminal())
         began = time.monotonic()
-        paid = till.pay(1234, wants_cancel=question)
+        paid = loses_the_line(lambda: till.pay(1234, wants_cancel=question))
         took = time.monotonic() - began
         assert paid.cause == zvt.Cause.LINE and 0.9 < took < 1.2, (paid, took)
 
@@ -359,7 +368,7 @@ def holds(script, checks):
             sys.exit(f"{script}: {check.__name__.replace('_', ' ')}: this does not hold: {error}")
 
 
-HELPERS = ("Terminal", "Line", "till_at", "goes_to", "till_that_paid", "has_doubt", "raises", "thrower", "holds")
+HELPERS = ("Terminal", "Line", "till_at", "goes_to", "till_that_paid", "has_doubt", "raises", "loses_the_line", "thrower", "holds")
 if __name__ == "__main__":
     holds("till_check", [it for name, it in list(globals().items()) if callable(it) and getattr(it, "__module__", "") == "__main__"
                          and name not in HELPERS])

@@ -67,6 +67,15 @@ class Refused(Exception):
         super().__init__(words(self.status))
 
 
+class LineError(ConnectionError):
+    """The line ended, broke, fell silent or brought what is no message, and was given up. `outcome` says how the order ended by
+    it: a payment or a reversal is unclear."""
+
+    def __init__(self, outcome):
+        self.outcome = outcome
+        super().__init__(f"the line is lost: {outcome}")
+
+
 class _BrokenLine(Exception):
     """The line ended, broke or fell silent."""
 
@@ -78,6 +87,10 @@ class Outcome(NamedTuple):
     trace: Optional[int] = None      # where it is paid
     receipt: Optional[int] = None    # where it is paid and the terminal gave one
     meaning: Optional[str] = None    # of the code, where it has one of its own
+
+    def is_by_line(self):
+        """Whether the order ended by its line, and not by what the terminal said."""
+        return self.cause in (Cause.LINE, Cause.MALFORMED)
 
     def __str__(self):
         text = words(self.ending)
@@ -251,7 +264,9 @@ class Till:
     `book`, where it is given, is the path of a file in which the till keeps its book. Where the file is there the till goes on
     from it; `journal` is its zvt_journal.Journal. An order is in it before it is sent, and a message of the terminal before
     the till hears it. Where it can't be opened or written a zvt_journal.BookError is raised, nothing more is sent, and a till
-    is made anew from it. A line that brings what is no message is a lost line to such a till."""
+    is made anew from it. A line that brings what is no message is a lost line to such a till.
+
+    An order that ends by its line raises a LineError, which has the outcome."""
 
     def __init__(self, library=None, password=0, config=0xBE, currency=978, keep=None, print_line=None, book=None,
                  heard=None):
@@ -380,8 +395,8 @@ class Till:
         return self._run(Order.PAY, amount, wants_cancel)
 
     def reverse(self, place):
-        """Takes back the payment at that place of the book, from 0. Where the outcome is UNCLEAR, nobody knows whether it
-        did: `unclear_reversals` has the payment until a later reversal of it tells."""
+        """Takes back the payment at that place of the book, from 0. Where it is unclear, nobody knows whether it did:
+        `unclear_reversals` has the payment until a later reversal of it tells."""
         whole("place", place, 0, (1 << 64) - 1)
         return self._run(Order.REVERSE, place)
 
@@ -441,17 +456,19 @@ class Till:
         return outcome
 
     def _run(self, order, number=0, wants_cancel=None):
-        """One order from end to end. A line that breaks, falls silent or brings what is no message is given up, and the
-        outcome says so."""
+        """One order from end to end. A line that breaks, falls silent or brings what is no message is given up. Where the order
+        ended by that, a LineError is raised, once no callback raised anything."""
         self._refuse_within()
         message = self._order(order, number)
-        self._raised = self._outcome = None
+        self._raised = self._outcome = broken = None
         self._running = True
         try:
             self._keep_and_send(order, number, message)
             self._hear_out(wants_cancel)
-        except _BrokenLine:
+        except _BrokenLine as error:
             self._give_up()
+            if self._outcome is None or self._outcome.is_by_line():
+                broken = error
         except BaseException as error:
             self._give_up()
             if self._must_stop(error) and error is not self._raised:
@@ -461,6 +478,8 @@ class Till:
             self._running = False
         if self._raised is not None:
             raise self._raised
+        if broken is not None:
+            raise LineError(self._outcome) from broken.__cause__
         return self._outcome
 
     def _hear_out(self, wants_cancel):
