@@ -77,5 +77,12 @@ int main() {
     say("reversed again", saved.feed(reversed_before, sizeof reversed_before));
     std::printf("unclear reversals: %" PRIu64 ", doubt %u\n", saved.state().unclear_reversals, saved.book()[0].doubt);
     std::printf("total %" PRIu64 "\n", till.state().total);
+    /* a till that was moved from is closed */
+    zvt::Till taken = std::move(till);
+    try {
+        till.state();
+    } catch (const zvt::Refused &refused) {
+        std::printf("moved: status %u, total %" PRIu64 ", version %s\n", refused.status, taken.state().total, zvt::version().c_str());
+    }
     show_journal(registered, sizeof registered);
 }
