@@ -21,7 +21,7 @@ import time
 import zvt
 
 HERE = os.path.dirname(os.path.abspath(__file__))
-JNA = "/usr/share/java/jna.jar"
+JNA = os.environ.get("JNA", "/usr/share/java/jna.jar")
 ACK, DONE = "800000", "060F00"
 STEPS = "register pay:1000 reverse:7 pay:500 reverse:2 close".split()
 DAY = """register -> registered
