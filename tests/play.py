@@ -5,7 +5,7 @@
 
 PROGRAM is the one that `rt ci` built, unless another is named. Each of 30 random dialogues, or of DIALOGUES, is recorded at
 both ends. Each trace is played as a terminal against a till with the same steps, and as a till against a terminal: it ends
-with status 0, and the other program with what it came to in the recording. Then one byte of a message of the other side is
+with status 0, and the other program with what it came to in the recording. The examples are played likewise. Then one byte of a message of the other side is
 changed, and the difference is told at its line. Lost lines, waits, silence, what comes besides, and wrong words and files
 follow. The status is 1 where anything is not as expected.
 """
@@ -151,6 +151,29 @@ def recorded(folder):
             differs(name, chance, trace, steps, words, folder)
 
 
+# ---- the examples of the repository
+
+
+def examples(folder):
+    """The payment is played as either side, as the till with the numbers of the terminal left open. A trace whose other side sends
+    what is no message is refused before anything is opened, at that line."""
+    known = HERE.parent / "examples"
+    terminal = Listener("terminal", "--port", "0")
+    check("the first example, as the till", play_till(known / "first.trace", terminal.port), (0, "", ""))
+    terminal.ended()
+    kit = play_terminal(known / "payment.trace")
+    status, said, _ = till(kit.port, ["register", "pay:1234"])
+    check("the payment, as the terminal", (kit.ended(), status, said.splitlines()[1]), ((0, "", ""), 0, "pay:1234 -> paid trace 000017 receipt 0005"))
+    lines = (known / "payment.trace").read_text().splitlines(True)
+    open_numbers = written(folder, "".join("< 04 0F\n" if line.startswith("< 04 0F") else line for line in lines))
+    terminal = Listener("terminal", "--port", "0")
+    check("the payment, as the till", play_till(open_numbers, terminal.port), (0, "", ""))
+    check("the terminal of the payment", terminal.ended()[0], 0)
+    for name, side, line in (("messages", "till", 40), ("padded", "till", 5), ("refused", "till", 8), ("refused", "terminal", 4)):
+        status, said, errors = run("play", f"--{side}", str(known / f"{name}.trace"), "--port", "1")
+        check(f"{name}, as the {side}", (status, said, f"line {line} of the trace: no message begins" in errors), (3, "", True))
+
+
 # ---- single lines
 
 
@@ -276,6 +299,7 @@ def wrong(folder):
 with tempfile.TemporaryDirectory() as name:
     folder = pathlib.Path(name)
     recorded(folder)
+    examples(folder)
     lines(folder)
     waits(folder)
     lost_lines(folder)
