@@ -528,27 +528,19 @@ namespace Zvt {
         }
 
         /// <summary>The payments that are booked.</summary>
-        public IReadOnlyList<Entry> Book {
-            get {
-                var entries = new Entry[State().booked];
-                for (int place = 0; place < entries.Length; place++) {
-                    Check(Native.zvt_till_entry(handle, (UIntPtr)place, out var entry));
-                    entries[place] = new Entry(entry, true);
-                }
-                return entries;
-            }
-        }
+        public IReadOnlyList<Entry> Book { get { return Entries(State().booked, true); } }
 
         /// <summary>The payments that are neither booked nor known not to be.</summary>
-        public IReadOnlyList<Entry> Unclear {
-            get {
-                var entries = new Entry[State().unclear];
-                for (int place = 0; place < entries.Length; place++) {
-                    Check(Native.zvt_till_unclear(handle, (UIntPtr)place, out var entry));
-                    entries[place] = new Entry(entry, false);
-                }
-                return entries;
+        public IReadOnlyList<Entry> Unclear { get { return Entries(State().unclear, false); } }
+
+        Entry[] Entries(ulong count, bool booked) {
+            var entries = new Entry[count];
+            for (int place = 0; place < entries.Length; place++) {
+                Native.Entry entry;
+                Check(booked ? Native.zvt_till_entry(handle, (UIntPtr)place, out entry) : Native.zvt_till_unclear(handle, (UIntPtr)place, out entry));
+                entries[place] = new Entry(entry, booked);
             }
+            return entries;
         }
 
         /// <summary>The places of the booked payments whose last reversal is unclear: reverse these again.</summary>

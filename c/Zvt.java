@@ -662,23 +662,18 @@ public final class Zvt {
         }
 
         /** The payments that are booked. */
-        public List<Entry> book() {
-            List<Entry> entries = new ArrayList<>();
-            for (long place = 0, count = state().booked; place < count; place++) {
-                EntryNumbers entry = new EntryNumbers();
-                check(calls.zvt_till_entry(handle, new NativeLong(place), entry));
-                entries.add(new Entry(entry, true));
-            }
-            return entries;
-        }
+        public List<Entry> book() { return entries(state().booked, true); }
 
         /** The payments that are neither booked nor known not to be. */
-        public List<Entry> unclear() {
+        public List<Entry> unclear() { return entries(state().unclear, false); }
+
+        private List<Entry> entries(long count, boolean booked) {
             List<Entry> entries = new ArrayList<>();
-            for (long place = 0, count = state().unclear; place < count; place++) {
+            for (long place = 0; place < count; place++) {
                 EntryNumbers entry = new EntryNumbers();
-                check(calls.zvt_till_unclear(handle, new NativeLong(place), entry));
-                entries.add(new Entry(entry, false));
+                NativeLong at = new NativeLong(place);
+                check(booked ? calls.zvt_till_entry(handle, at, entry) : calls.zvt_till_unclear(handle, at, entry));
+                entries.add(new Entry(entry, booked));
             }
             return entries;
         }

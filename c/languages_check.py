@@ -185,6 +185,29 @@ def a_book_that_another_has_open(language, folder, library):
         check(language, "no book", (True, "a shopping list\n"), (f"{book} is no journal, and it was left as it is" in done.stdout, file.read()))
 
 
+def another_library(folder, library):
+    """A library that has the same calls, of another number; None where none can be made."""
+    if not (shutil.which("nm") and shutil.which("cc")):
+        print("languages_check: no nm or no cc: skipped a library of another number")
+        return None
+    os.mkdir(folder)
+    said = subprocess.run(["nm", "-D", "--defined-only", library], stdout=subprocess.PIPE, text=True, check=True).stdout
+    with open(f"{folder}/other.c", "w", encoding="ascii") as file:
+        for name in (row.split()[2] for row in said.splitlines()):
+            file.write(f"int {name}(void) {{ return {2 if name == 'zvt_abi' else 0}; }}\n")
+    subprocess.run(["cc", "-w", "-shared", "-fPIC", "-Wl,-soname,libzvt.so.0", "-o", f"{folder}/libzvt.so.0", f"{folder}/other.c"], check=True)
+    return folder
+
+
+def another_library_is_refused(language, folder, other):
+    """The number of its calls is not that which the language's file is made for: nothing is opened."""
+    environment = {**os.environ, "LD_LIBRARY_PATH": other, "ZVT_LIBRARY": f"{other}/libzvt.so.0"}
+    words = language.words(folder, "Pay", "127.0.0.1", 1, f"{folder}/other.trace")
+    done = subprocess.run(words, stdout=subprocess.PIPE, stderr=subprocess.STDOUT, text=True, env=environment)
+    found = (done.returncode != 0, "are of number 2, and" in done.stdout, os.path.exists(f"{folder}/other.trace"))
+    check(language, f"a library of another number: {done.stdout}", (True, True, False), found)
+
+
 def torn_books_go_on(language, folder, library):
     """Each beginning of a record after the gate is cut and kept, as zvt.py does."""
     for size in (1, 9, 30):
@@ -336,6 +359,13 @@ def main(library, layouts, program, *names):
             file.write("\n".join(script(1, count)) + "\n")
         with open(f"{room}/script", encoding="ascii") as file:
             wanted = played(file.read().splitlines(), path)
+        other = another_library(f"{room}/other", path)
+        if other:
+            try:
+                zvt.Till(f"{other}/libzvt.so.0")
+                sys.exit("languages_check: zvt.py takes a library of another number")
+            except OSError as error:
+                assert "are of number 2, and" in str(error), error
         for language in LANGUAGES:
             if names and language.name not in names:
                 continue
@@ -350,6 +380,8 @@ def main(library, layouts, program, *names):
             os.environ["ZVT_BOOK"] = f"{folder}/heard.trace"
             uses = [row.format(raised=language.raised, within=language.within, why=language.why) for row in USES]
             check(language, "uses", (CLOSED if language.closes else []) + uses, language.says(folder, "TillCheck", "uses").splitlines())
+            if other:
+                another_library_is_refused(language, folder, other)
             a_day_at_the_terminal(language, folder, program)
             a_kill_in_the_middle(language, folder, program)
             a_book_that_another_has_open(language, folder, path)

@@ -218,6 +218,7 @@ type
     procedure Print(const Line: TBytes);
     procedure Tell(const Message: TBytes);
     function State: TZvtState;
+    function Entries(Count: UInt64; Booked: Boolean): TZvtEntries;
     function LastOutcome: TZvtOutcome;
     function IsRegistered: Boolean;
     function SumOfBook: Int64;
@@ -920,43 +921,39 @@ begin
   Result := OutcomeOf(State.Last);
 end;
 
-function TZvtTill.Book: TZvtEntries;
+function TZvtTill.Entries(Count: UInt64; Booked: Boolean): TZvtEntries;
 var
   Entry: TZvtEntryNumbers;
   Place: Integer;
 begin
   Result := nil;
-  SetLength(Result, State.Booked);
+  SetLength(Result, Count);
   for Place := 0 to High(Result) do
   begin
-    Check(zvt_till_entry(FHandle, Place, Entry));
-    Result[Place] := EntryOf(Entry, True);
+    if Booked then Check(zvt_till_entry(FHandle, Place, Entry)) else Check(zvt_till_unclear(FHandle, Place, Entry));
+    Result[Place] := EntryOf(Entry, Booked);
   end;
 end;
 
-function TZvtTill.Unclear: TZvtEntries;
-var
-  Entry: TZvtEntryNumbers;
-  Place: Integer;
+function TZvtTill.Book: TZvtEntries;
 begin
-  Result := nil;
-  SetLength(Result, State.Unclear);
-  for Place := 0 to High(Result) do
-  begin
-    Check(zvt_till_unclear(FHandle, Place, Entry));
-    Result[Place] := EntryOf(Entry, False);
-  end;
+  Result := Entries(State.Booked, True);
+end;
+
+function TZvtTill.Unclear: TZvtEntries;
+begin
+  Result := Entries(State.Unclear, False);
 end;
 
 function TZvtTill.UnclearReversals: TZvtPlaces;
 var
-  Entries: TZvtEntries;
+  Booked: TZvtEntries;
   Place: Integer;
 begin
   Result := nil;
-  Entries := Book;
-  for Place := 0 to High(Entries) do
-    if Entries[Place].Doubt = zdUnclearReversal then
+  Booked := Book;
+  for Place := 0 to High(Booked) do
+    if Booked[Place].Doubt = zdUnclearReversal then
     begin
       SetLength(Result, Length(Result) + 1);
       Result[High(Result)] := Place;
