@@ -1,12 +1,12 @@
 -- The builders of the program's commands.
-use Rattle.std.proofs.Common.{◌≡◌, ◌∙◌, ◌||◌, ap, ap₂, codes, subst, sym, true, false, Bor, IfOk, IsOkAnd, List, ℕ, Result, Ok, Err, Some}
-use Rattle.clap.specs.Built.{AddsArg, AddsSubcommand}
-use Rattle.clap.specs.Simple.{App, app_of, app_of_fields, new_app, on_top, with_rule}
-use Rattle.clap.specs.Walk.{Rule, rule_of}
+use Rattle.std.proofs.Common.{◌≡◌, ◌∙◌, ◌||◌, [], ◌∷◌, ap, ap₂, codes, map, subst, sym, true, false, Bor, IfOk, IsOkAnd, List, ℕ, Result, Ok, Err, Some}
+use Rattle.clap.specs.Built.{AddsArg, AddsInTurn, AddsSubcommand}
+use Rattle.clap.specs.Simple.{App, app_of, app_of_fields, new_app, on_top}
+use Rattle.clap.specs.Walk.{rule_of}
 use Rattle.clap.specs.declared.builder.arg.Arg.{Arg}
 use Rattle.clap.specs.declared.builder.command.Command.{Command}
 use Rattle.clap.specs.declared.builder.command.Command.TheViews.{out-Command as fields_of}
-use Rattle.zvt_cli.specs.Commands.{IsLocalAppOf, program_app, with_command}
+use Rattle.zvt_cli.specs.Commands.{AreLocal, program_app, with_command, with_rules}
 
 pub added : {E : Type 0} (p : Result Command E) (r program : Command) (a b : App) → app_of program ≡ a → IfOk p (λ command. app_of command ≡ b)
     → IsOkAnd p (λ command. app_of r ≡ with_command (app_of program) (app_of command)) → app_of r ≡ with_command a b
@@ -29,10 +29,14 @@ pub versioned : (p q r : Command) (version name : Bor (List ℕ)) → app_of p �
 versioned p q r version name is e f =
     ap app_of_fields f ∙ (ap app_of_fields e ∙ ap (on_top (λ top. record top { has_version = true })) is)
 
-pub with_option : (old new : Command) (a : Arg) (app : App) (rule : Rule) → AddsArg old a new → rule_of a ≡ rule → a.global ≡ false → IsLocalAppOf app old
-    → IsLocalAppOf (with_rule app rule) new
-with_option old new a app rule adds is own has =
-    (adds.shape own ∙ ap₂ with_rule has.0 is, adds.globals ∙ ap₂ (λ x y. x || y) has.1 own)
+-- with these options besides, which are its own
+pub with_options : (old new : Command) (options : List Arg) → (fields_of old).has_globals ≡ false → AreLocal options
+    → AddsInTurn AddsArg old options new → (app_of new ≡ with_rules (app_of old) (map rule_of options)) × ((fields_of new).has_globals ≡ false)
+with_options old new [] local own is = (ap app_of (sym is), ap (λ command. (fields_of command).has_globals) (sym is) ∙ local)
+with_options old new (option ∷ options) local own (next, adds, more) =
+    let is_local = adds.globals ∙ ap₂ (λ x y. x || y) local own.0 in
+    let rest = with_options next new options is_local own.1 more in
+    (rest.0 ∙ ap (λ app. with_rules app (map rule_of options)) (adds.shape own.0), rest.1)
 
 pub with_given : {E : Type 0} (p r command : Command) (given : Result Command E) → given ≡ Ok command
     → IfOk given (λ command. (fields_of command).has_globals ≡ false) → AddsSubcommand p command r
@@ -40,9 +44,3 @@ pub with_given : {E : Type 0} (p r command : Command) (given : Result Command E)
 with_given p r command given is own adds =
     let local : (fields_of command).has_globals ≡ false = subst (λ x. IfOk x (λ command. (fields_of command).has_globals ≡ false)) is own in
     subst (λ x. IsOkAnd x (λ command. app_of r ≡ with_command (app_of p) (app_of command))) (sym is) (adds.shape local)
-
--- what is known of a command that may be there, as one fact
-pub is_local : {E : Type 0} (given : Result Command E) (app : App) → IfOk given (λ r. app_of r ≡ app) → IfOk given (λ r. (fields_of r).has_globals ≡ false)
-    → IfOk given (IsLocalAppOf app)
-is_local (Ok command) app has own = (has, own)
-is_local (Err e) app has own = tt

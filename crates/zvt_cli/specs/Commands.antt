@@ -1,9 +1,8 @@
 -- The commands of the program and their options, as `clap` sees them.
-use Rattle.std.specs.Prelude.{◌≡◌, [], ◌∷◌, Some, codes, true, false, pos}
+use Rattle.std.specs.Prelude.{◌≡◌, [], ◌∷◌, List, Some, ⊤, codes, true, false, pos}
 use Rattle.clap.specs.Simple.{on_top}
-use Rattle.clap.specs.Words.{App, Rule, Text, app_of, new_app, new_rule, with_rule, with_subcommand}
-use Rattle.clap.specs.declared.builder.command.Command.{Command}
-use Rattle.clap.specs.declared.builder.command.Command.TheViews.{out-Command as fields_of}
+use Rattle.clap.specs.Words.{App, Rule, Text, new_app, new_rule, with_rule, with_subcommand}
+use Rattle.clap.specs.declared.builder.arg.Arg.{Arg}
 use Rattle.clap.specs.declared.builder.action.ArgAction.TheVariants.{Append, SetTrue}
 use Rattle.clap.specs.declared.builder.value_parser.ValueParser.TheVariants as parser
 
@@ -23,17 +22,11 @@ flag_rule name = record (new_rule name) { long = Some name; action = Some SetTru
 abbrev pub option_rule : Text → Rule
 option_rule name = record (new_rule name) { long = Some name; value_names = 1 }
 
-abbrev pub port_rule : Rule
-port_rule = record (option_rule (codes "port")) {
-  parser = Some (parser.Signed (pos 0) (pos 65535));
-  required = true;
-}
-
 -- an option that has the number of a TCP port
 abbrev pub port_option_rule : Text → Rule
 port_option_rule name = record (option_rule name) { parser = Some (parser.Signed (pos 0) (pos 65535)) }
 
--- the same, which has to be there
+-- an option that has the number of a TCP port and has to be there
 abbrev pub needed_port_rule : Text → Rule
 needed_port_rule name = record (port_option_rule name) { required = true }
 
@@ -56,49 +49,122 @@ connections_rule = record (option_rule (codes "connections")) {
   defaults = codes "1" ∷ [];
 }
 
--- options that have no default
-abbrev pub plain_option : App → Text → App
-plain_option app name = with_rule app (option_rule name)
+-- the options are those of their command alone
+abbrev pub AreLocal : List Arg → Type 0
+AreLocal [] = ⊤
+AreLocal (option ∷ options) = (option.global ≡ false) × AreLocal options
+
+-- a command with these options besides
+abbrev pub with_rules : App → List Rule → App
+with_rules app [] = app
+with_rules app (rule ∷ rules) = with_rules (with_rule app rule) rules
+
+-- a command of this name with these options
+abbrev pub command_app : Text → List Rule → App
+command_app name = with_rules (new_app name)
+
+-- the traces of a command line
+abbrev pub files_rule : Rule
+files_rule = several_rule (codes "file")
+
+abbrev pub show_app : App
+show_app = command_app (codes "show") (
+    files_rule ∷
+    flag_rule (codes "loose") ∷
+    flag_rule (codes "json") ∷
+    flag_rule (codes "follow") ∷
+    flag_rule (codes "resync") ∷
+    [])
+
+abbrev pub join_app : App
+join_app = command_app (codes "join") (files_rule ∷ flag_rule (codes "follow") ∷ [])
+
+abbrev pub normalise_app : App
+normalise_app = command_app (codes "normalise") (files_rule ∷ [])
+
+abbrev pub audit_app : App
+audit_app = command_app (codes "audit") (
+    files_rule ∷
+    flag_rule (codes "loose") ∷
+    flag_rule (codes "check") ∷
+    flag_rule (codes "json") ∷
+    flag_rule (codes "follow") ∷
+    [])
+
+abbrev pub receipts_app : App
+receipts_app = command_app (codes "receipts") (
+    files_rule ∷
+    flag_rule (codes "loose") ∷
+    flag_rule (codes "json") ∷
+    flag_rule (codes "follow") ∷
+    [])
+
+abbrev pub vectors_app : App
+vectors_app = command_app (codes "vectors") (files_rule ∷ flag_rule (codes "json") ∷ [])
 
 abbrev pub book_app : App
-book_app = with_rule (with_rule (new_app (codes "book")) book_file_rule) (flag_rule (codes "json"))
+book_app = command_app (codes "book") (book_file_rule ∷ flag_rule (codes "json") ∷ [])
 
 abbrev pub loop_app : App
-loop_app = with_rule (with_rule (plain_option (plain_option (new_app (codes "loop")) (codes "trace")) (codes "book")) (flag_rule (codes "json"))) (several_rule (codes "step"))
+loop_app = command_app (codes "loop") (
+    option_rule (codes "trace") ∷
+    option_rule (codes "book") ∷
+    flag_rule (codes "json") ∷
+    several_rule (codes "step") ∷
+    [])
 
 abbrev pub till_app : App
-till_app =
-    with_rule (with_rule (with_rule (plain_option (plain_option (plain_option (plain_option
-    (plain_option (with_rule (with_rule (new_app (codes "till")) port_rule) host_rule) (codes "password"))
-    (codes "config")) (codes "currency")) (codes "trace")) (codes "book")) (flag_rule (codes "loose"))) (flag_rule (codes "json"))) (several_rule (codes "step"))
+till_app = command_app (codes "till") (
+    needed_port_rule (codes "port") ∷
+    host_rule ∷
+    option_rule (codes "password") ∷
+    option_rule (codes "config") ∷
+    option_rule (codes "currency") ∷
+    option_rule (codes "trace") ∷
+    option_rule (codes "book") ∷
+    flag_rule (codes "loose") ∷
+    flag_rule (codes "json") ∷
+    several_rule (codes "step") ∷
+    [])
 
 abbrev pub terminal_app : App
-terminal_app =
-    with_rule (with_rule (plain_option (plain_option
-    (with_rule (with_rule (with_rule (with_rule (new_app (codes "terminal")) port_rule) host_rule) tid_rule) connections_rule)
-    (codes "decline")) (codes "trace")) (flag_rule (codes "loose"))) (flag_rule (codes "json"))
+terminal_app = command_app (codes "terminal") (
+    needed_port_rule (codes "port") ∷
+    host_rule ∷
+    tid_rule ∷
+    connections_rule ∷
+    option_rule (codes "decline") ∷
+    option_rule (codes "trace") ∷
+    flag_rule (codes "loose") ∷
+    flag_rule (codes "json") ∷
+    [])
 
 abbrev pub tap_app : App
-tap_app =
-    with_rule (with_rule (plain_option
-    (with_rule (with_rule (new_app (codes "tap")) (needed_rule (codes "listen"))) (needed_rule (codes "to")))
-    (codes "trace")) (flag_rule (codes "trace-required"))) connections_rule
+tap_app = command_app (codes "tap") (
+    needed_rule (codes "listen") ∷
+    needed_rule (codes "to") ∷
+    option_rule (codes "trace") ∷
+    flag_rule (codes "trace-required") ∷
+    connections_rule ∷
+    [])
 
 abbrev pub play_app : App
-play_app =
-    with_rule (with_rule (with_rule
-    (plain_option (plain_option (new_app (codes "play")) (codes "till")) (codes "terminal"))
-    (port_option_rule (codes "port"))) (port_option_rule (codes "listen"))) host_rule
+play_app = command_app (codes "play") (
+    option_rule (codes "till") ∷
+    option_rule (codes "terminal") ∷
+    port_option_rule (codes "port") ∷
+    port_option_rule (codes "listen") ∷
+    host_rule ∷
+    [])
 
 -- a command of this name that plays situations, over connections of the port with that name
 abbrev pub check_app : Text → Text → App
-check_app name port =
-    with_rule (with_rule (with_rule (with_rule (new_app name) (needed_port_rule port)) host_rule) (option_rule (codes "junit")))
-    (several_rule (codes "file"))
-
--- a command of this line, whose options are its own
-abbrev pub IsLocalAppOf : App → Command → Type 0
-IsLocalAppOf app c = (app_of c ≡ app) × ((fields_of c).has_globals ≡ false)
+check_app name port = command_app name (
+    needed_port_rule port ∷
+    host_rule ∷
+    option_rule (codes "junit") ∷
+    several_rule (codes "file") ∷
+    [])
 
 -- the program, which has a version, without its commands
 abbrev pub program_app : App
@@ -108,41 +174,20 @@ program_app = on_top (λ top. record top { has_version = true }) (new_app (codes
 abbrev pub with_command : App → App → App
 with_command app command = with_subcommand app command.top
 
--- a command that reads traces
-abbrev pub on_trace_app : Text → App
-on_trace_app name = with_rule (new_app name) (several_rule (codes "file"))
+-- with the commands that write the messages of a trace
+abbrev pub text_app : App
+text_app = with_command (with_command (with_command program_app show_app) join_app) normalise_app
 
--- a command that reads traces with padded lengths too
-abbrev pub loose_trace_app : Text → App
-loose_trace_app name = with_rule (on_trace_app name) (flag_rule (codes "loose"))
-
--- a command that writes what traces have, also as JSON, and line by line
-abbrev pub written_app : Text → App
-written_app name = with_rule (with_rule (loose_trace_app name) (flag_rule (codes "json"))) (flag_rule (codes "follow"))
-
--- text of a trace that may go on after a message that is refused
-abbrev pub show_app : App
-show_app = with_rule (written_app (codes "show")) (flag_rule (codes "resync"))
-
-abbrev pub join_app : App
-join_app = with_rule (on_trace_app (codes "join")) (flag_rule (codes "follow"))
-
-abbrev pub vectors_app : App
-vectors_app = with_rule (on_trace_app (codes "vectors")) (flag_rule (codes "json"))
-
-abbrev pub audit_app : App
-audit_app = with_rule (with_rule (with_rule (loose_trace_app (codes "audit")) (flag_rule (codes "check"))) (flag_rule (codes "json"))) (flag_rule (codes "follow"))
-
--- with the commands that read traces, or vectors
+-- and those that read traces otherwise, or vectors
 abbrev pub trace_app : App
-trace_app =
-    with_command (with_command (with_command (with_command
-    (with_command (with_command program_app show_app) join_app)
-    (on_trace_app (codes "normalise"))) audit_app) (written_app (codes "receipts")))
-    vectors_app
+trace_app = with_command (with_command (with_command text_app audit_app) receipts_app) vectors_app
+
+-- and those for books, and for running either end of a line
+abbrev pub running_app : App
+running_app = with_command (with_command (with_command (with_command trace_app book_app) loop_app) till_app) terminal_app
 
 -- the program with its commands and their options
 abbrev pub zvt_app : App
 zvt_app =
-    with_command (with_command (with_command (with_command (with_command (with_command (with_command (with_command trace_app book_app) loop_app) till_app) terminal_app) tap_app)
-    play_app) (check_app (codes "check-till") (codes "listen"))) (check_app (codes "check-terminal") (codes "port"))
+    with_command (with_command (with_command (with_command running_app tap_app) play_app)
+    (check_app (codes "check-till") (codes "listen"))) (check_app (codes "check-terminal") (codes "port"))

@@ -1,7 +1,7 @@
 //! The options and steps of the commands.
 ghost use Rattle.std.specs.Prelude.{◌≡◌, false};
 ghost use Rattle.clap.specs.Words.{rule_of};
-ghost use Rattle.zvt_cli.specs.Commands.{book_file_rule, connections_rule, flag_rule, host_rule, needed_port_rule, needed_rule, option_rule, port_option_rule, port_rule, several_rule, tid_rule};
+ghost use Rattle.zvt_cli.specs.Commands.{book_file_rule, connections_rule, flag_rule, host_rule, needed_port_rule, needed_rule, option_rule, port_option_rule, several_rule, tid_rule};
 
 use crate::help;
 use clap::{Arg, ArgAction, value_parser};
@@ -26,18 +26,6 @@ pub fn book_file<'a>(alloc: Global) -> Arg<'a>
         .required(true)
         .value_name("FILE")
         .help(help::BOOK_FILE)
-}
-
-pub fn port<'a>(alloc: Global, text: &'a str) -> Arg<'a>
-    ensures rule { rule_of result ≡ port_rule }
-    ensures local { result.global ≡ false }
-{
-    Arg::new(alloc, "port")
-        .long("port")
-        .value_parser(value_parser!(u16))
-        .required(true)
-        .value_name("PORT")
-        .help(text)
 }
 
 /// An option of this name that has the number of a TCP port, and no default.

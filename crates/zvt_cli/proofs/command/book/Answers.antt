@@ -1,16 +1,16 @@
-use Rattle.std.proofs.Common.{codes, IfOk}
+use Rattle.std.proofs.Common.{◌∙◌, ◌∷◌, ap, ap₂, codes, map, refl, subst, sym}
 use Rattle.std.proofs.lemmas.Result.{IfOk-weaker}
-use Rattle.clap.specs.Simple.{new_app, with_rule}
-use Rattle.zvt_cli.specs.Commands.{IsLocalAppOf, book_app, book_file_rule, flag_rule}
+use Rattle.clap.specs.Walk.{rule_of}
+use Rattle.zvt_cli.specs.Commands.{AreLocal, command_app}
 use Rattle.zvt_cli.proofs.command.book.Goals as goal
+
+pub command-requires : goal.command-requires
+command-requires c = subst AreLocal (sym c.in_ok-options.ensures.items) (c.book_file.ensures.local, (c.flag.ensures.local, tt))
 
 pub returns : goal.returns
 returns c =
-    let app_0 = new_app (codes "book") in
-    let app_1 = with_rule app_0 book_file_rule in
-    let has_1 : IfOk c.and-read.result (IsLocalAppOf app_1) = c.and-read.ensures app_0 book_file_rule c.book_file.ensures.rule (c.plain.ensures.app, c.plain.ensures.local) in
-    let has : IfOk c.and.result (IsLocalAppOf book_app) = c.and.ensures app_1 (flag_rule (codes "json")) c.flag.ensures.rule has_1 in
+    let rules = ap (map rule_of) c.in_ok-options.ensures.items ∙ ap₂ (◌∷◌) c.book_file.ensures.rule (ap₂ (◌∷◌) c.flag.ensures.rule refl) in
     record {
-      app = IfOk-weaker c.and.result _ _ (λ r h. h.0) has;
-      local = IfOk-weaker c.and.result _ _ (λ r h. h.1) has;
+      app = IfOk-weaker c.command.result _ _ (λ r is. is ∙ ap (command_app (codes "book")) rules) c.command.ensures.app;
+      local = c.command.ensures.local;
     }

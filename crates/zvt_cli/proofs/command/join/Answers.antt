@@ -1,15 +1,16 @@
-use Rattle.std.proofs.Common.{codes, IfOk}
+use Rattle.std.proofs.Common.{◌∙◌, ◌∷◌, ap, ap₂, codes, map, refl, subst, sym}
 use Rattle.std.proofs.lemmas.Result.{IfOk-weaker}
-use Rattle.zvt_cli.specs.Commands.{IsLocalAppOf, flag_rule, join_app, on_trace_app}
-use Rattle.zvt_cli.proofs.Commands.{is_local}
+use Rattle.clap.specs.Walk.{rule_of}
+use Rattle.zvt_cli.specs.Commands.{AreLocal, command_app}
 use Rattle.zvt_cli.proofs.command.join.Goals as goal
+
+pub command-requires : goal.command-requires
+command-requires c = subst AreLocal (sym c.in_ok-options.ensures.items) (c.several.ensures.local, (c.flag.ensures.local, tt))
 
 pub returns : goal.returns
 returns c =
-    let app_0 = on_trace_app (codes "join") in
-    let has_0 : IfOk c.on_trace-read.result (IsLocalAppOf app_0) = is_local c.on_trace-read.result app_0 c.on_trace-read.ensures.app c.on_trace-read.ensures.local in
-    let has : IfOk c.and.result (IsLocalAppOf join_app) = c.and.ensures app_0 (flag_rule (codes "follow")) c.flag.ensures.rule has_0 in
+    let rules = ap (map rule_of) c.in_ok-options.ensures.items ∙ ap₂ (◌∷◌) c.several.ensures.rule (ap₂ (◌∷◌) c.flag.ensures.rule refl) in
     record {
-      app = IfOk-weaker c.and.result _ _ (λ r h. h.0) has;
-      local = IfOk-weaker c.and.result _ _ (λ r h. h.1) has;
+      app = IfOk-weaker c.command.result _ _ (λ r is. is ∙ ap (command_app (codes "join")) rules) c.command.ensures.app;
+      local = c.command.ensures.local;
     }
