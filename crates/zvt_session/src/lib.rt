@@ -40,7 +40,7 @@ pub use kept_ends::run_both_ends_kept;
 pub use line_end::LineEnd;
 pub use options::{BookRun, LoopRun, TerminalRun, TillRun};
 pub use plans::{Planned, StepRun, plan};
-pub use recorder::{MAX_CHUNK, MAX_LINE, Recorded, Way, end_trace, spell_piece};
+pub use recorder::{Recorded, Way, end_trace, spell_piece};
 pub use service::serve;
 pub use settings::{config_of, currency_of, password_of};
 pub use tcp::{run_loop, run_terminal, run_till};

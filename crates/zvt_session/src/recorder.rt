@@ -28,11 +28,8 @@ impl Way {
     }
 }
 
-/// The most bytes of a chunk: the devices of a connection read and write no more at once.
-pub const MAX_CHUNK: usize = 1024;
-
-/// The size of the line of the longest chunk.
-pub const MAX_LINE: usize = 2 + 2 * 1024 + 1;
+/// The size of the longest line: the devices of a connection read and write at most 1,024 bytes at once.
+const MAX_LINE: usize = 2 + 2 * 1024 + 1;
 
 /// A device, and the trace of what goes through it: each read that brings bytes, and each write, is a line of its own.
 /// The device counts its bytes as it does without a trace. A trace that can't be written is broken, also for want of

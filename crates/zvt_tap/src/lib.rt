@@ -18,6 +18,6 @@ pub use fault::TapFault;
 pub use line::{Tapped, tap_line};
 pub use log::{Found, TapLog};
 pub use nowhere::Nowhere;
-pub use relay::{Ends, Observer, Readiness, run_relay};
+pub use relay::{Ends, MAX_CHUNK, Observer, Readiness, run_relay};
 pub use sockets::{SocketTapped, tap_sockets};
 pub use tracing::Tracing;

@@ -7,16 +7,19 @@ ghost use Rattle.zvt_trace.specs.Written.{limit};
 ghost use Rattle.zvt_tap.specs.Log.{FailsOnlyIf, HasFound, HasObserved, HasTraced, MayObserve, Observes, log_state};
 
 use crate::heard::Heard;
-use crate::relay::Observer;
+use crate::relay::{MAX_CHUNK, Observer};
 use crate::shown::Shown;
 use crate::tracing::Tracing;
 use std::alloc::{AllocError, Global};
 use zvt_audit::AuditSummary;
 use zvt_grammar::Lengths;
 use zvt_io::Sink;
-use zvt_session::{MAX_LINE, Way, spell_piece};
+use zvt_session::{Way, spell_piece};
 use zvt_text::Text;
 use zvt_trace::{Tally, TraceFault};
+
+/// The size of the line of the longest chunk: its sign, its bytes as digits, and a line feed.
+const MAX_LINE: usize = 2 + 2 * MAX_CHUNK + 1;
 
 /// What is observed of a line: a trace, and on an output the text that `show` writes of the trace, and then its audit. Each of
 /// them ends at its own fault, and the others go on.

@@ -7,7 +7,10 @@ ghost use Rattle.zvt_tap.specs.Relay.{AnswersPass, AnswersRelay, AnswersTurn, Co
 use crate::fault::TapFault;
 use std::alloc::AllocError;
 use zvt_io::{Failed, Sink, Source};
-use zvt_session::{MAX_CHUNK, Way};
+use zvt_session::Way;
+
+/// The most bytes of a chunk: no more are read, observed and written at once.
+pub const MAX_CHUNK: usize = 16_384;
 
 /// In which order chunks are passed on. It may be any order.
 pub trait Readiness {
@@ -40,9 +43,9 @@ pub trait Observer {
     /// More may be observed.
     ghost may_observe: { Self → Type 0 };
 
-    /// Observes a chunk of at most 1,024 bytes that goes this way. After an `Err` nothing is observed.
+    /// Observes a chunk of at most [`MAX_CHUNK`] bytes that goes this way. After an `Err` nothing is observed.
     fn take(&mut self, way: Way, bytes: &[u8]) -> Result<(), AllocError>
-        requires few { length bytes.now ≤ 1024 }
+        requires few { length bytes.now ≤ 16384 }
         requires may { may_observe self.old }
         ensures observed { MatchResult result (λ _. observes self.old (piece_text way bytes.now) self.new) (λ _. observes self.old [] self.new) }
         ensures may { may_observe self.new };
@@ -67,8 +70,8 @@ pub struct Ends<R, W> {
     pub to_till: W,
 }
 
-/// Passes on what comes from each side to the other, a chunk of at most 1,024 bytes at a time, until both have come to their
-/// end. Each chunk is observed before it is written.
+/// Passes on what comes from each side to the other, a chunk of at most [`MAX_CHUNK`] bytes at a time, until both have come
+/// to their end. Each chunk is observed before it is written.
 ///
 /// At `Read` and `Write` a device has failed. At `Trace` the observer is stopped, and the last chunk was observed but not written.
 /// At `Memory` it was neither observed nor written. At `Wait` nobody could wait, or it was waited 2⁶⁴ - 1 times.
