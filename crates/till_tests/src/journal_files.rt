@@ -1,11 +1,11 @@
 //! Journals in files: made, opened again, cut, refused.
-use crate::{
-    Journal, JournalFileError, MAX_OPENING_LEN, MAX_RECORD_LEN, Opened, a_read_may_be_left,
-    open_file, read_book,
-};
 use std::fs;
 use std::os::unix::fs::{MetadataExt, PermissionsExt};
 use std::test::Fail;
+use zvt_journal::{
+    Journal, JournalFileError, MAX_OPENING_LEN, MAX_RECORD_LEN, Opened, a_read_may_be_left,
+    open_file, read_book,
+};
 
 const OPENING: &[u8] = b"# zvt journal 1, currency 978\n";
 

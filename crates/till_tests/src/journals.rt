@@ -3,9 +3,9 @@ ghost use Rattle.std.specs.Prelude.{◌≡◌, length, IfOk};
 ghost use Rattle.zvt_journal.specs.Memory.{memory_bytes};
 ghost use Rattle.zvt_journal.specs.Text.{IsSettled};
 
-use crate::{Journal, Memory, Tear, is_record, lines_are_recovered, open, torn};
 use std::alloc::Global;
 use std::test::Fail;
+use zvt_journal::{Journal, Memory, Tear, is_record, lines_are_recovered, open, torn};
 
 /// A file that a crash left while a second record was written after the closed gate.
 const STAGED: [u8; 9] = *b"!\n\n 0600\n";

@@ -3,15 +3,15 @@ ghost use Rattle.std.specs.Prelude.{◌≡◌, IfOk};
 ghost use Rattle.zvt_journal.specs.Memory.{memory_bytes};
 ghost use Rattle.zvt_journal.specs.Text.{IsSettled};
 
-use crate::{
-    Entry, KeptTill, RecordError, RecoveryError, opening_is_taken, put_heard, put_lost,
-    put_opening, put_order, read_records, records_are_kept, recover, run_order_kept,
-};
 use std::alloc::Global;
 use std::test::Fail;
 use zvt_bcd::{Amount, Currency};
 use zvt_io::Counted;
 use zvt_journal::{Memory, open};
+use zvt_kept::{
+    Entry, KeptTill, RecordError, RecoveryError, opening_is_taken, put_heard, put_lost,
+    put_opening, put_order, read_records, records_are_kept, recover, run_order_kept,
+};
 use zvt_stream::{Endpoint, Stream};
 use zvt_text::Text;
 use zvt_till::{Cause, Order, Outcome, TillSettings};

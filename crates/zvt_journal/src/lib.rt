@@ -14,13 +14,9 @@ mod device;
 mod durable;
 mod error;
 mod file;
-#[cfg(test)]
-mod file_tests;
 mod journal;
 mod memory;
 mod tears;
-#[cfg(test)]
-mod tests;
 
 pub use content::MAX_OPENING_LEN;
 pub use create::{Opened, open_file, read_book};

@@ -13,8 +13,6 @@ mod records;
 mod recovery;
 mod refusal;
 mod run;
-#[cfg(test)]
-mod tests;
 mod words;
 
 pub use keeping::answers_to;
