@@ -54,14 +54,8 @@ pub fn play(rt: &HostRuntime, options: &PlayOptions<'_>) -> io::Result<u8> {
             return Ok(WORDS);
         }
     };
-    if !has_one_place(options) {
-        eprintln!(rt;
-            "zvt: give --port N to connect to the other side, or --listen N to await it"
-        )?;
-        return Ok(WORDS);
-    }
-    if options.port == Some(0) {
-        eprintln!(rt; "zvt: invalid port '0': give the port that the other side listens at")?;
+    if let Some(wrong) = wrong_place(options) {
+        eprintln!(rt; "zvt: {wrong}")?;
         return Ok(WORDS);
     }
     let text = match read_text(rt, path)? {
@@ -77,7 +71,24 @@ pub fn play(rt: &HostRuntime, options: &PlayOptions<'_>) -> io::Result<u8> {
         Err(why) => return finish_run(rt, false, Err(EndFault::Net(why))),
     };
     report_address(rt, &place)?;
-    match play_script(rt, &mut place, own, steps.as_slice())? {
+    let played = play_script(rt, &mut place, own, steps.as_slice())?;
+    finish_play(rt, played)
+}
+
+/// What is wrong with where the connections are to come from, if anything is.
+fn wrong_place(options: &PlayOptions<'_>) -> Option<&'static str> {
+    if options.port.is_some() == options.listen.is_some() {
+        return Some("give --port N to connect to the other side, or --listen N to await it");
+    }
+    match options.port {
+        Some(0) => Some("invalid port '0': give the port that the other side listens at"),
+        _ => None,
+    }
+}
+
+/// Writes what differs, and answers the exit status.
+fn finish_play(rt: &HostRuntime, played: Played) -> io::Result<u8> {
+    match played {
         Played::Whole => Ok(DONE),
         Played::Differs(text) => {
             io::writer(rt).write_all(text.bytes())?;
@@ -85,11 +96,6 @@ pub fn play(rt: &HostRuntime, options: &PlayOptions<'_>) -> io::Result<u8> {
         }
         Played::Ended(status) => Ok(status),
     }
-}
-
-/// Whether the options say either to connect or to listen.
-fn has_one_place(options: &PlayOptions<'_>) -> bool {
-    options.port.is_some() != options.listen.is_some()
 }
 
 /// The text of the trace in this file. A file that can't be read is reported, and the exit status is answered.
