@@ -9,8 +9,9 @@ use std::alloc::AllocError;
 use zvt_io::{Failed, Sink, Source};
 use zvt_session::Way;
 
-/// The most bytes of a chunk: no more are read, observed and written at once.
-pub const MAX_CHUNK: usize = 16_384;
+/// The most bytes of a chunk: no more are read, observed and written at once. What shows and audits a trace decodes a line
+/// of so many bytes at once.
+pub const MAX_CHUNK: usize = 4_096;
 
 /// In which order chunks are passed on. It may be any order.
 pub trait Readiness {
@@ -45,7 +46,7 @@ pub trait Observer {
 
     /// Observes a chunk of at most [`MAX_CHUNK`] bytes that goes this way. After an `Err` nothing is observed.
     fn take(&mut self, way: Way, bytes: &[u8]) -> Result<(), AllocError>
-        requires few { length bytes.now ≤ 16384 }
+        requires few { length bytes.now ≤ 4096 }
         requires may { may_observe self.old }
         ensures observed { MatchResult result (λ _. observes self.old (piece_text way bytes.now) self.new) (λ _. observes self.old [] self.new) }
         ensures may { may_observe self.new };
