@@ -4,8 +4,9 @@ use std::alloc::Global;
 use std::test::Fail;
 use zvt_io::Counted;
 use zvt_json::Form;
-use zvt_session::{EndFault, Endpoint, Ends, LoopRun, StepRun, plan, run_loop, run_till_end};
+use zvt_session::{EndFault, Endpoint, Ends, StepRun, plan, run_till_end};
 use zvt_stream::{LineFault, Stream};
+use zvt_tcp::{LoopRun, run_loop};
 use zvt_till::TillSettings;
 
 const DEFAULT_STEPS: &str = r#"{"outcome":"registered","step":"register"}

@@ -8,10 +8,11 @@ use std::process::Abort;
 use std::test::Fail;
 use zvt_bcd::{Amount, Currency};
 use zvt_io::{Counted, Failed, GhostCount, Source};
-use zvt_session::{Endpoint, Recorded, Way, end_trace};
-use zvt_stream::Stream;
+use zvt_recorder::{Recorded, end_trace};
+use zvt_stream::{Endpoint, Stream};
 use zvt_till::{Entry, Order, Till, run_order};
 use zvt_tool::{audit, show};
+use zvt_trace::Direction;
 
 const ACK: &[u8] = &[0x80, 0x00, 0x00];
 
@@ -176,9 +177,9 @@ fn new_line(
         reads: GhostCount::zero(),
     };
     let sent = Counted::new(Vec::new(alloc));
-    let writer = Recorded::new(alloc, Way::FromTill, sent, Counted::new(trace))?;
+    let writer = Recorded::new(alloc, Direction::FromTill, sent, Counted::new(trace))?;
     Ok(Endpoint {
-        reader: Recorded::new(alloc, Way::FromTerminal, pieces, Counted::new(trace))?,
+        reader: Recorded::new(alloc, Direction::FromTerminal, pieces, Counted::new(trace))?,
         writer,
         stream: Stream::new(alloc),
     })

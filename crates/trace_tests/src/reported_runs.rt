@@ -4,8 +4,9 @@ use std::io::{self, Read, Write};
 use std::test::Fail;
 use zvt_io::Counted;
 use zvt_json::Form;
-use zvt_session::{EndFault, Endpoint, Ends, LoopRun, StepRun, plan, run_loop, run_till_end};
+use zvt_session::{EndFault, Endpoint, Ends, StepRun, plan, run_till_end};
 use zvt_stream::{LineFault, Stream};
+use zvt_tcp::{LoopRun, run_loop};
 use zvt_till::TillSettings;
 
 /// A writer that takes nothing.

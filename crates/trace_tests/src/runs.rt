@@ -8,14 +8,16 @@ use std::test::Fail;
 use zvt_grammar::{Lengths, Why};
 use zvt_io::{Counted, Sink, Source};
 use zvt_json::Form;
+use zvt_recorder::Recorded;
 use zvt_session::{
-    BothEnds, EndFault, Endpoint, Ends, LoopRun, NetFault, Planned, Recorded, StepRun, TillRun,
-    Way, config_of, currency_of, password_of, plan, run_both_ends, run_loop, run_till,
-    run_till_end, serve,
+    BothEnds, EndFault, Ends, NetFault, Planned, StepRun, config_of, currency_of, password_of,
+    plan, run_both_ends, run_till_end, serve,
 };
-use zvt_stream::{LineFault, Stream};
+use zvt_stream::{Endpoint, LineFault, Stream};
+use zvt_tcp::{LoopRun, TillRun, run_loop, run_till};
 use zvt_term::{Served, Terminal, Verdict};
 use zvt_till::TillSettings;
+use zvt_trace::Direction;
 
 const DEFAULT_STEPS: &str = r#"register -> registered
 pay:1000 -> paid trace 000001 receipt 0001
@@ -311,8 +313,13 @@ fn registers_recorded(
     let sent = Counted::new(Vec::new(alloc));
     let reads = Counted::new(Vec::new(alloc));
     let mut line = Endpoint {
-        reader: Recorded::new(alloc, Way::FromTerminal, Counted::new(coming), reads)?,
-        writer: Recorded::new(alloc, Way::FromTill, sent, Counted::new(Vec::new(alloc)))?,
+        reader: Recorded::new(alloc, Direction::FromTerminal, Counted::new(coming), reads)?,
+        writer: Recorded::new(
+            alloc,
+            Direction::FromTill,
+            sent,
+            Counted::new(Vec::new(alloc)),
+        )?,
         stream: Stream::new(alloc),
     };
     let mut writer = Counted::new(Vec::new(alloc));
@@ -353,7 +360,7 @@ fn a_line_is_recorded(rt: HostRuntime) -> Result<(), Fail> {
 /// Whether a byte is sent whose trace can't be written, and how many are.
 fn sends_untraced(alloc: Global) -> Result<(bool, usize), AllocError> {
     let sent = Counted::new(Vec::new(alloc));
-    let mut writer = Recorded::new(alloc, Way::FromTill, sent, Counted::new(Full))?;
+    let mut writer = Recorded::new(alloc, Direction::FromTill, sent, Counted::new(Full))?;
     let is_sent = writer.write_all([1].as_slice()).is_ok();
     Ok((is_sent, writer.device.inner.len()))
 }
@@ -361,7 +368,7 @@ fn sends_untraced(alloc: Global) -> Result<(bool, usize), AllocError> {
 /// How many bytes come in the first read and in the second, where the trace of the first can't be written.
 fn reads_untraced(alloc: Global) -> Result<[Option<usize>; 2], AllocError> {
     let coming = Counted::new([1, 2].as_slice());
-    let mut reader = Recorded::new(alloc, Way::FromTerminal, coming, Counted::new(Full))?;
+    let mut reader = Recorded::new(alloc, Direction::FromTerminal, coming, Counted::new(Full))?;
     let mut buffer = [0];
     let first = Source::read(&mut reader, &mut buffer).ok();
     let second = Source::read(&mut reader, &mut buffer).ok();

@@ -5,7 +5,8 @@ use std::test::Fail;
 use zvt_grammar::Lengths;
 use zvt_io::Counted;
 use zvt_json::Form;
-use zvt_session::{EndFault, NetFault, TerminalRun, run_terminal};
+use zvt_session::{EndFault, NetFault};
+use zvt_tcp::{TerminalRun, run_terminal};
 use zvt_term::Verdict;
 
 /// A run of a terminal at this port, which serves that many tills, and what it tells in this form.

@@ -11,7 +11,7 @@ use zvt_tool::{
 };
 
 /// What is written of a trace, or of vectors.
-#[derive(Clone, Copy, Debug, PartialEq, Eq)]
+#[derive(Clone, Copy)]
 pub enum TraceWork {
     /// The text of the trace, in this style.
     Render(Style),

@@ -10,10 +10,10 @@ use std::net::TcpStream;
 use std::time::Duration;
 use zvt_io::Counted;
 use zvt_play::{Action, Difference, ScriptFault, ScriptStep, Unplayed, script, stay_silent};
-use zvt_session::{Door, NetFault, connect, listen};
 use zvt_stream::{Endpoint, Stream};
+use zvt_tcp::{Door, connect, listen};
 use zvt_text::Text;
-use zvt_tool::{EndFault, PlayOptions, read_trace};
+use zvt_tool::{EndFault, NetFault, PlayOptions, read_trace};
 use zvt_trace::Direction;
 
 /// For that many seconds a silence goes on without a byte from the other side.

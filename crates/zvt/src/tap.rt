@@ -5,10 +5,11 @@ use crate::trace_file;
 use std::fs::File;
 use std::io::{self, ErrorKind, Write};
 use std::net::TcpStream;
-use zvt_io::{Counted, Sink};
-use zvt_session::{Door, Way, connect, listen};
-use zvt_tap::{Found, Nowhere, SocketTapped, TapFault, TapLog, Tracing, tap_sockets};
+use zvt_io::Counted;
+use zvt_tap::{Found, SocketTapped, TapFault, TapLog, Tracing, tap_sockets};
+use zvt_tcp::{Door, connect, listen};
 use zvt_tool::{Lengths, Tally, TapOptions, TraceFault};
+use zvt_trace::Direction;
 
 /// The host of a tap that names none.
 const HERE: &str = "127.0.0.1";
@@ -140,43 +141,33 @@ fn tap_one(
     terminal: &TcpStream,
     trace: &mut TraceFile<'_>,
 ) -> io::Result<u8> {
-    match trace.file {
-        None => {
-            let tracing = Tracing {
-                device: Nowhere,
-                failed: false,
-                required: false,
-            };
-            Ok(tap_into(rt, till, terminal, tracing)?.0)
-        }
-        Some(file) => {
-            let tracing = Tracing {
-                device: Counted::new(Noted {
-                    rt,
-                    file,
-                    required: trace.required,
-                }),
-                failed: trace.failed,
-                required: trace.required,
-            };
-            let (status, failed) = tap_into(rt, till, terminal, tracing)?;
-            trace.failed = failed;
-            Ok(if failed { status.max(DEVICE) } else { status })
-        }
-    }
+    let tracing = Tracing {
+        device: Counted::new(Noted {
+            rt,
+            file: trace.file,
+            required: trace.required,
+        }),
+        failed: trace.failed,
+        required: trace.required,
+    };
+    let (status, failed) = tap_into(rt, till, terminal, tracing)?;
+    trace.failed = failed;
+    Ok(if failed { status.max(DEVICE) } else { status })
 }
 
-/// The file of a trace. A write that fails is reported at once.
+/// The file of a trace. A write that fails is reported at once. Where there is no file, all bytes are taken and none is kept.
 #[derive(Drop)]
 struct Noted<'a> {
     rt: &'a HostRuntime,
-    file: &'a File,
+    file: Option<&'a File>,
     required: bool,
 }
 
 impl Write for Noted<'_> {
     fn write(&mut self, bytes: &[u8]) -> io::Result<usize> {
-        let mut file = self.file;
+        let Some(mut file) = self.file else {
+            return Ok(bytes.len());
+        };
         let answer = file.write(bytes);
         if let Err(error) = &answer {
             let _ = if self.required {
@@ -196,11 +187,11 @@ impl Write for Noted<'_> {
 }
 
 /// Passes on one line, and answers its exit status and whether its trace failed.
-fn tap_into<T: Sink + Drop>(
+fn tap_into(
     rt: &HostRuntime,
     till: &TcpStream,
     terminal: &TcpStream,
-    tracing: Tracing<T>,
+    tracing: Tracing<Counted<Noted<'_>>>,
 ) -> io::Result<(u8, bool)> {
     let failed = tracing.failed;
     let output = Counted::new(Output::new(io::writer(rt)));
@@ -231,18 +222,14 @@ fn tap_into<T: Sink + Drop>(
 /// Reports why a line ended early, and answers the exit status of that.
 fn report_end(rt: &HostRuntime, fault: TapFault, error: Option<ErrorKind>) -> io::Result<u8> {
     match fault {
-        TapFault::Read(way) => {
-            eprintln!(rt;
-                "zvt: the line to the {} broke: {}",
-                sender(way),
-                why(error)
-            )?;
+        TapFault::Read(from) => {
+            eprintln!(rt; "zvt: the line to the {} broke: {}", name(from), why(error))?;
             Ok(DEVICE)
         }
-        TapFault::Write(way) => {
+        TapFault::Write(from) => {
             eprintln!(rt;
                 "zvt: the line to the {} broke: {}",
-                receiver(way),
+                other_name(from),
                 why(error)
             )?;
             Ok(DEVICE)
@@ -259,19 +246,19 @@ fn report_end(rt: &HostRuntime, fault: TapFault, error: Option<ErrorKind>) -> io
     }
 }
 
-/// The side from which bytes that go this way come.
-fn sender(way: Way) -> &'static str {
-    match way {
-        Way::FromTill => "till",
-        Way::FromTerminal => "terminal",
+/// What a side is called.
+fn name(side: Direction) -> &'static str {
+    match side {
+        Direction::FromTill => "till",
+        Direction::FromTerminal => "terminal",
     }
 }
 
-/// The side to which bytes that go this way go.
-fn receiver(way: Way) -> &'static str {
-    match way {
-        Way::FromTill => "terminal",
-        Way::FromTerminal => "till",
+/// What the other side is called.
+fn other_name(side: Direction) -> &'static str {
+    match side {
+        Direction::FromTill => "terminal",
+        Direction::FromTerminal => "till",
     }
 }
 
@@ -289,9 +276,9 @@ fn why(error: Option<ErrorKind>) -> &'static str {
 }
 
 /// Reports how much of a line is bad, and what of its text could not be written. Answers the exit status of that.
-fn report_found<T: Sink + Drop, W: Write + Drop>(
+fn report_found<W: Write + Drop>(
     rt: &HostRuntime,
-    found: Found<T, Counted<Output<W>>>,
+    found: Found<Counted<Noted<'_>>, Counted<Output<W>>>,
 ) -> io::Result<u8> {
     let is_pipe_closed = found.output.inner.broken_pipe;
     let shown = match found.shown {

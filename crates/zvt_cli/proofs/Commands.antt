@@ -1,17 +1,15 @@
 -- The builders of the program's commands.
-use Rattle.std.proofs.Common.{◌≡◌, ◌∙◌, ◌||◌, [], ◌∷◌, ap, ap₂, codes, map, subst, sym, true, false, Bor, IfOk, IsOkAnd, List, ℕ, Result, Ok, Err, Some}
-use Rattle.clap.specs.Built.{AddsArg, AddsInTurn, AddsSubcommand}
+use Rattle.std.proofs.Common.{◌≡◌, ◌∙◌, ◌||◌, ◌+◌, [], ◌∷◌, ◌++◌, ap, ap₂, codes, map, refl, subst, sym, take, true, false, Bor, List, ℕ, Some}
+use Rattle.std.proofs.lemmas.List.{map-append}
+use Rattle.clap.specs.Built.{AddsArg, AddsInTurn}
 use Rattle.clap.specs.Simple.{App, app_of, app_of_fields, new_app, on_top}
-use Rattle.clap.specs.Walk.{rule_of}
+use Rattle.clap.specs.Walk.{Rule, rule_of}
 use Rattle.clap.specs.declared.builder.arg.Arg.{Arg}
 use Rattle.clap.specs.declared.builder.command.Command.{Command}
 use Rattle.clap.specs.declared.builder.command.Command.TheViews.{out-Command as fields_of}
-use Rattle.zvt_cli.specs.Commands.{AreLocal, program_app, with_command, with_rules}
-
-pub added : {E : Type 0} (p : Result Command E) (r program : Command) (a b : App) → app_of program ≡ a → IfOk p (λ command. app_of command ≡ b)
-    → IsOkAnd p (λ command. app_of r ≡ with_command (app_of program) (app_of command)) → app_of r ≡ with_command a b
-added (Ok x) r program a b is_a is_b is = is ∙ ap₂ with_command is_a is_b
-added (Err e) r program a b is_a is_b is = absurd is
+use Rattle.zvt_cli.specs.Commands.{AreLocal, app_for, program_app, rule_for, with_command, with_commands, with_rules}
+use Rattle.zvt_cli.specs.declared.command.CommandRow.{CommandRow}
+use Rattle.zvt_cli.specs.declared.options.CommandOption.{CommandOption}
 
 -- a command with these texts says the same
 pub texts_say_nothing : (p q r : Command) (name about more : Bor (List ℕ)) → app_of p ≡ new_app name.now → (fields_of p).has_globals ≡ false
@@ -38,9 +36,26 @@ with_options old new (option ∷ options) local own (next, adds, more) =
     let rest = with_options next new options is_local own.1 more in
     (rest.0 ∙ ap (λ app. with_rules app (map rule_of options)) (adds.shape own.0), rest.1)
 
-pub with_given : {E : Type 0} (p r command : Command) (given : Result Command E) → given ≡ Ok command
-    → IfOk given (λ command. (fields_of command).has_globals ≡ false) → AddsSubcommand p command r
-    → IsOkAnd given (λ command. app_of r ≡ with_command (app_of p) (app_of command))
-with_given p r command given is own adds =
-    let local : (fields_of command).has_globals ≡ false = subst (λ x. IfOk x (λ command. (fields_of command).has_globals ≡ false)) is own in
-    subst (λ x. IsOkAnd x (λ command. app_of r ≡ with_command (app_of p) (app_of command))) (sym is) (adds.shape local)
+-- one more option
+pub rules_more : (options more : List Arg) (rows : List CommandOption) (i : ℕ) (option : Arg) (row : CommandOption) → more ≡ options ++ option ∷ [] → rule_of option ≡ rule_for row
+    → take (i + 1) rows ≡ take i rows ++ row ∷ [] → map rule_of options ≡ map rule_for (take i rows) → map rule_of more ≡ map rule_for (take (i + 1) rows)
+rules_more options more rows i option row is rule longer before =
+    ap (map rule_of) is ∙ (map-append rule_of options (option ∷ []) ∙ (ap₂ (λ (xs : List Rule) (x : Rule). xs ++ x ∷ []) before rule ∙ (sym (map-append rule_for (take i rows) (row ∷ [])) ∙ ap (map rule_for) (sym longer))))
+
+-- and none of them is for other commands
+local_added : (options : List Arg) (option : Arg) → AreLocal options → option.global ≡ false → AreLocal (options ++ option ∷ [])
+local_added [] option local own = (own, tt)
+local_added (first ∷ options) option local own = (local.0, local_added options option local.1 own)
+
+pub local_more : (options more : List Arg) (option : Arg) → more ≡ options ++ option ∷ [] → AreLocal options → option.global ≡ false → AreLocal more
+local_more options more option is local own = subst AreLocal (sym is) (local_added options option local own)
+
+with_more : (app : App) (commands : List App) (command : App) → with_commands app (commands ++ command ∷ []) ≡ with_command (with_commands app commands) command
+with_more app [] command = refl
+with_more app (first ∷ commands) command = with_more (with_command app first) commands command
+
+-- one more command
+pub command_added : (old new command : Command) (rows : List CommandRow) (i : ℕ) (row : CommandRow) → app_of command ≡ app_for row → app_of new ≡ with_command (app_of old) (app_of command)
+    → take (i + 1) rows ≡ take i rows ++ row ∷ [] → app_of old ≡ with_commands program_app (map app_for (take i rows)) → app_of new ≡ with_commands program_app (map app_for (take (i + 1) rows))
+command_added old new command rows i row is adds longer before =
+    adds ∙ (ap₂ with_command before is ∙ (sym (with_more program_app (map app_for (take i rows)) (app_for row)) ∙ ap (with_commands program_app) (sym (map-append app_for (take i rows) (row ∷ [])) ∙ ap (map app_for) (sym longer))))

@@ -1,10 +1,13 @@
 -- The commands of the program and their options, as `clap` sees them.
-use Rattle.std.specs.Prelude.{◌≡◌, [], ◌∷◌, List, Some, ⊤, codes, true, false, pos}
+use Rattle.std.specs.Prelude.{◌≡◌, [], ◌∷◌, List, Some, ⊤, codes, map, true, false, pos}
 use Rattle.clap.specs.Simple.{on_top}
 use Rattle.clap.specs.Words.{App, Rule, Text, new_app, new_rule, with_rule, with_subcommand}
 use Rattle.clap.specs.declared.builder.arg.Arg.{Arg}
 use Rattle.clap.specs.declared.builder.action.ArgAction.TheVariants.{Append, SetTrue}
 use Rattle.clap.specs.declared.builder.value_parser.ValueParser.TheVariants as parser
+use Rattle.zvt_cli.specs.declared.command.CommandRow.{CommandRow}
+use Rattle.zvt_cli.specs.declared.options.CommandOption.{CommandOption}
+use Rattle.zvt_cli.specs.declared.options.CommandOption.TheVariants as option
 
 -- any number of words
 abbrev pub several_rule : Text → Rule
@@ -49,6 +52,19 @@ connections_rule = record (option_rule (codes "connections")) {
   defaults = codes "1" ∷ [];
 }
 
+-- an option, by what it is
+abbrev pub rule_for : CommandOption → Rule
+rule_for (option.Several name value text) = several_rule name.now
+rule_for (option.BookFile text) = book_file_rule
+rule_for (option.Flag name text) = flag_rule name.now
+rule_for (option.Value name value text) = option_rule name.now
+rule_for (option.Needed name value text) = needed_rule name.now
+rule_for (option.Port name text) = port_option_rule name.now
+rule_for (option.NeededPort name text) = needed_port_rule name.now
+rule_for (option.Host text) = host_rule
+rule_for (option.Tid text) = tid_rule
+rule_for (option.Connections text) = connections_rule
+
 -- the options are those of their command alone
 abbrev pub AreLocal : List Arg → Type 0
 AreLocal [] = ⊤
@@ -62,6 +78,10 @@ with_rules app (rule ∷ rules) = with_rules (with_rule app rule) rules
 -- a command of this name with these options
 abbrev pub command_app : Text → List Rule → App
 command_app name = with_rules (new_app name)
+
+-- the command of a row
+abbrev pub app_for : CommandRow → App
+app_for row = command_app row.name.now (map rule_for row.options.now)
 
 -- the traces of a command line
 abbrev pub files_rule : Rule
@@ -174,20 +194,30 @@ program_app = on_top (λ top. record top { has_version = true }) (new_app (codes
 abbrev pub with_command : App → App → App
 with_command app command = with_subcommand app command.top
 
--- with the commands that write the messages of a trace
-abbrev pub text_app : App
-text_app = with_command (with_command (with_command program_app show_app) join_app) normalise_app
+-- with these commands besides
+abbrev pub with_commands : App → List App → App
+with_commands app [] = app
+with_commands app (command ∷ commands) = with_commands (with_command app command) commands
 
--- and those that read traces otherwise, or vectors
-abbrev pub trace_app : App
-trace_app = with_command (with_command (with_command text_app audit_app) receipts_app) vectors_app
-
--- and those for books, and for running either end of a line
-abbrev pub running_app : App
-running_app = with_command (with_command (with_command (with_command trace_app book_app) loop_app) till_app) terminal_app
+-- the commands of the program
+abbrev pub all_commands : List App
+all_commands =
+    show_app ∷
+    join_app ∷
+    normalise_app ∷
+    audit_app ∷
+    receipts_app ∷
+    vectors_app ∷
+    book_app ∷
+    loop_app ∷
+    till_app ∷
+    terminal_app ∷
+    tap_app ∷
+    play_app ∷
+    check_app (codes "check-till") (codes "listen") ∷
+    check_app (codes "check-terminal") (codes "port") ∷
+    []
 
 -- the program with its commands and their options
 abbrev pub zvt_app : App
-zvt_app =
-    with_command (with_command (with_command (with_command running_app tap_app) play_app)
-    (check_app (codes "check-till") (codes "listen"))) (check_app (codes "check-terminal") (codes "port"))
+zvt_app = with_commands program_app all_commands

@@ -1,14 +1,59 @@
 //! The options and steps of the commands.
 ghost use Rattle.std.specs.Prelude.{◌≡◌, false};
 ghost use Rattle.clap.specs.Words.{rule_of};
-ghost use Rattle.zvt_cli.specs.Commands.{book_file_rule, connections_rule, flag_rule, host_rule, needed_port_rule, needed_rule, option_rule, port_option_rule, several_rule, tid_rule};
+ghost use Rattle.zvt_cli.specs.Commands.{book_file_rule, connections_rule, flag_rule, host_rule, needed_port_rule, needed_rule, option_rule, port_option_rule, rule_for, several_rule, tid_rule};
 
-use crate::help;
 use clap::{Arg, ArgAction, value_parser};
 use std::alloc::Global;
 
+/// An option of a command, or the words that the command takes. The last text is what help says of it.
+#[derive(Clone, Copy)]
+pub enum CommandOption<'a> {
+    /// Any number of words of this name, and what help calls one.
+    Several(&'a str, &'a str, &'a str),
+    /// The file of a book, which has to be there.
+    BookFile(&'a str),
+    /// An option of this name that has no value.
+    Flag(&'a str, &'a str),
+    /// An option of this name that has one value and no default, and what help calls the value.
+    Value(&'a str, &'a str, &'a str),
+    /// An option of this name that has one value and has to be there, and what help calls the value.
+    Needed(&'a str, &'a str, &'a str),
+    /// An option of this name that has the number of a TCP port, and no default.
+    Port(&'a str, &'a str),
+    /// An option of this name that has the number of a TCP port, and has to be there.
+    NeededPort(&'a str, &'a str),
+    /// The host, which is this machine where it is not given.
+    Host(&'a str),
+    /// The number of a terminal.
+    Tid(&'a str),
+    /// How many connections are taken.
+    Connections(&'a str),
+}
+
+impl<'a> CommandOption<'a> {
+    /// The option as `clap` takes it.
+    pub fn arg(self, alloc: Global) -> Arg<'a>
+        ensures rule { rule_of result ≡ rule_for self.entry }
+        ensures local { result.global ≡ false }
+    {
+        match self {
+            CommandOption::Several(name, value, text) => several(alloc, name, value, text),
+            CommandOption::BookFile(text) => book_file(alloc, text),
+            CommandOption::Flag(name, text) => flag(alloc, name, text),
+            CommandOption::Value(name, value, text) => value_of(alloc, name, value, text),
+            CommandOption::Needed(name, value, text) => needed(alloc, name, value, text),
+            CommandOption::Port(name, text) => port(alloc, name, text),
+            CommandOption::NeededPort(name, text) => needed_port(alloc, name, text),
+            CommandOption::Host(text) => host(alloc, text),
+            CommandOption::Tid(text) => tid(alloc, text),
+            CommandOption::Connections(text) => connections(alloc, text),
+        }
+    }
+}
+
 /// Any number of words of this name, where `value` is what help calls one.
-pub fn several<'a>(alloc: Global, name: &'a str, value: &'a str, text: &'a str) -> Arg<'a>
+fn several<'a>(alloc: Global, name: &'a str, value: &'a str, text: &'a str) -> Arg<'a>
     ensures rule { rule_of result ≡ several_rule name.entry.now }
     ensures local { result.global ≡ false }
 {
@@ -18,18 +63,18 @@ pub fn several<'a>(alloc: Global, name: &'a str, value: &'a str, text: &'a str) 
         .help(text)
 }
 
-pub fn book_file<'a>(alloc: Global) -> Arg<'a>
+fn book_file<'a>(alloc: Global, text: &'a str) -> Arg<'a>
     ensures rule { rule_of result ≡ book_file_rule }
     ensures local { result.global ≡ false }
 {
     Arg::new(alloc, "file")
         .required(true)
         .value_name("FILE")
-        .help(help::BOOK_FILE)
+        .help(text)
 }
 
 /// An option of this name that has the number of a TCP port, and no default.
-pub fn port_of<'a>(alloc: Global, name: &'a str, text: &'a str) -> Arg<'a>
+fn port<'a>(alloc: Global, name: &'a str, text: &'a str) -> Arg<'a>
     ensures rule { rule_of result ≡ port_option_rule name.entry.now }
     ensures local { result.global ≡ false }
 {
@@ -41,7 +86,7 @@ pub fn port_of<'a>(alloc: Global, name: &'a str, text: &'a str) -> Arg<'a>
 }
 
 /// An option of this name that has the number of a TCP port, and has to be there.
-pub fn needed_port<'a>(alloc: Global, name: &'a str, text: &'a str) -> Arg<'a>
+fn needed_port<'a>(alloc: Global, name: &'a str, text: &'a str) -> Arg<'a>
     ensures rule { rule_of result ≡ needed_port_rule name.entry.now }
     ensures local { result.global ≡ false }
 {
@@ -53,7 +98,7 @@ pub fn needed_port<'a>(alloc: Global, name: &'a str, text: &'a str) -> Arg<'a>
         .help(text)
 }
 
-pub fn host<'a>(alloc: Global, text: &'a str) -> Arg<'a>
+fn host<'a>(alloc: Global, text: &'a str) -> Arg<'a>
     ensures rule { rule_of result ≡ host_rule }
     ensures local { result.global ≡ false }
 {
@@ -64,7 +109,7 @@ pub fn host<'a>(alloc: Global, text: &'a str) -> Arg<'a>
         .help(text)
 }
 
-pub fn tid<'a>(alloc: Global) -> Arg<'a>
+fn tid<'a>(alloc: Global, text: &'a str) -> Arg<'a>
     ensures rule { rule_of result ≡ tid_rule }
     ensures local { result.global ≡ false }
 {
@@ -73,10 +118,10 @@ pub fn tid<'a>(alloc: Global) -> Arg<'a>
         .value_parser(value_parser!(u32).range(0..=99_999_999))
         .default_value("12345678")
         .value_name("TID")
-        .help(help::TID)
+        .help(text)
 }
 
-pub fn connections<'a>(alloc: Global, text: &'a str) -> Arg<'a>
+fn connections<'a>(alloc: Global, text: &'a str) -> Arg<'a>
     ensures rule { rule_of result ≡ connections_rule }
     ensures local { result.global ≡ false }
 {
@@ -89,7 +134,7 @@ pub fn connections<'a>(alloc: Global, text: &'a str) -> Arg<'a>
 }
 
 /// An option that has one value of this name, and has to be there.
-pub fn needed<'a>(alloc: Global, name: &'a str, value: &'a str, text: &'a str) -> Arg<'a>
+fn needed<'a>(alloc: Global, name: &'a str, value: &'a str, text: &'a str) -> Arg<'a>
     ensures rule { rule_of result ≡ needed_rule name.entry.now }
     ensures local { result.global ≡ false }
 {
@@ -101,7 +146,7 @@ pub fn needed<'a>(alloc: Global, name: &'a str, value: &'a str, text: &'a str) -
 }
 
 /// An option of this name that has no value.
-pub fn flag<'a>(alloc: Global, name: &'a str, text: &'a str) -> Arg<'a>
+fn flag<'a>(alloc: Global, name: &'a str, text: &'a str) -> Arg<'a>
     ensures rule { rule_of result ≡ flag_rule name.entry.now }
     ensures local { result.global ≡ false }
 {
@@ -112,7 +157,7 @@ pub fn flag<'a>(alloc: Global, name: &'a str, text: &'a str) -> Arg<'a>
 }
 
 /// An option that has one value of this name, and no default.
-pub fn text<'a>(alloc: Global, name: &'a str, value: &'a str, text: &'a str) -> Arg<'a>
+fn value_of<'a>(alloc: Global, name: &'a str, value: &'a str, text: &'a str) -> Arg<'a>
     ensures rule { rule_of result ≡ option_rule name.entry.now }
     ensures local { result.global ≡ false }
 {

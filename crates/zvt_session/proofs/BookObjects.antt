@@ -13,7 +13,7 @@ use Rattle.zvt_till.specs.declared.entries.Doubt.TheVariants.{No, Unclear, Taken
 use Rattle.zvt_till.specs.declared.entries.Entry.{Entry}
 use Rattle.zvt_till.specs.declared.outcomes.Cause.{Cause}
 use Rattle.zvt_till.specs.declared.outcomes.Cause.TheVariants.{NoStatus, Conflict, AmountDiffers, NoTrace, TraceUsed, AbortAfterApproval, Line, Malformed, Unfinished, WrongCurrency}
-use Rattle.zvt_session.proofs.Gone.{three_parts}
+use Rattle.zvt_session.proofs.Parts.{three_parts}
 use Rattle.zvt_session.specs.BookObjects.{amount_part, entry_json, entry_value, receipt_part, reversals_part, reversed_part, taken_back_part, trace_part, unclear_json, unclear_reversal_part, unclear_value, with_receipt, with_reversals, with_reversed, with_taken_back, with_unclear_reversal}
 
 cause_plain : (c : Cause) → escape (cause_name c) ≡ cause_name c

@@ -1,18 +1,14 @@
 -- Runs of a till that keeps its book, by what contracts see of its line.
-use Rattle.std.proofs.Common.{◌≡◌, ℕ, List, Option, Bool, Result, sym, subst, inl, inr}
-use Rattle.zvt_grammar.specs.Reading.{Reading}
+use Rattle.std.proofs.Common.{◌≡◌, ℕ, List, Option, Result, sym, subst, inl, inr}
 use Rattle.zvt_journal.specs.declared.device.DeviceError.{DeviceError}
 use Rattle.zvt_json.specs.declared.form.Form.{Form}
 use Rattle.zvt_kept.specs.KeptTill.{KeptValue}
 use Rattle.zvt_till.specs.declared.entries.Entry.{Entry}
 use Rattle.zvt_session.specs.declared.fault.EndFault.{EndFault}
 use Rattle.zvt_session.specs.declared.plans.Planned.{Planned}
-use Rattle.zvt_session.specs.Kept.{AnswersBook, AnswersBookRun, till_of}
-use Rattle.zvt_session.specs.LineEnd.{EndState}
+use Rattle.zvt_session.specs.Kept.{AnswersBook, till_of}
 use Rattle.zvt_session.specs.Runs.{Law, standing}
-use Rattle.zvt_session.specs.TillEnd.{BeginsThere}
-use Rattle.zvt_session.specs.Traced.{by_trace}
-use Rattle.zvt_session.proofs.OverTcp.{answers_seen, by}
+use Rattle.zvt_session.proofs.Seen.{answers_seen, by}
 
 -- a run on a line that contracts see as something else
 pub book_seen : {L S D : Type 0} (connects : KeptValue D → KeptValue D → Result Unit DeviceError → Type 0) (look : L → S) (law : Law S (KeptValue D)) (begins : S → Type 0) (start : L)
@@ -37,16 +33,3 @@ book_seen connects look law begins start form plan old new first last Reported Q
   quiet = none.quiet;
   is = none.is;
 })
-
--- a run over TCP, with a trace perhaps
-pub traced_book : {L D : Type 0} (connects : KeptValue D → KeptValue D → Result Unit DeviceError → Type 0) (makes : Law L (KeptValue D)) (begins : L → Type 0)
-    (form : Form) (plan : List Planned) (old new : KeptValue D) (first last : Option (List ℕ)) (Reported : List Entry → Type 0) (Quiet : Type 0) (lacks : Bool) (ended result : Result Unit EndFault)
-    → result ≡ by_trace lacks ended → AnswersBook connects makes begins form plan old new first last Reported Quiet ended
-    → AnswersBookRun connects makes begins form plan old new first last Reported Quiet result
-traced_book connects makes begins form plan old new first last Reported Quiet lacks ended result is answers = inl (record { ended = ended; lacks = lacks; answers = answers; is = is })
-
--- a run on a line whose stream has that reading
-pub begun_there : {D : Type 0} (connects : KeptValue D → KeptValue D → Result Unit DeviceError → Type 0) (makes : Law EndState (KeptValue D)) (r k : Reading)
-    (form : Form) (plan : List Planned) (old new : KeptValue D) (first last : Option (List ℕ)) (Reported : List Entry → Type 0) (Quiet : Type 0) (result : Result Unit EndFault)
-    → r ≡ k → AnswersBook connects makes (BeginsThere r) form plan old new first last Reported Quiet result → AnswersBook connects makes (BeginsThere k) form plan old new first last Reported Quiet result
-begun_there connects makes r k form plan old new first last Reported Quiet result e = subst (λ (x : Reading). AnswersBook connects makes (BeginsThere x) form plan old new first last Reported Quiet result) e

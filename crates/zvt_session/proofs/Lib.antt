@@ -5,9 +5,7 @@ pub mod NamedSteps
 pub mod Turns
 pub mod TurnsKept
 pub mod KeptRuns
-pub mod OverTcp
-pub mod Traced
-pub mod ManyTills
-pub mod Gone
+pub mod Seen
+pub mod Parts
 pub mod Unclear
 pub mod BookObjects

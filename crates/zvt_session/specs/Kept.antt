@@ -1,5 +1,5 @@
 -- Runs of a till that keeps its book in a journal.
-use Rattle.std.specs.Prelude.{◌≡◌, ◌⊎◌, ◌≤◌, ◌+◌, ℕ, Bool, List, Option, Result, Ok, Err}
+use Rattle.std.specs.Prelude.{◌≡◌, ◌⊎◌, ◌≤◌, ◌+◌, ℕ, List, Option, Result, Ok, Err}
 use Rattle.std.specs.Io.KnownBytes.{Keeps}
 use Rattle.zvt_journal.specs.declared.device.DeviceError.{DeviceError}
 use Rattle.zvt_json.specs.declared.form.Form.{Form}
@@ -15,12 +15,12 @@ use Rattle.zvt_till.specs.declared.line.RunFault.TheVariants.{Order, Line}
 use Rattle.zvt_till.specs.declared.outcomes.Outcome.{Outcome}
 use Rattle.zvt_session.specs.declared.arguments.Step.{Step}
 use Rattle.zvt_session.specs.declared.fault.EndFault.{EndFault}
-use Rattle.zvt_session.specs.declared.fault.EndFault.TheVariants.{BadStep, Book, Line as LineBroke, Memory, Net, Trace, Write}
+use Rattle.zvt_session.specs.declared.fault.EndFault.TheVariants.{Book}
 use Rattle.zvt_session.specs.declared.plans.Planned.{Planned}
 use Rattle.zvt_session.specs.LineEnd.{EndState}
 use Rattle.zvt_session.specs.Runs.{Answers, Law, standing}
 use Rattle.zvt_session.specs.Steps.{order_of}
-use Rattle.zvt_session.specs.Traced.{by_book, by_trace}
+use Rattle.zvt_session.specs.Faults.{by_book}
 
 -- the till, without its journal
 abbrev pub till_of : {D : Type 0} → KeptValue D → TillValue
@@ -71,32 +71,3 @@ module _ {L D : Type 0} (connects : KeptValue D → KeptValue D → Result Unit 
   -- What a run of these steps answers on a line.
   abbrev pub AnswersBook : Form → List Planned → (old new : KeptValue D) → (first last : Option (List ℕ)) → (Reported : List Entry → Type 0) → (Quiet : Type 0) → Result Unit EndFault → Type 0
   AnswersBook form plan old new first last Reported Quiet result = RunsBook form plan old new first last Reported result ⊎ NoLine old new first last Quiet result
-
-  -- there was no connection, or no memory for a trace
-  abbrev pub IsUnbegun : Result Unit EndFault → Type 0
-  IsUnbegun (Ok done) = ⊥
-  IsUnbegun (Err (LineBroke fault)) = ⊥
-  IsUnbegun (Err Trace) = ⊥
-  IsUnbegun (Err Book) = ⊥
-  IsUnbegun (Err Write) = ⊥
-  IsUnbegun (Err Memory) = Unit {0}
-  IsUnbegun (Err (BadStep at)) = ⊥
-  IsUnbegun (Err (Net why)) = Unit {0}
-
-  -- nothing was sent, written, reported or recorded
-  pub record NotBegun (old new : KeptValue D) (first last : Option (List ℕ)) (Quiet : Type 0) (result : Result Unit EndFault) : Type 0 where
-    pub unbegun : IsUnbegun result
-    pub kept : new ≡ old
-    pub unwritten : Keeps first last
-    pub quiet : Quiet
-
-  -- The steps were made on a line, with a trace perhaps, which lacks something or does not.
-  pub record TracesBook (form : Form) (plan : List Planned) (old new : KeptValue D) (first last : Option (List ℕ)) (Reported : List Entry → Type 0) (Quiet : Type 0) (result : Result Unit EndFault) : Type 0 where
-    pub ended : Result Unit EndFault
-    pub lacks : Bool
-    pub answers : AnswersBook form plan old new first last Reported Quiet ended
-    pub is : result ≡ by_trace lacks ended
-
-  -- What a run of these steps answers over TCP.
-  abbrev pub AnswersBookRun : Form → List Planned → (old new : KeptValue D) → (first last : Option (List ℕ)) → (Reported : List Entry → Type 0) → (Quiet : Type 0) → Result Unit EndFault → Type 0
-  AnswersBookRun form plan old new first last Reported Quiet result = TracesBook form plan old new first last Reported Quiet result ⊎ NotBegun old new first last Quiet result

@@ -13,8 +13,6 @@ pub mod Books
 pub mod BookObjects
 pub mod Service
 pub mod Settings
-pub mod OverTcp
-pub mod Recorder
-pub mod Traced
+pub mod RunsPlan
+pub mod Faults
 pub mod Reporting
-pub mod Connecting

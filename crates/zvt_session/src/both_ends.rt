@@ -2,7 +2,7 @@
 ghost use Rattle.std.specs.Prelude.{◌≡◌, ◌<◌, Err, MatchResult};
 ghost use Rattle.zvt_till.specs.Line.{till_loses};
 ghost use Rattle.zvt_session.specs.BothEnds.{Alternates, BeginsHere, BreaksOff, MakesHereBy, ended_of, here, line_of};
-ghost use Rattle.zvt_session.specs.OverTcp.{RunsPlan};
+ghost use Rattle.zvt_session.specs.RunsPlan.{RunsPlan};
 ghost use Rattle.zvt_till.specs.Settings.{settings_of};
 ghost use Rattle.zvt_session.specs.Reporting.{ReportsReversals};
 

@@ -1,13 +1,36 @@
 //! Why a run ends early.
 ghost use Rattle.std.specs.Prelude.{◌≡◌, Bool};
-ghost use Rattle.zvt_session.specs.Traced.{by_book, by_trace};
+ghost use Rattle.zvt_session.specs.Faults.{by_book};
 ghost use Rattle.zvt_session.specs.declared.fault.EndFault.TheVariants.{Memory, Write};
 
-use crate::connection::NetFault;
 use std::alloc::{AllocError, AllocFailed};
 use thiserror::Error;
 use zvt_io::Failed;
 use zvt_stream::LineFault;
+
+/// Why there is no connection.
+#[derive(Clone, Copy, Debug, Drop, PartialEq, Eq, Error)]
+pub enum NetFault {
+    /// No address was found for the host, for whatever reason.
+    #[error("the host name has no address: check its spelling")]
+    UnknownHost,
+    /// The host is there.
+    #[error("nothing listens at that host and port: check that the terminal runs, and which port it uses")]
+    Refused,
+    #[error("the host is unreachable: check the network and the address")]
+    Unreachable,
+    /// It was silent for as long as a till waits.
+    #[error("the host does not answer: check its name or address")]
+    Silent,
+    #[error("the port is in use: stop the program that listens there, or give another port, or 0 for a free one")]
+    InUse,
+    #[error("the address to listen at does not belong to this machine: give another host")]
+    Elsewhere,
+    #[error("permission denied for that port: give a port from 1024 on")]
+    NotAllowed,
+    #[error("check that the other end listens at that host and port, or that the port to listen at is free")]
+    Other,
+}
 
 /// Why the run of an end of a line, or of both, ended early.
 #[derive(Debug, Drop, Error)]
@@ -65,16 +88,6 @@ pub(crate) fn by_book(failed: bool, answer: Result<(), EndFault>) -> Result<(), 
 {
     match answer {
         Ok(()) | Err(EndFault::Line(_)) if failed => Err(EndFault::Book),
-        answer => answer,
-    }
-}
-
-/// What a run answers whose trace broke, or did not.
-pub(crate) fn by_trace(broken: bool, answer: Result<(), EndFault>) -> Result<(), EndFault>
-    ensures { result ≡ by_trace broken answer }
-{
-    match answer {
-        Ok(()) | Err(EndFault::Line(_)) if broken => Err(EndFault::Trace),
         answer => answer,
     }
 }

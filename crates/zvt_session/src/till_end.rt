@@ -1,7 +1,7 @@
 //! The till's end of a connection to a terminal elsewhere.
 ghost use Rattle.std.specs.Prelude.{◌≡◌, ◌<◌, Err};
 ghost use Rattle.zvt_stream.specs.StreamState.{start_in};
-ghost use Rattle.zvt_session.specs.OverTcp.{RunsPlan};
+ghost use Rattle.zvt_session.specs.RunsPlan.{RunsPlan};
 ghost use Rattle.zvt_till.specs.Settings.{settings_of};
 ghost use Rattle.zvt_session.specs.Reporting.{ReportsReversals};
 ghost use Rattle.zvt_session.specs.TillEnd.{BeginsThere, MakesThere};

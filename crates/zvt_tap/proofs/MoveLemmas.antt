@@ -2,21 +2,21 @@
 use Rattle.std.proofs.Common.{◌≡◌, ℕ, List, [], ◌∷◌, ◌++◌, Option, Some, None, append-nil, append_assoc, ap, arith, length, length-append, refl, subst, sym, ◌∙◌}
 use Rattle.std.proofs.KnownBytes.{Appends-nil, Appends-trans, Consumes-nil, Consumes-trans}
 use Rattle.std.specs.Io.KnownBytes.{Appends, Consumes, IsAtEnd}
-use Rattle.zvt_session.specs.Recorder.{piece_text}
-use Rattle.zvt_session.specs.declared.recorder.Way.{Way}
-use Rattle.zvt_session.specs.declared.recorder.Way.TheVariants.{FromTerminal, FromTill}
+use Rattle.zvt_recorder.specs.Recorder.{piece_text}
+use Rattle.zvt_trace.specs.declared.direction.Direction.{Direction}
+use Rattle.zvt_trace.specs.declared.direction.Direction.TheVariants.{FromTerminal, FromTill}
 use Rattle.zvt_tap.specs.Chunks.{Chunk, IsAll, Moves, Sides, along, bytes_along, trace_text}
 
-pub bytes_more : (way : Way) (xs ys : List Chunk) → bytes_along way (xs ++ ys) ≡ bytes_along way xs ++ bytes_along way ys
-bytes_more way [] ys = refl
-bytes_more way (one ∷ xs) ys = ap (λ (s : List ℕ). along way one.way one.bytes ++ s) (bytes_more way xs ys) ∙ sym (append_assoc (along way one.way one.bytes) (bytes_along way xs) (bytes_along way ys))
+pub bytes_more : (from : Direction) (xs ys : List Chunk) → bytes_along from (xs ++ ys) ≡ bytes_along from xs ++ bytes_along from ys
+bytes_more from [] ys = refl
+bytes_more from (one ∷ xs) ys = ap (λ (s : List ℕ). along from one.from one.bytes ++ s) (bytes_more from xs ys) ∙ sym (append_assoc (along from one.from one.bytes) (bytes_along from xs) (bytes_along from ys))
 
 pub text_more : (xs ys : List Chunk) → trace_text (xs ++ ys) ≡ trace_text xs ++ trace_text ys
 text_more [] ys = refl
-text_more (one ∷ xs) ys = ap (λ (s : List ℕ). piece_text one.way one.bytes ++ s) (text_more xs ys) ∙ sym (append_assoc (piece_text one.way one.bytes) (trace_text xs) (trace_text ys))
+text_more (one ∷ xs) ys = ap (λ (s : List ℕ). piece_text one.from one.bytes ++ s) (text_more xs ys) ∙ sym (append_assoc (piece_text one.from one.bytes) (trace_text xs) (trace_text ys))
 
-pub text_one : (xs : List Chunk) (one : Chunk) → trace_text (xs ++ one ∷ []) ≡ trace_text xs ++ piece_text one.way one.bytes
-text_one xs one = text_more xs (one ∷ []) ∙ ap (λ (s : List ℕ). trace_text xs ++ s) (append-nil (piece_text one.way one.bytes))
+pub text_one : (xs : List Chunk) (one : Chunk) → trace_text (xs ++ one ∷ []) ≡ trace_text xs ++ piece_text one.from one.bytes
+text_one xs one = text_more xs (one ∷ []) ∙ ap (λ (s : List ℕ). trace_text xs ++ s) (append-nil (piece_text one.from one.bytes))
 
 pub moves_none : (both : Sides) → Moves [] [] both both
 moves_none both = record { till = Consumes-nil both.till; terminal = Consumes-nil both.terminal; to_terminal = Appends-nil both.to_terminal; to_till = Appends-nil both.to_till }

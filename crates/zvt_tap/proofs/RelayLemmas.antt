@@ -1,9 +1,9 @@
 -- Turns of a relay, one after another.
 use Rattle.std.proofs.Common.{◌≡◌, ◌⊎◌, ◌&&◌, inl, inr, ℕ, Bool, true, false, List, [], ◌∷◌, ◌++◌, Option, Result, Ok, Err, append-nil, refl, subst, sym}
 use Rattle.std.specs.Io.KnownBytes.{Consumes}
-use Rattle.zvt_session.specs.Recorder.{piece_text}
-use Rattle.zvt_session.specs.declared.recorder.Way.{Way}
-use Rattle.zvt_session.specs.declared.recorder.Way.TheVariants.{FromTerminal, FromTill}
+use Rattle.zvt_recorder.specs.Recorder.{piece_text}
+use Rattle.zvt_trace.specs.declared.direction.Direction.{Direction}
+use Rattle.zvt_trace.specs.declared.direction.Direction.TheVariants.{FromTerminal, FromTill}
 use Rattle.zvt_tap.specs.Chunks.{Chunk, IsAll, Moves, Sides, bytes_along, chunk, trace_text}
 use Rattle.zvt_tap.specs.Relay.{AnswersRelay, AnswersTurn, ended_after}
 use Rattle.zvt_tap.specs.declared.fault.TapFault.{TapFault}
@@ -27,43 +27,43 @@ pub record SoFar {K : Type 0} (observes : K → List ℕ → K → Type 0) (stop
   pub terminal : ended.terminal ≡ true → IsAll old.terminal (bytes_along FromTerminal chunks)
 
 -- what a turn of an observer answers
-abbrev pub TurnOf : {K : Type 0} → (K → List ℕ → K → Type 0) → (K → Bool) → Way → (now next : K) → (old new : Sides) → Result Bool TapFault → Type 0
-TurnOf observes stopped way now next old new answer = AnswersTurn way (λ text. observes now text next) (next ≡ now) (stopped next ≡ false) (stopped next ≡ true) old new answer
+abbrev pub TurnOf : {K : Type 0} → (K → List ℕ → K → Type 0) → (K → Bool) → Direction → (now next : K) → (old new : Sides) → Result Bool TapFault → Type 0
+TurnOf observes stopped from now next old new answer = AnswersTurn from (λ text. observes now text next) (next ≡ now) (stopped next ≡ false) (stopped next ≡ true) old new answer
 
 -- what a relay of an observer answers
 abbrev pub RelayOf : {K : Type 0} → (K → List ℕ → K → Type 0) → (K → Bool) → (first now : K) → (old new : Sides) → Result Unit TapFault → Type 0
 RelayOf observes stopped first now old new answer = AnswersRelay (λ text. observes first text now) (stopped now ≡ false) (stopped now ≡ true) old new answer
 
-observed_one : {K : Type 0} (observes : K → List ℕ → K → Type 0) → ObservesMore observes → (first now next : K) (chunks : List Chunk) (one : Chunk) → observes first (trace_text chunks) now → observes now (piece_text one.way one.bytes) next
+observed_one : {K : Type 0} (observes : K → List ℕ → K → Type 0) → ObservesMore observes → (first now next : K) (chunks : List Chunk) (one : Chunk) → observes first (trace_text chunks) now → observes now (piece_text one.from one.bytes) next
     → observes first (trace_text (chunks ++ one ∷ [])) next
-observed_one observes more first now next chunks one observed piece = subst (λ (t : List ℕ). observes first t next) (sym (text_one chunks one)) (more first now next (trace_text chunks) (piece_text one.way one.bytes) observed piece)
+observed_one observes more first now next chunks one observed piece = subst (λ (t : List ℕ). observes first t next) (sym (text_one chunks one)) (more first now next (trace_text chunks) (piece_text one.from one.bytes) observed piece)
 
 observed_none : {K : Type 0} (observes : K → List ℕ → K → Type 0) → ObservesMore observes → (first now next : K) (text : List ℕ) → observes first text now → observes now [] next → observes first text next
 observed_none observes more first now next text observed none = subst (λ (t : List ℕ). observes first t next) (append-nil text) (more first now next text [] observed none)
 
--- all bytes that had come this way still are all
-stays_all : (way : Way) (a b : Option (List ℕ)) (chunks : List Chunk) (one : Chunk) → Consumes a b (bytes_along way (chunks ++ one ∷ [])) → IsAll a (bytes_along way chunks) → IsAll a (bytes_along way (chunks ++ one ∷ []))
-stays_all way a b chunks one consumed all =
-    subst (λ (s : List ℕ). IsAll a s) (sym (bytes_more way chunks (one ∷ []))) (all_stays a b (bytes_along way chunks) (bytes_along way (one ∷ [])) all (subst (λ (s : List ℕ). Consumes a b s) (bytes_more way chunks (one ∷ [])) consumed))
+-- all bytes that had come from this side still are all
+stays_all : (from : Direction) (a b : Option (List ℕ)) (chunks : List Chunk) (one : Chunk) → Consumes a b (bytes_along from (chunks ++ one ∷ [])) → IsAll a (bytes_along from chunks) → IsAll a (bytes_along from (chunks ++ one ∷ []))
+stays_all from a b chunks one consumed all =
+    subst (λ (s : List ℕ). IsAll a s) (sym (bytes_more from chunks (one ∷ []))) (all_stays a b (bytes_along from chunks) (bytes_along from (one ∷ [])) all (subst (λ (s : List ℕ). Consumes a b s) (bytes_more from chunks (one ∷ [])) consumed))
 
-pub turn_passed : {K : Type 0} (observes : K → List ℕ → K → Type 0) (stopped : K → Bool) → ObservesMore observes → (way : Way) (first now next : K) (old middle new : Sides) (ended : Ended) (went : Bool) → went ≡ true
-    → SoFar observes stopped first now old middle ended → TurnOf observes stopped way now next middle new (Ok went) → SoFar observes stopped first next old new ended
-turn_passed observes stopped more way first now next old middle new ended false is so answers = absurd (no is)
+pub turn_passed : {K : Type 0} (observes : K → List ℕ → K → Type 0) (stopped : K → Bool) → ObservesMore observes → (from : Direction) (first now next : K) (old middle new : Sides) (ended : Ended) (went : Bool) → went ≡ true
+    → SoFar observes stopped first now old middle ended → TurnOf observes stopped from now next middle new (Ok went) → SoFar observes stopped first next old new ended
+turn_passed observes stopped more from first now next old middle new ended false is so answers = absurd (no is)
   where
     no : false ≡ true → ⊥
     no e = cc
-turn_passed observes stopped more way first now next old middle new ended true is so (bytes, moved, observed, goes) =
-    let whole = moves_more so.chunks so.chunks (chunk way bytes ∷ []) (chunk way bytes ∷ []) old middle new so.moved moved in record {
-      chunks = so.chunks ++ chunk way bytes ∷ [];
+turn_passed observes stopped more from first now next old middle new ended true is so (bytes, moved, observed, goes) =
+    let whole = moves_more so.chunks so.chunks (chunk from bytes ∷ []) (chunk from bytes ∷ []) old middle new so.moved moved in record {
+      chunks = so.chunks ++ chunk from bytes ∷ [];
       moved = whole;
-      observed = observed_one observes more first now next so.chunks (chunk way bytes) so.observed observed;
+      observed = observed_one observes more first now next so.chunks (chunk from bytes) so.observed observed;
       goes = inr goes;
-      till = λ is. stays_all FromTill old.till new.till so.chunks (chunk way bytes) whole.till (so.till is);
-      terminal = λ is. stays_all FromTerminal old.terminal new.terminal so.chunks (chunk way bytes) whole.terminal (so.terminal is);
+      till = λ is. stays_all FromTill old.till new.till so.chunks (chunk from bytes) whole.till (so.till is);
+      terminal = λ is. stays_all FromTerminal old.terminal new.terminal so.chunks (chunk from bytes) whole.terminal (so.terminal is);
     }
 
-side_ended : {K : Type 0} (observes : K → List ℕ → K → Type 0) (stopped : K → Bool) (way : Way) (first now next : K) (old middle new : Sides) (ended : Ended)
-    → SoFar observes stopped first now old middle ended → TurnOf observes stopped way now next middle new (Ok false) → SoFar observes stopped first next old new (ended_after way ended)
+side_ended : {K : Type 0} (observes : K → List ℕ → K → Type 0) (stopped : K → Bool) (from : Direction) (first now next : K) (old middle new : Sides) (ended : Ended)
+    → SoFar observes stopped first now old middle ended → TurnOf observes stopped from now next middle new (Ok false) → SoFar observes stopped first next old new (ended_after from ended)
 side_ended {K = K} observes stopped FromTill first now next old middle new ended so (moved, at_end, same) =
     let whole = moves_nothing so.chunks so.chunks old middle new so.moved moved in record {
       chunks = so.chunks;
@@ -83,18 +83,18 @@ side_ended {K = K} observes stopped FromTerminal first now next old middle new e
       terminal = λ is. all_read old.terminal new.terminal (bytes_along FromTerminal so.chunks) whole.terminal at_end;
     }
 
-pub turn_ended : {K : Type 0} (observes : K → List ℕ → K → Type 0) (stopped : K → Bool) (way : Way) (first now next : K) (old middle new : Sides) (ended after : Ended) (went : Bool) → went ≡ false → after ≡ ended_after way ended
-    → SoFar observes stopped first now old middle ended → TurnOf observes stopped way now next middle new (Ok went) → SoFar observes stopped first next old new after
-turn_ended observes stopped way first now next old middle new ended after false is same so answers =
-    subst (λ (e : Ended). SoFar observes stopped first next old new e) (sym same) (side_ended observes stopped way first now next old middle new ended so answers)
-turn_ended observes stopped way first now next old middle new ended after true is same so answers = absurd (no is)
+pub turn_ended : {K : Type 0} (observes : K → List ℕ → K → Type 0) (stopped : K → Bool) (from : Direction) (first now next : K) (old middle new : Sides) (ended after : Ended) (went : Bool) → went ≡ false → after ≡ ended_after from ended
+    → SoFar observes stopped first now old middle ended → TurnOf observes stopped from now next middle new (Ok went) → SoFar observes stopped first next old new after
+turn_ended observes stopped from first now next old middle new ended after false is same so answers =
+    subst (λ (e : Ended). SoFar observes stopped first next old new e) (sym same) (side_ended observes stopped from first now next old middle new ended so answers)
+turn_ended observes stopped from first now next old middle new ended after true is same so answers = absurd (no is)
   where
     no : true ≡ false → ⊥
     no e = cc
 
-pub turn_failed : {K : Type 0} (observes : K → List ℕ → K → Type 0) (stopped : K → Bool) → ObservesMore observes → (way : Way) (first now next : K) (old middle new : Sides) (ended : Ended) (fault : TapFault)
-    → SoFar observes stopped first now old middle ended → TurnOf observes stopped way now next middle new (Err fault) → RelayOf observes stopped first next old new (Err fault)
-turn_failed {K = K} observes stopped more way first now next old middle new ended (Read from) so (is, moved, same) = (
+pub turn_failed : {K : Type 0} (observes : K → List ℕ → K → Type 0) (stopped : K → Bool) → ObservesMore observes → (from : Direction) (first now next : K) (old middle new : Sides) (ended : Ended) (fault : TapFault)
+    → SoFar observes stopped first now old middle ended → TurnOf observes stopped from now next middle new (Err fault) → RelayOf observes stopped first next old new (Err fault)
+turn_failed {K = K} observes stopped more from first now next old middle new ended (Read failed) so (is, moved, same) = (
   so.chunks,
   (
     moves_nothing so.chunks so.chunks old middle new so.moved moved,
@@ -102,29 +102,29 @@ turn_failed {K = K} observes stopped more way first now next old middle new ende
     subst (λ (k : K). (so.chunks ≡ []) ⊎ (stopped k ≡ false)) (sym same) so.goes,
   ),
 )
-turn_failed observes stopped more way first now next old middle new ended (Write from) so (is, bytes, part, prefix, moved, observed, goes) = (
+turn_failed observes stopped more from first now next old middle new ended (Write failed) so (is, bytes, part, prefix, moved, observed, goes) = (
   so.chunks,
   bytes,
   part,
   prefix,
-  subst (λ (w : Way). Moves (so.chunks ++ chunk w bytes ∷ []) (so.chunks ++ chunk w part ∷ []) old new) (sym is) (moves_more so.chunks so.chunks (chunk way bytes ∷ []) (chunk way part ∷ []) old middle new so.moved moved),
-  subst (λ (w : Way). observes first (trace_text (so.chunks ++ chunk w bytes ∷ [])) next) (sym is) (observed_one observes more first now next so.chunks (chunk way bytes) so.observed observed),
+  subst (λ (w : Direction). Moves (so.chunks ++ chunk w bytes ∷ []) (so.chunks ++ chunk w part ∷ []) old new) (sym is) (moves_more so.chunks so.chunks (chunk from bytes ∷ []) (chunk from part ∷ []) old middle new so.moved moved),
+  subst (λ (w : Direction). observes first (trace_text (so.chunks ++ chunk w bytes ∷ [])) next) (sym is) (observed_one observes more first now next so.chunks (chunk from bytes) so.observed observed),
   goes,
 )
-turn_failed observes stopped more way first now next old middle new ended Trace so (bytes, moved, observed, stops) = (
+turn_failed observes stopped more from first now next old middle new ended Trace so (bytes, moved, observed, stops) = (
   so.chunks,
-  chunk way bytes,
-  moves_last so.chunks so.chunks (chunk way bytes ∷ []) old middle new so.moved moved,
-  observed_one observes more first now next so.chunks (chunk way bytes) so.observed observed,
+  chunk from bytes,
+  moves_last so.chunks so.chunks (chunk from bytes ∷ []) old middle new so.moved moved,
+  observed_one observes more first now next so.chunks (chunk from bytes) so.observed observed,
   stops,
 )
-turn_failed observes stopped more way first now next old middle new ended Memory so (bytes, moved, observed) = (
+turn_failed observes stopped more from first now next old middle new ended Memory so (bytes, moved, observed) = (
   so.chunks,
-  chunk way bytes,
-  moves_last so.chunks so.chunks (chunk way bytes ∷ []) old middle new so.moved moved,
+  chunk from bytes,
+  moves_last so.chunks so.chunks (chunk from bytes ∷ []) old middle new so.moved moved,
   observed_none observes more first now next (trace_text so.chunks) so.observed observed,
 )
-turn_failed observes stopped more way first now next old middle new ended Wait so never = absurd never
+turn_failed observes stopped more from first now next old middle new ended Wait so never = absurd never
 
 pub both_ended : {K : Type 0} (observes : K → List ℕ → K → Type 0) (stopped : K → Bool) (first now : K) (old new : Sides) (ended : Ended) → ended.till ≡ true → ended.terminal ≡ true
     → SoFar observes stopped first now old new ended → RelayOf observes stopped first now old new (Ok tt)
@@ -146,9 +146,9 @@ not_begun observes stopped first both nothing = record { chunks = []; moved = mo
 pub by_observed : (Observed Found : List ℕ → Type 0) (GoesOn Stops Failed : Type 0) (old new : Sides) (answer : Result Unit TapFault) → ((text : List ℕ) → Observed text → Found text) → (Stops → Failed)
     → AnswersRelay Observed GoesOn Stops old new answer → AnswersRelay Found (Unit {0}) Failed old new answer
 by_observed Observed Found GoesOn Stops Failed old new (Ok ended) finds fails (chunks, (moved, observed, goes), till, terminal) = (chunks, (moved, finds (trace_text chunks) observed, inr tt), till, terminal)
-by_observed Observed Found GoesOn Stops Failed old new (Err (Read from)) finds fails (chunks, (moved, observed, goes)) = (chunks, (moved, finds (trace_text chunks) observed, inr tt))
+by_observed Observed Found GoesOn Stops Failed old new (Err (Read failed)) finds fails (chunks, (moved, observed, goes)) = (chunks, (moved, finds (trace_text chunks) observed, inr tt))
 by_observed Observed Found GoesOn Stops Failed old new (Err Wait) finds fails (chunks, (moved, observed, goes)) = (chunks, (moved, finds (trace_text chunks) observed, inr tt))
-by_observed Observed Found GoesOn Stops Failed old new (Err (Write from)) finds fails (chunks, bytes, part, prefix, moved, observed, goes) = (chunks, bytes, part, prefix, moved, finds (trace_text (chunks ++ chunk from bytes ∷ [])) observed, tt)
+by_observed Observed Found GoesOn Stops Failed old new (Err (Write failed)) finds fails (chunks, bytes, part, prefix, moved, observed, goes) = (chunks, bytes, part, prefix, moved, finds (trace_text (chunks ++ chunk failed bytes ∷ [])) observed, tt)
 by_observed Observed Found GoesOn Stops Failed old new (Err Trace) finds fails (chunks, last, moved, observed, stops) = (chunks, last, moved, finds (trace_text (chunks ++ last ∷ [])) observed, fails stops)
 by_observed Observed Found GoesOn Stops Failed old new (Err Memory) finds fails (chunks, last, moved, observed) = (chunks, last, moved, finds (trace_text chunks) observed)
 

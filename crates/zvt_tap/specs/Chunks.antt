@@ -1,36 +1,36 @@
 -- The chunks that pass between a till and its terminal.
 use Rattle.std.specs.Prelude.{◌≡◌, ℕ, List, [], ◌∷◌, ◌++◌, Option, IfSome}
 use Rattle.std.specs.Io.KnownBytes.{Appends, Consumes}
-use Rattle.zvt_session.specs.Recorder.{piece_text}
-use Rattle.zvt_session.specs.declared.recorder.Way.{Way}
-use Rattle.zvt_session.specs.declared.recorder.Way.TheVariants.{FromTerminal, FromTill}
+use Rattle.zvt_recorder.specs.Recorder.{piece_text}
+use Rattle.zvt_trace.specs.declared.direction.Direction.{Direction}
+use Rattle.zvt_trace.specs.declared.direction.Direction.TheVariants.{FromTerminal, FromTill}
 
 -- ---- chunks
 
--- what one read brought, and which way it goes
+-- what one read brought, and from which side
 pub record Chunk : Type 0 where
-  pub way : Way
+  pub from : Direction
   pub bytes : List ℕ
 
-abbrev pub chunk : Way → List ℕ → Chunk
-chunk way bytes = record { way = way; bytes = bytes }
+abbrev pub chunk : Direction → List ℕ → Chunk
+chunk from bytes = record { from = from; bytes = bytes }
 
--- these bytes, where both ways are one
-abbrev pub along : (way other : Way) → List ℕ → List ℕ
+-- these bytes, where both sides are one
+abbrev pub along : (from other : Direction) → List ℕ → List ℕ
 along FromTill FromTill bytes = bytes
 along FromTill FromTerminal bytes = []
 along FromTerminal FromTill bytes = []
 along FromTerminal FromTerminal bytes = bytes
 
--- all bytes of the chunks that go this way
-abbrev pub bytes_along : Way → List Chunk → List ℕ
-bytes_along way [] = []
-bytes_along way (one ∷ more) = along way one.way one.bytes ++ bytes_along way more
+-- all bytes of the chunks that come from this side
+abbrev pub bytes_along : Direction → List Chunk → List ℕ
+bytes_along from [] = []
+bytes_along from (one ∷ more) = along from one.from one.bytes ++ bytes_along from more
 
 -- the lines of the chunks in a trace
 abbrev pub trace_text : List Chunk → List ℕ
 trace_text [] = []
-trace_text (one ∷ more) = piece_text one.way one.bytes ++ trace_text more
+trace_text (one ∷ more) = piece_text one.from one.bytes ++ trace_text more
 
 -- ---- both sides
 
@@ -44,8 +44,8 @@ pub record Sides : Type 0 where
 abbrev pub sides : (till terminal to_terminal to_till : Option (List ℕ)) → Sides
 sides till terminal to_terminal to_till = record { till = till; terminal = terminal; to_terminal = to_terminal; to_till = to_till }
 
--- what is still to come this way
-abbrev pub coming : Way → Sides → Option (List ℕ)
+-- what is still to come from this side
+abbrev pub coming : Direction → Sides → Option (List ℕ)
 coming FromTill both = both.till
 coming FromTerminal both = both.terminal
 

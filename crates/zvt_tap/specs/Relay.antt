@@ -2,9 +2,9 @@
 use Rattle.std.specs.Prelude.{◌≡◌, ◌⊎◌, ◌≤◌, ◌+◌, ◌-◌, ◌^◌, ℕ, Bool, true, false, List, [], ◌∷◌, ◌++◌, Option, Result, Ok, Err}
 use Rattle.std.specs.Io.KnownBytes.{Appends, Consumes, IsAtEnd}
 use Rattle.zvt_io.specs.Devices.{IsPrefix}
-use Rattle.zvt_session.specs.Recorder.{piece_text}
-use Rattle.zvt_session.specs.declared.recorder.Way.{Way}
-use Rattle.zvt_session.specs.declared.recorder.Way.TheVariants.{FromTerminal, FromTill}
+use Rattle.zvt_recorder.specs.Recorder.{piece_text}
+use Rattle.zvt_trace.specs.declared.direction.Direction.{Direction}
+use Rattle.zvt_trace.specs.declared.direction.Direction.TheVariants.{FromTerminal, FromTill}
 use Rattle.zvt_tap.specs.Chunks.{Chunk, IsAll, Moves, Sides, bytes_along, chunk, coming, trace_text}
 use Rattle.zvt_tap.specs.declared.relay.Ended.{Ended}
 use Rattle.zvt_tap.specs.declared.fault.TapFault.{TapFault}
@@ -12,29 +12,29 @@ use Rattle.zvt_tap.specs.declared.fault.TapFault.TheVariants.{Memory, Read, Trac
 
 -- ---- one chunk
 
--- What passing a chunk this way answers, with what is to come of the one side and what was written to the other. `Observed`
+-- What passing a chunk from this side answers, with what is to come of the one side and what was written to the other. `Observed`
 -- says that this text was observed besides, and `Same` that nothing was. The line may go on, or has to stop, after what was
 -- observed. A chunk is observed before it is written.
-abbrev pub AnswersPass : Way → (Observed : List ℕ → Type 0) → (Same GoesOn Stops : Type 0) → (left rest old new : Option (List ℕ)) → Result Bool TapFault → Type 0
-AnswersPass way Observed Same GoesOn Stops left rest old new (Ok true) = (bytes : List ℕ) × Consumes left rest bytes × Appends old new bytes × Observed (piece_text way bytes) × GoesOn
-AnswersPass way Observed Same GoesOn Stops left rest old new (Ok false) = Consumes left rest [] × IsAtEnd rest × (new ≡ old) × Same
-AnswersPass way Observed Same GoesOn Stops left rest old new (Err (Read from)) = (from ≡ way) × Consumes left rest [] × (new ≡ old) × Same
-AnswersPass way Observed Same GoesOn Stops left rest old new (Err (Write from)) =
-    (from ≡ way) × (bytes : List ℕ) × (part : List ℕ) × IsPrefix part bytes × Consumes left rest bytes × Appends old new part × Observed (piece_text way bytes) × GoesOn
-AnswersPass way Observed Same GoesOn Stops left rest old new (Err Trace) = (bytes : List ℕ) × Consumes left rest bytes × (new ≡ old) × Observed (piece_text way bytes) × Stops
-AnswersPass way Observed Same GoesOn Stops left rest old new (Err Memory) = (bytes : List ℕ) × Consumes left rest bytes × (new ≡ old) × Observed []
-AnswersPass way Observed Same GoesOn Stops left rest old new (Err Wait) = ⊥
+abbrev pub AnswersPass : Direction → (Observed : List ℕ → Type 0) → (Same GoesOn Stops : Type 0) → (left rest old new : Option (List ℕ)) → Result Bool TapFault → Type 0
+AnswersPass from Observed Same GoesOn Stops left rest old new (Ok true) = (bytes : List ℕ) × Consumes left rest bytes × Appends old new bytes × Observed (piece_text from bytes) × GoesOn
+AnswersPass from Observed Same GoesOn Stops left rest old new (Ok false) = Consumes left rest [] × IsAtEnd rest × (new ≡ old) × Same
+AnswersPass from Observed Same GoesOn Stops left rest old new (Err (Read failed)) = (failed ≡ from) × Consumes left rest [] × (new ≡ old) × Same
+AnswersPass from Observed Same GoesOn Stops left rest old new (Err (Write failed)) =
+    (failed ≡ from) × (bytes : List ℕ) × (part : List ℕ) × IsPrefix part bytes × Consumes left rest bytes × Appends old new part × Observed (piece_text from bytes) × GoesOn
+AnswersPass from Observed Same GoesOn Stops left rest old new (Err Trace) = (bytes : List ℕ) × Consumes left rest bytes × (new ≡ old) × Observed (piece_text from bytes) × Stops
+AnswersPass from Observed Same GoesOn Stops left rest old new (Err Memory) = (bytes : List ℕ) × Consumes left rest bytes × (new ≡ old) × Observed []
+AnswersPass from Observed Same GoesOn Stops left rest old new (Err Wait) = ⊥
 
 -- The same, with both sides.
-abbrev pub AnswersTurn : Way → (Observed : List ℕ → Type 0) → (Same GoesOn Stops : Type 0) → (old new : Sides) → Result Bool TapFault → Type 0
-AnswersTurn way Observed Same GoesOn Stops old new (Ok true) = (bytes : List ℕ) × Moves (chunk way bytes ∷ []) (chunk way bytes ∷ []) old new × Observed (piece_text way bytes) × GoesOn
-AnswersTurn way Observed Same GoesOn Stops old new (Ok false) = Moves [] [] old new × IsAtEnd (coming way new) × Same
-AnswersTurn way Observed Same GoesOn Stops old new (Err (Read from)) = (from ≡ way) × Moves [] [] old new × Same
-AnswersTurn way Observed Same GoesOn Stops old new (Err (Write from)) =
-    (from ≡ way) × (bytes : List ℕ) × (part : List ℕ) × IsPrefix part bytes × Moves (chunk way bytes ∷ []) (chunk way part ∷ []) old new × Observed (piece_text way bytes) × GoesOn
-AnswersTurn way Observed Same GoesOn Stops old new (Err Trace) = (bytes : List ℕ) × Moves (chunk way bytes ∷ []) [] old new × Observed (piece_text way bytes) × Stops
-AnswersTurn way Observed Same GoesOn Stops old new (Err Memory) = (bytes : List ℕ) × Moves (chunk way bytes ∷ []) [] old new × Observed []
-AnswersTurn way Observed Same GoesOn Stops old new (Err Wait) = ⊥
+abbrev pub AnswersTurn : Direction → (Observed : List ℕ → Type 0) → (Same GoesOn Stops : Type 0) → (old new : Sides) → Result Bool TapFault → Type 0
+AnswersTurn from Observed Same GoesOn Stops old new (Ok true) = (bytes : List ℕ) × Moves (chunk from bytes ∷ []) (chunk from bytes ∷ []) old new × Observed (piece_text from bytes) × GoesOn
+AnswersTurn from Observed Same GoesOn Stops old new (Ok false) = Moves [] [] old new × IsAtEnd (coming from new) × Same
+AnswersTurn from Observed Same GoesOn Stops old new (Err (Read failed)) = (failed ≡ from) × Moves [] [] old new × Same
+AnswersTurn from Observed Same GoesOn Stops old new (Err (Write failed)) =
+    (failed ≡ from) × (bytes : List ℕ) × (part : List ℕ) × IsPrefix part bytes × Moves (chunk from bytes ∷ []) (chunk from part ∷ []) old new × Observed (piece_text from bytes) × GoesOn
+AnswersTurn from Observed Same GoesOn Stops old new (Err Trace) = (bytes : List ℕ) × Moves (chunk from bytes ∷ []) [] old new × Observed (piece_text from bytes) × Stops
+AnswersTurn from Observed Same GoesOn Stops old new (Err Memory) = (bytes : List ℕ) × Moves (chunk from bytes ∷ []) [] old new × Observed []
+AnswersTurn from Observed Same GoesOn Stops old new (Err Wait) = ⊥
 
 -- ---- a run
 
@@ -47,11 +47,11 @@ Passes Observed GoesOn old new chunks = Moves chunks chunks old new × Observed 
 abbrev pub AnswersRelay : (Observed : List ℕ → Type 0) → (GoesOn Stops : Type 0) → (old new : Sides) → Result Unit TapFault → Type 0
 AnswersRelay Observed GoesOn Stops old new (Ok ended) =
     (chunks : List Chunk) × Passes Observed GoesOn old new chunks × IsAll old.till (bytes_along FromTill chunks) × IsAll old.terminal (bytes_along FromTerminal chunks)
-AnswersRelay Observed GoesOn Stops old new (Err (Read from)) = (chunks : List Chunk) × Passes Observed GoesOn old new chunks
+AnswersRelay Observed GoesOn Stops old new (Err (Read failed)) = (chunks : List Chunk) × Passes Observed GoesOn old new chunks
 AnswersRelay Observed GoesOn Stops old new (Err Wait) = (chunks : List Chunk) × Passes Observed GoesOn old new chunks
-AnswersRelay Observed GoesOn Stops old new (Err (Write from)) =
-    (chunks : List Chunk) × (bytes : List ℕ) × (part : List ℕ) × IsPrefix part bytes × Moves (chunks ++ chunk from bytes ∷ []) (chunks ++ chunk from part ∷ []) old new
-    × Observed (trace_text (chunks ++ chunk from bytes ∷ [])) × GoesOn
+AnswersRelay Observed GoesOn Stops old new (Err (Write failed)) =
+    (chunks : List Chunk) × (bytes : List ℕ) × (part : List ℕ) × IsPrefix part bytes × Moves (chunks ++ chunk failed bytes ∷ []) (chunks ++ chunk failed part ∷ []) old new
+    × Observed (trace_text (chunks ++ chunk failed bytes ∷ [])) × GoesOn
 AnswersRelay Observed GoesOn Stops old new (Err Trace) =
     (chunks : List Chunk) × (last : Chunk) × Moves (chunks ++ last ∷ []) chunks old new × Observed (trace_text (chunks ++ last ∷ [])) × Stops
 AnswersRelay Observed GoesOn Stops old new (Err Memory) = (chunks : List Chunk) × (last : Chunk) × Moves (chunks ++ last ∷ []) chunks old new × Observed (trace_text chunks)
@@ -59,8 +59,8 @@ AnswersRelay Observed GoesOn Stops old new (Err Memory) = (chunks : List Chunk) 
 -- A read failed where that is the fault, or a write, and no other.
 abbrev pub CountsFaults : {X : Type 0} → (reads_before reads_after writes_before writes_after : ℕ) → Result X TapFault → Type 0
 CountsFaults reads_before reads_after writes_before writes_after (Ok done) = (reads_after ≡ reads_before) × (writes_after ≡ writes_before)
-CountsFaults reads_before reads_after writes_before writes_after (Err (Read from)) = (reads_after ≡ reads_before + 1) × (writes_after ≡ writes_before)
-CountsFaults reads_before reads_after writes_before writes_after (Err (Write from)) = (reads_after ≡ reads_before) × (writes_after ≡ writes_before + 1)
+CountsFaults reads_before reads_after writes_before writes_after (Err (Read failed)) = (reads_after ≡ reads_before + 1) × (writes_after ≡ writes_before)
+CountsFaults reads_before reads_after writes_before writes_after (Err (Write failed)) = (reads_after ≡ reads_before) × (writes_after ≡ writes_before + 1)
 CountsFaults reads_before reads_after writes_before writes_after (Err Trace) = (reads_after ≡ reads_before) × (writes_after ≡ writes_before)
 CountsFaults reads_before reads_after writes_before writes_after (Err Memory) = (reads_after ≡ reads_before) × (writes_after ≡ writes_before)
 CountsFaults reads_before reads_after writes_before writes_after (Err Wait) = (reads_after ≡ reads_before) × (writes_after ≡ writes_before)
@@ -69,12 +69,12 @@ CountsFaults reads_before reads_after writes_before writes_after (Err Wait) = (r
 abbrev pub Waits : (waits failures_before failures_after : ℕ) → Result Unit TapFault → Type 0
 Waits waits before after (Err Wait) = (after ≡ before + 1) ⊎ (after ≡ before) × (2 ^ 64 - 1 ≤ waits)
 Waits waits before after (Ok ended) = after ≡ before
-Waits waits before after (Err (Read from)) = after ≡ before
-Waits waits before after (Err (Write from)) = after ≡ before
+Waits waits before after (Err (Read failed)) = after ≡ before
+Waits waits before after (Err (Write failed)) = after ≡ before
 Waits waits before after (Err Trace) = after ≡ before
 Waits waits before after (Err Memory) = after ≡ before
 
--- the sides that have come to their end, once that one has from which the bytes go this way
-abbrev pub ended_after : Way → Ended → Ended
+-- the sides that have come to their end, once this one has
+abbrev pub ended_after : Direction → Ended → Ended
 ended_after FromTill ended = record ended { till = true }
 ended_after FromTerminal ended = record ended { terminal = true }

@@ -3,15 +3,15 @@ ghost use Rattle.std.specs.Prelude.{◌≡◌};
 ghost use Rattle.zvt_tap.specs.declared.fault.TapFault.TheVariants.{Memory};
 
 use std::alloc::{AllocError, AllocFailed};
-use zvt_session::Way;
+use zvt_trace::Direction;
 
 /// Why a relay ended before both sides had come to their end.
 #[derive(Clone, Copy, Debug, PartialEq, Eq)]
 pub enum TapFault {
-    /// The side could not be read from which the bytes go this way.
-    Read(Way),
-    /// The side could not be written to which the bytes go this way. Some prefix of the last chunk was written.
-    Write(Way),
+    /// This side could not be read.
+    Read(Direction),
+    /// What this side sent could not be written to the other side. Some prefix of the last chunk was written.
+    Write(Direction),
     /// The trace could not be written without which the line may not go on. The last chunk was not passed on.
     Trace,
     /// The last chunk was neither observed nor passed on.

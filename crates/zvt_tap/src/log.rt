@@ -2,7 +2,7 @@
 ghost use Rattle.std.specs.Prelude.{◌≡◌, ◌≤◌, ◌++◌, ◌∷◌, [], codes, ℕ, List, Option, IfOk, MatchResult, length};
 ghost use Rattle.zvt_grammar.specs.Lengths.{reading_of};
 ghost use Rattle.zvt_grammar.specs.Reading.{Reading};
-ghost use Rattle.zvt_session.specs.Recorder.{piece_text};
+ghost use Rattle.zvt_recorder.specs.Recorder.{piece_text};
 ghost use Rattle.zvt_trace.specs.Written.{limit};
 ghost use Rattle.zvt_tap.specs.Log.{FailsOnlyIf, HasFound, HasObserved, HasTraced, MayObserve, Observes, log_state};
 
@@ -14,9 +14,9 @@ use std::alloc::{AllocError, Global};
 use zvt_audit::AuditSummary;
 use zvt_grammar::Lengths;
 use zvt_io::Sink;
-use zvt_session::{Way, spell_piece};
+use zvt_recorder::spell_piece;
 use zvt_text::Text;
-use zvt_trace::{Tally, TraceFault};
+use zvt_trace::{Direction, Tally, TraceFault};
 
 /// The size of the line of the longest chunk: its sign, its bytes as digits, and a line feed.
 const MAX_LINE: usize = 2 + 2 * MAX_CHUNK + 1;
@@ -133,8 +133,8 @@ impl<T: Sink, O: Sink> Observer for TapLog<T, O> {
 
     ghost observes_more = { λ first middle last text more. observes_more _ _ _ text more };
 
-    fn take(&mut self, way: Way, bytes: &[u8]) -> Result<(), AllocError> {
-        spell_piece(&mut self.text, way, bytes)?;
+    fn take(&mut self, from: Direction, bytes: &[u8]) -> Result<(), AllocError> {
+        spell_piece(&mut self.text, from, bytes)?;
         self.parts.observe(self.text.bytes());
         Ok(())
     }

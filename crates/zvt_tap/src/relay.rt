@@ -1,13 +1,13 @@
 //! What comes from each side of a line goes to the other.
 ghost use Rattle.std.specs.Prelude.{◌≡◌, ◌≤◌, ◌+◌, ◌++◌, [], ℕ, Bool, false, true, List, MatchOption, MatchResult, length};
-ghost use Rattle.zvt_session.specs.Recorder.{piece_text};
+ghost use Rattle.zvt_recorder.specs.Recorder.{piece_text};
 ghost use Rattle.zvt_tap.specs.Chunks.{sides};
 ghost use Rattle.zvt_tap.specs.Relay.{AnswersPass, AnswersRelay, AnswersTurn, CountsFaults, Waits, ended_after};
 
 use crate::fault::TapFault;
 use std::alloc::AllocError;
 use zvt_io::{Failed, Sink, Source};
-use zvt_session::Way;
+use zvt_trace::Direction;
 
 /// The most bytes of a chunk: no more are read, observed and written at once. What shows and audits a trace decodes a line
 /// of so many bytes at once.
@@ -21,14 +21,14 @@ pub trait Readiness {
     /// How often nobody could wait.
     ghost failures: { Self → ℕ };
 
-    /// Waits until bytes that go a way can be read, or their side has come to its end, and answers which way. `None` where
-    /// nobody can wait.
-    fn next(&mut self) -> Option<Way>
+    /// Waits until bytes from a side can be read, or it has come to its end, and answers which side. `None` where nobody can
+    /// wait.
+    fn next(&mut self) -> Option<Direction>
         ensures counted { waits self.new ≡ waits self.old + 1 }
         ensures failures { MatchOption result (failures self.new ≡ failures self.old + 1) (λ _. failures self.new ≡ failures self.old) };
 
-    /// Hands on that no more bytes go this way, since their side has come to its end.
-    fn end(&mut self, way: Way)
+    /// Hands on to the other side that no more bytes come from this one, which has come to its end.
+    fn end(&mut self, from: Direction)
         ensures counted { waits self.new ≡ waits self.old }
         ensures failures { failures self.new ≡ failures self.old };
 }
@@ -44,11 +44,11 @@ pub trait Observer {
     /// More may be observed.
     ghost may_observe: { Self → Type 0 };
 
-    /// Observes a chunk of at most [`MAX_CHUNK`] bytes that goes this way. After an `Err` nothing is observed.
-    fn take(&mut self, way: Way, bytes: &[u8]) -> Result<(), AllocError>
+    /// Observes a chunk of at most [`MAX_CHUNK`] bytes from this side. After an `Err` nothing is observed.
+    fn take(&mut self, from: Direction, bytes: &[u8]) -> Result<(), AllocError>
         requires few { length bytes.now ≤ 4096 }
         requires may { may_observe self.old }
-        ensures observed { MatchResult result (λ _. observes self.old (piece_text way bytes.now) self.new) (λ _. observes self.old [] self.new) }
+        ensures observed { MatchResult result (λ _. observes self.old (piece_text from bytes.now) self.new) (λ _. observes self.old [] self.new) }
         ensures may { may_observe self.new };
 
     /// Whether the line has to end, since what it needs can't be observed any more.
@@ -95,14 +95,14 @@ pub fn run_relay<L: Readiness, R: Source, W: Sink, K: Observer>(
         terminal: false,
     };
     for _turn in 0..u64::MAX {
-        let Some(way) = line.next() else {
+        let Some(from) = line.next() else {
             return Err(TapFault::Wait);
         };
-        if turn(way, ends, observer)? {
+        if turn(from, ends, observer)? {
             continue;
         }
-        line.end(way);
-        ended = ended.after(way);
+        line.end(from);
+        ended = ended.after(from);
         if ended.till && ended.terminal {
             return Ok(());
         }
@@ -118,16 +118,16 @@ struct Ended {
 }
 
 impl Ended {
-    /// The sides that have, once no more bytes go this way.
-    fn after(self, way: Way) -> Ended
-        ensures { result ≡ ended_after way self }
+    /// The sides that have, once this one has.
+    fn after(self, from: Direction) -> Ended
+        ensures { result ≡ ended_after from self }
     {
-        match way {
-            Way::FromTill => Ended {
+        match from {
+            Direction::FromTill => Ended {
                 till: true,
                 terminal: self.terminal,
             },
-            Way::FromTerminal => Ended {
+            Direction::FromTerminal => Ended {
                 till: self.till,
                 terminal: true,
             },
@@ -135,52 +135,52 @@ impl Ended {
     }
 }
 
-/// Passes on the next chunk that goes this way. `false` where its side has come to its end.
+/// Passes on the next chunk from this side. `false` where the side has come to its end.
 fn turn<R: Source, W: Sink, K: Observer>(
-    way: Way,
+    from: Direction,
     ends: &mut Ends<R, W>,
     observer: &mut K,
 ) -> Result<bool, TapFault>
     requires { K.may_observe observer.old }
-    ensures passed { AnswersTurn way (λ text. K.observes observer.old text observer.new) (observer.new ≡ observer.old) (K.is_stopped observer.new ≡ false) (K.is_stopped observer.new ≡ true)
+    ensures passed { AnswersTurn from (λ text. K.observes observer.old text observer.new) (observer.new ≡ observer.old) (K.is_stopped observer.new ≡ false) (K.is_stopped observer.new ≡ true)
         (sides (R.remaining ends.old.till) (R.remaining ends.old.terminal) (W.written ends.old.to_terminal) (W.written ends.old.to_till))
         (sides (R.remaining ends.new.till) (R.remaining ends.new.terminal) (W.written ends.new.to_terminal) (W.written ends.new.to_till)) result }
     ensures faults { CountsFaults (R.failures ends.old.till + R.failures ends.old.terminal) (R.failures ends.new.till + R.failures ends.new.terminal)
         (W.failures ends.old.to_terminal + W.failures ends.old.to_till) (W.failures ends.new.to_terminal + W.failures ends.new.to_till) result }
     ensures may { K.may_observe observer.new }
 {
-    match way {
-        Way::FromTill => pass(way, &mut ends.till, &mut ends.to_terminal, observer),
-        Way::FromTerminal => pass(way, &mut ends.terminal, &mut ends.to_till, observer),
+    match from {
+        Direction::FromTill => pass(from, &mut ends.till, &mut ends.to_terminal, observer),
+        Direction::FromTerminal => pass(from, &mut ends.terminal, &mut ends.to_till, observer),
     }
 }
 
 /// Reads a chunk, observes it, and writes it. `false` where the reader has come to its end.
 fn pass<R: Source, W: Sink, K: Observer>(
-    way: Way,
+    from: Direction,
     reader: &mut R,
     writer: &mut W,
     observer: &mut K,
 ) -> Result<bool, TapFault>
     requires { K.may_observe observer.old }
-    ensures passed { AnswersPass way (λ text. K.observes observer.old text observer.new) (observer.new ≡ observer.old) (K.is_stopped observer.new ≡ false) (K.is_stopped observer.new ≡ true) (R.remaining reader.old) (R.remaining reader.new) (W.written writer.old) (W.written writer.new) result }
+    ensures passed { AnswersPass from (λ text. K.observes observer.old text observer.new) (observer.new ≡ observer.old) (K.is_stopped observer.new ≡ false) (K.is_stopped observer.new ≡ true) (R.remaining reader.old) (R.remaining reader.new) (W.written writer.old) (W.written writer.new) result }
     ensures faults { CountsFaults (R.failures reader.old) (R.failures reader.new) (W.failures writer.old) (W.failures writer.new) result }
     ensures may { K.may_observe observer.new }
 {
     let mut buffer = [0; MAX_CHUNK];
     let Ok(count) = reader.read(&mut buffer) else {
-        return Err(TapFault::Read(way));
+        return Err(TapFault::Read(from));
     };
     if count == 0 {
         return Ok(false);
     }
     let bytes = &buffer[..count];
-    observer.take(way, bytes)?;
+    observer.take(from, bytes)?;
     if observer.is_stopped() {
         return Err(TapFault::Trace);
     }
     match writer.write_all(bytes) {
         Ok(()) => Ok(true),
-        Err(Failed) => Err(TapFault::Write(way)),
+        Err(Failed) => Err(TapFault::Write(from)),
     }
 }

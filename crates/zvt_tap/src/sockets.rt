@@ -14,7 +14,7 @@ use std::net::{Net, Shutdown, TcpListener, TcpStream};
 use std::os::fd::{AsRawFd, RawFd};
 use std::time::Duration;
 use zvt_io::{Counted, GhostCount, Sink};
-use zvt_session::Way;
+use zvt_trace::Direction;
 
 /// For that many seconds a side may leave so much unread that no more can be sent to it.
 const WRITE_SECONDS: u64 = 5;
@@ -59,10 +59,10 @@ where
     };
     let tapped = tap_line(alloc, &mut line, &mut ends, log);
     let error = match tapped.ended {
-        Err(TapFault::Read(Way::FromTill)) => ends.till.inner.error,
-        Err(TapFault::Read(Way::FromTerminal)) => ends.terminal.inner.error,
-        Err(TapFault::Write(Way::FromTill)) => ends.to_terminal.inner.error,
-        Err(TapFault::Write(Way::FromTerminal)) => ends.to_till.inner.error,
+        Err(TapFault::Read(Direction::FromTill)) => ends.till.inner.error,
+        Err(TapFault::Read(Direction::FromTerminal)) => ends.terminal.inner.error,
+        Err(TapFault::Write(Direction::FromTill)) => ends.to_terminal.inner.error,
+        Err(TapFault::Write(Direction::FromTerminal)) => ends.to_till.inner.error,
         _ => None,
     };
     Ok(SocketTapped { tapped, error })
@@ -180,8 +180,8 @@ struct BothSockets<'a> {
     terminal_socket: &'a TcpStream,
     till: Side,
     terminal: Side,
-    /// The way of the last chunk: where both sides are ready, the other is read next.
-    last: Way,
+    /// The side of the last chunk: where both sides are ready, the other is read next.
+    last: Direction,
 }
 
 impl<'a> BothSockets<'a> {
@@ -204,21 +204,21 @@ impl<'a> BothSockets<'a> {
             terminal_socket,
             till,
             terminal,
-            last: Way::FromTerminal,
+            last: Direction::FromTerminal,
         })
     }
 
-    /// The way of a side that is ready, if one is.
-    fn ready_way(&mut self) -> Option<Way> {
-        let way = match self.last {
-            Way::FromTill if self.terminal.take_ready() => Way::FromTerminal,
-            Way::FromTill if self.till.take_ready() => Way::FromTill,
-            Way::FromTerminal if self.till.take_ready() => Way::FromTill,
-            Way::FromTerminal if self.terminal.take_ready() => Way::FromTerminal,
+    /// A side that is ready, if one is.
+    fn ready_side(&mut self) -> Option<Direction> {
+        let from = match self.last {
+            Direction::FromTill if self.terminal.take_ready() => Direction::FromTerminal,
+            Direction::FromTill if self.till.take_ready() => Direction::FromTill,
+            Direction::FromTerminal if self.till.take_ready() => Direction::FromTill,
+            Direction::FromTerminal if self.terminal.take_ready() => Direction::FromTerminal,
             _ => return None,
         };
-        self.last = way;
-        Some(way)
+        self.last = from;
+        Some(from)
     }
 
     /// Waits until a side is ready, or a signal comes.
@@ -237,24 +237,24 @@ impl<'a> BothSockets<'a> {
     }
 
     /// Waits until a side is ready.
-    fn await_way(&mut self) -> io::Result<Way> {
+    fn await_side(&mut self) -> io::Result<Direction> {
         for _try in 0..u64::MAX {
-            if let Some(way) = self.ready_way() {
-                return Ok(way);
+            if let Some(from) = self.ready_side() {
+                return Ok(from);
             }
             self.wait()?;
         }
         Err(io::Error::from(ErrorKind::TimedOut))
     }
 
-    /// Hands on to the other side that no more bytes go this way.
-    fn end(&mut self, way: Way) {
-        let _ = match way {
-            Way::FromTill => {
+    /// Hands on to the other side that no more bytes come from this one.
+    fn end(&mut self, from: Direction) {
+        let _ = match from {
+            Direction::FromTill => {
                 self.till.end(&self.poll);
                 self.terminal_socket.shutdown(Shutdown::Write)
             }
-            Way::FromTerminal => {
+            Direction::FromTerminal => {
                 self.terminal.end(&self.poll);
                 self.till_socket.shutdown(Shutdown::Write)
             }
@@ -275,10 +275,10 @@ impl Readiness for SocketLine<'_> {
 
     ghost failures = { λ line. line.failures.count };
 
-    fn next(&mut self) -> Option<Way> {
+    fn next(&mut self) -> Option<Direction> {
         self.waits = self.waits.next();
-        match self.sockets.await_way() {
-            Ok(way) => Some(way),
+        match self.sockets.await_side() {
+            Ok(from) => Some(from),
             Err(_) => {
                 self.failures = self.failures.next();
                 None
@@ -286,7 +286,7 @@ impl Readiness for SocketLine<'_> {
         }
     }
 
-    fn end(&mut self, way: Way) {
-        self.sockets.end(way);
+    fn end(&mut self, from: Direction) {
+        self.sockets.end(from);
     }
 }

@@ -27,12 +27,14 @@ pub use zvt_journal::{DeviceError, FileDevice, JournalFileError, Opened, open_fi
 pub use zvt_json::Form;
 pub use zvt_kept::{KeptTill, RecoveryError, recover};
 pub use zvt_session::{
-    BookRun, BothEnds, EndFault, Endpoint, Ends, LineEnd, LoopRun, NetFault, Planned, Recorded,
-    Step, StepRun, TerminalRun, TillRun, Way, config_of, currency_of, end_trace, password_of, plan,
-    result_code, run_both_ends, run_both_ends_kept, run_loop, run_loop_kept, run_terminal,
-    run_till, run_till_end, run_till_end_kept, run_till_kept, serve, step_of, write_book,
+    EndFault, Ends, NetFault, Planned, config_of, currency_of, password_of, plan, result_code,
+    write_book,
 };
 pub use zvt_show::{Style, follow_trace, render_trace};
+pub use zvt_tcp::{
+    BookRun, LoopRun, TerminalRun, TillRun, run_loop, run_loop_kept, run_terminal, run_till,
+    run_till_kept,
+};
 pub use zvt_till::TillSettings;
 pub use zvt_trace::{
     ListenerError, Scope, Tally, TraceFault, TraceLineError, next_line, read_trace,

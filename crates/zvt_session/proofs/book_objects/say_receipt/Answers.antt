@@ -1,7 +1,7 @@
 use Rattle.std.proofs.Common.{codes, List, ℕ, ◌≡◌, ◌++◌, ◌∷◌, [], ◌∙◌, ap}
 use Rattle.hex.specs.Hex.{encode_upper}
 use Rattle.json.specs.Print.{escape}
-use Rattle.zvt_session.proofs.Gone.{three_parts}
+use Rattle.zvt_session.proofs.Parts.{three_parts}
 use Rattle.zvt_session.proofs.book_objects.say_receipt.Goals as goal
 
 pub returns : goal.returns

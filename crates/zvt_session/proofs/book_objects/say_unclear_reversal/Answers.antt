@@ -1,6 +1,6 @@
 use Rattle.std.proofs.Common.{codes, List, ℕ, ◌≡◌, ◌++◌, ◌∷◌, [], ◌∙◌, ap}
 use Rattle.zvt_till.specs.Names.{cause_name}
-use Rattle.zvt_session.proofs.Gone.{three_parts}
+use Rattle.zvt_session.proofs.Parts.{three_parts}
 use Rattle.zvt_session.proofs.book_objects.say_unclear_reversal.Goals as goal
 
 pub returns : goal.returns

@@ -1,6 +1,6 @@
 use Rattle.std.proofs.Common.{codes, List, ℕ, OnOk, ◌≡◌, ◌++◌, ◌∙◌, subst}
 use Rattle.zvt_till.specs.Names.{cause_name}
-use Rattle.zvt_session.proofs.Gone.{two_parts}
+use Rattle.zvt_session.proofs.Parts.{two_parts}
 use Rattle.zvt_session.proofs.books.say_unclear_reversal.Goals as goal
 
 pub returns : goal.returns

@@ -4,7 +4,7 @@ use Rattle.zvt_session.specs.BothEnds.{BeginsHere, MakesHereBy, line_of}
 use Rattle.zvt_session.specs.Runs.{standing}
 use Rattle.zvt_till.specs.Settings.{settings_of}
 use Rattle.zvt_session.specs.Reporting.{ReportsReversals}
-use Rattle.zvt_session.proofs.OverTcp.{ran}
+use Rattle.zvt_session.proofs.Seen.{ran}
 use Rattle.zvt_session.proofs.both_ends.run_both_ends.Goals as goal
 
 pub returns-clause-run : goal.returns-clause-run

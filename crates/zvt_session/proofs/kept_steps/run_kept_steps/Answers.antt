@@ -1,7 +1,7 @@
 use Rattle.std.proofs.Common.{List, ap, inl, refl, subst, ◌∙◌}
 use Rattle.zvt_till.specs.declared.entries.Entry.{Entry}
 use Rattle.zvt_session.specs.Reporting.{ReportsReversals}
-use Rattle.zvt_session.specs.Traced.{by_book}
+use Rattle.zvt_session.specs.Faults.{by_book}
 use Rattle.zvt_session.proofs.kept_steps.run_kept_steps.Goals as goal
 
 pub returns-clause-run : goal.returns-clause-run

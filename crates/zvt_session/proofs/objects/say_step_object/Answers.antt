@@ -2,7 +2,7 @@ use Rattle.std.proofs.Common.{◌≡◌, ◌∙◌, ◌++◌, ◌∷◌, [], Lis
 use Rattle.serde_json.specs.View.{view}
 use Rattle.serde_json.specs.Written.{compact_text, has_float}
 use Rattle.zvt_session.specs.Objects.{step_value}
-use Rattle.zvt_session.proofs.Gone.{two_parts}
+use Rattle.zvt_session.proofs.Parts.{two_parts}
 use Rattle.zvt_session.proofs.ObjectLemmas.{step_whole}
 use Rattle.zvt_session.proofs.objects.say_step_object.Goals as goal
 

@@ -1,6 +1,6 @@
 use Rattle.std.proofs.Common.{◌≡◌, ◌++◌, List, ℕ, OnOk, codes, subst}
 use Rattle.std.specs.Fmt.{decimal}
-use Rattle.zvt_session.proofs.Gone.{three_parts}
+use Rattle.zvt_session.proofs.Parts.{three_parts}
 use Rattle.zvt_session.proofs.ObjectLemmas.{total_said}
 use Rattle.zvt_session.proofs.objects.say_total_object.Goals as goal
 

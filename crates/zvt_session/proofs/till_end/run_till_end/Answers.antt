@@ -5,7 +5,7 @@ use Rattle.zvt_session.specs.TillEnd.{BeginsThere, MakesThere}
 use Rattle.zvt_session.specs.Runs.{standing}
 use Rattle.zvt_till.specs.Settings.{settings_of}
 use Rattle.zvt_session.specs.Reporting.{ReportsReversals}
-use Rattle.zvt_session.proofs.OverTcp.{ran}
+use Rattle.zvt_session.proofs.Seen.{ran}
 use Rattle.zvt_session.proofs.till_end.run_till_end.Goals as goal
 
 pub returns-clause-run : goal.returns-clause-run

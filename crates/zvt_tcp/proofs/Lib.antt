@@ -1,0 +1,4 @@
+pub mod Traced
+pub mod KeptRuns
+pub mod ManyTills
+pub mod Gone

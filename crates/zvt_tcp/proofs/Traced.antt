@@ -1,0 +1,62 @@
+-- A run whose trace broke, or did not.
+use Rattle.std.proofs.Common.{◌≡◌, ℕ, List, Option, Bool, true, false, Result, Ok, Err, inr, subst, sym}
+use Rattle.zvt_grammar.specs.Reading.{Reading}
+use Rattle.zvt_json.specs.declared.form.Form.{Form}
+use Rattle.zvt_till.specs.declared.entries.Entry.{Entry}
+use Rattle.zvt_till.specs.Sending.{Settings}
+use Rattle.zvt_session.specs.RunsPlan.{RunsPlan}
+use Rattle.zvt_till.specs.View.{TillValue}
+use Rattle.zvt_session.specs.Runs.{Law}
+use Rattle.zvt_session.specs.TillEnd.{BeginsThere, MakesThere}
+use Rattle.zvt_session.specs.declared.plans.Planned.{Planned}
+use Rattle.zvt_tcp.specs.OverTcp.{AnswersRun}
+use Rattle.zvt_tcp.specs.Traced.{AnswersTraced, by_trace}
+use Rattle.zvt_session.specs.declared.fault.EndFault.{EndFault}
+use Rattle.zvt_session.specs.declared.fault.EndFault.TheVariants.{BadStep, Book, Line, Memory, Net, Trace, Write}
+
+whole : (Answers : Result Unit EndFault → Type 0) (result : Result Unit EndFault) → (Answers (Err Trace) → ⊥) → Answers result → AnswersTraced Answers result
+whole Answers (Ok done) never a = a
+whole Answers (Err Trace) never a = absurd (never a)
+whole Answers (Err Book) never a = a
+whole Answers (Err (Line fault)) never a = a
+whole Answers (Err Write) never a = a
+whole Answers (Err Memory) never a = a
+whole Answers (Err (BadStep at)) never a = a
+whole Answers (Err (Net why)) never a = a
+
+traced : (Answers : Result Unit EndFault → Type 0) (broken : Bool) (result : Result Unit EndFault) → (Answers (Err Trace) → ⊥) → Answers result
+    → AnswersTraced Answers (by_trace broken result)
+traced Answers false result never a = whole Answers result never a
+traced Answers true (Ok done) never a = (Ok done, tt, a)
+traced Answers true (Err Trace) never a = absurd (never a)
+traced Answers true (Err (Line fault)) never a = (Err (Line fault), tt, a)
+traced Answers true (Err Book) never a = a
+traced Answers true (Err Write) never a = a
+traced Answers true (Err Memory) never a = a
+traced Answers true (Err (BadStep at)) never a = a
+traced Answers true (Err (Net why)) never a = a
+
+-- what a run of steps answers
+answers : {L : Type 0} (makes : Law L TillValue) (begins : L → Type 0) (settings : Settings) (form : Form) (plan : List Planned) (old new : Option (List ℕ)) (Reported : List Entry → Type 0) (Quiet : Type 0) (result : Result Unit EndFault)
+    → AnswersTraced (RunsPlan makes begins settings form plan old new Reported) result → AnswersRun makes begins settings form plan old new Reported Quiet result
+answers makes begins settings form plan old new Reported Quiet (Ok done) runs = runs
+answers makes begins settings form plan old new Reported Quiet (Err (Line fault)) runs = runs
+answers makes begins settings form plan old new Reported Quiet (Err Trace) runs = runs
+answers makes begins settings form plan old new Reported Quiet (Err Book) runs = absurd runs.answers
+answers makes begins settings form plan old new Reported Quiet (Err Write) runs = runs
+answers makes begins settings form plan old new Reported Quiet (Err Memory) runs = inr runs
+answers makes begins settings form plan old new Reported Quiet (Err (BadStep at)) runs = absurd runs.answers
+answers makes begins settings form plan old new Reported Quiet (Err (Net why)) runs = absurd runs.answers
+
+-- a run whose trace is whole, or broke
+pub traced_run : {L : Type 0} (makes : Law L TillValue) (begins : L → Type 0) (settings given : Settings) (form : Form) (plan : List Planned) (broken : Bool) (old new : Option (List ℕ)) (Reported : List Entry → Type 0) (Quiet : Type 0) (answer result : Result Unit EndFault)
+    → given ≡ settings → result ≡ by_trace broken answer → RunsPlan makes begins given form plan old new Reported answer → AnswersRun makes begins settings form plan old new Reported Quiet result
+traced_run makes begins settings given form plan broken old new Reported Quiet answer result set is runs =
+    let run : RunsPlan makes begins settings form plan old new Reported answer = subst (λ (s : Settings). RunsPlan makes begins s form plan old new Reported answer) set runs in
+    subst (λ (r : Result Unit EndFault). AnswersRun makes begins settings form plan old new Reported Quiet r) (sym is)
+    (answers makes begins settings form plan old new Reported Quiet (by_trace broken answer) (traced (RunsPlan makes begins settings form plan old new Reported) broken answer (λ r. r.answers) run))
+
+-- a run on a line whose stream has that reading
+pub begun_by : {r k : Reading} {settings : Settings} {form : Form} {plan : List Planned} {old new : Option (List ℕ)} {Reported : List Entry → Type 0} {result : Result Unit EndFault} → r ≡ k → RunsPlan MakesThere (BeginsThere r) settings form plan old new Reported result
+    → RunsPlan MakesThere (BeginsThere k) settings form plan old new Reported result
+begun_by {settings = settings} {form = form} {plan = plan} {old = old} {new = new} {Reported = Reported} {result = result} e = subst (λ (x : Reading). RunsPlan MakesThere (BeginsThere x) settings form plan old new Reported result) e

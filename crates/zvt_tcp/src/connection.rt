@@ -1,0 +1,175 @@
+//! Sockets, and why there are none.
+ghost use Rattle.std.specs.Prelude.{◌≡◌, ◌+◌, IfOk, MatchResult};
+ghost use Rattle.std.specs.Duration.{as_nanos};
+ghost use Rattle.std.specs.IoError.{error_kind};
+ghost use Rattle.zvt_tcp.specs.Connecting.{given_by, why_of};
+
+use std::io;
+use std::io::ErrorKind;
+use std::net::{HostAddrs, Net, SocketAddr, TcpListener, TcpStream, ToSocketAddrs};
+use std::time::Duration;
+use zvt_io::GhostCount;
+use zvt_session::NetFault;
+
+/// For that many seconds a till waits: to be connected, for each read and for each write. A terminal that is silent for
+/// longer counts as a read that failed.
+const SILENCE_SECONDS: u64 = 60;
+
+/// The address of this machine to itself.
+const HERE: &str = "127.0.0.1";
+
+/// Why a call failed that opens a connection.
+fn why(error: &io::Error) -> NetFault
+    ensures { result ≡ why_of (error_kind error.now) }
+{
+    match error.kind() {
+        ErrorKind::ConnectionRefused => NetFault::Refused,
+        ErrorKind::AddrInUse => NetFault::InUse,
+        ErrorKind::AddrNotAvailable => NetFault::Elsewhere,
+        ErrorKind::PermissionDenied => NetFault::NotAllowed,
+        ErrorKind::HostUnreachable | ErrorKind::NetworkUnreachable => NetFault::Unreachable,
+        ErrorKind::TimedOut => NetFault::Silent,
+        _ => NetFault::Other,
+    }
+}
+
+/// Both ends of a connection of this process to itself.
+pub(crate) fn both_ends<R>(rt: &R) -> Result<(TcpStream, TcpStream), NetFault>
+where
+    R: Net<Listener = TcpListener, Stream = TcpStream>,
+{
+    open_both(rt).map_err(|error| why(&error))
+}
+
+fn open_both<R>(rt: &R) -> io::Result<(TcpStream, TcpStream)>
+where
+    R: Net<Listener = TcpListener, Stream = TcpStream>,
+{
+    let listener = TcpListener::bind(rt, (HERE, 0))?;
+    let till_end = TcpStream::connect(rt, listener.local_addr()?)?;
+    let (terminal_end, _) = listener.accept()?;
+    limit(&till_end)?;
+    limit(&terminal_end)?;
+    Ok((till_end, terminal_end))
+}
+
+/// The till's end of a connection to a terminal that listens at this host and port. It waits 60 seconds at most, to be
+/// connected, for each read and for each write.
+pub fn connect<R>(rt: &R, host: &str, port: u16) -> Result<TcpStream, NetFault>
+where
+    R: Net<Listener = TcpListener, Stream = TcpStream>,
+{
+    connect_to(rt, addresses(rt, host, port)?).map_err(|error| why(&error))
+}
+
+/// To the first of these addresses at which that can be done.
+fn connect_to<R>(rt: &R, addresses: HostAddrs) -> io::Result<TcpStream>
+where
+    R: Net<Listener = TcpListener, Stream = TcpStream>,
+{
+    let mut last = io::Error::from(ErrorKind::NotFound);
+    for address in addresses {
+        match TcpStream::connect_timeout(rt, &address, silence()) {
+            Ok(end) => {
+                limit(&end)?;
+                return Ok(end);
+            }
+            Err(error) => last = error,
+        }
+    }
+    Err(last)
+}
+
+/// Where tills come in. Contracts see how many connections it gave.
+#[derive(Drop)]
+pub struct Door {
+    pub(crate) listener: TcpListener,
+    gave: GhostCount,
+}
+
+impl Door {
+    ghost use Rattle.zvt_tcp.specs.Connecting.{given_by};
+
+    /// The door of this listener, which gave none yet.
+    pub(crate) fn of(listener: TcpListener) -> Door
+        ensures { given_by result ≡ 0 }
+    {
+        Door {
+            listener,
+            gave: GhostCount::zero(),
+        }
+    }
+
+    /// The address at which it listens.
+    pub fn address(&self) -> io::Result<SocketAddr> {
+        self.listener.local_addr()
+    }
+
+    /// The terminal's end of the next connection, for which it waits as long as it takes.
+    pub fn next(&mut self) -> Result<TcpStream, NetFault>
+        ensures { MatchResult result (λ _. given_by self.new ≡ given_by self.old + 1) (λ _. given_by self.new ≡ given_by self.old) }
+    {
+        match accept_next(&self.listener) {
+            Ok(end) => {
+                self.gave = self.gave.next();
+                Ok(end)
+            }
+            Err(error) => Err(why(&error)),
+        }
+    }
+}
+
+/// Listens at this port of this host, where port 0 is a free one.
+pub fn listen<R>(rt: &R, host: &str, port: u16) -> Result<Door, NetFault>
+where
+    R: Net<Listener = TcpListener, Stream = TcpStream>,
+    ensures { IfOk result (λ door. given_by door ≡ 0) }
+{
+    match listen_at(rt, addresses(rt, host, port)?) {
+        Ok(listener) => Ok(Door::of(listener)),
+        Err(error) => Err(why(&error)),
+    }
+}
+
+/// At the first of these addresses at which that can be done.
+fn listen_at<R>(rt: &R, addresses: HostAddrs) -> io::Result<TcpListener>
+where
+    R: Net<Listener = TcpListener, Stream = TcpStream>,
+{
+    let mut last = io::Error::from(ErrorKind::NotFound);
+    for address in addresses {
+        match TcpListener::bind(rt, address) {
+            Ok(listener) => return Ok(listener),
+            Err(error) => last = error,
+        }
+    }
+    Err(last)
+}
+
+fn accept_next(listener: &TcpListener) -> io::Result<TcpStream> {
+    let (end, _) = listener.accept()?;
+    end.set_nodelay(true)?;
+    Ok(end)
+}
+
+/// The addresses of a host at this port.
+fn addresses<R: Net>(rt: &R, host: &str, port: u16) -> Result<HostAddrs, NetFault> {
+    match (host, port).to_socket_addrs(rt) {
+        Ok(addresses) => Ok(addresses),
+        Err(_) => Err(NetFault::UnknownHost),
+    }
+}
+
+/// How long a till waits.
+fn silence() -> Duration
+    ensures { as_nanos result ≡ 60_000_000_000 }
+{
+    Duration::from_secs(SILENCE_SECONDS)
+}
+
+/// Small messages go out at once, and no read or write waits for longer than the silence.
+fn limit(end: &TcpStream) -> io::Result<()> {
+    end.set_nodelay(true)?;
+    end.set_read_timeout(Some(silence()))?;
+    end.set_write_timeout(Some(silence()))
+}

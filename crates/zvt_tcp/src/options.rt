@@ -1,0 +1,76 @@
+//! What a run over TCP is given.
+use std::fs::File;
+use zvt_grammar::Lengths;
+use zvt_json::Form;
+use zvt_session::Planned;
+use zvt_term::Verdict;
+use zvt_till::TillSettings;
+
+/// The run of a till: the terminal that it connects to, its settings, how its line is read and traced, and what form its
+/// text has.
+#[derive(Clone, Copy)]
+pub struct TillRun<'a, 'f> {
+    /// The name or address of the terminal's host.
+    pub host: &'a str,
+    /// The port that the terminal listens at.
+    pub port: u16,
+    /// The settings that the till registers with.
+    pub settings: TillSettings,
+    /// The length encodings that the till reads.
+    pub lengths: Lengths,
+    /// The file that the trace is written to.
+    pub trace: Option<&'f File>,
+    /// The form in which the steps and the total are written.
+    pub form: Form,
+}
+
+/// The run of a till that keeps its book: the terminal that it connects to, its steps, how its line is read and traced, and
+/// what form its text has.
+#[derive(Clone, Copy)]
+pub struct BookRun<'a, 'f> {
+    /// The name or address of the terminal's host.
+    pub host: &'a str,
+    /// The port that the terminal listens at.
+    pub port: u16,
+    /// The length encodings that the till reads.
+    pub lengths: Lengths,
+    /// The file that the trace is written to.
+    pub trace: Option<&'f File>,
+    /// The steps of the till.
+    pub plan: &'a [Planned],
+    /// The form in which the steps and the total are written.
+    pub form: Form,
+}
+
+/// The run of both ends in this process: the till's steps, how its line is traced, and what form its text has.
+#[derive(Clone, Copy)]
+pub struct LoopRun<'a, 'f> {
+    /// The file that the trace is written to.
+    pub trace: Option<&'f File>,
+    /// The steps of the till.
+    pub plan: &'a [Planned],
+    /// The form in which the steps and the total are written.
+    pub form: Form,
+}
+
+/// The run of a simulated terminal: where it listens, what it answers, how its lines are read and traced, and the form of its
+/// reports.
+#[derive(Clone, Copy)]
+pub struct TerminalRun<'a, 'f> {
+    /// The name or address that the terminal listens at.
+    pub host: &'a str,
+    /// The port that the terminal listens at. Port 0 represents a free one.
+    pub port: u16,
+    /// The terminal's number, at most 99,999,999.
+    pub tid: u32,
+    /// The terminal's decision on each payment.
+    pub verdict: Verdict,
+    /// The length encodings that the terminal reads.
+    pub lengths: Lengths,
+    /// The number of tills that are served, one after another.
+    pub connections: u16,
+    /// The file that the trace is written to.
+    pub trace: Option<&'f File>,
+    /// The form of the reports.
+    pub form: Form,
+}

@@ -1,0 +1,80 @@
+//! Runs of a till over TCP, and of both ends.
+ghost use Rattle.std.specs.Prelude.{◌≡◌, ◌<◌, Err};
+ghost use Rattle.zvt_grammar.specs.Lengths.{reading_of};
+ghost use Rattle.zvt_session.specs.BothEnds.{BeginsHere, MakesHereBy};
+ghost use Rattle.zvt_session.specs.Reporting.{ReportsNothing, ReportsReversals};
+ghost use Rattle.zvt_session.specs.TillEnd.{BeginsThere, MakesThere};
+ghost use Rattle.zvt_tcp.specs.OverTcp.{AnswersRun};
+ghost use Rattle.zvt_till.specs.Events.{run_settings};
+ghost use Rattle.zvt_till.specs.Settings.{settings_of};
+
+use crate::connection::{both_ends, connect};
+use crate::ends::{both_ends_of, is_broken, till_end_of};
+use crate::options::{LoopRun, TillRun};
+use crate::trace_file::by_trace;
+use std::alloc::Global;
+use std::net::{Net, TcpListener, TcpStream};
+use zvt_grammar::Lengths;
+use zvt_io::Sink;
+use zvt_session::{EndFault, Planned, StepRun, run_both_ends, run_till_end};
+use zvt_till::TillSettings;
+
+/// Runs the steps between a till and a terminal that are both in this process. It listens at a free port of 127.0.0.1 and
+/// connects to itself. The trace has what the till heard and sent.
+///
+/// `Net` comes before anything is written or reported. [`run_both_ends`] says what else is answered.
+pub fn run_loop<R, W, E>(
+    rt: &R,
+    alloc: Global,
+    run: &LoopRun<'_, '_>,
+    writer: &mut W,
+    report: &mut E,
+) -> Result<(), EndFault>
+where
+    R: Net<Listener = TcpListener, Stream = TcpStream>,
+    W: Sink,
+    E: Sink,
+    ensures run { AnswersRun MakesHereBy BeginsHere run_settings run.now.form run.now.plan.now (W.written writer.old) (W.written writer.new) (ReportsReversals (E.written report.old) (E.written report.new) (E.failures report.old) (E.failures report.new)) (ReportsNothing (E.written report.old) (E.written report.new) (E.failures report.old) (E.failures report.new)) result }
+    ensures write { result ≡ Err EndFault.Write → W.failures writer.old < W.failures writer.new }
+{
+    let settings = TillSettings::default();
+    let steps = StepRun {
+        plan: run.plan,
+        form: run.form,
+    };
+    let (till_end, terminal_end) = both_ends(rt).map_err(EndFault::Net)?;
+    let till = till_end_of(alloc, &till_end, Lengths::Shortest, run.trace)?;
+    let mut line = both_ends_of(alloc, till, &terminal_end);
+    let answer = run_both_ends(alloc, &mut line, &settings, &steps, writer, report);
+    by_trace(is_broken(&line.till, run.trace), answer)
+}
+
+/// Connects a till to its terminal, and runs the steps. Each order has 100,000 reads. The trace has what the till heard
+/// and sent: a line for each read and each write, and `!` at the end. A trace that can't be written ends the run with
+/// `Trace`.
+///
+/// `Net` comes before anything is written or reported. [`run_till_end`] says what else is answered.
+pub fn run_till<R, W, E>(
+    rt: &R,
+    alloc: Global,
+    run: &TillRun<'_, '_>,
+    plan: &[Planned],
+    writer: &mut W,
+    report: &mut E,
+) -> Result<(), EndFault>
+where
+    R: Net<Listener = TcpListener, Stream = TcpStream>,
+    W: Sink,
+    E: Sink,
+    ensures run { AnswersRun MakesThere (BeginsThere (reading_of run.now.lengths)) (settings_of run.now.settings) run.now.form plan.now (W.written writer.old) (W.written writer.new) (ReportsReversals (E.written report.old) (E.written report.new) (E.failures report.old) (E.failures report.new)) (ReportsNothing (E.written report.old) (E.written report.new) (E.failures report.old) (E.failures report.new)) result }
+    ensures write { result ≡ Err EndFault.Write → W.failures writer.old < W.failures writer.new }
+{
+    let steps = StepRun {
+        plan,
+        form: run.form,
+    };
+    let end = connect(rt, run.host, run.port).map_err(EndFault::Net)?;
+    let mut line = till_end_of(alloc, &end, run.lengths, run.trace)?;
+    let answer = run_till_end(alloc, &mut line, &run.settings, &steps, writer, report);
+    by_trace(is_broken(&line, run.trace), answer)
+}
