@@ -1,7 +1,3 @@
-pub mod Statuses
-pub mod Commands
-pub mod OnTrace
 pub mod Settings
 pub mod Notes
-pub mod Labels
-pub mod Verdicts
+pub mod Output

@@ -4,11 +4,11 @@ ghost use Rattle.zvt_journal.specs.Text.{IsSettled};
 
 use crate::finish::finish_run;
 use crate::output::Output;
-use crate::statuses::{MEMORY, of_device, of_file_error, of_recovery};
 use std::{io, str};
 use zvt_bcd::Currency;
 use zvt_io::Counted;
 use zvt_till::Till;
+use zvt_tool::statuses::{MEMORY, of_device, of_file_error, of_recovery};
 use zvt_tool::{
     FileDevice, Form, JournalFileError, KeptTill, Opened, RecoveryError, TillSettings, next_line,
     open_file, read_book, recover, write_book,

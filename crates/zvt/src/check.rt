@@ -1,15 +1,15 @@
 //! Situations that are played one after another against a till or a terminal, and the report of them.
 
 use crate::finish::finish_run;
-use crate::label::Label;
 use crate::play::{Place, Played, place_at, play_script, read_text, report_address, script_of};
-use crate::statuses::{BAD, DEVICE, DONE, WORDS};
-use crate::verdicts::{add_case, add_plan, add_suite, add_verdict};
 use std::alloc::{AllocError, Global};
 use std::fs;
 use std::io::{self, Write};
 use zvt_play::ScriptStep;
 use zvt_text::Text;
+use zvt_tool::label::Label;
+use zvt_tool::statuses::{BAD, DEVICE, DONE, WORDS};
+use zvt_tool::verdicts::{add_case, add_plan, add_suite, add_verdict};
 use zvt_tool::{CheckOptions, EndFault, NetFault};
 use zvt_trace::Direction;
 

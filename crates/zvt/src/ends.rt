@@ -1,14 +1,14 @@
 //! The runs of either end of a line, as the command line asks for them.
 ghost use Rattle.std.specs.Prelude.{◌≤◌};
 
-use crate::command::{LoopOptions, form_by, lengths_by};
 use crate::finish::{finish_plan, finish_run};
 use crate::output::Output;
 use crate::settings::{settings, verdict};
-use crate::statuses::WORDS;
 use crate::{book, trace_file};
 use std::io;
 use zvt_io::Counted;
+use zvt_tool::command::{LoopOptions, form_by, lengths_by};
+use zvt_tool::statuses::WORDS;
 use zvt_tool::{
     BookRun, Ends, FileDevice, KeptTill, LoopRun, Planned, TerminalOptions, TerminalRun,
     TillOptions, TillRun, TillSettings, plan, run_loop, run_loop_kept, run_terminal, run_till,

@@ -1,10 +1,9 @@
 //! The reports of how a command or a run ended, and the exit statuses.
 ghost use Rattle.std.specs.Prelude.{◌≡◌, IfOk};
-ghost use Rattle.zvt.specs.Statuses.{status_of_end_fault, status_of_found, status_of_run};
+ghost use Rattle.zvt_tool.specs.Statuses.{status_of_end_fault, status_of_found, status_of_run};
 
-use crate::statuses;
 use std::io;
-use zvt_tool::{AuditSummary, EndFault, ToolFault, TraceFault};
+use zvt_tool::{AuditSummary, EndFault, ToolFault, TraceFault, statuses};
 
 /// The exit status of a command on a trace, which may check that no payment is unclear. A fault is reported, with the file
 /// if there is one. Text that was not written since its reader disconnected is no fault to report.

@@ -1,17 +1,17 @@
 //! Where the traces of a command come from.
-use crate::command::{TraceCommand, TraceWork};
 use crate::finish::finish_trace;
-use crate::label::Label;
 use crate::notes::{faulty_line, report_counts, report_hint, report_notes};
-use crate::on_trace::{follow_work, work_on_trace};
 use crate::output::Output;
 use crate::progress::Progress;
-use crate::statuses::{DEVICE, DONE, MEMORY, WORDS};
 use std::alloc::{AllocError, Global};
 use std::fs::File;
 use std::io::{self, IsTerminal, Write};
 use zvt_io::{Counted, Sink, Source};
 use zvt_text::Text;
+use zvt_tool::command::{TraceCommand, TraceWork};
+use zvt_tool::label::Label;
+use zvt_tool::on_trace::{follow_work, work_on_trace};
+use zvt_tool::statuses::{DEVICE, DONE, MEMORY, WORDS};
 use zvt_tool::{AuditSummary, Form, Sum, TraceFault, read_trace};
 
 /// A trace of a command: its file, or `-` for standard input, and whether it is one of several.

@@ -7,29 +7,24 @@ ghost use Rattle.zvt_cli.specs.Chosen.{IsChoiceOf};
 
 mod book;
 mod check;
-mod command;
 mod difference;
 mod ends;
 mod finish;
 mod inputs;
-mod label;
 mod notes;
-mod on_trace;
 mod output;
 mod play;
 mod progress;
 mod settings;
-mod statuses;
 mod tap;
 mod trace_file;
-mod verdicts;
 
-use crate::command::{Command, command_of};
-use crate::statuses::{DEVICE, DONE, MEMORY, WORDS};
 use std::io::ErrorKind;
 use std::process::ExitCode;
 use std::{env, io};
 use zvt_tool::arguments::choice;
+use zvt_tool::command::{Command, command_of};
+use zvt_tool::statuses::{DEVICE, DONE, MEMORY, WORDS};
 use zvt_tool::{Choice, ChoiceFault, TraceFault, with_show};
 
 fn main(rt: HostRuntime) -> ExitCode {

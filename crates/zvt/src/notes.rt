@@ -3,11 +3,11 @@ ghost use Rattle.std.specs.Prelude.{◌≡◌, ◌≤◌, length};
 ghost use Rattle.zvt_trace.specs.Written.{limit};
 ghost use Rattle.zvt.specs.Notes.{scope_of, faulty_line};
 
-use crate::command::{TraceCommand, TraceWork};
 use crate::finish::report;
 use crate::inputs::Input;
 use std::io::{self, ErrorKind, Write};
 use zvt_io::Counted;
+use zvt_tool::command::{TraceCommand, TraceWork};
 use zvt_tool::{
     AuditSummary, Lengths, ListenerError, Scope, Tally, ToolFault, TraceFault, hint_on, write_notes,
 };

@@ -2,11 +2,11 @@
 ghost use Rattle.std.specs.Prelude.{◌≡◌, None};
 ghost use Rattle.std.specs.Io.{WritesAtMost};
 
-use crate::label::Label;
 use std::alloc::Global;
 use std::io::{self, ErrorKind, Write};
 use zvt_text::Text;
 use zvt_tool::TraceFault;
+use zvt_tool::label::Label;
 
 /// A writer that remembers whether its reader disconnected, as the reader of a pipe may. With a label, each line that is
 /// written begins with it.
@@ -67,7 +67,7 @@ impl<W> Output<W> {
 }
 
 impl<W: Write> Write for Output<W> {
-    ghost use Rattle.zvt.specs.Labels.{known};
+    ghost use Rattle.zvt.specs.Output.{known};
 
     ghost contents = { λ output. known output.labelling (W.contents output.inner) };
 

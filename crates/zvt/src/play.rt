@@ -3,7 +3,6 @@
 use crate::difference::{more_came, text_of};
 use crate::finish::{finish_run, finish_trace};
 use crate::inputs::opened;
-use crate::statuses::{BAD, DEVICE, DONE, MEMORY, TRACE, WORDS};
 use std::alloc::AllocError;
 use std::io::{self, Read, Write};
 use std::net::TcpStream;
@@ -13,6 +12,7 @@ use zvt_play::{Action, Difference, ScriptFault, ScriptStep, Unplayed, script, st
 use zvt_stream::{Endpoint, Stream};
 use zvt_tcp::{Door, connect, listen};
 use zvt_text::Text;
+use zvt_tool::statuses::{BAD, DEVICE, DONE, MEMORY, TRACE, WORDS};
 use zvt_tool::{EndFault, NetFault, PlayOptions, read_trace};
 use zvt_trace::Direction;
 

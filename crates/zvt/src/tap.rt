@@ -1,6 +1,5 @@
 //! A tap between a till and its terminal, as the command line asks for it.
 use crate::output::Output;
-use crate::statuses::{BAD, DEVICE, DONE, MEMORY, WORDS};
 use crate::trace_file;
 use std::fs::File;
 use std::io::{self, ErrorKind, Write};
@@ -8,6 +7,7 @@ use std::net::TcpStream;
 use zvt_io::Counted;
 use zvt_tap::{Found, SocketTapped, TapFault, TapLog, Tracing, tap_sockets};
 use zvt_tcp::{Door, connect, listen};
+use zvt_tool::statuses::{BAD, DEVICE, DONE, MEMORY, WORDS};
 use zvt_tool::{Lengths, Tally, TapOptions, TraceFault};
 use zvt_trace::Direction;
 

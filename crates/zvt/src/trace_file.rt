@@ -1,7 +1,7 @@
 //! The file that the trace of a run goes to.
-use crate::statuses::{DEVICE, TRACE};
 use std::fs::{File, OpenOptions};
 use std::io::{self, Read, Seek, SeekFrom, Write};
+use zvt_tool::statuses::{DEVICE, TRACE};
 
 /// What the first line of a journal begins with.
 const JOURNAL: [u8; 15] = *b"# zvt journal 1";

@@ -1,8 +1,8 @@
 use Rattle.std.proofs.Common.{◌≡◌, ◌==◌, ℕ, Bool, true, false, cond, eqb-true, List, [], ◌∷◌, ◌++◌, ◌∙◌, length, ap, codes, sym, subst, refl, arith}
 use Rattle.std.specs.Prelude.{OnOk}
-use Rattle.zvt.specs.Verdicts.{case, escaped}
-use Rattle.zvt.proofs.Parts.{begins, ends}
-use Rattle.zvt.proofs.verdicts.add_case.Goals as goal
+use Rattle.zvt_tool.specs.Verdicts.{case, escaped}
+use Rattle.zvt_tool.proofs.Parts.{begins, ends}
+use Rattle.zvt_tool.proofs.verdicts.add_case.Goals as goal
 
 -- a situation that is passed
 passes : (name difference : List ℕ) → true ≡ (length difference == 0) → codes "  <testcase name=\"" ++ (escaped name ++ codes "\"/>\n") ≡ case name difference

@@ -1,14 +1,15 @@
 //! The commands on a trace.
 ghost use Rattle.std.specs.Prelude.{◌≡◌, ◌<◌, ◌≤◌, false, length, Err, IfOk};
 ghost use Rattle.zvt_trace.specs.Written.{limit};
-ghost use Rattle.zvt.specs.OnTrace.{AnswersOnTrace, FollowsTrace, tally_of};
+ghost use Rattle.zvt_tool.specs.OnTrace.{AnswersOnTrace, FollowsTrace, tally_of};
 
 use crate::command::{TraceCommand, TraceWork};
 use std::alloc::Global;
+use zvt_audit::{AuditSummary, audit_trace, follow_audit};
 use zvt_io::{Counted, Sink, Source};
-use zvt_tool::{
-    AuditSummary, Tally, TraceFault, audit_trace, follow_audit, follow_trace, render_trace, vectors,
-};
+use zvt_show::{follow_trace, render_trace};
+use zvt_trace::{Tally, TraceFault};
+use zvt_vectors::vectors;
 
 /// Does with the trace what the command says, and writes what comes of it.
 pub fn work_on_trace<W: Sink>(

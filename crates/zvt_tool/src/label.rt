@@ -1,6 +1,6 @@
 //! Labels at the head of lines, as where several files are read.
 ghost use Rattle.std.specs.Prelude.{◌≡◌, ◌++◌, ◌∷◌, [], IfOk, OnOk};
-ghost use Rattle.zvt.specs.Labels.{comment_label, json_label, labelled, line_head, text_label};
+ghost use Rattle.zvt_tool.specs.Labels.{comment_label, json_label, labelled, line_head, text_label};
 
 use serde_json::Value;
 use std::alloc::{AllocError, Global};

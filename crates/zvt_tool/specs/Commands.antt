@@ -12,11 +12,11 @@ use Rattle.zvt_json.specs.declared.form.Form.TheVariants.{Text}
 use Rattle.zvt_json.specs.declared.form.Form.TheVariants as form
 use Rattle.zvt_trace.specs.declared.listener.Scope.{Scope}
 use Rattle.zvt_trace.specs.declared.listener.Scope.TheVariants.{OneMessage, OneSide}
-use Rattle.zvt.specs.declared.command.Command.{Command}
-use Rattle.zvt.specs.declared.command.Command.TheVariants.{OnTraces, Book, CheckTerminal, CheckTill, Loop, Play, Tap, Till, Terminal}
-use Rattle.zvt.specs.declared.command.TraceCommand.{TraceCommand}
-use Rattle.zvt.specs.declared.command.TraceWork.{TraceWork}
-use Rattle.zvt.specs.declared.command.TraceWork.TheVariants.{Render, Audit, Vectors}
+use Rattle.zvt_tool.specs.declared.command.Command.{Command}
+use Rattle.zvt_tool.specs.declared.command.Command.TheVariants.{OnTraces, Book, CheckTerminal, CheckTill, Loop, Play, Tap, Till, Terminal}
+use Rattle.zvt_tool.specs.declared.command.TraceCommand.{TraceCommand}
+use Rattle.zvt_tool.specs.declared.command.TraceWork.{TraceWork}
+use Rattle.zvt_tool.specs.declared.command.TraceWork.TheVariants.{Render, Audit, Vectors}
 
 abbrev pub lengths_by : (loose : Bool) → Lengths
 lengths_by false = Shortest

@@ -1,6 +1,6 @@
 //! The verdicts of situations: lines of TAP (the Test Anything Protocol), and a report in JUnit's form.
 ghost use Rattle.std.specs.Prelude.{◌≡◌, ◌++◌, OnOk};
-ghost use Rattle.zvt.specs.Verdicts.{case, escaped, escaped_byte, plan, suite, verdict_line};
+ghost use Rattle.zvt_tool.specs.Verdicts.{case, escaped, escaped_byte, plan, suite, verdict_line};
 
 use std::alloc::AllocError;
 use zvt_text::Text;

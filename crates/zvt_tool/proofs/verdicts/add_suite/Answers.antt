@@ -1,7 +1,7 @@
 use Rattle.std.proofs.Common.{ℕ, List, ◌++◌, ◌∙◌, ap, codes}
 use Rattle.std.specs.Fmt.{decimal}
-use Rattle.zvt.proofs.Parts.{begins, ends}
-use Rattle.zvt.proofs.verdicts.add_suite.Goals as goal
+use Rattle.zvt_tool.proofs.Parts.{begins, ends}
+use Rattle.zvt_tool.proofs.verdicts.add_suite.Goals as goal
 
 pub returns : goal.returns
 returns c =

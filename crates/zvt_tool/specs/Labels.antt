@@ -1,10 +1,9 @@
 -- Labels at the head of lines.
-use Rattle.std.specs.Prelude.{◌≡◌, false, true, ℕ, ◌==◌, List, [], ◌∷◌, ◌++◌, Option, Some, None, codes, if◌then◌else◌, refl}
+use Rattle.std.specs.Prelude.{◌≡◌, false, true, ℕ, ◌==◌, List, [], ◌∷◌, ◌++◌, codes, if◌then◌else◌, refl}
 use Rattle.json.specs.Print.{escape_byte}
 use Rattle.serde_json.specs.Data.{string}
 use Rattle.serde_json.specs.Written.{compact_text}
-use Rattle.zvt.specs.declared.label.Label.{Label}
-use Rattle.zvt.specs.declared.output.Labelling.{Labelling}
+use Rattle.zvt_tool.specs.declared.label.Label.{Label}
 
 -- the name of a file, a colon and a space
 abbrev pub text_label : List ℕ → Label
@@ -26,11 +25,6 @@ line_head label first = label.text ++ (if label.replaces then [] else first ∷ 
 abbrev pub labelled : Label → (before : ℕ) → List ℕ → List ℕ
 labelled label before [] = []
 labelled label before (byte ∷ bytes) = (if before == 10 then line_head label byte else byte ∷ []) ++ labelled label byte bytes
-
--- what a writer holds is known where its lines have no label
-abbrev pub known : Option Labelling → Option (List ℕ) → Option (List ℕ)
-known None contents = contents
-known (Some labelling) contents = None
 
 -- two lines, of which the second has no end yet
 two_lines : labelled (text_label (codes "a")) 10 (120 ∷ 10 ∷ 121 ∷ []) ≡ codes "a: x" ++ 10 ∷ codes "a: y"

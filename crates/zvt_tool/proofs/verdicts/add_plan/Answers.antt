@@ -1,7 +1,7 @@
 use Rattle.std.proofs.Common.{◌∷◌, [], ◌++◌, codes}
 use Rattle.std.specs.Fmt.{decimal}
-use Rattle.zvt.proofs.Parts.{begins, ends}
-use Rattle.zvt.proofs.verdicts.add_plan.Goals as goal
+use Rattle.zvt_tool.proofs.Parts.{begins, ends}
+use Rattle.zvt_tool.proofs.verdicts.add_plan.Goals as goal
 
 pub returns : goal.returns
 returns c =

@@ -2,13 +2,16 @@
 ghost use Rattle.std.specs.Prelude.{◌≡◌, Option, List};
 ghost use Rattle.clap.specs.Words.{Row, Text};
 ghost use Rattle.zvt_cli.specs.Chosen.{IsChoiceOf};
-ghost use Rattle.zvt.specs.Commands.{HasTerminalNumber, chosen_on_trace, form_by, is_json, lengths_by, on_trace, style_by, text_scope, working};
-ghost use Rattle.zvt.specs.declared.command.TraceWork.TheVariants.{Render};
+ghost use Rattle.zvt_tool.specs.Commands.{HasTerminalNumber, chosen_on_trace, form_by, is_json, lengths_by, on_trace, style_by, text_scope, working};
+ghost use Rattle.zvt_tool.specs.declared.command.TraceWork.TheVariants.{Render};
 
-use zvt_tool::{
-    CheckOptions, Choice, Form, Lengths, PlayOptions, Scope, Style, TapOptions, TerminalOptions,
-    TillOptions, TraceOptions,
+use zvt_cli::{
+    CheckOptions, Choice, PlayOptions, TapOptions, TerminalOptions, TillOptions, TraceOptions,
 };
+use zvt_grammar::Lengths;
+use zvt_json::Form;
+use zvt_show::Style;
+use zvt_trace::Scope;
 
 /// What is written of a trace, or of vectors.
 #[derive(Clone, Copy)]

@@ -1,0 +1,5 @@
+pub mod Statuses
+pub mod Commands
+pub mod OnTrace
+pub mod Labels
+pub mod Verdicts
