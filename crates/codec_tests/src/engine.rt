@@ -2,6 +2,7 @@
 
 ghost use Rattle.std.specs.Prelude.{◌≡◌, ◌-◌, [], ◌∷◌, false, None, nat_eq};
 
+use crate::assertions::{assert_equal, assert_equal_in};
 use std::alloc::{AllocError, Global};
 use std::io::{self, Read};
 use std::test::Fail;
@@ -116,8 +117,8 @@ fn lines_go_as_far_as_they_are_to(rt: HostRuntime) -> Result<(), Fail> {
                 stream,
             };
             let found = run(rt.alloc(), &mut end, course);
-            assert_eq!(rt; found, (ended, machine), "{coming:?}");
-            assert_eq!(rt; end.writer.inner.as_slice(), written, "{coming:?}");
+            assert_equal_in(&rt, &coming, &found, &(ended, machine));
+            assert_equal_in(&rt, &coming, &end.writer.inner.as_slice(), &written);
         }
     }
     Ok(())
@@ -139,7 +140,7 @@ fn a_refused_line_stays_stopped(rt: HostRuntime) {
     for (coming, fault) in rows {
         end.reader = Counted::new(coming);
         let found = run(rt.alloc(), &mut end, REST);
-        assert_eq!(rt; found, (Err(fault), [2, 0, 1]));
+        assert_equal(&rt, &found, &(Err(fault), [2, 0, 1]));
     }
     assert!(rt; end.writer.inner.is_empty());
 }
@@ -147,8 +148,8 @@ fn a_refused_line_stays_stopped(rt: HostRuntime) {
 #[test]
 fn bytes_are_sent(rt: HostRuntime) {
     let mut writer = Counted::new(Vec::new(rt.alloc()));
-    assert_eq!(rt; send(&mut writer, &ACK), Ok(()));
-    assert_eq!(rt; writer.inner.as_slice(), ACK.as_slice());
+    assert_equal(&rt, &send(&mut writer, &ACK), &Ok(()));
+    assert_equal(&rt, &writer.inner.as_slice(), &ACK.as_slice());
 }
 
 /// A reader that fails each time.
@@ -169,7 +170,7 @@ fn read_fails(rt: HostRuntime) {
         stream: Stream::new(rt.alloc()),
     };
     let found = run(rt.alloc(), &mut end, REST);
-    assert_eq!(rt; found, (Err(LineFault::Read), [2, 1, 0]));
+    assert_equal(&rt, &found, &(Err(LineFault::Read), [2, 1, 0]));
 }
 
 /// A writer that takes some writes whole, and fails from then on.
@@ -210,7 +211,7 @@ fn second_write_fails(rt: HostRuntime) {
     };
     let course = Course { left: 9, ..REST };
     let found = run(rt.alloc(), &mut end, course);
-    assert_eq!(rt; found, (Err(LineFault::Write), [7, 1, 0]));
-    assert_eq!(rt; end.writer.taken.inner.as_slice(), ACK.as_slice());
-    assert_eq!(rt; send(&mut end.writer, &ACK), Err(LineFault::Write));
+    assert_equal(&rt, &found, &(Err(LineFault::Write), [7, 1, 0]));
+    assert_equal(&rt, &end.writer.taken.inner.as_slice(), &ACK.as_slice());
+    assert_equal(&rt, &send(&mut end.writer, &ACK), &Err(LineFault::Write));
 }

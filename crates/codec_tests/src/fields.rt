@@ -2,6 +2,7 @@
 
 ghost use Rattle.std.specs.Prelude.{◌≢◌, ◌<◌, ◌^◌};
 
+use crate::assertions::assert_equal;
 use crate::objects::{show_bytes, shown_objects};
 use std::alloc::{AllocError, Global};
 use std::process::Abort;
@@ -60,11 +61,11 @@ fn only_bmp(fields: &Fields, bmp: u8) -> Option<u8> {
 #[test]
 fn fields_of_a_status(rt: HostRuntime) {
     let fields = read(&rt, rt.alloc(), &STATUS, 27);
-    assert_eq!(rt; numbers(&fields), expected_numbers());
-    assert_eq!(rt; original(&fields), Some([0, 0, 1]));
-    assert_eq!(rt; receipt(&fields), Some([0, 2]));
+    assert_equal(&rt, &numbers(&fields), &expected_numbers());
+    assert_equal(&rt, &original(&fields), &Some([0, 0, 1]));
+    assert_equal(&rt, &receipt(&fields), &Some([0, 2]));
     for (bmp, found) in [(0x3C, Some(0x3C)), (0x22, None)] {
-        assert_eq!(rt; only_bmp(&fields, bmp), found);
+        assert_equal(&rt, &only_bmp(&fields, bmp), &found);
     }
 }
 
@@ -72,8 +73,8 @@ fn fields_of_a_status(rt: HostRuntime) {
 fn fields_that_stand_twice_say_nothing(rt: HostRuntime) {
     let bytes = [0x0B, 0x00, 0x00, 0x17, 0x0B, 0x00, 0x00, 0x17];
     let twice = read(&rt, rt.alloc(), &bytes, 8);
-    assert_eq!(rt; count(&twice, 0x0B), 2);
-    assert_eq!(rt; count(&twice, 0x04), 0);
+    assert_equal(&rt, &count(&twice, 0x0B), &2);
+    assert_equal(&rt, &count(&twice, 0x04), &0);
     assert!(rt; trace(&twice).is_none());
     assert!(rt; only(&twice, 0x0B).is_none());
 }
@@ -145,7 +146,11 @@ fn fields_fill_their_length(rt: HostRuntime) -> Result<(), Fail> {
         (&[0x87, 0xFF, 0xFF, 0xD0], 3, "87=FFFF;"),
     ];
     for (bytes, room, wanted) in rows {
-        assert_eq!(rt; scanned(&rt, rt.alloc(), bytes, room)?.as_str(), wanted);
+        assert_equal(
+            &rt,
+            &scanned(&rt, rt.alloc(), bytes, room)?.as_str(),
+            &wanted,
+        );
     }
     Ok(())
 }
@@ -154,9 +159,9 @@ fn fields_fill_their_length(rt: HostRuntime) -> Result<(), Fail> {
 fn bytes_that_are_no_number(rt: HostRuntime) {
     let zero = [0x04, 0x00, 0x00, 0x00, 0x00, 0x00, 0x00];
     let fields = read(&rt, rt.alloc(), &zero, 7);
-    assert_eq!(rt; numbers(&fields), (None, None, None, None));
+    assert_equal(&rt, &numbers(&fields), &(None, None, None, None));
     let fields = read(&rt, rt.alloc(), &[0x87, 0xFF, 0xFF], 3);
-    assert_eq!(rt; receipt(&fields), Some([0xFF, 0xFF]));
+    assert_equal(&rt, &receipt(&fields), &Some([0xFF, 0xFF]));
 }
 
 /// The fields that fill a room are written at the start of a buffer as they were read.
@@ -168,8 +173,8 @@ fn is_written(rt: &impl Abort, alloc: Global, bytes: &[u8], room: usize) -> Resu
     assert_eq!(rt; size(&fields), room);
     assert!(rt; room <= bytes.len());
     let mut out = vec![in alloc; 0xEE; bytes.len()]?;
-    assert_eq!(rt; write_into(&fields, &mut out), room);
-    assert_eq!(rt; out.as_slice(), bytes);
+    assert_equal(rt, &write_into(&fields, &mut out), &room);
+    assert_equal(rt, &out.as_slice(), &bytes);
     Ok(())
 }
 
@@ -220,11 +225,11 @@ fn largest(rt: HostRuntime) -> Result<(), Fail> {
     let alloc = rt.alloc();
     let mut fields = Fields::new(alloc);
     let most = container(&rt, alloc, 65_527)?;
-    assert_eq!(rt; comes_back(&rt, &mut fields, most), None);
-    assert_eq!(rt; size(&fields), 65_535);
+    assert_equal(&rt, &comes_back(&rt, &mut fields, most), &None);
+    assert_equal(&rt, &size(&fields), &65_535);
     let more = container(&rt, alloc, 0)?;
-    assert_eq!(rt; comes_back(&rt, &mut fields, more), Some(0x06));
-    assert_eq!(rt; fields.list().len(), 1);
+    assert_equal(&rt, &comes_back(&rt, &mut fields, more), &Some(0x06));
+    assert_equal(&rt, &fields.list().len(), &1);
     Ok(())
 }
 
@@ -233,9 +238,9 @@ fn a_list_of_many(rt: HostRuntime) -> Result<(), Fail> {
     let mut fields = Fields::new(rt.alloc());
     for _ in 0..1_000 {
         let next = container(&rt, rt.alloc(), 0)?;
-        assert_eq!(rt; comes_back(&rt, &mut fields, next), None);
+        assert_equal(&rt, &comes_back(&rt, &mut fields, next), &None);
     }
-    assert_eq!(rt; size(&fields), 4_000);
+    assert_equal(&rt, &size(&fields), &4_000);
     Ok(())
 }
 
@@ -250,7 +255,7 @@ fn fault(alloc: Global, count: usize) -> Result<Option<BadField>, Fail> {
 #[test]
 fn a_container_has_as_much_as_a_message_holds(rt: HostRuntime) -> Result<(), Fail> {
     for (count, wanted) in [(65_527, None), (65_528, Some(BadField::Size))] {
-        assert_eq!(rt; fault(rt.alloc(), count)?, wanted);
+        assert_equal(&rt, &fault(rt.alloc(), count)?, &wanted);
     }
     Ok(())
 }

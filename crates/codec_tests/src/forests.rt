@@ -1,5 +1,6 @@
 //! Objects made and written, and that each call succeeds where there is memory.
 
+use crate::assertions::assert_equal;
 use crate::objects::shown_objects;
 use std::alloc::{AllocError, Global};
 use std::process::Abort;
@@ -54,7 +55,7 @@ fn written_sized(rt: &impl Abort, alloc: Global, forest: &Forest) -> Result<Vec<
     let content = size(forest);
     let size = length_size(content) + content;
     let mut out = vec![in alloc; 0xEE; size + 2]?;
-    assert_eq!(rt; put_sized(forest, &mut out), size);
+    assert_equal(rt, &put_sized(forest, &mut out), &size);
     Ok(out)
 }
 
@@ -76,15 +77,16 @@ fn read_back(rt: &impl Abort, alloc: Global, bytes: &[u8]) -> Result<(Forest, us
 /// Writes one object of that many bytes in five others, and reads it back.
 fn comes_back(rt: &impl Abort, alloc: Global, count: usize, wanted: usize) -> Result<(), Fail> {
     let forest = nested(rt, alloc, count)?;
-    assert_eq!(rt; size(&forest), wanted);
+    assert_equal(rt, &size(&forest), &wanted);
     let bytes = written_sized(rt, alloc, &forest)?;
     let (back, taken) = read_back(rt, alloc, &bytes)?;
     assert!(rt; wanted < 65_536);
-    assert_eq!(rt; taken, length_size(wanted) + wanted);
+    assert_equal(rt, &taken, &(length_size(wanted) + wanted));
     let before = shown_objects(alloc, forest.objects())?;
-    assert_eq!(rt;
-        shown_objects(alloc, back.objects())?.as_str(),
-        before.as_str()
+    assert_equal(
+        rt,
+        &shown_objects(alloc, back.objects())?.as_str(),
+        &before.as_str(),
     );
     Ok(())
 }
@@ -113,7 +115,7 @@ fn the_largest_forest_is_read_and_written(rt: HostRuntime) -> Result<(), Fail> {
         panic!(rt; "objects fill the room");
     };
     let out = written(rt.alloc(), &forest);
-    assert_eq!(rt; size(&forest), 65_535);
+    assert_equal(&rt, &size(&forest), &65_535);
     drop(forest);
     assert!(rt; out?.starts_with(&bytes));
     Ok(())
@@ -132,10 +134,11 @@ fn spellings_are_those_of_the_standard(rt: HostRuntime) -> Result<(), Fail> {
     let bytes = [
         0x08, 0x3F, 0x01, 0x03, 0x07, 0x01, 0x41, 0x07, 0x00, 0xEE, 0xEE,
     ];
-    assert_eq!(&rt; written(alloc, &forest)?.as_slice(), &bytes[1..]);
-    assert_eq!(&rt;
-        written_sized(&rt, alloc, &forest)?.as_slice(),
-        bytes.as_slice()
+    assert_equal(&rt, &written(alloc, &forest)?.as_slice(), &&bytes[1..]);
+    assert_equal(
+        &rt,
+        &written_sized(&rt, alloc, &forest)?.as_slice(),
+        &bytes.as_slice(),
     );
     Ok(())
 }

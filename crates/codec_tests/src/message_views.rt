@@ -1,5 +1,6 @@
 //! What views of messages show, worked by hand.
 
+use crate::assertions::{assert_equal, assert_equal_in};
 use std::alloc::Global;
 use std::process::Abort;
 use std::test::Fail;
@@ -41,7 +42,7 @@ fn shows_the_parts_of_a_registration(rt: HostRuntime) -> Result<(), Fail> {
     ];
     for (bytes, wanted) in rows {
         let apdu = viewed(&rt, rt.alloc(), bytes)?;
-        assert_eq!(rt; registered(&apdu), wanted, "{bytes:?}");
+        assert_equal_in(&rt, &bytes, &registered(&apdu), &wanted);
         assert!(rt; apdu.kind() == Kind::Registration && apdu.payload().is_none());
     }
     Ok(())
@@ -51,7 +52,7 @@ fn shows_the_parts_of_a_registration(rt: HostRuntime) -> Result<(), Fail> {
 fn shows_its_message_alone(rt: HostRuntime) -> Result<(), Fail> {
     let bytes = [0x80, 0x00, 0x01, 0x07, 0x55];
     let apdu = viewed(&rt, rt.alloc(), bytes.as_slice())?;
-    assert_eq!(rt; apdu.bytes(), &bytes[..4]);
+    assert_equal(&rt, &apdu.bytes(), &&bytes[..4]);
     Ok(())
 }
 
@@ -112,15 +113,15 @@ fn numbers(apdu: &ApduView) -> Numbers {
 
 /// The view has this text and this payload.
 fn has_bytes(rt: &impl Abort, apdu: &ApduView, text: Option<&[u8]>, payload: Option<&[u8]>) {
-    assert_eq!(rt; apdu.text(), text);
-    assert_eq!(rt; apdu.payload(), payload);
+    assert_equal(rt, &apdu.text(), &text);
+    assert_equal(rt, &apdu.payload(), &payload);
 }
 
 #[test]
 fn shows_the_parts_of_the_others(rt: HostRuntime) -> Result<(), Fail> {
     for (bytes, wanted, text, payload) in ROWS {
         let apdu = viewed(&rt, rt.alloc(), bytes)?;
-        assert_eq!(rt; numbers(&apdu), wanted, "{bytes:?}");
+        assert_equal_in(&rt, &bytes, &numbers(&apdu), &wanted);
         has_bytes(&rt, &apdu, text, payload);
     }
     Ok(())

@@ -1,5 +1,6 @@
 //! Messages worked by hand.
 
+use crate::assertions::assert_equal;
 use std::alloc::{AllocError, Global};
 use std::process::Abort;
 use std::test::Fail;
@@ -18,11 +19,11 @@ fn put(apdu: &Apdu, out: &mut [u8]) -> Result<usize, NoRoom> {
 
 /// The message's spelling is these bytes, also at the start of a buffer.
 fn is_written(rt: &impl Abort, alloc: Global, apdu: &Apdu, bytes: &[u8]) -> Result<(), Fail> {
-    assert_eq!(rt; spelling(alloc, apdu)?.as_slice(), bytes);
+    assert_equal(rt, &spelling(alloc, apdu)?.as_slice(), &bytes);
     let mut out = vec![in alloc; 0x55; bytes.len() + 1]?;
-    assert_eq!(rt; put(apdu, &mut out), Ok(bytes.len()));
+    assert_equal(rt, &put(apdu, &mut out), &Ok(bytes.len()));
     assert!(rt; out.starts_with(bytes) && out.ends_with(&[0x55]));
-    assert_eq!(rt; size(apdu), bytes.len());
+    assert_equal(rt, &size(apdu), &bytes.len());
     Ok(())
 }
 
@@ -74,7 +75,7 @@ fn puts(
     answer: Result<usize, NoRoom>,
     wanted: &[u8],
 ) {
-    assert_eq!(rt; put(apdu, out), answer);
+    assert_equal(rt, &put(apdu, out), &answer);
     assert!(rt; *out == *wanted);
 }
 
@@ -124,11 +125,11 @@ fn messages_that_have_no_spelling(rt: HostRuntime) -> Result<(), Fail> {
     ];
     for (control, count, wanted) in rows {
         let payload = vec![in rt.alloc(); 0u8; count]?;
-        assert_eq!(rt; fault(Message::Other { control, payload }), wanted);
+        assert_equal(&rt, &fault(Message::Other { control, payload }), &wanted);
     }
     for (count, wanted) in [(0, None), (65_535, None), (65_536, large)] {
         let payload = vec![in rt.alloc(); 0u8; count]?;
-        assert_eq!(rt; fault(Message::Ack { payload }), wanted);
+        assert_equal(&rt, &fault(Message::Ack { payload }), &wanted);
     }
     Ok(())
 }

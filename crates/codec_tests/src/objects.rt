@@ -1,5 +1,6 @@
 //! Objects read: worked examples.
 
+use crate::assertions::assert_equal;
 use std::alloc::{AllocError, Global};
 use std::process::Abort;
 use std::test::Fail;
@@ -93,7 +94,7 @@ fn scans(rt: &impl Abort, alloc: Global, rows: &[Row], lengths: Lengths) -> Resu
         let answer = scanned(rt, alloc, row, lengths)?;
         let text = shown(alloc, &answer);
         drop(answer);
-        assert_eq!(rt; text?.as_str(), row.3);
+        assert_equal(rt, &text?.as_str(), &row.3);
     }
     Ok(())
 }
@@ -129,7 +130,7 @@ fn scans_sized(
         let answer = scanned_sized(rt, alloc, row, lengths)?;
         let text = shown_sized(alloc, &answer);
         drop(answer);
-        assert_eq!(rt; text?.as_str(), row.2);
+        assert_equal(rt, &text?.as_str(), &row.2);
     }
     Ok(())
 }

@@ -1,5 +1,6 @@
 //! Messages that are made of views, worked by hand.
 
+use crate::assertions::assert_equal;
 use crate::message_views::viewed;
 use crate::messages::{is_read, spelling};
 use std::alloc::{AllocError, Global};
@@ -13,7 +14,7 @@ fn is_owned(rt: &impl Abort, alloc: Global, bytes: &[u8]) -> Result<(), Fail> {
     let made = owned(alloc, &viewed(rt, alloc, bytes)?)?;
     let written = spelling(alloc, &made);
     drop(made);
-    assert_eq!(rt; written?.as_slice(), bytes);
+    assert_equal(rt, &written?.as_slice(), &bytes);
     Ok(())
 }
 
@@ -95,9 +96,9 @@ fn largest_container(alloc: Global) -> Result<Vec<u8>, AllocError> {
 #[test]
 fn the_largest_messages_are_owned(rt: HostRuntime) -> Result<(), Fail> {
     let list = longest_list(rt.alloc())?;
-    assert_eq!(rt; list.len(), 65_540);
+    assert_equal(&rt, &list.len(), &65_540);
     is_owned(&rt, rt.alloc(), &list)?;
     let container = largest_container(rt.alloc())?;
-    assert_eq!(rt; container.len(), 65_540);
+    assert_equal(&rt, &container.len(), &65_540);
     is_owned(&rt, rt.alloc(), &container)
 }

@@ -1,5 +1,6 @@
 //! Messages of padded lengths, worked by hand.
 
+use crate::assertions::assert_equal;
 use std::alloc::{AllocError, Global};
 use std::process::Abort;
 use std::test::Fail;
@@ -17,8 +18,8 @@ fn is_normal(
     let Scan::Whole((strict, taken)) = normalise(alloc, bytes)? else {
         panic!(rt; "a message stands first: {bytes:?}");
     };
-    assert_eq!(rt; strict.as_slice(), wanted);
-    assert_eq!(rt; taken, size);
+    assert_equal(rt, &strict.as_slice(), &wanted);
+    assert_equal(rt, &taken, &size);
     Ok(())
 }
 
@@ -73,7 +74,7 @@ fn padded_lengths_that_fit_nothing_are_refused(rt: HostRuntime) -> Result<(), Fa
         (&[0x06, 0x0F, 0xFF, 0x01, 0x00], Some((4, Why::DoesNotFit))),
     ];
     for (bytes, wanted) in rows {
-        assert_eq!(rt; refusal(rt.alloc(), bytes)?, wanted);
+        assert_equal(&rt, &refusal(rt.alloc(), bytes)?, &wanted);
     }
     let more = matches!(
         normalise(rt.alloc(), &[0x06, 0x0F, 0x03, 0x06])?,

@@ -1,5 +1,6 @@
 //! Messages out of pieces, worked by hand: built by `feed` and lent by `feed_view`.
 
+use crate::assertions::assert_equal;
 use std::alloc::{AllocError, Global};
 use std::process::Abort;
 use std::test::Fail;
@@ -60,15 +61,15 @@ fn answers(rt: &impl Abort, alloc: Global, rows: &[Row]) {
     let mut stream = Stream::new(alloc);
     let mut lending = Stream::new(alloc);
     for &(piece, answer, have) in rows {
-        assert_eq!(rt; built(alloc, &mut stream, piece), answer);
-        assert_eq!(rt; viewed(&mut lending, piece), answer);
+        assert_equal(rt, &built(alloc, &mut stream, piece), &answer);
+        assert_equal(rt, &viewed(&mut lending, piece), &answer);
         let end = if have == 0 {
             Ok(())
         } else {
             Err(Truncated { have })
         };
-        assert_eq!(rt; left(&stream), (have, end));
-        assert_eq!(rt; left(&lending), (have, end));
+        assert_equal(rt, &left(&stream), &(have, end));
+        assert_equal(rt, &left(&lending), &(have, end));
     }
 }
 
@@ -105,12 +106,16 @@ fn a_message_is_borrowed_at_any_cut(rt: HostRuntime) {
     for cut in 1..19 {
         let (first, last) = STATUS.split_at(cut);
         let mut stream = Stream::new(rt.alloc());
-        assert_eq!(rt; viewed(&mut stream, first), MORE);
-        assert_eq!(rt; lent(&stream), None);
-        assert_eq!(rt; viewed(&mut stream, last), ended(19 - cut));
-        assert_eq!(rt; lent(&stream), Some((Kind::Status, STATUS.as_slice())));
-        assert_eq!(rt; viewed(&mut stream, &[]), MORE);
-        assert_eq!(rt; lent(&stream), None);
+        assert_equal(&rt, &viewed(&mut stream, first), &MORE);
+        assert_equal(&rt, &lent(&stream), &None);
+        assert_equal(&rt, &viewed(&mut stream, last), &ended(19 - cut));
+        assert_equal(
+            &rt,
+            &lent(&stream),
+            &Some((Kind::Status, STATUS.as_slice())),
+        );
+        assert_equal(&rt, &viewed(&mut stream, &[]), &MORE);
+        assert_equal(&rt, &lent(&stream), &None);
     }
 }
 
@@ -137,7 +142,7 @@ fn the_first_message_of_bytes_has_a_size(rt: HostRuntime) -> Result<(), Fail> {
         (Lengths::Shortest, line.as_slice(), Some(MAX_APDU_LEN)),
     ];
     for (lengths, bytes, size) in rows {
-        assert_eq!(rt; sized(rt.alloc(), lengths, bytes), size);
+        assert_equal(&rt, &sized(rt.alloc(), lengths, bytes), &size);
     }
     Ok(())
 }
@@ -161,7 +166,7 @@ fn the_control_bytes_of_an_unfinished_message(rt: HostRuntime) {
     ];
     let mut stream = Stream::new(rt.alloc());
     for (piece, head) in rows {
-        assert_eq!(rt; head_after(&mut stream, piece), head);
+        assert_equal(&rt, &head_after(&mut stream, piece), &head);
     }
 }
 
@@ -182,13 +187,18 @@ fn the_longest_message(rt: HostRuntime) -> Result<(), Fail> {
     for cut in [3, 65_539] {
         assert!(rt; cut <= line.len());
         let (first, second) = line.split_at(cut);
-        assert_eq!(rt; built(alloc, &mut stream, first), MORE);
-        assert_eq!(rt; viewed(&mut reserved, first), MORE);
-        assert_eq!(rt;
-            built(alloc, &mut stream, second),
-            ended(MAX_APDU_LEN - cut)
+        assert_equal(&rt, &built(alloc, &mut stream, first), &MORE);
+        assert_equal(&rt, &viewed(&mut reserved, first), &MORE);
+        assert_equal(
+            &rt,
+            &built(alloc, &mut stream, second),
+            &ended(MAX_APDU_LEN - cut),
         );
-        assert_eq!(rt; viewed(&mut reserved, second), ended(MAX_APDU_LEN - cut));
+        assert_equal(
+            &rt,
+            &viewed(&mut reserved, second),
+            &ended(MAX_APDU_LEN - cut),
+        );
         assert!(rt;
             lent(&reserved).is_some_and(|(kind, bytes)| kind == Kind::PrintLine
                 && bytes.len() == MAX_APDU_LEN)
@@ -204,6 +214,6 @@ fn held_bytes(rt: HostRuntime) -> Result<(), Fail> {
     held.add(0x04)?;
     held.add_all(&STATUS[1..])?;
     held.cut(2);
-    assert_eq!(rt; held.len(), 2);
+    assert_equal(&rt, &held.len(), &2);
     Ok(())
 }

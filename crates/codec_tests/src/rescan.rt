@@ -3,6 +3,7 @@
 //! Every line is given in two pieces at each of its places. Streams that build their messages and streams that lend them
 //! must answer each piece as that reader does, and hold as much.
 
+use crate::assertions::assert_equal_in;
 use crate::pieces::{Answer, MORE, built, ended, left, viewed};
 use std::alloc::Global;
 use std::process::Abort;
@@ -74,15 +75,16 @@ impl Beside {
     /// Feeds a piece to all of them, which answer the same: how much of it was taken.
     fn feed(&mut self, rt: &impl Abort, alloc: Global, piece: &[u8]) -> usize {
         let answer = self.rescan.feed(alloc, piece);
-        assert_eq!(rt;
-            built(alloc, &mut self.building, piece),
-            answer,
-            "{piece:?}"
+        assert_equal_in(
+            rt,
+            &piece,
+            &built(alloc, &mut self.building, piece),
+            &answer,
         );
-        assert_eq!(rt; viewed(&mut self.lending, piece), answer, "{piece:?}");
+        assert_equal_in(rt, &piece, &viewed(&mut self.lending, piece), &answer);
         let held = self.rescan.left();
-        assert_eq!(rt; left(&self.building), held, "{piece:?}");
-        assert_eq!(rt; left(&self.lending), held, "{piece:?}");
+        assert_equal_in(rt, &piece, &left(&self.building), &held);
+        assert_equal_in(rt, &piece, &left(&self.lending), &held);
         match answer {
             Ok(FedView::Message { taken }) => taken,
             _ => piece.len(),
@@ -184,7 +186,7 @@ fn each_container_and_object_opens_a_level(rt: HostRuntime) {
         } else {
             (ended(1), 0)
         };
-        assert_eq!(rt; opened(&mut stream, *byte), wanted, "at {place}");
+        assert_equal_in(&rt, &place, &opened(&mut stream, *byte), &wanted);
     }
 }
 
@@ -203,7 +205,7 @@ fn the_prefix_of_a_message_is_cut_off(rt: HostRuntime) {
             assert_eq!(rt; cut_off(rt.alloc(), &line[..have]), wanted, "{line:?}");
         }
         let whole = (ended(line.len()), (0, Ok(())));
-        assert_eq!(rt; cut_off(rt.alloc(), line), whole, "{line:?}");
+        assert_equal_in(&rt, &line, &cut_off(rt.alloc(), line), &whole);
     }
 }
 

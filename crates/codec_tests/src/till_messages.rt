@@ -1,5 +1,6 @@
 //! What a till sends, worked by hand.
 
+use crate::assertions::assert_equal;
 use std::alloc::{AllocError, Global};
 use std::process::Abort;
 use std::test::Fail;
@@ -12,8 +13,12 @@ fn is_put_as(rt: &impl Abort, till_message: &TillMessage, bytes: &[u8]) {
     let mut wanted = [0x55; 32];
     wanted[..bytes.len()].copy_from_slice(bytes);
     let mut buffer = [0x55; 32];
-    assert_eq!(rt; put_till_message(till_message, &mut buffer), bytes.len());
-    assert_eq!(rt; buffer, wanted);
+    assert_equal(
+        rt,
+        &put_till_message(till_message, &mut buffer),
+        &bytes.len(),
+    );
+    assert_equal(rt, &buffer, &wanted);
 }
 
 fn spelling(alloc: Global, apdu: &Apdu) -> Result<Vec<u8>, AllocError> {
@@ -30,7 +35,7 @@ fn is_encoded_as(
     let apdu = till_message_apdu(alloc, till_message)?;
     let spelled = spelling(alloc, &apdu);
     drop(apdu);
-    assert_eq!(rt; spelled?.as_slice(), bytes);
+    assert_equal(rt, &spelled?.as_slice(), &bytes);
     Ok(())
 }
 

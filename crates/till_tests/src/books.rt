@@ -1,4 +1,5 @@
 //! The books of logs, also of logs that no till can have.
+use crate::assertions::assert_equal;
 use std::alloc::Global;
 use std::process::Abort;
 use std::test::Fail;
@@ -48,10 +49,10 @@ fn has_books(
     unclear: &[Cause],
 ) -> Result<(), Fail> {
     let found = books(alloc, log)?;
-    assert_eq!(rt; found.booked.as_slice(), booked);
-    assert_eq!(rt; found.unclear.len(), unclear.len());
+    assert_equal(rt, &found.booked.as_slice(), &booked);
+    assert_equal(rt, &found.unclear.len(), &unclear.len());
     for (row, cause) in found.unclear.iter().zip(unclear) {
-        assert_eq!(rt; *row, (price(rt), *cause));
+        assert_equal(rt, row, &(price(rt), *cause));
     }
     Ok(())
 }
@@ -136,7 +137,7 @@ fn causes_and_refusals_have_names(rt: HostRuntime) -> Result<(), Fail> {
         (Cause::WrongCurrency, "WrongCurrency"),
     ] {
         let shown = format!(in alloc; "{cause}")?;
-        assert_eq!(rt; shown.as_str(), name);
+        assert_equal(&rt, &shown.as_str(), &name);
     }
     for (refusal, name) in [
         (OrderRefusal::Offline, "Offline"),
@@ -150,7 +151,7 @@ fn causes_and_refusals_have_names(rt: HostRuntime) -> Result<(), Fail> {
         (OrderRefusal::Memory, "Memory"),
     ] {
         let shown = format!(in alloc; "{refusal}")?;
-        assert_eq!(rt; shown.as_str(), name);
+        assert_equal(&rt, &shown.as_str(), &name);
     }
     Ok(())
 }

@@ -1,4 +1,5 @@
 //! What a till hears in messages, from their bytes.
+use crate::assertions::{assert_equal, assert_equal_in};
 use std::alloc::Global;
 use std::process::Abort;
 use std::test::Fail;
@@ -18,17 +19,17 @@ fn heard_in(rt: &impl Abort, alloc: Global, bytes: &[u8]) -> Result<Heard, Fail>
     let Scan::Whole((apdu, taken)) = scan(alloc, bytes)? else {
         panic!(rt; "a message: {bytes:?}");
     };
-    assert_eq!(rt; taken, bytes.len());
+    assert_equal(rt, &taken, &bytes.len());
     let heard = heard(&apdu);
     drop(apdu);
-    assert_eq!(rt; heard_view(&view(&bytes[..taken])), heard);
+    assert_equal(rt, &heard_view(&view(&bytes[..taken])), &heard);
     Ok(heard)
 }
 
 /// In the message that these bytes spell, this is heard.
 fn hears(rt: &impl Abort, alloc: Global, rows: &[(&[u8], Heard)]) -> Result<(), Fail> {
     for &(bytes, wanted) in rows {
-        assert_eq!(rt; heard_in(rt, alloc, bytes)?, wanted, "{bytes:?}");
+        assert_equal_in(rt, &bytes, &heard_in(rt, alloc, bytes)?, &wanted);
     }
     Ok(())
 }
@@ -108,10 +109,10 @@ fn sends_what_its_till_message_says(rt: HostRuntime) -> Result<(), Fail> {
         till_message: TillMessage::Nack(0x83),
     };
     let mut buffer = [0x55; 32];
-    assert_eq!(rt; refusal.put(&mut buffer), 3);
-    assert_eq!(rt; &buffer[..4], [0x84, 0x83, 0x00, 0x55].as_slice());
+    assert_equal(&rt, &refusal.put(&mut buffer), &3);
+    assert_equal(&rt, &&buffer[..4], &[0x84, 0x83, 0x00, 0x55].as_slice());
     let apdu = refusal.message(rt.alloc())?;
-    assert_eq!(rt; heard(&apdu), Heard::Negative(0x83));
+    assert_equal(&rt, &heard(&apdu), &Heard::Negative(0x83));
     Ok(())
 }
 
@@ -123,6 +124,10 @@ fn prints_no_password(rt: HostRuntime) -> Result<(), Fail> {
         },
     };
     let printed = format!(in rt.alloc(); "{closes:?}")?;
-    assert_eq!(rt; printed.as_str(), "Outgoing { till_message: CloseDay }");
+    assert_equal(
+        &rt,
+        &printed.as_str(),
+        &"Outgoing { till_message: CloseDay }",
+    );
     Ok(())
 }

@@ -1,4 +1,5 @@
 //! Journals in files: made, opened again, cut, refused.
+use crate::assertions::assert_equal;
 use std::fs;
 use std::os::unix::fs::{MetadataExt, PermissionsExt};
 use std::test::Fail;
@@ -24,8 +25,9 @@ fn a_file_is_made_and_opened_again(rt: HostRuntime) -> Result<(), Fail> {
         cut,
         created,
     } = open_file(&rt, alloc, path)?;
-    assert_eq!(rt; (text.len(), cut, created), (0, 0, true));
-    assert_eq!(rt; fs::metadata(&rt, path)?.mode() & 0o777, 0o600);
+    assert_equal(&rt, &(text.len(), cut, created), &(0, 0, true));
+    let mode = fs::metadata(&rt, path)?.mode() & 0o777;
+    assert_equal(&rt, &mode, &0o600);
     let gate = text.len();
     let mut journal = Journal {
         alloc,
@@ -36,16 +38,18 @@ fn a_file_is_made_and_opened_again(rt: HostRuntime) -> Result<(), Fail> {
     journal.append(b"# pay 1234\n> 0601\n")?;
     let again = open_file(&rt, alloc, path);
     assert!(rt; matches!(again, Err(JournalFileError::InUse)));
-    assert_eq!(rt; read_book(&rt, alloc, path)?.len(), 48);
+    assert_equal(&rt, &read_book(&rt, alloc, path)?.len(), &48);
     drop(journal);
     let opened = open_file(&rt, alloc, path)?;
-    assert_eq!(rt;
-        (opened.text.len(), opened.cut, opened.created),
-        (48, 0, false)
+    assert_equal(
+        &rt,
+        &(opened.text.len(), opened.cut, opened.created),
+        &(48, 0, false),
     );
-    assert_eq!(rt;
-        fs::read(&rt, path)?.as_slice(),
-        b"# zvt journal 1, currency 978\n# pay 1234\n> 0601\n\n".as_slice()
+    assert_equal(
+        &rt,
+        &fs::read(&rt, path)?.as_slice(),
+        &b"# zvt journal 1, currency 978\n# pay 1234\n> 0601\n\n".as_slice(),
     );
     fs::remove_file(&rt, path)?;
     Ok(())
@@ -57,15 +61,20 @@ fn what_a_crash_left_is_kept_and_cut(rt: HostRuntime) -> Result<(), Fail> {
     let alloc = rt.alloc();
     let _ = fs::remove_file(&rt, beside);
     fs::write(&rt, path, LEFT)?;
-    assert_eq!(rt; read_book(&rt, alloc, path)?.len(), 32);
-    assert_eq!(rt; fs::read(&rt, path)?.as_slice(), LEFT);
+    assert_equal(&rt, &read_book(&rt, alloc, path)?.len(), &32);
+    assert_equal(&rt, &fs::read(&rt, path)?.as_slice(), &LEFT);
     let opened = open_file(&rt, alloc, path)?;
-    assert_eq!(rt;
-        (opened.text.len(), opened.cut, opened.created),
-        (32, 7, false)
+    assert_equal(
+        &rt,
+        &(opened.text.len(), opened.cut, opened.created),
+        &(32, 7, false),
     );
-    assert_eq!(rt; fs::read(&rt, path)?.as_slice(), &LEFT[..33]);
-    assert_eq!(rt; fs::read(&rt, beside)?.as_slice(), b" pay 12".as_slice());
+    assert_equal(&rt, &fs::read(&rt, path)?.as_slice(), &&LEFT[..33]);
+    assert_equal(
+        &rt,
+        &fs::read(&rt, beside)?.as_slice(),
+        &b" pay 12".as_slice(),
+    );
     fs::remove_file(&rt, path)?;
     fs::remove_file(&rt, beside)?;
     Ok(())
@@ -82,9 +91,10 @@ fn what_is_no_journal_is_left_as_it_is(rt: HostRuntime) -> Result<(), Fail> {
     fs::write(&rt, path, b"# zvt trace\n".as_slice())?;
     let trace = open_file(&rt, alloc, path);
     assert!(rt; matches!(trace, Err(JournalFileError::NotAJournal)));
-    assert_eq!(rt;
-        fs::read(&rt, path)?.as_slice(),
-        b"# zvt trace\n".as_slice()
+    assert_equal(
+        &rt,
+        &fs::read(&rt, path)?.as_slice(),
+        &b"# zvt trace\n".as_slice(),
     );
     let mut begun = vec![in alloc; b'a'; MAX_OPENING_LEN + 2]?;
     begun[0] = b'\n';

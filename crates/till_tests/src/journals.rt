@@ -3,6 +3,7 @@ ghost use Rattle.std.specs.Prelude.{◌≡◌, length, IfOk};
 ghost use Rattle.zvt_journal.specs.Memory.{memory_bytes};
 ghost use Rattle.zvt_journal.specs.Text.{IsSettled};
 
+use crate::assertions::assert_equal;
 use std::alloc::Global;
 use std::test::Fail;
 use zvt_journal::{Journal, Memory, Tear, is_record, lines_are_recovered, open, torn};
@@ -22,16 +23,16 @@ fn opened(alloc: Global, bytes: &[u8]) -> Result<(Vec<u8>, Memory), Fail>
 #[test]
 fn what_comes_after_the_closed_gate_is_dropped(rt: HostRuntime) -> Result<(), Fail> {
     let (text, file) = opened(rt.alloc(), &STAGED)?;
-    assert_eq!(rt; text.as_slice(), b"!\n".as_slice());
-    assert_eq!(rt; file.bytes(), b"!\n\n".as_slice());
+    assert_equal(&rt, &text.as_slice(), &b"!\n".as_slice());
+    assert_equal(&rt, &file.bytes(), &b"!\n\n".as_slice());
     Ok(())
 }
 
 #[test]
 fn a_line_that_is_cut_short_is_dropped(rt: HostRuntime) -> Result<(), Fail> {
     let (text, file) = opened(rt.alloc(), b"!\n< 06")?;
-    assert_eq!(rt; text.as_slice(), b"!\n".as_slice());
-    assert_eq!(rt; file.bytes(), b"!\n\n".as_slice());
+    assert_equal(&rt, &text.as_slice(), &b"!\n".as_slice());
+    assert_equal(&rt, &file.bytes(), &b"!\n\n".as_slice());
     Ok(())
 }
 
@@ -47,9 +48,10 @@ fn records_are_added(rt: HostRuntime) -> Result<(), Fail> {
     };
     journal.append(b"# pay 1234\n> 0601\n")?;
     journal.append(b"!\n")?;
-    assert_eq!(rt;
-        journal.device.bytes(),
-        b"# pay 1234\n> 0601\n!\n\n".as_slice()
+    assert_equal(
+        &rt,
+        &journal.device.bytes(),
+        &b"# pay 1234\n> 0601\n!\n\n".as_slice(),
     );
     Ok(())
 }
@@ -73,9 +75,10 @@ fn each_moment_leaves_whole_records(rt: HostRuntime) -> Result<(), Fail> {
         let whole = [b"!\n".as_slice(), b"!\n# pay 1234\n> 0601\n".as_slice()];
         assert!(rt; whole.contains(&text.as_slice()));
     }
-    assert_eq!(rt;
-        journal.device.bytes(),
-        b"!\n# pay 1234\n> 0601\n!\n\n".as_slice()
+    assert_equal(
+        &rt,
+        &journal.device.bytes(),
+        &b"!\n# pay 1234\n> 0601\n!\n\n".as_slice(),
     );
     Ok(())
 }

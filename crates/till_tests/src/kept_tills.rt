@@ -3,6 +3,7 @@ ghost use Rattle.std.specs.Prelude.{◌≡◌, IfOk};
 ghost use Rattle.zvt_journal.specs.Memory.{memory_bytes};
 ghost use Rattle.zvt_journal.specs.Text.{IsSettled};
 
+use crate::assertions::assert_equal;
 use std::alloc::Global;
 use std::test::Fail;
 use zvt_bcd::{Amount, Currency};
@@ -27,9 +28,10 @@ fn records_are_read_back(rt: HostRuntime) -> Result<(), Fail> {
     put_heard(&mut text, b"\x80\x00\x00", b"")?;
     put_order(&mut text, &Order::Reverse(2), b"\x06\x30\x00")?;
     put_lost(&mut text)?;
-    assert_eq!(rt;
-        text.bytes(),
-        b"# zvt journal 1, currency 978\n# register\n> 060000\n< 800000\n# reverse 3\n> 063000\n!\n".as_slice()
+    assert_equal(
+        &rt,
+        &text.bytes(),
+        &b"# zvt journal 1, currency 978\n# register\n> 060000\n< 800000\n# reverse 3\n> 063000\n!\n".as_slice(),
     );
     let entries = read_records(alloc, text.bytes())?;
     let [
@@ -42,7 +44,7 @@ fn records_are_read_back(rt: HostRuntime) -> Result<(), Fail> {
         assert!(rt; false, "other entries");
         return Ok(());
     };
-    assert_eq!(rt; message.as_slice(), b"\x80\x00\x00".as_slice());
+    assert_equal(&rt, &message.as_slice(), &b"\x80\x00\x00".as_slice());
     Ok(())
 }
 
@@ -63,8 +65,8 @@ fn the_greatest_amount_and_a_long_message_are_read_back(rt: HostRuntime) -> Resu
         assert!(rt; false, "other entries");
         return Ok(());
     };
-    assert_eq!(rt; paid.get(), 999_999_999_999);
-    assert_eq!(rt; heard.as_slice(), message.as_slice());
+    assert_equal(&rt, &paid.get(), &999_999_999_999);
+    assert_equal(&rt, &heard.as_slice(), &message.as_slice());
     Ok(())
 }
 
@@ -78,11 +80,12 @@ fn a_wrong_line_is_named(rt: HostRuntime) -> Result<(), Fail> {
             assert!(rt; false, "a wrong line was read");
             return Ok(());
         };
-        assert_eq!(rt; error, RecordError::Line { number: 3 });
+        assert_equal(&rt, &error, &RecordError::Line { number: 3 });
         let said = format!(in alloc; "{error}")?;
-        assert_eq!(rt;
-            said.as_str(),
-            "line 3 of the journal is no line of a till's record"
+        assert_equal(
+            &rt,
+            &said.as_str(),
+            &"line 3 of the journal is no line of a till's record",
         );
     }
     Ok(())
@@ -114,13 +117,15 @@ fn an_order_and_its_answers_are_kept(rt: HostRuntime) -> Result<(), Fail> {
     let ran = run_order_kept(alloc, &mut end, &mut kept, Order::Register, 4);
     assert!(rt; matches!(ran, Ok(Outcome::Registered)), "another outcome");
     assert!(rt; !kept.has_failed());
-    assert_eq!(rt;
-        kept.device().bytes(),
-        b"# zvt journal 1, currency 978\n!\n# register\n> 060006000000BE0978\n< 800000\n< 060F00\n> 800000\n\n".as_slice()
+    assert_equal(
+        &rt,
+        &kept.device().bytes(),
+        &b"# zvt journal 1, currency 978\n!\n# register\n> 060006000000BE0978\n< 800000\n< 060F00\n> 800000\n\n".as_slice(),
     );
-    assert_eq!(rt;
-        end.writer.inner.as_slice(),
-        b"\x06\x00\x06\x00\x00\x00\xBE\x09\x78\x80\x00\x00".as_slice()
+    assert_equal(
+        &rt,
+        &end.writer.inner.as_slice(),
+        &b"\x06\x00\x06\x00\x00\x00\xBE\x09\x78\x80\x00\x00".as_slice(),
     );
     Ok(())
 }
@@ -137,15 +142,15 @@ fn a_book_is_recovered(rt: HostRuntime) -> Result<(), Fail> {
         assert!(rt; false, "another book");
         return Ok(());
     };
-    assert_eq!(rt; entry.amount.get(), 1234);
-    assert_eq!(rt; entry.trace.get(), 17);
+    assert_equal(&rt, &entry.amount.get(), &1234);
+    assert_equal(&rt, &entry.trace.get(), &17);
     assert!(rt; !entry.reversed);
     let [(amount, cause)] = till.unclear() else {
         assert!(rt; false, "no unclear payment");
         return Ok(());
     };
-    assert_eq!(rt; amount.get(), 500);
-    assert_eq!(rt; *cause, Cause::Line);
+    assert_equal(&rt, &amount.get(), &500);
+    assert_equal(&rt, cause, &Cause::Line);
     assert!(rt; !till.line_up());
     Ok(())
 }
@@ -167,9 +172,10 @@ fn a_till_goes_on_over_its_book(rt: HostRuntime) -> Result<(), Fail> {
     };
     let ran = run_order_kept(alloc, &mut end, &mut kept, Order::Register, 4);
     assert!(rt; matches!(ran, Ok(Outcome::Registered)), "another outcome");
-    assert_eq!(rt;
-        kept.device().bytes(),
-        b"# zvt journal 1, currency 978\n!\n# register\n> 060006000000BE0978\n< 800000\n!\n# register\n> 060006000000BE0978\n< 800000\n< 060F00\n> 800000\n\n".as_slice()
+    assert_equal(
+        &rt,
+        &kept.device().bytes(),
+        &b"# zvt journal 1, currency 978\n!\n# register\n> 060006000000BE0978\n< 800000\n!\n# register\n> 060006000000BE0978\n< 800000\n< 060F00\n> 800000\n\n".as_slice(),
     );
     Ok(())
 }
@@ -201,7 +207,7 @@ fn what_is_no_tills_journal_is_refused(rt: HostRuntime) -> Result<(), Fail> {
             assert!(rt; false, "a till was recovered");
             return Ok(());
         };
-        assert_eq!(rt; error, expected);
+        assert_equal(&rt, &error, &expected);
     }
     Ok(())
 }

@@ -1,4 +1,5 @@
 //! One order over memory.
+use crate::assertions::assert_equal;
 use std::alloc::Global;
 use std::io::{self, Read, Write};
 use std::process::Abort;
@@ -48,13 +49,18 @@ fn is_registered(rt: &impl Abort, alloc: Global, stream: Stream) {
     let completed = [0x80, 0x00, 0x00, 0x06, 0x0F, 0x00];
     let mut end = end_over(alloc, &completed, stream);
     let found = registers(rt, alloc, &mut end, 10);
-    assert_eq!(rt; found, (Ok(Outcome::Registered), Some(Outcome::Registered)));
+    assert_equal(
+        rt,
+        &found,
+        &(Ok(Outcome::Registered), Some(Outcome::Registered)),
+    );
     let registration_and_ack = [
         0x06, 0x00, 0x06, 0x00, 0x00, 0x00, 0xBE, 0x09, 0x78, 0x80, 0x00, 0x00,
     ];
-    assert_eq!(rt;
-        end.writer.inner.as_slice(),
-        registration_and_ack.as_slice()
+    assert_equal(
+        rt,
+        &end.writer.inner.as_slice(),
+        &registration_and_ack.as_slice(),
     );
 }
 
@@ -86,8 +92,8 @@ fn an_order_whose_line_breaks(rt: HostRuntime) {
         let last = Outcome::Unclear(cause);
         let mut end = end_over(rt.alloc(), coming, Stream::new(rt.alloc()));
         let found = registers(&rt, rt.alloc(), &mut end, turns);
-        assert_eq!(rt; found, (wanted, Some(last)));
-        assert_eq!(rt; end.writer.inner.as_slice(), REGISTRATION.as_slice());
+        assert_equal(&rt, &found, &(wanted, Some(last)));
+        assert_equal(&rt, &end.writer.inner.as_slice(), &REGISTRATION.as_slice());
     }
 }
 
@@ -97,10 +103,10 @@ fn an_order_that_is_sent(rt: HostRuntime) {
     let mut till = connected_till(&rt, rt.alloc());
     let refused = RunFault::Order(OrderRefusal::NotRegistered);
     for (order, sent) in [(Order::CloseDay, Err(refused)), (Order::Register, Ok(()))] {
-        assert_eq!(rt; send_order(&mut writer, &mut till, order), sent);
+        assert_equal(&rt, &send_order(&mut writer, &mut till, order), &sent);
     }
-    assert_eq!(rt; till.running(), Some(Order::Register));
-    assert_eq!(rt; writer.inner.as_slice(), REGISTRATION.as_slice());
+    assert_equal(&rt, &till.running(), &Some(Order::Register));
+    assert_equal(&rt, &writer.inner.as_slice(), &REGISTRATION.as_slice());
 }
 
 /// A writer that takes nothing.
@@ -133,10 +139,14 @@ fn an_order_that_cannot_be_sent(rt: HostRuntime) {
         (Order::Register, RunFault::Order(OrderRefusal::Offline)),
     ] {
         let result = run_order(alloc, &mut end, &mut till, order, 10);
-        assert_eq!(rt; result, Err(fault));
+        assert_equal(&rt, &result, &Err(fault));
     }
-    assert_eq!(rt; till.last_outcome(), Some(Outcome::Unclear(Cause::Line)));
-    assert_eq!(rt; end.reader.inner.len(), 3);
+    assert_equal(
+        &rt,
+        &till.last_outcome(),
+        &Some(Outcome::Unclear(Cause::Line)),
+    );
+    assert_equal(&rt, &end.reader.inner.len(), &3);
 }
 
 const APPROVED: [u8; 25] = [
@@ -195,7 +205,7 @@ fn register(rt: &impl Abort, alloc: Global, till: &mut Till) -> Stream {
     let completed = [0x80, 0x00, 0x00, 0x06, 0x0F, 0x00];
     let mut end = end_over(alloc, &completed, Stream::new(alloc));
     let registered = run_order(alloc, &mut end, till, Order::Register, 10);
-    assert_eq!(rt; registered, Ok(Outcome::Registered));
+    assert_equal(rt, &registered, &Ok(Outcome::Registered));
     end.stream
 }
 
@@ -230,9 +240,9 @@ fn pays_over(
 fn a_payment_whose_read_fails(rt: HostRuntime) {
     for read in 1..=25 {
         let (fault, last, booked, unclear) = pays_over(&rt, rt.alloc(), read, 0);
-        assert_eq!(rt; fault, Err(RunFault::Line(LineFault::Read)));
-        assert_eq!(rt; last, Some(Outcome::Unclear(Cause::Line)));
-        assert_eq!(rt; (booked, unclear), (0, 1));
+        assert_equal(&rt, &fault, &Err(RunFault::Line(LineFault::Read)));
+        assert_equal(&rt, &last, &Some(Outcome::Unclear(Cause::Line)));
+        assert_equal(&rt, &(booked, unclear), &(0, 1));
     }
 }
 
@@ -240,16 +250,16 @@ fn a_payment_whose_read_fails(rt: HostRuntime) {
 fn a_payment_whose_write_fails(rt: HostRuntime) {
     for write in 1..=2 {
         let (fault, last, booked, unclear) = pays_over(&rt, rt.alloc(), 0, write);
-        assert_eq!(rt; fault, Err(RunFault::Line(LineFault::Write)));
-        assert_eq!(rt; last, Some(Outcome::Unclear(Cause::Line)));
-        assert_eq!(rt; (booked, unclear), (0, 1));
+        assert_equal(&rt, &fault, &Err(RunFault::Line(LineFault::Write)));
+        assert_equal(&rt, &last, &Some(Outcome::Unclear(Cause::Line)));
+        assert_equal(&rt, &(booked, unclear), &(0, 1));
     }
     let (fault, last, booked, unclear) = pays_over(&rt, rt.alloc(), 0, 3);
-    assert_eq!(rt; fault, Err(RunFault::Line(LineFault::Write)));
+    assert_equal(&rt, &fault, &Err(RunFault::Line(LineFault::Write)));
     let paid = Outcome::Paid {
         trace: Trace::new(17).expect(&rt, "a trace number"),
         receipt: Some([0, 5]),
     };
-    assert_eq!(rt; last, Some(paid));
-    assert_eq!(rt; (booked, unclear), (1, 0));
+    assert_equal(&rt, &last, &Some(paid));
+    assert_equal(&rt, &(booked, unclear), &(1, 0));
 }

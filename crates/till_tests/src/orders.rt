@@ -1,4 +1,5 @@
 //! Whole orders, heard message by message.
+use crate::assertions::assert_equal;
 use std::alloc::Global;
 use std::process::Abort;
 use zvt_apdu::TillMessage;
@@ -50,12 +51,16 @@ fn goes(rt: &impl Abort, till: &mut Till, course: &[TillEvent]) {
     for told in course {
         match *told {
             TillEvent::Sent(sent, till_message) => {
-                assert_eq!(rt; order(till, sent), Ok(Outgoing { till_message }));
+                assert_equal(rt, &order(till, sent), &Ok(Outgoing { till_message }));
             }
-            TillEvent::Refused(sent, refusal) => assert_eq!(rt; order(till, sent), Err(refusal)),
+            TillEvent::Refused(sent, refusal) => assert_equal(
+                rt,
+                &order(till, sent),
+                &Err(refusal),
+            ),
             TillEvent::Heard(heard, answer, outcome) => {
                 let send = answer.map(|till_message| Outgoing { till_message });
-                assert_eq!(rt; hear(till, heard), Reply { send, outcome });
+                assert_equal(rt, &hear(till, heard), &Reply { send, outcome });
             }
         }
     }
@@ -69,9 +74,10 @@ fn acknowledged(heard: Heard, outcome: Option<Outcome>) -> TillEvent {
 /// A till whose line is up.
 fn connected_till(rt: &impl Abort, alloc: Global) -> Till {
     let mut till = Till::new(alloc, PASSWORD, 0xBE, euro(rt));
-    assert_eq!(rt;
-        order(&mut till, Order::Register),
-        Err(OrderRefusal::Offline)
+    assert_equal(
+        rt,
+        &order(&mut till, Order::Register),
+        &Err(OrderRefusal::Offline),
     );
     till.connected();
     till
@@ -159,7 +165,7 @@ fn reverse() -> TillEvent {
 /// Pays the worked price, hears the messages, and answers the last outcome that one of them had.
 fn pays(rt: &impl Abort, till: &mut Till, heard: &[Heard]) -> Option<Outcome> {
     goes(rt, till, &[pay(rt)]);
-    assert_eq!(rt; till.running(), Some(Order::Pay(price(rt))));
+    assert_equal(rt, &till.running(), &Some(Order::Pay(price(rt))));
     let mut outcome = None;
     for message in heard {
         let reply = hear(till, *message);
@@ -184,9 +190,9 @@ fn stands(
     total: u64,
     last: Outcome,
 ) {
-    assert_eq!(rt; till.book(), book);
-    assert_eq!(rt; till.unclear(), unclear);
-    assert_eq!(rt; ends(till), (total, None, Some(last)));
+    assert_equal(rt, &till.book(), &book);
+    assert_equal(rt, &till.unclear(), &unclear);
+    assert_equal(rt, &ends(till), &(total, None, Some(last)));
 }
 
 #[test]
@@ -221,11 +227,15 @@ fn each_trace_number_serves_once(rt: HostRuntime) {
             approval(PRICE, number, 5),
             Heard::Completion,
         ];
-        assert_eq!(rt; pays(&rt, &mut till, &heard), Some(paid(&rt, number, 5)));
+        assert_equal(
+            &rt,
+            &pays(&rt, &mut till, &heard),
+            &Some(paid(&rt, number, 5)),
+        );
         let again = pays(&rt, &mut till, &heard);
-        assert_eq!(rt; again, Some(Outcome::Unclear(Cause::TraceUsed)));
+        assert_equal(&rt, &again, &Some(Outcome::Unclear(Cause::TraceUsed)));
     }
-    assert_eq!(rt; till.book().len(), 5);
+    assert_equal(&rt, &till.book().len(), &5);
 }
 
 #[test]
@@ -246,7 +256,7 @@ fn a_payment_is_taken_back_once(rt: HostRuntime) {
     stands(&rt, &till, &[row], &[], 0, Outcome::Reversed);
     let used = Outcome::Unclear(Cause::TraceUsed);
     let payment = [Heard::Positive, approval(PRICE, 17, 5), Heard::Completion];
-    assert_eq!(rt; pays(&rt, &mut till, &payment), Some(used));
+    assert_equal(&rt, &pays(&rt, &mut till, &payment), &Some(used));
 }
 
 /// A till that is registered and has one payment.
@@ -262,7 +272,7 @@ fn doubting_till(rt: &impl Abort, alloc: Global) -> Till {
     let mut till = paid_till(rt, alloc);
     goes(rt, &mut till, &[reverse()]);
     let lost = till.lost();
-    assert_eq!(rt; lost, Some(Outcome::Unclear(Cause::Line)));
+    assert_equal(rt, &lost, &Some(Outcome::Unclear(Cause::Line)));
     till.connected();
     registers(rt, &mut till);
     till
@@ -274,9 +284,9 @@ fn doubts(rt: &impl Abort, till: &Till, doubt: Doubt, unclear: usize) {
         doubt,
         ..entry(rt, 17, 5)
     };
-    assert_eq!(rt; till.book(), [row].as_slice());
-    assert_eq!(rt; till.unclear_reversals(), unclear);
-    assert_eq!(rt; (till.total(), till.running()), (1234, None));
+    assert_equal(rt, &till.book(), &[row].as_slice());
+    assert_equal(rt, &till.unclear_reversals(), &unclear);
+    assert_equal(rt, &(till.total(), till.running()), &(1234, None));
 }
 
 #[test]
@@ -304,9 +314,9 @@ fn a_later_reversal_ends_the_doubt(rt: HostRuntime) {
         reversed: true,
         ..entry(&rt, 17, 5)
     };
-    assert_eq!(rt; row.doubt, Doubt::No);
+    assert_equal(&rt, &row.doubt, &Doubt::No);
     stands(&rt, &till, &[row], &[], 0, Outcome::Reversed);
-    assert_eq!(rt; till.unclear_reversals(), 0);
+    assert_equal(&rt, &till.unclear_reversals(), &0);
 }
 
 /// A status of a payment or a reversal that is declined.
@@ -375,8 +385,8 @@ fn a_full_book_takes_no_payment(rt: HostRuntime) {
             &[Heard::Positive, status, Heard::Completion],
         );
     }
-    assert_eq!(rt; till.book().len(), 10_000);
-    assert_eq!(rt; till.total(), 12_340_000);
+    assert_equal(&rt, &till.book().len(), &10_000);
+    assert_equal(&rt, &till.total(), &12_340_000);
     let course = [
         TillEvent::Refused(Order::Pay(price(&rt)), OrderRefusal::BookFull),
         TillEvent::Sent(

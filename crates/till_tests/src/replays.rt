@@ -1,4 +1,5 @@
 //! Whole runs, from the bytes of their line.
+use crate::assertions::assert_equal;
 use std::alloc::Global;
 use std::process::Abort;
 use std::test::Fail;
@@ -119,13 +120,13 @@ fn runs(
     last: Outcome,
 ) -> Result<Run, Fail> {
     let run = replay(alloc, events)?;
-    assert_eq!(rt; run.till.book(), book);
-    assert_eq!(rt; run.till.unclear().len(), unclear.len());
+    assert_equal(rt, &run.till.book(), &book);
+    assert_equal(rt, &run.till.unclear().len(), &unclear.len());
     for (row, cause) in run.till.unclear().iter().zip(unclear) {
-        assert_eq!(rt; *row, (price(rt), *cause));
+        assert_equal(rt, row, &(price(rt), *cause));
     }
-    assert_eq!(rt; run.till.last_outcome(), Some(last));
-    assert_eq!(rt; run.till.running(), None);
+    assert_equal(rt, &run.till.last_outcome(), &Some(last));
+    assert_equal(rt, &run.till.running(), &None);
     Ok(run)
 }
 
@@ -138,7 +139,7 @@ fn a_payment_is_booked_once(rt: HostRuntime) -> Result<(), Fail> {
     pays(&rt, alloc, &mut events, &messages)?;
     let book = [entry(&rt, 17, 5)];
     let run = runs(&rt, alloc, &events, &book, &[], paid(&rt, 17, 5))?;
-    assert_eq!(rt; run.till.total(), 1234);
+    assert_equal(&rt, &run.till.total(), &1234);
     let sent: [&[u8]; 7] = [&REGISTRATION, &ACK, &PAYMENT, &ACK, &ACK, &ACK, &ACK];
     sends(&rt, alloc, &run, &sent)?;
     logs(&rt, &run.log);
@@ -151,7 +152,7 @@ fn sends(rt: &impl Abort, alloc: Global, run: &Run, messages: &[&[u8]]) -> Resul
     for message in messages {
         sent.extend_from_slice(message)?;
     }
-    assert_eq!(rt; run.sent.as_slice(), sent.as_slice());
+    assert_equal(rt, &run.sent.as_slice(), &sent.as_slice());
     Ok(())
 }
 
@@ -185,7 +186,7 @@ fn logs(rt: &impl Abort, log: &[Happening]) {
         COMPLETED,
         COMPLETED,
     ];
-    assert_eq!(rt; log, wanted.as_slice());
+    assert_equal(rt, &log, &wanted.as_slice());
 }
 
 #[test]
@@ -269,7 +270,7 @@ fn a_trace_number_pays_once(rt: HostRuntime) -> Result<(), Fail> {
         pays(&rt, alloc, &mut events, &messages)?;
         let unclear = &[Cause::TraceUsed][..unclear];
         let run = runs(&rt, alloc, &events, &book[..booked], unclear, last)?;
-        assert_eq!(rt; run.till.total(), total);
+        assert_equal(&rt, &run.till.total(), &total);
     }
     Ok(())
 }
@@ -304,11 +305,11 @@ fn nothing_is_paid_on_a_lost_line(rt: HostRuntime) -> Result<(), Fail> {
     pays(&rt, alloc, &mut events, &[])?;
     let lost = Outcome::Unclear(Cause::Line);
     let mut run = runs(&rt, alloc, &events, &[], &[Cause::Line], lost)?;
-    assert_eq!(rt; run.log.last(), Some(&Happening::Lost));
+    assert_equal(&rt, &run.log.last(), &Some(&Happening::Lost));
     let messages: [&[u8]; 3] = [&REGISTRATION, &ACK, &PAYMENT];
     sends(&rt, alloc, &run, &messages)?;
     let refused = run.till.order(Order::Pay(price(&rt)));
-    assert_eq!(rt; refused, Err(OrderRefusal::Offline));
+    assert_equal(&rt, &refused, &Err(OrderRefusal::Offline));
     Ok(())
 }
 
@@ -327,7 +328,7 @@ fn a_reversal_from_the_bytes_of_its_line(rt: HostRuntime) -> Result<(), Fail> {
     };
     let lost = Outcome::Unclear(Cause::Line);
     let run = runs(&rt, alloc, &events, &[unclear], &[], lost)?;
-    assert_eq!(rt; run.till.unclear_reversals(), 1);
+    assert_equal(&rt, &run.till.unclear_reversals(), &1);
     registers(alloc, &mut events)?;
     events.push(Event::Order(Order::Reverse(0)))?;
     comes(alloc, &mut events, &[&ACK, &[0x06, 0x1E, 0x01, 0xB4]])?;
@@ -337,6 +338,6 @@ fn a_reversal_from_the_bytes_of_its_line(rt: HostRuntime) -> Result<(), Fail> {
     };
     let aborted = Outcome::Aborted(0xB4);
     let run = runs(&rt, alloc, &events, &[taken_back], &[], aborted)?;
-    assert_eq!(rt; run.till.unclear_reversals(), 0);
+    assert_equal(&rt, &run.till.unclear_reversals(), &0);
     Ok(())
 }

@@ -1,4 +1,5 @@
 //! Tills that are saved, and what is loaded of it.
+use crate::assertions::assert_equal;
 use std::alloc::Global;
 use std::process::Abort;
 use std::test::Fail;
@@ -87,17 +88,21 @@ fn refusal(alloc: Global, bytes: &[u8]) -> Option<LoadError> {
 
 /// The till is at rest with this book, these unclear payments and this last outcome.
 fn rests(rt: &impl Abort, till: &Till, book: &[Entry], unclear: &[(Amount, Cause)], last: Outcome) {
-    assert_eq!(rt; till.book(), book);
-    assert_eq!(rt; till.unclear(), unclear);
-    assert_eq!(rt; till.last_outcome(), Some(last));
-    assert_eq!(rt; (till.running(), till.registered()), (None, false));
+    assert_equal(rt, &till.book(), &book);
+    assert_equal(rt, &till.unclear(), &unclear);
+    assert_equal(rt, &till.last_outcome(), &Some(last));
+    assert_equal(rt, &(till.running(), till.registered()), &(None, false));
 }
 
 /// The till is saved in these bytes, and none is loaded of their prefix.
 fn saves(rt: &impl Abort, alloc: Global, till: &Till, bytes: &[u8]) -> Result<(), Fail> {
-    assert_eq!(rt; save(alloc, till)?.as_slice(), bytes);
+    assert_equal(rt, &save(alloc, till)?.as_slice(), &bytes);
     for cut in 0..bytes.len() {
-        assert_eq!(rt; refusal(alloc, &bytes[..cut]), Some(LoadError::Damaged));
+        assert_equal(
+            rt,
+            &refusal(alloc, &bytes[..cut]),
+            &Some(LoadError::Damaged),
+        );
     }
     Ok(())
 }
@@ -137,7 +142,7 @@ fn a_reversal_that_runs_is_saved_as_unclear(rt: HostRuntime) -> Result<(), Fail>
     let alloc = rt.alloc();
     let mut till = resting_till(&rt, alloc, &book(&rt, Doubt::No))?;
     runs(&rt, &mut till, Order::Reverse(0));
-    assert_eq!(rt; till.unclear_reversals(), 0);
+    assert_equal(&rt, &till.unclear_reversals(), &0);
     let reversing = [
         0x5A, 0x56, 0x54, 0x02, 0x00, 0x00, 0x02, 0x00, 0x00, 0x01, 0x09, 0x78, 0x06, 0x07, 0x00,
         0x00, 0x00, 0x00, 0x00, 0x00, 0xBE, 0x00, 0x00, 0x00, 0x00, 0x00, 0x00, 0x00, 0x12, 0x34,
@@ -150,7 +155,7 @@ fn a_reversal_that_runs_is_saved_as_unclear(rt: HostRuntime) -> Result<(), Fail>
     let book = book(&rt, Doubt::Unclear(Cause::Line));
     let last = Outcome::Unclear(Cause::Line);
     rests(&rt, &lost, &book, &unclear(&rt)[..1], last);
-    assert_eq!(rt; lost.unclear_reversals(), 1);
+    assert_equal(&rt, &lost.unclear_reversals(), &1);
     Ok(())
 }
 
@@ -162,7 +167,11 @@ fn the_first_layout_is_loaded(rt: HostRuntime) -> Result<(), Fail> {
     rests(&rt, &till, &book, &unclear(&rt)[..1], Outcome::Reversed);
     saves(&rt, alloc, &till, &SECOND)?;
     for cut in 0..FIRST.len() {
-        assert_eq!(rt; refusal(alloc, &FIRST[..cut]), Some(LoadError::Damaged));
+        assert_equal(
+            &rt,
+            &refusal(alloc, &FIRST[..cut]),
+            &Some(LoadError::Damaged),
+        );
     }
     Ok(())
 }
@@ -208,7 +217,7 @@ fn each_doubt_and_each_version(rt: HostRuntime) {
         (2, 12, [0x61, 0x00, 0x03, 0x30, 0x87], damaged),
     ];
     for (version, doubt, sums, wanted) in rows {
-        assert_eq!(rt; doubt_in(rt.alloc(), version, doubt, sums), wanted);
+        assert_equal(&rt, &doubt_in(rt.alloc(), version, doubt, sums), &wanted);
     }
 }
 
@@ -217,5 +226,5 @@ fn rows_of_the_first_layout_under_the_second_version(rt: HostRuntime) {
     let mut bytes = FIRST;
     bytes[3] = 2;
     bytes[57..].copy_from_slice(&[0x00, 0x00, 0x08, 0x50, 0x00, 0x03, 0x14, 0x35]);
-    assert_eq!(rt; refusal(rt.alloc(), &bytes), Some(LoadError::Damaged));
+    assert_equal(&rt, &refusal(rt.alloc(), &bytes), &Some(LoadError::Damaged));
 }

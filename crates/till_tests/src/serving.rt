@@ -1,4 +1,5 @@
 //! The terminal on a line, and what it writes without memory.
+use crate::assertions::assert_equal;
 use zvt_bcd::Amount;
 use zvt_io::Counted;
 use zvt_stream::{Endpoint, LineFault, Machine, Stream, Until, pump};
@@ -22,12 +23,12 @@ fn serves_a_line_until_it_ends(rt: HostRuntime) {
         stream: Stream::new(alloc),
     };
     let fault = pump(alloc, &mut end, &mut served, Until::Rest, 10);
-    assert_eq!(rt; fault, Err(LineFault::Ended { have: 0 }));
+    assert_equal(&rt, &fault, &Err(LineFault::Ended { have: 0 }));
     let written = [
         0x80, 0x00, 0x00, 0x06, 0x0F, 0x05, 0x29, 0x00, 0x00, 0x00, 0x01, 0x80, 0x00, 0x00, 0x04,
         0x0F, 0x02, 0x27, 0x6C, 0x06, 0x1E, 0x01, 0x6C,
     ];
-    assert_eq!(rt; end.writer.inner.as_slice(), written.as_slice());
+    assert_equal(&rt, &end.writer.inner.as_slice(), &written.as_slice());
     assert!(rt; !served.resting());
     served.malformed();
     assert!(rt; served.terminal.ledger().is_empty());
@@ -37,11 +38,12 @@ fn serves_a_line_until_it_ends(rt: HostRuntime) {
 fn writes_the_longest_line(rt: HostRuntime) {
     let amount = Amount::new(999_999_999_999).expect(&rt, "an amount");
     let mut buffer = [0x55; 32];
-    assert_eq!(rt;
-        put_report(&Report::Line(Line::Approved(amount)), &mut buffer),
-        25
+    assert_equal(
+        &rt,
+        &put_report(&Report::Line(Line::Approved(amount)), &mut buffer),
+        &25,
     );
     let mut wanted = [0x55; 32];
     wanted[..25].copy_from_slice(b"\x06\xD1\x16\x00APPROVED 999999999999");
-    assert_eq!(rt; buffer, wanted);
+    assert_equal(&rt, &buffer, &wanted);
 }

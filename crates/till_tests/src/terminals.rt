@@ -1,4 +1,5 @@
 //! The terminal's ledger. What it answers, message by message, is compared by `tests/dialogue.py`.
+use crate::assertions::assert_equal;
 use std::alloc::Global;
 use std::process::Abort;
 use std::test::Fail;
@@ -29,7 +30,7 @@ fn step(
 ) -> Result<Answers, Fail> {
     let mut stream = Stream::new(alloc);
     let taken = bytes.len();
-    assert_eq!(rt; stream.feed_view(bytes)?, FedView::Message { taken });
+    assert_equal(rt, &stream.feed_view(bytes)?, &FedView::Message { taken });
     let Some(apdu) = stream.lent() else {
         panic!(rt; "a message: {bytes:?}");
     };
@@ -66,10 +67,10 @@ fn the_ledger_keeps_an_approval_and_what_took_it_back(rt: HostRuntime) -> Result
         step(&rt, alloc, &mut terminal, bytes)?;
     }
     for broken in [Input::Lost, Input::Malformed] {
-        assert_eq!(rt; terminal.step(broken, Verdict::Approve)?.count(), 0);
+        assert_equal(&rt, &terminal.step(broken, Verdict::Approve)?.count(), &0);
     }
     let rows = [row(&rt, 1, None), row(&rt, 2, Some(1))];
-    assert_eq!(rt; terminal.ledger(), rows.as_slice());
+    assert_equal(&rt, &terminal.ledger(), &rows.as_slice());
     Ok(())
 }
 
@@ -81,8 +82,8 @@ fn a_message_that_was_built_is_heard_as_its_view(rt: HostRuntime) -> Result<(), 
     let mut terminal = Terminal::new(rt.alloc(), 12_345_678);
     let built = terminal.step(Input::Message(&apdu), Verdict::Approve);
     drop(apdu);
-    assert_eq!(rt; built?.bytes(), NOT_POSSIBLE.as_slice());
+    assert_equal(&rt, &built?.bytes(), &NOT_POSSIBLE.as_slice());
     let viewed = step(&rt, rt.alloc(), &mut terminal, &END_OF_DAY)?;
-    assert_eq!(rt; viewed.bytes(), NOT_POSSIBLE.as_slice());
+    assert_equal(&rt, &viewed.bytes(), &NOT_POSSIBLE.as_slice());
     Ok(())
 }

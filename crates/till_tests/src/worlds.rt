@@ -1,4 +1,5 @@
 //! Both ends together, move by move.
+use crate::assertions::assert_equal;
 use std::alloc::Global;
 use std::process::Abort;
 use std::test::Fail;
@@ -53,7 +54,7 @@ fn stands(rt: &impl Abort, world: &World, booked: bool) {
         currency: Currency::new(978),
         reverses: None,
     };
-    assert_eq!(rt; world.terminal.ledger(), [row].as_slice());
+    assert_equal(rt, &world.terminal.ledger(), &[row].as_slice());
     if booked {
         let entry = Entry {
             amount: price(rt),
@@ -62,7 +63,7 @@ fn stands(rt: &impl Abort, world: &World, booked: bool) {
             reversed: false,
             doubt: Doubt::No,
         };
-        assert_eq!(rt; world.till.book(), [entry].as_slice());
+        assert_equal(rt, &world.till.book(), &[entry].as_slice());
     } else {
         assert!(rt; world.till.book().is_empty());
     }
@@ -75,8 +76,8 @@ fn books_once_what_comes_twice(rt: HostRuntime) -> Result<(), Fail> {
     let world = run_world(alloc, moves.as_slice())?;
     stands(&rt, &world, true);
     assert!(rt; world.till.unclear().is_empty());
-    assert_eq!(rt; world.from_till.len(), 6);
-    assert_eq!(rt; world.from_terminal.len(), 6);
+    assert_equal(&rt, &world.from_till.len(), &6);
+    assert_equal(&rt, &world.from_terminal.len(), &6);
     Ok(())
 }
 
@@ -95,9 +96,10 @@ fn a_late_approval_is_not_booked_again(rt: HostRuntime) -> Result<(), Fail> {
     moves.extend_from_slice(rest.as_slice())?;
     let world = run_world(alloc, moves.as_slice())?;
     stands(&rt, &world, true);
-    assert_eq!(rt;
-        world.till.unclear(),
-        [(price(&rt), Cause::TraceUsed)].as_slice()
+    assert_equal(
+        &rt,
+        &world.till.unclear(),
+        &[(price(&rt), Cause::TraceUsed)].as_slice(),
     );
     Ok(())
 }
@@ -108,8 +110,12 @@ fn breaks(rt: &impl Abort, alloc: Global, rest: &[Move], last: Outcome) -> Resul
     moves.extend_from_slice(rest)?;
     let world = run_world(alloc, moves.as_slice())?;
     stands(rt, &world, false);
-    assert_eq!(rt; world.till.unclear(), [(price(rt), Cause::Line)].as_slice());
-    assert_eq!(rt; world.till.last_outcome(), Some(last));
+    assert_equal(
+        rt,
+        &world.till.unclear(),
+        &[(price(rt), Cause::Line)].as_slice(),
+    );
+    assert_equal(rt, &world.till.last_outcome(), &Some(last));
     Ok(())
 }
 

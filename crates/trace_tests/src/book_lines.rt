@@ -1,4 +1,5 @@
 //! A till's book as text and as JSON lines, each worked out by hand.
+use crate::assertions::assert_equal;
 use std::alloc::Global;
 use std::process::Abort;
 use std::test::Fail;
@@ -90,9 +91,9 @@ fn written(alloc: Global, form: Form, till: &Till) -> Result<Vec<u8>, EndFault> 
 fn a_book_is_written_in_both_forms(rt: HostRuntime) -> Result<(), Fail> {
     let till = booked_till(&rt, rt.alloc());
     let words = written(rt.alloc(), Form::Text, &till)?;
-    assert_eq!(rt; words.as_slice(), WORDS.as_bytes());
+    assert_equal(&rt, &words.as_slice(), &WORDS.as_bytes());
     let objects = written(rt.alloc(), Form::Json, &till)?;
-    assert_eq!(rt; objects.as_slice(), OBJECTS.as_bytes());
+    assert_equal(&rt, &objects.as_slice(), &OBJECTS.as_bytes());
     Ok(())
 }
 
@@ -100,8 +101,8 @@ fn a_book_is_written_in_both_forms(rt: HostRuntime) -> Result<(), Fail> {
 fn a_new_till_has_an_empty_book(rt: HostRuntime) -> Result<(), Fail> {
     let till = Till::with_defaults(rt.alloc());
     let words = written(rt.alloc(), Form::Text, &till)?;
-    assert_eq!(rt; words.as_slice(), b"total 0\n".as_slice());
+    assert_equal(&rt, &words.as_slice(), &b"total 0\n".as_slice());
     let objects = written(rt.alloc(), Form::Json, &till)?;
-    assert_eq!(rt; objects.as_slice(), b"{\"total\":0}\n".as_slice());
+    assert_equal(&rt, &objects.as_slice(), &b"{\"total\":0}\n".as_slice());
     Ok(())
 }

@@ -1,4 +1,5 @@
 //! Commands on a trace over devices that fail, and the longest trace.
+use crate::assertions::assert_equal;
 use std::alloc::{AllocError, Global};
 use std::test::Fail;
 use zvt_diagnostics::write_notes;
@@ -161,5 +162,5 @@ fn the_books_are_written_once(rt: HostRuntime) {
     assert!(rt; matches!(full, (Some(TraceFault::Write), 1)));
     let roomy = audited(rt.alloc(), trace, 1);
     assert!(rt; !matches!(roomy.0, Some(TraceFault::Write)));
-    assert_eq!(rt; roomy.1, 1);
+    assert_equal(&rt, &roomy.1, &1);
 }

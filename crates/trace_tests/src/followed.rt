@@ -1,4 +1,5 @@
 //! A trace that is followed, whose lines come in pieces.
+use crate::assertions::assert_equal;
 use std::alloc::Global;
 use std::test::Fail;
 use zvt_grammar::Lengths;
@@ -36,7 +37,7 @@ fn a_line_is_written_when_it_ends(rt: HostRuntime) {
         assert!(rt; false);
         return;
     };
-    assert_eq!(rt; written.sizes, [0, 9, 18]);
+    assert_equal(&rt, &written.sizes, &[0, 9, 18]);
     assert!(rt; written.all.as_slice() == b"> 06B000\n< 800000\n".as_slice());
 }
 
@@ -98,7 +99,7 @@ fn nothing_is_read_after_the_empty_line_of_a_journal(rt: HostRuntime) {
     let pieces: [&[u8]; 3] = [b"# zvt jour", b"nal 1\n> 06 B0", b" 00\n\n> 80 00 00\n"];
     let (fault, messages, text) = followed(rt.alloc(), &pieces);
     assert!(rt; fault.is_none());
-    assert_eq!(rt; messages, 1);
+    assert_equal(&rt, &messages, &1);
     assert!(rt; text.as_slice() == b"> 06B000\n".as_slice());
 }
 

@@ -2,6 +2,7 @@
 ghost use Rattle.std.specs.Prelude.{◌≤◌, length};
 ghost use Rattle.zvt_trace.specs.Written.{limit};
 
+use crate::assertions::assert_equal;
 use std::alloc::Global;
 use std::test::Fail;
 use zvt_grammar::Lengths;
@@ -48,14 +49,14 @@ fn written(alloc: Global, style: Style, lengths: Lengths, trace: &[u8]) -> Resul
 #[test]
 fn each_event_is_a_json_line(rt: HostRuntime) -> Result<(), Fail> {
     let lines = written(rt.alloc(), Style::Json, Lengths::Shortest, TRACE)?;
-    assert_eq!(rt; lines.as_slice(), LINES.as_bytes());
+    assert_equal(&rt, &lines.as_slice(), &LINES.as_bytes());
     Ok(())
 }
 
 #[test]
 fn a_receipt_is_a_json_line(rt: HostRuntime) -> Result<(), Fail> {
     let lines = written(rt.alloc(), Style::JsonReceipts, Lengths::Shortest, TRACE)?;
-    assert_eq!(rt; lines.as_slice(), RECEIPT.as_bytes());
+    assert_equal(&rt, &lines.as_slice(), &RECEIPT.as_bytes());
     Ok(())
 }
 

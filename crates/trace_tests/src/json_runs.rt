@@ -1,4 +1,5 @@
 //! The JSON lines of a run, each worked out by hand after docs/JSON.md.
+use crate::assertions::assert_equal;
 use crate::reported_runs::Chunks;
 use std::alloc::Global;
 use std::test::Fail;
@@ -43,7 +44,7 @@ fn each_step_is_a_json_line(rt: HostRuntime) -> Result<(), Fail> {
     ] {
         let (ended, written) = looped(&rt, words)?;
         ended?;
-        assert_eq!(rt; written.as_slice(), lines.as_bytes());
+        assert_equal(&rt, &written.as_slice(), &lines.as_bytes());
     }
     Ok(())
 }
@@ -123,6 +124,6 @@ fn answered(alloc: Global) -> Result<(Result<(), EndFault>, Vec<u8>), EndFault> 
 fn each_outcome_is_a_json_line(rt: HostRuntime) -> Result<(), Fail> {
     let (ended, written) = answered(rt.alloc())?;
     assert!(rt; matches!(ended, Err(EndFault::Line(LineFault::Ended { have: 0 }))));
-    assert_eq!(rt; written.as_slice(), ANSWERED.as_bytes());
+    assert_equal(&rt, &written.as_slice(), &ANSWERED.as_bytes());
     Ok(())
 }

@@ -2,6 +2,7 @@
 ghost use Rattle.std.specs.Prelude.{◌≤◌, length};
 ghost use Rattle.zvt_trace.specs.Written.{limit};
 
+use crate::assertions::assert_equal;
 use std::alloc::Global;
 use std::test::Fail;
 use zvt_grammar::Lengths;
@@ -62,8 +63,8 @@ fn shown(alloc: Global, style: Style, trace: &[u8]) -> Result<(u64, Vec<u8>), Fa
 #[test]
 fn a_side_is_read_on_after_a_refused_message(rt: HostRuntime) -> Result<(), Fail> {
     let (bad, lines) = shown(rt.alloc(), Style::Show, TRACE)?;
-    assert_eq!(rt; bad, 4);
-    assert_eq!(rt; lines.as_slice(), LINES);
+    assert_equal(&rt, &bad, &4);
+    assert_equal(&rt, &lines.as_slice(), &LINES);
     Ok(())
 }
 
@@ -71,7 +72,7 @@ fn a_side_is_read_on_after_a_refused_message(rt: HostRuntime) -> Result<(), Fail
 fn a_side_that_is_read_on_is_a_json_line(rt: HostRuntime) -> Result<(), Fail> {
     let trace = b"< 06 0F 03 D0\n< 00 00 80 00 00\n";
     let (bad, lines) = shown(rt.alloc(), Style::Json, trace)?;
-    assert_eq!(rt; bad, 1);
-    assert_eq!(rt; lines.as_slice(), JSON.as_bytes());
+    assert_equal(&rt, &bad, &1);
+    assert_equal(&rt, &lines.as_slice(), &JSON.as_bytes());
     Ok(())
 }

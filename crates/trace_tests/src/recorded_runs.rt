@@ -1,5 +1,6 @@
 //! The trace that a run writes, over many runs against terminals that do what they like: an audit of it says what the
 //! till's book says.
+use crate::assertions::assert_equal_in;
 use std::alloc::{AllocError, Global};
 use std::cell::RefCell;
 use std::fmt::Write as FmtWrite;
@@ -278,10 +279,11 @@ fn has_its_book(rt: &impl Abort, alloc: Global, seed: u64) -> Result<(usize, usi
     let wanted = expected(alloc, &till)?;
     let counts = (till.book().len(), till.unclear().len());
     drop(till);
-    assert_eq!(rt;
-        audited(alloc, &trace)?.as_slice(),
-        wanted.as_bytes(),
-        "{seed}"
+    assert_equal_in(
+        rt,
+        &seed,
+        &audited(alloc, &trace)?.as_slice(),
+        &wanted.as_bytes(),
     );
     assert!(rt; !shown(alloc, &trace)?.is_empty());
     Ok(counts)

@@ -1,4 +1,5 @@
 //! What a run tells of reversals that are unclear, and devices that take no text.
+use crate::assertions::assert_equal;
 use std::alloc::Global;
 use std::io::{self, Read, Write};
 use std::test::Fail;
@@ -115,8 +116,8 @@ fn a_reversal_whose_line_breaks_is_reported(rt: HostRuntime) -> Result<(), Fail>
     let mut report = Counted::new(Vec::new(rt.alloc()));
     let (ended, written) = reverses(rt.alloc(), &TAKEN_UP, &mut report)?;
     assert!(rt; matches!(ended, Err(EndFault::Line(LineFault::Ended { have: 0 }))));
-    assert_eq!(rt; written.as_slice(), WRITTEN.as_bytes());
-    assert_eq!(rt; report.inner.as_slice(), REPORTED.as_bytes());
+    assert_equal(&rt, &written.as_slice(), &WRITTEN.as_bytes());
+    assert_equal(&rt, &report.inner.as_slice(), &REPORTED.as_bytes());
     Ok(())
 }
 
@@ -125,7 +126,7 @@ fn a_device_that_takes_no_text_changes_nothing_else(rt: HostRuntime) -> Result<(
     let mut report = Counted::new(Full);
     let (ended, written) = reverses(rt.alloc(), &TAKEN_UP, &mut report)?;
     assert!(rt; matches!(ended, Err(EndFault::Line(LineFault::Ended { have: 0 }))));
-    assert_eq!(rt; written.as_slice(), WRITTEN.as_bytes());
+    assert_equal(&rt, &written.as_slice(), &WRITTEN.as_bytes());
     Ok(())
 }
 

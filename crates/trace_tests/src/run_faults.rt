@@ -1,4 +1,5 @@
 //! What is said of a run that ended early.
+use crate::assertions::assert_equal;
 use std::alloc::Global;
 use std::process::Abort;
 use std::test::Fail;
@@ -9,7 +10,7 @@ use zvt_stream::LineFault;
 /// The fault has the text beside it.
 fn says(rt: &impl Abort, alloc: Global, fault: &EndFault, wanted: &str) -> Result<(), Fail> {
     let text = fault.to_string(alloc)?;
-    assert_eq!(rt; text.as_str(), wanted);
+    assert_equal(rt, &text.as_str(), &wanted);
     Ok(())
 }
 

@@ -1,4 +1,5 @@
 //! Runs over TCP, over memory, and over devices that fail.
+use crate::assertions::assert_equal;
 use crate::reported_runs::Full;
 use std::alloc::{AllocError, Global};
 use std::io::{self, Read};
@@ -71,7 +72,7 @@ fn looped(rt: &HostRuntime, words: &[&str]) -> (Result<(), EndFault>, Vec<u8>) {
 fn wrote(rt: &impl Abort, run: (Result<(), EndFault>, Vec<u8>), text: &str) -> Result<(), Fail> {
     let (ended, written) = run;
     ended?;
-    assert_eq!(rt; written.as_slice(), text.as_bytes());
+    assert_equal(rt, &written.as_slice(), &text.as_bytes());
     Ok(())
 }
 
@@ -120,7 +121,7 @@ fn breaks(
 ) -> Result<(), Fail> {
     let (ended, written) = registers_and_pays(alloc, coming)?;
     assert!(rt; matches!(&ended, Err(EndFault::Line(found)) if *found == fault));
-    assert_eq!(rt; written.as_slice(), text.as_bytes());
+    assert_equal(rt, &written.as_slice(), &text.as_bytes());
     Ok(())
 }
 
@@ -207,8 +208,8 @@ fn ends_that_never_rest(rt: HostRuntime) -> Result<(), Fail> {
     let (ended, written, till_sent, terminal_sent) = registers_endlessly(rt.alloc())?;
     assert!(rt; matches!(ended, Err(EndFault::Line(LineFault::Turns))));
     let text = "register -> unclear Line\ntotal 0\n";
-    assert_eq!(rt; written.as_slice(), text.as_bytes());
-    assert_eq!(rt; (till_sent, terminal_sent), (9 + 3 * 1000, 3 * 1000));
+    assert_equal(&rt, &written.as_slice(), &text.as_bytes());
+    assert_equal(&rt, &(till_sent, terminal_sent), &(9 + 3 * 1000, 3 * 1000));
     Ok(())
 }
 
@@ -240,7 +241,7 @@ fn a_terminal_serves_its_line(rt: HostRuntime) {
     ];
     let (ended, written) = serves(rt.alloc(), dialogue.as_slice());
     assert!(rt; ended.is_ok());
-    assert_eq!(rt; written.as_slice(), answers.as_slice());
+    assert_equal(&rt, &written.as_slice(), &answers.as_slice());
 }
 
 #[test]
@@ -351,9 +352,9 @@ fn a_line_is_recorded(rt: HostRuntime) -> Result<(), Fail> {
     let registration = [
         0x06, 0x00, 0x06, 0x12, 0x34, 0x56, 0x8A, 0x07, 0x52, 0x80, 0x00, 0x00,
     ];
-    assert_eq!(rt; sent.as_slice(), registration.as_slice());
+    assert_equal(&rt, &sent.as_slice(), &registration.as_slice());
     let written = "> 0600061234568A0752\n> 800000\n< 800000060F00\n";
-    assert_eq!(rt; trace.as_slice(), written.as_bytes());
+    assert_equal(&rt, &trace.as_slice(), &written.as_bytes());
     Ok(())
 }
 
@@ -377,7 +378,7 @@ fn reads_untraced(alloc: Global) -> Result<[Option<usize>; 2], AllocError> {
 
 #[test]
 fn a_trace_that_cannot_be_written(rt: HostRuntime) -> Result<(), Fail> {
-    assert_eq!(rt; sends_untraced(rt.alloc())?, (false, 0));
-    assert_eq!(rt; reads_untraced(rt.alloc())?, [Some(1), None]);
+    assert_equal(&rt, &sends_untraced(rt.alloc())?, &(false, 0));
+    assert_equal(&rt, &reads_untraced(rt.alloc())?, &[Some(1), None]);
     Ok(())
 }

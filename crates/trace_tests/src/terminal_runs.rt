@@ -1,4 +1,5 @@
 //! Runs of a terminal over TCP.
+use crate::assertions::assert_equal;
 use crate::runs::closed_port;
 use std::net::TcpListener;
 use std::test::Fail;
@@ -47,10 +48,10 @@ fn a_terminal_reports_where_it_listens(rt: HostRuntime) -> Result<(), Fail> {
     let (ended, words) = terminal_at(&rt, port, 0, Form::Text);
     ended?;
     let listens = format!(in rt.alloc(); "zvt: a terminal listens at 127.0.0.1:{port}\n")?;
-    assert_eq!(rt; words.as_slice(), listens.as_bytes());
+    assert_equal(&rt, &words.as_slice(), &listens.as_bytes());
     let (ended, objects) = terminal_at(&rt, port, 0, Form::Json);
     ended?;
     let listening = format!(in rt.alloc(); "{{\"listening\":\"127.0.0.1:{port}\"}}\n")?;
-    assert_eq!(rt; objects.as_slice(), listening.as_bytes());
+    assert_equal(&rt, &objects.as_slice(), &listening.as_bytes());
     Ok(())
 }
