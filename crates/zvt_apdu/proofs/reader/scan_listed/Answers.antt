@@ -1,4 +1,5 @@
 use Rattle.std.proofs.Common.{arith}
+use Rattle.std.proofs.lemmas.Grind.{common_steps}
 use Rattle.std.proofs.lemmas.List.{take_rest}
 use Rattle.zvt_grammar.specs.Lengths.{reading_of}
 use Rattle.zvt_apdu.specs.Judging.{head_size}
@@ -29,3 +30,9 @@ returns-in-More c =
 pub returns-in-Refused : goal.returns-in-Refused
 returns-in-Refused c =
     listed.fields_refused (reading_of c.args.lengths) c.args.bytes.now (moves.from c.args.opening.now.start c.args.bytes.now) (moves.from (head_size c.args.layout.now) (moves.from c.args.opening.now.start c.args.bytes.now)) c.args.opening.now c.args.layout.now c.in_ok-fields.field-0 c.in-Refused.place c.in-Refused.why c.requires.headed c.requires.kind (take_rest c.args.bytes.now c.args.opening.now.start) (take_rest (moves.from c.args.opening.now.start c.args.bytes.now) (head_size c.args.layout.now)) c.in-Refused.is c.in_ok-fields.ensures (moves.are_bytes c.args.bytes.now (λ i. omega (arith, c.type_inv.bytes i)))
+
+pub returns-in_err-fields : goal.returns-in_err-fields
+returns-in_err-fields c = grind (arith, common_steps)
+
+pub slice_bounds-fields_message-end : goal.slice_bounds-fields_message-end
+slice_bounds-fields_message-end c = grind (arith, common_steps)

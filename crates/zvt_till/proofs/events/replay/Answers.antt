@@ -1,4 +1,5 @@
-use Rattle.std.proofs.Common.{[], ◌∷◌, ◌++◌, take, ap, sym, ◌∙◌, add-one}
+use Rattle.std.proofs.Common.{[], ◌∷◌, ◌++◌, take, ap, sym, ◌∙◌, add-one, arith}
+use Rattle.std.proofs.lemmas.Grind.{common_steps}
 use Rattle.std.proofs.Math.Seq.{take-suc}
 use Rattle.zvt_till.specs.declared.events.Event.{Event}
 use Rattle.zvt_till.specs.Doubts.{unclear_reversals}
@@ -30,3 +31,6 @@ returns-clause-unclear c = ap (λ f. f.unclear) (tied-facts _ _ _ c.loop-event.i
 
 pub returns-clause-reversals : goal.returns-clause-reversals
 returns-clause-reversals c = ap (λ f. unclear_reversals f.book) (tied-facts _ _ _ c.loop-event.invariant.tied)
+
+pub returns-clause-log : goal.returns-clause-log
+returns-clause-log c = grind (arith, common_steps)

@@ -1,4 +1,5 @@
-use Rattle.std.proofs.Common.{◌≤◌, ◌^◌, rules, ◌+◌, [], ◌∷◌, ◌++◌, length, get_or, inl, ◌∙◌, ap, subst}
+use Rattle.std.proofs.Common.{◌≤◌, ◌^◌, rules, ◌+◌, [], ◌∷◌, ◌++◌, length, get_or, inl, ◌∙◌, ap, subst, arith}
+use Rattle.std.proofs.lemmas.Grind.{common_steps}
 use Rattle.zvt_journal.specs.Device.{Over, Torn, Swapped}
 use Rattle.zvt_journal.specs.Files.{HasFewAfter}
 use Rattle.zvt_journal.specs.Text.{recovered, IsWithOrWithout}
@@ -156,3 +157,12 @@ returns-clause-few_after g c =
     let gone_on = and_then g.D.Device.moment g.D.Device.left_since device c.write_synced.new.device c.set_synced.new.device HasFewAfter (Swapped gate (get_or entry 0 0) (g.D.Device.seen c.write_synced.new.device)) written c.set_synced.ensures.any_moment
     (λ file swapped. few_swapped text is gate s.at_gate entry c.requires.entry short file (subst (λ was. Swapped gate (get_or entry 0 0) was file) is_staged swapped)) in
     gone_on
+
+pub returns-in_err-following-clause-few_after : goal.returns-in_err-following-clause-few_after
+returns-in_err-following-clause-few_after g c = grind (arith, common_steps)
+
+pub write_synced-requires-clause-within : goal.write_synced-requires-clause-within
+write_synced-requires-clause-within g c = grind (arith, common_steps)
+
+pub set_synced-requires-clause-within : goal.set_synced-requires-clause-within
+set_synced-requires-clause-within g c = grind (arith, common_steps)

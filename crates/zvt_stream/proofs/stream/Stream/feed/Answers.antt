@@ -1,4 +1,5 @@
 use Rattle.std.proofs.Common.{◌+◌, ◌++◌, take, None, arith, sym, ◌∙◌, ap, subst}
+use Rattle.std.proofs.lemmas.Grind.{common_steps}
 use Rattle.zvt_grammar.specs.Reading.{Reading}
 use Rattle.zvt_stream.specs.Judge.{JudgeState, IsMessageIn, StandsFor}
 use Rattle.zvt_stream.specs.declared.judge.DecodeRun.TheVariants.{Ended, Refused}
@@ -36,3 +37,6 @@ returns-in-Refused-clause-fed c =
     let i = idle _ _ _ _ _ _ _ c.args.self.now c.give_up.new.self c.self.view_is c.give_up.ensures.keeps c.self.invariant in
     let told = ran_in c.args.self.now.reading c.again-judge.result c.self.inside.held.bytes c.args.piece.now (Refused c.in-Refused.at c.in-Refused.why) c.run.new.self (ap (λ (j : JudgeState). j.reading) c.again-judge.ensures ∙ i.alike) (c.in-Refused.ensures.judged c.self.inside.held.bytes (subst (λ (j : JudgeState). StandsFor j c.self.inside.held.bytes) (sym c.again-judge.ensures) i.stands)) in
     feeds_refused _ _ _ _ None 0 0 c.in-Refused.at _ c.in-Refused.why _ _ _ i told (ap (λ n. n + c.in-Refused.at) c.len.ensures) (ap (λ h. h.bytes) c.cut.ensures)
+
+pub returns-in-Refused-clause-count : goal.returns-in-Refused-clause-count
+returns-in-Refused-clause-count c = grind (arith, common_steps)
