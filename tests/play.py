@@ -237,6 +237,7 @@ def lines(folder):
     as_terminal("what comes besides, before a lost line", folder, answer + "#~ 400\n!\n", [REGISTRATION, heard], (1, "line 4: 10 bytes came before it that the trace does not have\n"), AUTHORISATION)
     as_terminal("a till that disconnects", folder, answer + "> 06 01\n", [REGISTRATION, heard, AUTHORISATION[:8]], (1, "line 3 awaits\n> a message that begins with 0601, 2 bytes of it are given\nbut the other side closed the connection after 3 bytes of a message\n"))
     as_terminal("no message", folder, answer + ">\n", [REGISTRATION, heard, "06 01 02 FF 00"], (1, "line 3 awaits\n> any message\nbut no message begins with what came: refused at 3: UnknownField\n"))
+    as_terminal("what comes after an own line may be its answer", folder, f"> 0600\n#~ 400\n< {REGISTERED}\n", [REGISTRATION], (0, ""), "80 00 00")
     as_terminal("silence", folder, "> 0600\n#~ silent\n< 80 00 00\n", [REGISTRATION, AUTHORISATION], (0, ""))
     as_terminal("a malformed own line", folder, "> 0600\n< 06 0F 01 FF 00\n", [REGISTRATION, "< 06 0F 01 FF 00"], (0, ""))
 

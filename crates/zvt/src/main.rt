@@ -7,7 +7,6 @@ ghost use Rattle.zvt_cli.specs.Chosen.{IsChoiceOf};
 
 mod book;
 mod check;
-mod difference;
 mod ends;
 mod finish;
 mod inputs;

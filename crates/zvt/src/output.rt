@@ -1,6 +1,7 @@
 //! Standard output and standard error, whose reader may disconnect.
-ghost use Rattle.std.specs.Prelude.{◌≡◌, None};
+ghost use Rattle.std.specs.Prelude.{◌≡◌, IfSome, IsSome, None, false};
 ghost use Rattle.std.specs.Io.{WritesAtMost};
+ghost use Rattle.zvt.specs.Output.{explained};
 
 use std::alloc::Global;
 use std::io::{self, ErrorKind, Write};
@@ -30,7 +31,9 @@ struct Labelling {
 impl<W: Drop> Output<W> {
     /// A writer whose reader is connected.
     pub fn new(inner: W) -> Output<W>
-        ensures { result.labelling ≡ None }
+        ensures inner { result.inner ≡ inner }
+        ensures plain { result.labelling ≡ None }
+        ensures connected { (result.broken_pipe ≡ false) × (result.out_of_memory ≡ false) }
     {
         Output {
             inner,
@@ -41,7 +44,11 @@ impl<W: Drop> Output<W> {
     }
 
     /// A writer whose lines begin with this label.
-    pub fn labelled(alloc: Global, inner: W, label: Label) -> Output<W> {
+    pub fn labelled(alloc: Global, inner: W, label: Label) -> Output<W>
+        ensures inner { result.inner ≡ inner }
+        ensures label { IfSome result.labelling (λ labelling. (labelling.label ≡ label) × (labelling.before ≡ 10)) × IsSome result.labelling }
+        ensures connected { (result.broken_pipe ≡ false) × (result.out_of_memory ≡ false) }
+    {
         let labelling = Labelling {
             label,
             text: Text::new(alloc),
@@ -58,7 +65,9 @@ impl<W: Drop> Output<W> {
 
 impl<W> Output<W> {
     /// The answer of a command that wrote here, where a write that failed since memory was refused counts as that.
-    pub fn explained<T: Drop>(&self, answer: Result<T, TraceFault>) -> Result<T, TraceFault> {
+    pub fn explained<T: Drop>(&self, answer: Result<T, TraceFault>) -> Result<T, TraceFault>
+        ensures { result ≡ explained self.now.out_of_memory answer }
+    {
         match answer {
             Err(TraceFault::Write) if self.out_of_memory => Err(TraceFault::Memory),
             answer => answer,

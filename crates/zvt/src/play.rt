@@ -1,6 +1,5 @@
 //! One side of a trace, played against a real other side.
 
-use crate::difference::{more_came, text_of};
 use crate::finish::{finish_run, finish_trace};
 use crate::inputs::opened;
 use std::alloc::AllocError;
@@ -8,7 +7,10 @@ use std::io::{self, Read, Write};
 use std::net::TcpStream;
 use std::time::Duration;
 use zvt_io::Counted;
-use zvt_play::{Action, Difference, ScriptFault, ScriptStep, Unplayed, script, stay_silent};
+use zvt_play::{
+    Action, Difference, ScriptFault, ScriptStep, Unplayed, difference_text, script, stay_silent,
+    surplus_text,
+};
 use zvt_stream::{Endpoint, Stream};
 use zvt_tcp::{Door, connect, listen};
 use zvt_text::Text;
@@ -218,29 +220,47 @@ fn play_line<'s>(
         stream,
     };
     match zvt_play::play(rt, &mut end, steps) {
-        Ok(count) => end_line(rt, connection, &mut end, &steps[count.min(steps.len())..]),
+        Ok(count) => {
+            let (played, after) = steps.split_at(count.min(steps.len()));
+            end_line(rt, connection, &mut end, played, after)
+        }
         Err(unplayed) => Ok(Err(differ(rt, &end, own, steps, unplayed)?)),
     }
 }
 
-/// Ends a connection before these steps, and answers those after it.
+/// Ends a connection between the steps that were played and those after, and answers what is left of these.
+///
+/// What comes after an own line may be the answer to it, and is no difference.
 fn end_line<'s>(
     rt: &HostRuntime,
     connection: &TcpStream,
     end: &mut LineEnd<'_>,
-    steps: &'s [ScriptStep],
+    played: &[ScriptStep],
+    after: &'s [ScriptStep],
 ) -> io::Result<Result<&'s [ScriptStep], Played>> {
-    if is_silence(steps) {
+    if is_silence(after) {
         let _ = connection.set_read_timeout(Some(Duration::from_secs(SILENCE_SECONDS)));
         stay_silent(&mut end.reader);
-        return Ok(Ok(after_break(steps)));
+        return Ok(Ok(after_break(after)));
     }
-    let count = waiting(connection);
+    let count = if ends_with_own_line(played) {
+        0
+    } else {
+        waiting(connection)
+    };
     if count > 0 {
-        let text = more_came(rt.alloc(), steps.first(), count);
+        let text = surplus_text(rt.alloc(), after.first(), count);
         return Ok(Err(differing(rt, text)?));
     }
-    Ok(Ok(after_break(steps)))
+    Ok(Ok(after_break(after)))
+}
+
+/// Whether the last of these steps sent bytes.
+fn ends_with_own_line(played: &[ScriptStep]) -> bool {
+    match played.last() {
+        Some(step) => matches!(step.action, Action::Send(_)),
+        None => false,
+    }
 }
 
 /// Whether the first step is silence.
@@ -293,7 +313,7 @@ fn differ(
         )?;
         return Ok(Played::Ended(DEVICE));
     }
-    let text = text_of(
+    let text = difference_text(
         rt.alloc(),
         own,
         step,

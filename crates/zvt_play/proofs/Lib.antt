@@ -5,4 +5,5 @@ pub mod ScriptLemmas
 pub mod Numbers
 mod Rows
 pub mod CheckLemmas
+mod TextLemmas
 pub mod UnheardLemmas

@@ -1,10 +1,15 @@
 -- Rows worked by hand.
-use Rattle.std.proofs.Common.{◌≡◌, [], ◌∷◌, Ok, Err, Some, None, length, refl, ap, arith}
+use Rattle.std.proofs.Common.{◌≡◌, [], ◌∷◌, Bor, Ok, Err, Option, Some, None, length, refl, ap, arith}
 use Rattle.std.specs.Prelude.{codes}
-use Rattle.hex.specs.Hex.{decode_pairs}
+use Rattle.std.specs.Fmt.{digits}
+use Rattle.hex.specs.Hex.{decode_pairs, encode_with}
 use Rattle.zvt_trace.specs.declared.direction.Direction.TheVariants.{FromTill, FromTerminal}
+use Rattle.zvt_grammar.specs.declared.why.Why.TheVariants.{UnknownField}
+use Rattle.zvt_apdu.specs.Message.{Message}
+use Rattle.zvt_play.specs.DifferenceTexts.{SaysWanted, beginning_text, cause_text, surplus}
 use Rattle.zvt_play.specs.Playing.{Meets}
 use Rattle.zvt_play.specs.Script.{LineSays, break, comment_says, send, silence, wait}
+use Rattle.zvt_play.specs.declared.difference.Difference.TheVariants.{Closed, Malformed}
 use Rattle.zvt_play.specs.declared.line.ScriptLineError.TheVariants.{Mark}
 
 -- ---- marks
@@ -64,3 +69,24 @@ too_few m = cc (m.1)
 -- a message more than the line has
 pub too_many : Meets (0x80 ∷ 0x00 ∷ 0x00 ∷ []) ((0x80 ∷ 0x00 ∷ 0x00 ∷ []) ∷ (0x80 ∷ 0x00 ∷ 0x00 ∷ []) ∷ []) → ⊥
 too_many m = omega (arith, m.2, ap length m.1)
+
+-- ---- what is said of a difference
+
+pub more_at_the_end : surplus None 3 ≡ codes "the end of the trace: 3 bytes came before it that the trace does not have\n"
+unfolding digits
+more_at_the_end = refl
+
+pub a_refused_message : (came : Option (Bor Message)) → cause_text FromTerminal (Malformed 12 UnknownField) came ≡ codes "but no message begins with what came: refused at 12: UnknownField\n"
+unfolding digits
+a_refused_message came = refl
+
+pub a_close : (came : Option (Bor Message)) → cause_text FromTill (Closed 0) came ≡ codes "but the other side closed the connection after 0 bytes of a message\n"
+unfolding digits
+a_close came = refl
+
+pub any_wanted : SaysWanted [] (codes "any message\n")
+any_wanted = refl
+
+pub two_of_three : beginning_text (6 ∷ 1 ∷ 7 ∷ []) ≡ codes "a message that begins with 0601, 3 bytes of it are given\n"
+unfolding digits encode_with
+two_of_three = refl

@@ -1,3 +1,4 @@
+pub mod DifferenceTexts
 pub mod Script
 pub mod Playing
 pub mod Unheard

@@ -3,7 +3,7 @@
 use zvt_grammar::Why;
 
 /// Why a step could not be played.
-#[derive(Clone, Copy, Debug, Drop, PartialEq, Eq)]
+#[derive(Clone, Copy, Drop, PartialEq, Eq)]
 pub enum Difference {
     /// Another message came, which the stream lends. Before it came the first `at` bytes of the step.
     Other { at: usize },
@@ -22,7 +22,7 @@ pub enum Difference {
 
 /// The first step that could not be played, counted from 0, and why. All steps before it were played. The end of the script
 /// counts as a step.
-#[derive(Clone, Copy, Debug, Drop, PartialEq, Eq)]
+#[derive(Clone, Copy, Drop)]
 pub struct Unplayed {
     pub step: usize,
     pub why: Difference,

@@ -12,6 +12,7 @@ mod player;
 mod scripts;
 mod silence;
 mod step;
+mod texts;
 mod unheard;
 
 pub use difference::{Difference, Unplayed};
@@ -20,3 +21,4 @@ pub use player::play;
 pub use scripts::{ScriptFault, script};
 pub use silence::stay_silent;
 pub use step::{Action, ScriptStep};
+pub use texts::{difference_text, surplus_text};

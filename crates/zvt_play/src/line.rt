@@ -31,7 +31,7 @@ pub enum ScriptLineError {
 }
 
 /// Why a line is not read.
-#[derive(Clone, Copy, Debug, PartialEq, Eq)]
+#[derive(Clone, Copy)]
 pub(crate) enum BadLine {
     Wrong(ScriptLineError),
     Memory,

@@ -1,0 +1,206 @@
+//! What is said of a step that could not be played.
+ghost use Rattle.std.specs.Prelude.{◌≡◌, ◌++◌, ℕ, List, codes, IfOk, OnOk};
+ghost use Rattle.zvt_trace.specs.Emitting.{other};
+ghost use Rattle.zvt_trace.specs.Lines.{direction_text};
+ghost use Rattle.zvt_play.specs.DifferenceTexts.{SaysAwaited, SaysDifference, SaysWanted, beginning_text, came_text, cause_text, heard_before, place_text, surplus};
+
+use crate::difference::Difference;
+use crate::step::{Action, ScriptStep};
+use std::alloc::{AllocError, Global};
+use zvt_apdu::ApduView;
+use zvt_stream::Stream;
+use zvt_text::{Text, hexadecimal, message};
+use zvt_trace::Direction;
+
+/// What is said of a step that could not be played, or of the end: the message that is awaited, and the one that came, if
+/// one did. Of a surplus it is what [`surplus_text`] answers.
+pub fn difference_text(
+    alloc: Global,
+    own: Direction,
+    step: Option<&ScriptStep>,
+    why: Difference,
+    came: Option<&ApduView<'_>>,
+) -> Result<Text, AllocError>
+    ensures { IfOk result (SaysDifference own step.entry why came.entry) }
+{
+    if let Difference::Surplus { count } = why {
+        return surplus_text(alloc, step, count);
+    }
+    let mut text = Text::new(alloc);
+    add_place(&mut text, step)?;
+    add_other(&mut text, alloc, other_side(own), step, why, came)?;
+    Ok(text)
+}
+
+/// What is said where so many bytes more came than the trace has before this step, or before its end.
+pub fn surplus_text(
+    alloc: Global,
+    step: Option<&ScriptStep>,
+    count: usize,
+) -> Result<Text, AllocError>
+    ensures { IfOk result (λ text. text ≡ surplus step.entry count) }
+{
+    let mut text = Text::new(alloc);
+    add_place(&mut text, step)?;
+    text.word(b": ")?;
+    text.number(count)?;
+    text.word(b" bytes came before it that the trace does not have\n")?;
+    Ok(text)
+}
+
+/// The side that is not played.
+fn other_side(own: Direction) -> Direction
+    ensures { result ≡ other own }
+{
+    match own {
+        Direction::FromTill => Direction::FromTerminal,
+        Direction::FromTerminal => Direction::FromTill,
+    }
+}
+
+/// Adds where in the trace a step is.
+fn add_place(text: &mut Text, step: Option<&ScriptStep>) -> Result<(), AllocError>
+    ensures { OnOk result (text.new ≡ text.old ++ place_text step.entry) }
+{
+    match step {
+        None => text.word(b"the end of the trace"),
+        Some(step) => {
+            text.word(b"line ")?;
+            text.number(step.line)
+        }
+    }
+}
+
+/// Adds what is awaited of this side, and what came in place of that.
+fn add_other(
+    text: &mut Text,
+    alloc: Global,
+    from: Direction,
+    step: Option<&ScriptStep>,
+    why: Difference,
+    came: Option<&ApduView<'_>>,
+) -> Result<(), AllocError>
+    ensures { OnOk result ((awaited : List ℕ) × SaysAwaited step.entry why awaited × (text.new ≡ text.old ++ codes " awaits\n" ++ direction_text from ++ codes " " ++ awaited ++ cause_text from why came.entry)) }
+{
+    text.word(b" awaits\n")?;
+    add_sign(text, from)?;
+    add_awaited(text, alloc, step, why)?;
+    add_cause(text, from, why, came)
+}
+
+/// Adds the sign of a side, and a space.
+fn add_sign(text: &mut Text, from: Direction) -> Result<(), AllocError>
+    ensures { OnOk result (text.new ≡ text.old ++ (direction_text from ++ codes " ")) }
+{
+    text.word(from.sign().as_bytes())?;
+    text.push(b' ')
+}
+
+/// Adds the message that is awaited.
+fn add_awaited(
+    text: &mut Text,
+    alloc: Global,
+    step: Option<&ScriptStep>,
+    why: Difference,
+) -> Result<(), AllocError>
+    ensures { OnOk result ((awaited : List ℕ) × SaysAwaited step.entry why awaited × (text.new ≡ text.old ++ awaited)) }
+{
+    match step {
+        Some(
+            ScriptStep {
+                action: Action::Await(bytes),
+                ..
+            },
+        ) => {
+            let before = heard_before(why).min(bytes.len());
+            add_wanted(text, alloc, &bytes[before..])
+        }
+        _ => text.word(b"nothing\n"),
+    }
+}
+
+/// How many bytes of a step came before a difference.
+fn heard_before(why: Difference) -> usize
+    ensures { result ≡ heard_before why }
+{
+    match why {
+        Difference::Other { at } => at,
+        _ => 0,
+    }
+}
+
+/// Adds the first message of these bytes, or what begins it.
+fn add_wanted(text: &mut Text, alloc: Global, wanted: &[u8]) -> Result<(), AllocError>
+    ensures { OnOk result ((first : List ℕ) × SaysWanted wanted.now first × (text.new ≡ text.old ++ first)) }
+{
+    if wanted.is_empty() {
+        return text.word(b"any message\n");
+    }
+    let mut stream = Stream::new(alloc);
+    let Ok(_fed) = stream.feed_view(wanted) else {
+        return Err(AllocError);
+    };
+    match stream.lent() {
+        Some(apdu) => message(text, b"", &apdu),
+        None => add_beginning(text, wanted),
+    }
+}
+
+/// Adds the first two of these bytes, and how many they are.
+fn add_beginning(text: &mut Text, wanted: &[u8]) -> Result<(), AllocError>
+    ensures { OnOk result (text.new ≡ text.old ++ beginning_text wanted.now) }
+{
+    text.word(b"a message that begins with ")?;
+    hexadecimal(text, &wanted[..wanted.len().min(2)])?;
+    text.word(b", ")?;
+    text.number(wanted.len())?;
+    text.word(b" bytes of it are given\n")
+}
+
+/// Adds what came, or why nothing did.
+fn add_cause(
+    text: &mut Text,
+    from: Direction,
+    why: Difference,
+    came: Option<&ApduView<'_>>,
+) -> Result<(), AllocError>
+    ensures { OnOk result (text.new ≡ text.old ++ cause_text from why came.entry) }
+{
+    match why {
+        Difference::Other { .. } => {
+            text.word(b"but another message came\n")?;
+            add_came(text, from, came)
+        }
+        Difference::Closed { have } => {
+            text.word(b"but the other side closed the connection after ")?;
+            text.number(have)?;
+            text.word(b" bytes of a message\n")
+        }
+        Difference::Malformed { place, why } => {
+            text.word(b"but no message begins with what came: refused at ")?;
+            text.number(place)?;
+            text.word(b": ")?;
+            text.word(why.name().as_bytes())?;
+            text.push(b'\n')
+        }
+        Difference::Read => {
+            text.word(
+                b"but nothing came: the other side was silent for too long, or the connection failed\n",
+            )
+        }
+        Difference::Surplus { .. } | Difference::Write => Ok(()),
+    }
+}
+
+/// Adds the message that came.
+fn add_came(text: &mut Text, from: Direction, came: Option<&ApduView<'_>>) -> Result<(), AllocError>
+    ensures { OnOk result (text.new ≡ text.old ++ came_text from came.entry) }
+{
+    match came {
+        None => Ok(()),
+        Some(apdu) => {
+            add_sign(text, from)?;
+            message(text, b"", apdu)
+        }
+    }
+}
