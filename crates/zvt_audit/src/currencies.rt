@@ -6,7 +6,7 @@ ghost use Rattle.zvt_audit.specs.declared.currencies.NamedCurrency.TheVariants.{
 use zvt_bcd::Currency;
 
 /// What the registrations of the till say of their currency.
-#[derive(Clone, Copy, Debug, PartialEq, Eq)]
+#[derive(Clone, Copy)]
 pub(crate) enum NamedCurrency {
     /// None names a currency.
     Absent,

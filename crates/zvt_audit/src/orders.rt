@@ -7,7 +7,7 @@ use zvt_apdu::{ApduView, Kind};
 use zvt_trace::Direction;
 
 /// The sides that have sent a till's order.
-#[derive(Clone, Copy, Debug, PartialEq, Eq)]
+#[derive(Clone, Copy)]
 pub(crate) struct Orders {
     pub(crate) till: bool,
     pub(crate) terminal: bool,

@@ -8,7 +8,7 @@ use thiserror::Error;
 /// A command of the program, with what was given to it.
 ///
 /// Steps, hosts, codes, settings and files are the arguments as they were given. Their users check the form.
-#[derive(Debug, Drop)]
+#[derive(Drop)]
 pub enum Choice<'a> {
     /// Also where no command is given.
     Show(TraceOptions<'a>),
@@ -41,7 +41,7 @@ pub enum Choice<'a> {
 }
 
 /// The files and the options of a command on traces. A flag that the command doesn't have is not set.
-#[derive(Debug, Drop)]
+#[derive(Drop)]
 pub struct TraceOptions<'a> {
     /// The traces, in order: standard input where none is named, and for `-`.
     pub files: Vec<&'a str>,
@@ -58,7 +58,7 @@ pub struct TraceOptions<'a> {
 }
 
 /// The options and the steps of `till`.
-#[derive(Debug, Drop)]
+#[derive(Drop)]
 pub struct TillOptions<'a> {
     pub port: u16,
     /// The host is 127.0.0.1 unless one is given.
@@ -76,7 +76,7 @@ pub struct TillOptions<'a> {
 }
 
 /// The options of `terminal`.
-#[derive(Clone, Copy, Debug)]
+#[derive(Clone, Copy)]
 pub struct TerminalOptions<'a> {
     pub port: u16,
     /// The host is 127.0.0.1 unless one is given.
@@ -94,7 +94,7 @@ pub struct TerminalOptions<'a> {
 }
 
 /// The options of `tap`.
-#[derive(Clone, Copy, Debug)]
+#[derive(Clone, Copy)]
 pub struct TapOptions<'a> {
     /// Where the till connects: `[HOST:]PORT`.
     pub listen: &'a str,
@@ -108,7 +108,7 @@ pub struct TapOptions<'a> {
 }
 
 /// The options of `play`. The program takes one of `till` and `terminal`, and one of `port` and `listen`.
-#[derive(Clone, Copy, Debug)]
+#[derive(Clone, Copy)]
 pub struct PlayOptions<'a> {
     /// A trace of which the till's side is played.
     pub till: Option<&'a str>,
@@ -123,7 +123,7 @@ pub struct PlayOptions<'a> {
 }
 
 /// The options of `check-till` and `check-terminal`.
-#[derive(Debug, Drop)]
+#[derive(Drop)]
 pub struct CheckOptions<'a> {
     /// Where the till connects, or where the terminal listens.
     pub port: u16,

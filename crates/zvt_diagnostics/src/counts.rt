@@ -10,7 +10,7 @@ use zvt_text::Text;
 use zvt_trace::TraceEvent;
 
 /// How many messages came, and how many streams were refused and cut off.
-#[derive(Clone, Copy, Debug, PartialEq, Eq)]
+#[derive(Clone, Copy)]
 pub(crate) struct Counts {
     messages: u64,
     refused: u64,

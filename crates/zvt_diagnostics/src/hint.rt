@@ -7,7 +7,7 @@ use std::fmt;
 use zvt_trace::next_line;
 
 /// Why a line of a trace can't be read.
-#[derive(Clone, Copy, Debug, PartialEq, Eq)]
+#[derive(Clone, Copy)]
 pub enum Hint {
     /// The trace is a capture.
     Capture,
@@ -26,7 +26,7 @@ pub enum Hint {
 }
 
 /// What a character that can't be in a line may be there for.
-#[derive(Clone, Copy, Debug, PartialEq, Eq)]
+#[derive(Clone, Copy)]
 pub enum Reason {
     /// A tab.
     Tab,

@@ -11,7 +11,7 @@ use zvt_text::Text;
 use zvt_trace::{Direction, Scope};
 
 /// How many lines of a trace were not read, and the last of them.
-#[derive(Clone, Copy, Debug, PartialEq, Eq)]
+#[derive(Clone, Copy)]
 pub(crate) struct Unread {
     pub(crate) count: u64,
     pub(crate) last: u64,
@@ -77,7 +77,7 @@ fn put_mark(text: &mut Text, scope: Scope, side: Direction) -> Result<(), AllocE
 }
 
 /// What is not read of either side. Where a refusal leaves the whole line unread, all is counted in one.
-#[derive(Clone, Copy, Debug, PartialEq, Eq)]
+#[derive(Clone, Copy)]
 pub(crate) struct SkippedLines {
     till: Unread,
     terminal: Unread,

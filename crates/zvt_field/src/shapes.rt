@@ -2,7 +2,7 @@
 
 /// What comes after a BMP: that many bytes, that many bytes of digits, bytes after a length of two or three
 /// digits, or objects after their own length (PA00P015, the list of bitmaps).
-#[derive(Clone, Copy, Debug, PartialEq, Eq)]
+#[derive(Clone, Copy)]
 pub enum Shape {
     Fixed(usize),
     Digits(usize),

@@ -13,7 +13,7 @@ use crate::views::{FieldView, FieldsView};
 use zvt_bcd::{Amount, Currency, Trace};
 
 /// What fields say that count only where their BMP appears exactly once.
-#[derive(Clone, Copy, Debug, PartialEq, Eq)]
+#[derive(Clone, Copy)]
 pub struct Single {
     /// BMP 27.
     pub result: Option<u8>,

@@ -17,7 +17,7 @@ use zvt_text::kind_name;
 use zvt_trace::Direction;
 
 /// Who sent a message, at which line of the trace it ends, and its size with the shortest lengths.
-#[derive(Clone, Copy, Debug, Drop)]
+#[derive(Clone, Copy, Drop)]
 pub(crate) struct Origin {
     pub from: Direction,
     pub line: u64,

@@ -10,7 +10,7 @@ use zvt_term::Verdict;
 use zvt_till::Order;
 
 /// Which ends of a line a run works.
-#[derive(Clone, Copy, Debug, PartialEq, Eq)]
+#[derive(Clone, Copy)]
 pub enum Ends {
     /// The till's and the terminal's.
     Both,
@@ -19,7 +19,7 @@ pub enum Ends {
 }
 
 /// One step of a run.
-#[derive(Clone, Copy, Debug, PartialEq, Eq)]
+#[derive(Clone, Copy)]
 pub enum Step {
     /// The till registers on its line.
     Register,

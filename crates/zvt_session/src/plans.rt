@@ -9,7 +9,7 @@ use std::alloc::{AllocError, Global};
 use zvt_json::Form;
 
 /// A step, and the word that names it.
-#[derive(Debug, Drop, PartialEq, Eq)]
+#[derive(Drop)]
 pub struct Planned {
     pub word: String,
     pub step: Step,

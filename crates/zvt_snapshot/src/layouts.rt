@@ -3,7 +3,7 @@ ghost use Rattle.std.specs.Prelude.{◌≡◌, ℕ, Some, slice_get};
 ghost use Rattle.zvt_snapshot.specs.Encoded.{entry_size, version};
 
 /// How a till lies in its bytes.
-#[derive(Clone, Copy, Debug, PartialEq, Eq)]
+#[derive(Clone, Copy)]
 pub enum Layout {
     /// A row of the book has 13 bytes, and no doubt.
     First,

@@ -41,7 +41,7 @@ impl Steps {
 }
 
 /// What a judged byte leaves.
-#[derive(Clone, Copy, Debug, PartialEq, Eq)]
+#[derive(Clone, Copy)]
 pub enum Judged {
     /// The bytes begin a message and hold none.
     Open,
@@ -50,7 +50,7 @@ pub enum Judged {
 }
 
 /// What judged bytes leave.
-#[derive(Clone, Copy, Debug, PartialEq, Eq)]
+#[derive(Clone, Copy)]
 pub enum DecodeRun {
     /// All were judged, and they begin a message and hold none.
     Open,

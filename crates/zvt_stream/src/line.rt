@@ -105,7 +105,7 @@ pub trait Machine {
 }
 
 /// Where a run of the line ends.
-#[derive(Clone, Copy, Debug, Drop, PartialEq, Eq)]
+#[derive(Clone, Copy, Drop)]
 pub enum Until {
     /// The machine rests.
     Rest,

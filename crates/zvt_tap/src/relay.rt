@@ -111,7 +111,7 @@ pub fn run_relay<L: Readiness, R: Source, W: Sink, K: Observer>(
 }
 
 /// Which sides have come to their end.
-#[derive(Clone, Copy, Debug, PartialEq, Eq)]
+#[derive(Clone, Copy)]
 struct Ended {
     till: bool,
     terminal: bool,

@@ -3,7 +3,7 @@ use zvt_bcd::{Amount, Currency};
 use zvt_till::CurrencyFact;
 
 /// What a message of the till asks of the terminal.
-#[derive(Clone, Copy, Debug, PartialEq, Eq)]
+#[derive(Clone, Copy)]
 pub enum Asked {
     /// 06 00, with the currency that it names, if it names one.
     Registration(Option<Currency>),
@@ -22,7 +22,7 @@ pub enum Asked {
 }
 
 /// What the terminal prints.
-#[derive(Clone, Copy, Debug, PartialEq, Eq)]
+#[derive(Clone, Copy)]
 pub enum Line {
     /// `APPROVED` and the amount, in the currency's smallest unit.
     Approved(Amount),
@@ -33,7 +33,7 @@ pub enum Line {
 }
 
 /// A message of the terminal, by the few values that it is made of. Its control bytes are given in hexadecimal.
-#[derive(Clone, Copy, Debug, PartialEq, Eq)]
+#[derive(Clone, Copy)]
 pub enum Report {
     /// 80 00: the till's message was taken.
     Ack,
@@ -70,7 +70,7 @@ pub enum Report {
 }
 
 /// What the terminal answers to one message.
-#[derive(Clone, Copy, Debug, PartialEq, Eq)]
+#[derive(Clone, Copy)]
 pub enum Response {
     Nothing,
     One(Report),

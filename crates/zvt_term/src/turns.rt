@@ -4,7 +4,7 @@ use crate::messages::{Line, Response};
 use zvt_bcd::Currency;
 
 /// What the terminal decides of an authorisation.
-#[derive(Clone, Copy, Debug, PartialEq, Eq)]
+#[derive(Clone, Copy)]
 pub enum Verdict {
     Approve,
     /// It declines with this result code.
@@ -12,7 +12,7 @@ pub enum Verdict {
 }
 
 /// Where the terminal is in an order. It goes on with each answer of the till.
-#[derive(Clone, Copy, Debug, PartialEq, Eq)]
+#[derive(Clone, Copy)]
 pub enum Phase {
     /// No order runs.
     Idle,
@@ -27,7 +27,7 @@ pub enum Phase {
 }
 
 /// What one message makes of the terminal, and what it answers.
-#[derive(Clone, Copy, Debug, PartialEq, Eq)]
+#[derive(Clone, Copy)]
 pub(crate) struct Turn {
     pub registered: bool,
     /// The currency that it keeps.

@@ -22,7 +22,7 @@ use zvt_till::{Order, OrderRefusal, Outgoing, Till};
 
 /// What happens to the two ends. A delivery names a message by its number among all that the other end ever sent,
 /// counted from 0: it may come late, again, or never.
-#[derive(Clone, Copy, Debug, PartialEq, Eq)]
+#[derive(Clone, Copy)]
 pub enum Move {
     /// The till has a line.
     Connect,

@@ -38,7 +38,7 @@ pub struct Books {
 }
 
 /// A payment without an end so far: whether a positive answer came, and what its statuses say.
-#[derive(Clone, Copy, Debug, PartialEq, Eq)]
+#[derive(Clone, Copy)]
 pub struct OpenPayment {
     pub amount: Amount,
     /// The currency in force as it was sent, if one was.

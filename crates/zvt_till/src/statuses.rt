@@ -13,7 +13,7 @@ use crate::outcomes::Cause;
 use zvt_bcd::{Amount, Currency, Trace};
 
 /// What a status has to name as charged: it may leave out the currency.
-#[derive(Clone, Copy, Debug, PartialEq, Eq)]
+#[derive(Clone, Copy)]
 pub struct Charge {
     pub amount: Amount,
     /// The currency in force, if one is.
@@ -33,7 +33,7 @@ impl Charge {
 }
 
 /// What the statuses of an order are measured against.
-#[derive(Clone, Copy, Debug, PartialEq, Eq)]
+#[derive(Clone, Copy)]
 pub enum Demand {
     Payment(Charge),
     Reversal(Charge, Trace),
@@ -41,7 +41,7 @@ pub enum Demand {
 }
 
 /// What one status says under an order. Good has a trace number for payments alone.
-#[derive(Clone, Copy, Debug, PartialEq, Eq)]
+#[derive(Clone, Copy)]
 pub enum Class {
     Good(Option<Trace>),
     Declining(u8),
@@ -50,7 +50,7 @@ pub enum Class {
 
 /// What the statuses of the running order say together: with the first receipt where all are good, the
 /// first code where all decline, and what the first that did not agree is blamed for.
-#[derive(Clone, Copy, Debug, PartialEq, Eq)]
+#[derive(Clone, Copy)]
 pub enum Statuses {
     Nothing,
     Good(Option<Trace>, Option<[u8; 2]>),
@@ -59,7 +59,7 @@ pub enum Statuses {
 }
 
 /// The order that runs: whether a positive answer came, and what its statuses say so far.
-#[derive(Clone, Copy, Debug, PartialEq, Eq)]
+#[derive(Clone, Copy)]
 pub struct Running {
     pub order: Order,
     pub positive: bool,

@@ -9,7 +9,7 @@ ghost use Rattle.zvt_grammar.specs.Lengths.{reading_of};
 use zvt_grammar::{Lengths, Why};
 
 /// Which byte of a tag comes next.
-#[derive(Clone, Copy, Debug, PartialEq, Eq)]
+#[derive(Clone, Copy)]
 pub enum TagAt {
     First,
     Second { constructed: bool },
@@ -17,7 +17,7 @@ pub enum TagAt {
 }
 
 /// What comes after a byte of a tag.
-#[derive(Clone, Copy, Debug, PartialEq, Eq)]
+#[derive(Clone, Copy)]
 pub enum TagNext {
     /// Another byte of the tag.
     More(TagAt),
@@ -26,7 +26,7 @@ pub enum TagNext {
 }
 
 /// Which byte of a length comes next.
-#[derive(Clone, Copy, Debug, PartialEq, Eq)]
+#[derive(Clone, Copy)]
 pub enum LengthAt {
     First,
     After81,
@@ -35,7 +35,7 @@ pub enum LengthAt {
 }
 
 /// What comes after a byte of a length.
-#[derive(Clone, Copy, Debug, PartialEq, Eq)]
+#[derive(Clone, Copy)]
 pub enum LengthNext {
     /// Another byte of the length.
     More(LengthAt),

@@ -21,7 +21,7 @@ use zvt_grammar::Lengths;
 const MOST: u64 = 1 << 62;
 
 /// How the lines of a trace are read.
-#[derive(Clone, Copy, Debug, PartialEq, Eq)]
+#[derive(Clone, Copy, PartialEq, Eq)]
 enum Form {
     /// All lines are read.
     Plain,

@@ -6,7 +6,7 @@ use zvt_grammar::{Lengths, Why};
 use zvt_stream::Head;
 
 /// Where a message can't go on, and why.
-#[derive(Clone, Copy, Debug, PartialEq, Eq)]
+#[derive(Clone, Copy)]
 pub struct Refusal {
     /// The control bytes of the message, as far as they have come.
     pub head: Head,

@@ -23,7 +23,7 @@ pub(crate) struct Piece<'a> {
 }
 
 /// The events of some bytes: their tally, and whether there is any.
-#[derive(Clone, Copy, Debug, PartialEq, Eq)]
+#[derive(Clone, Copy)]
 pub(crate) struct Heard {
     pub(crate) tally: Tally,
     pub(crate) any: bool,
@@ -93,7 +93,7 @@ struct Next<'b> {
 }
 
 /// The result of a piece: its tally, and whether nothing more is read.
-#[derive(Clone, Copy, Debug, PartialEq, Eq)]
+#[derive(Clone, Copy)]
 pub(crate) struct Hearing {
     pub(crate) tally: Tally,
     pub(crate) stopped: bool,

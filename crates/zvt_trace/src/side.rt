@@ -58,7 +58,7 @@ impl Opening {
 }
 
 /// What is not read of a side.
-#[derive(Clone, Copy, Debug, PartialEq, Eq)]
+#[derive(Clone, Copy, PartialEq, Eq)]
 pub(crate) enum Skipped {
     /// All is read.
     Nothing,

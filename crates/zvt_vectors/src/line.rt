@@ -21,7 +21,7 @@ pub(crate) enum VectorLine<'a> {
 }
 
 /// Why a line has no meaning.
-#[derive(Clone, Copy, Debug, PartialEq, Eq)]
+#[derive(Clone, Copy)]
 pub(crate) enum BadLine {
     Wrong(TraceLineError),
     Memory,
