@@ -28,4 +28,11 @@ impl GhostCount {
     {
         GhostCount {}
     }
+
+    /// It happened so many times more.
+    pub fn plus(&self, _times: usize) -> GhostCount
+        ensures { result.count ≡ self.now.count + _times }
+    {
+        GhostCount {}
+    }
 }

@@ -17,3 +17,4 @@ pub mod JudgeLemmas
 pub mod WholeLemmas
 pub mod JudgedFeeds
 pub mod RunLemmas
+pub mod PassedContent
