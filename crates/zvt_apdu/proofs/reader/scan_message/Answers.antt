@@ -1,4 +1,4 @@
-use Rattle.std.proofs.Common.{◌≤◌, sym, subst, arith}
+use Rattle.std.proofs.Common.{◌≤◌, sym, subst, arith, rules}
 use Rattle.std.proofs.lemmas.List.{take_rest}
 use Rattle.zvt_grammar.specs.Lengths.{reading_of}
 use Rattle.zvt_apdu.specs.Judging.{Layout, head_size}
@@ -24,3 +24,6 @@ scan_listed-requires-clause-headed c =
 pub scan_bytes-requires-clause-headed : goal.scan_bytes-requires-clause-headed
 scan_bytes-requires-clause-headed c =
     moves.headed (reading_of c.args.lengths) c.args.bytes.now _ c.in-Whole.opening c.layout_of-layout.result c.in-Whole.ensures c.layout_of-layout.ensures (take_rest c.args.bytes.now c.in-Whole.opening.start) c.in_default.ensures c.if-data-layout.false
+
+pub returns-in-Refused : goal.returns-in-Refused
+returns-in-Refused c = search rules

@@ -3,6 +3,7 @@ use Rattle.std.proofs.Math.Logic.{∥∥₁_elim, ∥∥₁_map}
 use Rattle.std.specs.Coded.{le_prop}
 use Rattle.zvt_field.specs.declared.shapes.Shape.TheVariants.{Ll, Lll, Tree}
 use Rattle.zvt_field.proofs.ViewLemmas.{lead_two, lead_three, lead_tree}
+use Rattle.std.proofs.lemmas.Grind.{common_steps}
 use Rattle.zvt_field.proofs.views.lead.Goals as goal
 
 pub bounds-bytes-0 : goal.bounds-bytes-0
@@ -22,3 +23,6 @@ bounds-bytes-2 c = ∥∥₁_elim c.requires le_prop (λ l. lead_three _ _ (let 
 
 pub length_first-requires : goal.length_first-requires
 length_first-requires c = ∥∥₁_map c.requires (λ l. lead_tree _ _ (let e : c.args.shape ≡ Some Tree = search rules in e) l)
+
+pub returns-in-Some-Tree : goal.returns-in-Some-Tree
+returns-in-Some-Tree c = grind (arith, common_steps)

@@ -1,3 +1,4 @@
+use Rattle.std.proofs.Common.{rules}
 use Rattle.zvt_kept.specs.KeptTill.{Standing, order_sent}
 use Rattle.zvt_kept.proofs.Steps.{kept_on, taken_up, up_whole}
 use Rattle.zvt_kept.proofs.kept_till.KeptTill.order.Goals as goal
@@ -11,3 +12,6 @@ invariant_of-self g c =
     let took = c.in-Ok.ensures in
     kept_on V.seen V.may_leave V.moment V.left_since k.failed (order_sent V.seen V.may_leave V.moment V.left_since c.args.order) old new
     (up_whole V.seen V.may_leave V.moment V.left_since k.failed old (taken_up k.till.state c.args.order took.taken) c.self.invariant) took.logs c.self.invariant
+
+pub returns-in-Err-Journal-clause-failed : goal.returns-in-Err-Journal-clause-failed
+returns-in-Err-Journal-clause-failed g c = search rules

@@ -1,4 +1,4 @@
-use Rattle.std.proofs.Common.{◌+◌, ◌++◌, take, None, arith, sym, ◌∙◌, ap, subst}
+use Rattle.std.proofs.Common.{◌+◌, ◌++◌, take, None, arith, sym, ◌∙◌, ap, subst, rules}
 use Rattle.std.proofs.lemmas.Grind.{common_steps}
 use Rattle.zvt_grammar.specs.Reading.{Reading}
 use Rattle.zvt_stream.specs.Judge.{JudgeState, IsMessageIn, StandsFor}
@@ -40,3 +40,12 @@ returns-in-Refused-clause-fed c =
 
 pub returns-in-Refused-clause-count : goal.returns-in-Refused-clause-count
 returns-in-Refused-clause-count c = grind (arith, common_steps)
+
+pub invariant_of-self-in-Open : goal.invariant_of-self-in-Open
+invariant_of-self-in-Open c = search rules
+
+pub returns-in_ok-add_all-in-Open-clause-fed : goal.returns-in_ok-add_all-in-Open-clause-fed
+returns-in_ok-add_all-in-Open-clause-fed c = search rules
+
+pub returns-in_ok-add_all-in-Open-clause-count : goal.returns-in_ok-add_all-in-Open-clause-count
+returns-in_ok-add_all-in-Open-clause-count c = search rules

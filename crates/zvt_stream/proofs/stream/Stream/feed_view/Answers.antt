@@ -1,4 +1,4 @@
-use Rattle.std.proofs.Common.{None, ◌≤◌, ℕ, ◌+◌, ◌++◌, List, arith, take, length, sym, ◌∙◌, ap, subst, length-append}
+use Rattle.std.proofs.Common.{None, ◌≤◌, ℕ, ◌+◌, ◌++◌, List, arith, take, length, sym, ◌∙◌, ap, subst, length-append, rules}
 use Rattle.std.proofs.lemmas.List.{length-take-le}
 use Rattle.zvt_stream.specs.Judge.{IsMessageIn, StandsFor}
 use Rattle.zvt_stream.proofs.Beginnings.{bounds_in, few_in}
@@ -85,3 +85,6 @@ returns-in-Refused-clause-fed c =
     let i = idle _ _ _ _ _ _ _ c.args.self.now c.give_up.new.self c.self.view_is c.give_up.ensures.keeps c.self.invariant in
     let told = rw c.in-Refused.is at (ran_in c.args.self.now.reading c.self.inside.judge c.self.inside.held.bytes c.args.piece.now c.run.result c.run.new.self i.alike (c.run.ensures.judged c.self.inside.held.bytes i.stands)) in
     (feeds_refused _ _ _ _ None 0 0 c.in-Refused.at _ c.in-Refused.why _ _ _ i told (ap (λ n. n + c.in-Refused.at) (c.len.ensures ∙ ap length c.reserve_for.ensures.bytes)) (ap (λ h. h.bytes) c.cut.ensures), sym (none_lent _ _ _ i.idle))
+
+pub returns-in-Open-clause-count : goal.returns-in-Open-clause-count
+returns-in-Open-clause-count c = search rules
