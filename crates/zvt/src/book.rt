@@ -4,6 +4,7 @@ ghost use Rattle.zvt_journal.specs.Text.{IsSettled};
 
 use crate::finish::finish_run;
 use crate::output::Output;
+use crate::reports::report_on;
 use std::{io, str};
 use zvt_bcd::Currency;
 use zvt_io::Counted;
@@ -13,6 +14,10 @@ use zvt_tool::{
     FileDevice, Form, JournalFileError, KeptTill, Opened, RecoveryError, TillSettings, next_line,
     open_file, read_book, recover, write_book,
 };
+
+/// What is reported of a book in another currency than the till's, or of no book.
+const OTHER_BOOK: &str =
+    "the first line is not that of a book in the till's currency: give the book's currency, or name another file";
 
 /// What the first line of a book says before the number of its currency.
 const OPENING: [u8; 26] = *b"# zvt journal 1, currency ";
@@ -101,13 +106,12 @@ fn begun(
         Ok(kept) => Ok(Ok(kept)),
         Err(error) => {
             let status = of_device(error);
-            if status == MEMORY {
-                eprintln!(rt; "zvt: '{path}': out of memory")?;
+            let what = if status == MEMORY {
+                "out of memory"
             } else {
-                eprintln!(rt;
-                    "zvt: '{path}': cannot begin the book: check the free space and the permissions"
-                )?;
-            }
+                "cannot begin the book: check the free space and the permissions"
+            };
+            report_on(rt, path, what)?;
             Ok(Err(status))
         }
     }
@@ -116,7 +120,7 @@ fn begun(
 /// Reports that the file was made, or what was cut off.
 fn report_opening(rt: &HostRuntime, path: &str, opened: &Opened) -> io::Result<()> {
     if opened.created {
-        eprintln!(rt; "zvt: '{path}': a new book")?;
+        report_on(rt, path, "a new book")?;
     }
     if opened.cut > 0 {
         let cut = opened.cut;
@@ -137,17 +141,15 @@ fn report_book(rt: &HostRuntime, path: &str, till: &Till) -> io::Result<()> {
 
 /// Reports that the file of a book is not opened, and answers the exit status.
 fn unopened(rt: &HostRuntime, path: &str, error: &JournalFileError) -> io::Result<u8> {
-    eprintln!(rt; "zvt: '{path}': {error}")?;
+    report_on(rt, path, error)?;
     Ok(of_file_error(error))
 }
 
 /// Reports that the records of a book give no till, and answers the exit status.
 fn unrecovered(rt: &HostRuntime, path: &str, error: RecoveryError) -> io::Result<u8> {
     match error {
-        RecoveryError::Opening => eprintln!(rt;
-            "zvt: '{path}': the first line is not that of a book in the till's currency: give the book's currency, or name another file"
-        )?,
-        error => eprintln!(rt; "zvt: '{path}': {error}")?,
+        RecoveryError::Opening => report_on(rt, path, OTHER_BOOK)?,
+        error => report_on(rt, path, &error)?,
     }
     Ok(of_recovery(error))
 }

@@ -2,6 +2,7 @@
 
 use crate::finish::finish_run;
 use crate::play::{Place, Played, place_at, play_script, read_text, report_address, script_of};
+use crate::reports::{TERMINAL_PORT, report, report_failed, report_invalid};
 use std::alloc::{AllocError, Global};
 use std::fs;
 use std::io::{self, Write};
@@ -48,7 +49,7 @@ pub fn till(rt: &HostRuntime, options: &CheckOptions<'_>) -> io::Result<u8> {
 /// Plays a till in each situation against a terminal, and answers the exit status.
 pub fn terminal(rt: &HostRuntime, options: &CheckOptions<'_>) -> io::Result<u8> {
     if options.port == 0 {
-        eprintln!(rt; "zvt: invalid port '0': give the port that the terminal listens at")?;
+        report_invalid(rt, "port", "0", TERMINAL_PORT)?;
         return Ok(WORDS);
     }
     let situations = match read_all(rt, Direction::FromTill, options)? {
@@ -73,7 +74,10 @@ fn read_all<'a>(
     options: &CheckOptions<'a>,
 ) -> io::Result<Result<Vec<Situation<'a>>, u8>> {
     if options.files.is_empty() {
-        eprintln!(rt; "zvt: name the situations to play, e.g. conformance/till/*.trace")?;
+        report(
+            rt,
+            "name the situations to play, e.g. conformance/till/*.trace",
+        )?;
         return Ok(Err(WORDS));
     }
     let mut situations = Vec::new(rt.alloc());
@@ -155,7 +159,7 @@ fn check(
     let Verdicts { cases, failed } = verdicts;
     add_suite(&mut text, name, situations.len(), failed, cases.bytes())?;
     if let Err(error) = fs::write(rt, path, text.bytes()) {
-        eprintln!(rt; "zvt: '{path}': cannot write the report: {error}")?;
+        report_failed(rt, path, "cannot write the report", &error)?;
         return Ok(DEVICE);
     }
     Ok(status)

@@ -3,6 +3,7 @@ ghost use Rattle.std.specs.Prelude.{◌≤◌};
 
 use crate::finish::{finish_plan, finish_run};
 use crate::output::Output;
+use crate::reports::{SOME_CONNECTIONS, TERMINAL_PORT, report_invalid};
 use crate::settings::{settings, verdict};
 use crate::{book, trace_file};
 use std::io;
@@ -52,7 +53,7 @@ pub fn till(rt: &HostRuntime, options: &TillOptions<'_>) -> io::Result<u8> {
         return Ok(WORDS);
     };
     if options.port == 0 {
-        eprintln!(rt; "zvt: invalid port '0': give the port that the terminal listens at")?;
+        report_invalid(rt, "port", "0", TERMINAL_PORT)?;
         return Ok(WORDS);
     }
     let plan = match planned(rt, Ends::Till, options.steps.as_slice())? {
@@ -117,7 +118,7 @@ pub fn terminal(rt: &HostRuntime, options: &TerminalOptions<'_>) -> io::Result<u
     requires { options.now.tid ≤ 99999999 }
 {
     if options.connections == 0 {
-        eprintln!(rt; "zvt: invalid number of connections '0': expected 1 to 65535")?;
+        report_invalid(rt, "number of connections", "0", SOME_CONNECTIONS)?;
         return Ok(WORDS);
     }
     let Some(verdict) = verdict(rt, options.decline)? else {

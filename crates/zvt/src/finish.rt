@@ -2,6 +2,7 @@
 ghost use Rattle.std.specs.Prelude.{◌≡◌, IfOk};
 ghost use Rattle.zvt_tool.specs.Statuses.{status_of_end_fault, status_of_found, status_of_run};
 
+use crate::reports::{report, report_on};
 use std::io;
 use zvt_tool::{AuditSummary, EndFault, ToolFault, TraceFault, statuses};
 
@@ -20,8 +21,8 @@ pub fn finish_trace(
     match answer {
         Ok(_) => {}
         Err(TraceFault::Write) if broken_pipe => {}
-        Err(TraceFault::Write) => report(rt, None, &ToolFault::from(TraceFault::Write))?,
-        Err(fault) => report(rt, file, &ToolFault::from(fault))?,
+        Err(TraceFault::Write) => report_fault(rt, None, &ToolFault::from(TraceFault::Write))?,
+        Err(fault) => report_fault(rt, file, &ToolFault::from(fault))?,
     }
     Ok(status)
 }
@@ -32,7 +33,7 @@ pub fn finish_plan(rt: &HostRuntime, words: &[&str], fault: EndFault) -> io::Res
 {
     let status = statuses::of_end_fault(&fault);
     let word = word_of(&fault, words);
-    report(rt, word, &ToolFault::from(fault))?;
+    report_fault(rt, word, &ToolFault::from(fault))?;
     Ok(status)
 }
 
@@ -49,16 +50,16 @@ pub fn finish_run(
     match answer {
         Ok(()) => {}
         Err(EndFault::Write) if broken_pipe => {}
-        Err(fault) => report(rt, None, &ToolFault::from(fault))?,
+        Err(fault) => report_fault(rt, None, &ToolFault::from(fault))?,
     }
     Ok(status)
 }
 
 /// Reports the fault, after the file or the argument that it is about.
-pub fn report(rt: &HostRuntime, word: Option<&str>, fault: &ToolFault) -> io::Result<()> {
+pub fn report_fault(rt: &HostRuntime, word: Option<&str>, fault: &ToolFault) -> io::Result<()> {
     match word {
-        Some(word) => eprintln!(rt; "zvt: '{word}': {fault}"),
-        None => eprintln!(rt; "zvt: {fault}"),
+        Some(word) => report_on(rt, word, fault),
+        None => report(rt, fault),
     }
 }
 

@@ -3,6 +3,7 @@ use crate::finish::finish_trace;
 use crate::notes::{faulty_line, report_counts, report_hint, report_notes};
 use crate::output::Output;
 use crate::progress::Progress;
+use crate::reports::{NO_TRACE, report, report_failed};
 use std::alloc::{AllocError, Global};
 use std::fs::File;
 use std::io::{self, IsTerminal, Write};
@@ -91,7 +92,10 @@ pub fn work_on(rt: &HostRuntime, command: &TraceCommand, files: &[&str]) -> io::
         [] => work_on_only(rt, command, "-"),
         [file] => work_on_only(rt, command, file),
         _ if command.follow => {
-            eprintln!(rt; "zvt: '--follow' takes one FILE: it reads one line after another")?;
+            report(
+                rt,
+                "'--follow' takes one FILE: it reads one line after another",
+            )?;
             Ok(WORDS)
         }
         _ => work_on_all(rt, command, files),
@@ -165,8 +169,9 @@ fn work_on_one(rt: &HostRuntime, command: &TraceCommand, input: Input<'_>) -> io
 fn work_on_input(rt: &HostRuntime, command: &TraceCommand, input: Input<'_>) -> io::Result<Ended> {
     let reader = rt.reader();
     if reader.is_terminal() {
-        eprintln!(rt;
-            "zvt: reading a trace from the keyboard: end it with Ctrl-D at the start of a line"
+        report(
+            rt,
+            "reading a trace from the keyboard: end it with Ctrl-D at the start of a line",
         )?;
     }
     work_with(rt, command, input, &mut Counted::new(reader))
@@ -182,7 +187,7 @@ fn work_on_file(
     let file = match opened(rt, path) {
         Ok(file) => file,
         Err(error) => {
-            eprintln!(rt; "zvt: '{path}': cannot open the trace: {error}")?;
+            report_failed(rt, path, NO_TRACE, &error)?;
             return Ok(Ended::early(DEVICE));
         }
     };

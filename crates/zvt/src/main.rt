@@ -14,10 +14,12 @@ mod notes;
 mod output;
 mod play;
 mod progress;
+mod reports;
 mod settings;
 mod tap;
 mod trace_file;
 
+use crate::reports::report;
 use std::io::ErrorKind;
 use std::process::ExitCode;
 use std::{env, io};
@@ -39,7 +41,7 @@ fn failed(rt: &HostRuntime, error: &io::Error) -> u8 {
         return DEVICE;
     }
     let fault = TraceFault::Memory;
-    let _ = eprintln!(rt; "zvt: {fault}");
+    let _ = report(rt, &fault);
     MEMORY
 }
 
@@ -76,14 +78,13 @@ fn without_arguments(rt: &HostRuntime, error: &io::Error) -> io::Result<u8> {
     if error.kind() == ErrorKind::OutOfMemory {
         return without_memory(rt);
     }
-    eprintln!(rt; "zvt: an argument is not valid UTF-8")?;
+    report(rt, "an argument is not valid UTF-8")?;
     Ok(WORDS)
 }
 
 /// The exit status where memory is refused for the arguments.
 fn without_memory(rt: &HostRuntime) -> io::Result<u8> {
-    let fault = ChoiceFault::Memory;
-    eprintln!(rt; "zvt: {fault}")?;
+    report(rt, &ChoiceFault::Memory)?;
     Ok(MEMORY)
 }
 

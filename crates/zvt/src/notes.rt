@@ -3,8 +3,9 @@ ghost use Rattle.std.specs.Prelude.{◌≡◌, ◌≤◌, length};
 ghost use Rattle.zvt_trace.specs.Written.{limit};
 ghost use Rattle.zvt.specs.Notes.{scope_of, faulty_line};
 
-use crate::finish::report;
+use crate::finish::report_fault;
 use crate::inputs::Input;
+use crate::reports::{report, report_tally};
 use std::io::{self, ErrorKind, Write};
 use zvt_io::Counted;
 use zvt_tool::command::{TraceCommand, TraceWork};
@@ -56,11 +57,10 @@ pub fn report_counts(
     let Ok(found) = answer else {
         return Ok(());
     };
-    let Tally { messages, bad } = found.tally;
-    if bad > 0 {
-        eprintln!(rt; "zvt: messages: {messages}, streams refused or cut off: {bad}")
-    } else if messages == 0 {
-        eprintln!(rt; "zvt: the trace contains no message")
+    if found.tally.bad > 0 {
+        report_tally(rt, found.tally)
+    } else if found.tally.messages == 0 {
+        report(rt, "the trace contains no message")
     } else {
         Ok(())
     }
@@ -117,7 +117,7 @@ fn report_bad_streams(
     match write_notes(rt.alloc(), scope, lengths, trace, &mut device) {
         Ok(()) => Ok(true),
         Err(ListenerError::Memory) => {
-            report(rt, None, &ToolFault::from(TraceFault::Memory))?;
+            report_fault(rt, None, &ToolFault::from(TraceFault::Memory))?;
             Ok(false)
         }
         Err(ListenerError::Write) if device.inner.out_of_memory => {

@@ -2,6 +2,7 @@
 
 use crate::finish::{finish_run, finish_trace};
 use crate::inputs::opened;
+use crate::reports::{NO_TRACE, report, report_failed, report_on};
 use std::alloc::AllocError;
 use std::io::{self, Read, Write};
 use std::net::TcpStream;
@@ -50,14 +51,15 @@ pub fn play(rt: &HostRuntime, options: &PlayOptions<'_>) -> io::Result<u8> {
         (Some(path), None) => (Direction::FromTill, path),
         (None, Some(path)) => (Direction::FromTerminal, path),
         _ => {
-            eprintln!(rt;
-                "zvt: give the side to play and its trace: --till FILE or --terminal FILE"
+            report(
+                rt,
+                "give the side to play and its trace: --till FILE or --terminal FILE",
             )?;
             return Ok(WORDS);
         }
     };
     if let Some(wrong) = wrong_place(options) {
-        eprintln!(rt; "zvt: {wrong}")?;
+        report(rt, wrong)?;
         return Ok(WORDS);
     }
     let text = match read_text(rt, path)? {
@@ -105,7 +107,7 @@ pub fn read_text(rt: &HostRuntime, path: &str) -> io::Result<Result<Vec<u8>, u8>
     let file = match opened(rt, path) {
         Ok(file) => file,
         Err(error) => {
-            eprintln!(rt; "zvt: '{path}': cannot open the trace: {error}")?;
+            report_failed(rt, path, NO_TRACE, &error)?;
             return Ok(Err(DEVICE));
         }
     };
@@ -125,7 +127,7 @@ pub fn script_of(
     match script(rt.alloc(), own, text) {
         Ok(steps) => Ok(Ok(steps)),
         Err(fault) => {
-            eprintln!(rt; "zvt: '{path}': {fault}")?;
+            report_on(rt, path, &fault)?;
             Ok(Err(match fault {
                 ScriptFault::Line { .. } => TRACE,
                 ScriptFault::Memory => MEMORY,
@@ -333,7 +335,6 @@ fn differing(rt: &HostRuntime, text: Result<Text, AllocError>) -> io::Result<Pla
 
 /// Reports that memory is refused, and answers the exit status.
 fn without_memory(rt: &HostRuntime) -> io::Result<u8> {
-    let fault = ScriptFault::Memory;
-    eprintln!(rt; "zvt: {fault}")?;
+    report(rt, &ScriptFault::Memory)?;
     Ok(MEMORY)
 }

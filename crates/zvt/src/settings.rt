@@ -3,6 +3,7 @@ ghost use Rattle.std.specs.Prelude.{◌≡◌, IfOk};
 ghost use Rattle.zvt_session.specs.Settings.{config_of, currency_of, password_of};
 ghost use Rattle.zvt.specs.Settings.{AreSettings, named, verdict_named};
 
+use crate::reports::report_invalid;
 use std::io;
 use zvt_bcd::Currency;
 use zvt_term::Verdict;
@@ -38,7 +39,12 @@ fn password(rt: &HostRuntime, default: [u8; 3], word: Option<&str>) -> io::Resul
     };
     let password = password_of(word);
     if password.is_none() {
-        eprintln!(rt; "zvt: invalid password '{word}': expected six decimal digits, e.g. 000000")?;
+        report_invalid(
+            rt,
+            "password",
+            word,
+            "expected six decimal digits, e.g. 000000",
+        )?;
     }
     Ok(password)
 }
@@ -52,8 +58,11 @@ fn config(rt: &HostRuntime, default: u8, word: Option<&str>) -> io::Result<Optio
     };
     let config = config_of(word);
     if config.is_none() {
-        eprintln!(rt;
-            "zvt: invalid configuration byte '{word}': expected two hexadecimal digits, e.g. BE"
+        report_invalid(
+            rt,
+            "configuration byte",
+            word,
+            "expected two hexadecimal digits, e.g. BE",
         )?;
     }
     Ok(config)
@@ -68,7 +77,12 @@ fn currency(rt: &HostRuntime, default: Currency, word: Option<&str>) -> io::Resu
     };
     let currency = currency_of(word);
     if currency.is_none() {
-        eprintln!(rt; "zvt: invalid currency '{word}': expected four decimal digits, e.g. 0978")?;
+        report_invalid(
+            rt,
+            "currency",
+            word,
+            "expected four decimal digits, e.g. 0978",
+        )?;
     }
     Ok(currency)
 }
@@ -82,9 +96,8 @@ pub fn verdict(rt: &HostRuntime, decline: Option<&str>) -> io::Result<Option<Ver
         return Ok(Some(Verdict::Approve));
     };
     let Some(code) = result_code(word) else {
-        eprintln!(rt;
-            "zvt: invalid result code '{word}': expected two hexadecimal digits other than 00, e.g. 6C"
-        )?;
+        let expected = "expected two hexadecimal digits other than 00, e.g. 6C";
+        report_invalid(rt, "result code", word, expected)?;
         return Ok(None);
     };
     Ok(Some(Verdict::Decline(code)))

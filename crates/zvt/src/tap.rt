@@ -1,5 +1,6 @@
 //! A tap between a till and its terminal, as the command line asks for it.
 use crate::output::Output;
+use crate::reports::{SOME_CONNECTIONS, report, report_invalid, report_tally};
 use crate::trace_file;
 use std::fs::File;
 use std::io::{self, ErrorKind, Write};
@@ -58,24 +59,20 @@ struct TraceFile<'a> {
 /// Passes on one line after another between tills and a terminal, and answers the highest exit status.
 pub fn tap(rt: &HostRuntime, options: &TapOptions<'_>) -> io::Result<u8> {
     let Some(from) = Address::here(options.listen) else {
-        eprintln!(rt;
-            "zvt: invalid address '{}': expected PORT or HOST:PORT, e.g. 20007",
-            options.listen
-        )?;
+        let expected = "expected PORT or HOST:PORT, e.g. 20007";
+        report_invalid(rt, "address", options.listen, expected)?;
         return Ok(WORDS);
     };
     let to = match Address::of(options.to) {
         Some(to) if to.port > 0 => to,
         _ => {
-            eprintln!(rt;
-                "zvt: invalid address '{}': expected HOST:PORT, e.g. 192.0.2.7:20007",
-                options.to
-            )?;
+            let expected = "expected HOST:PORT, e.g. 192.0.2.7:20007";
+            report_invalid(rt, "address", options.to, expected)?;
             return Ok(WORDS);
         }
     };
     if options.connections == 0 {
-        eprintln!(rt; "zvt: invalid number of connections '0': expected 1 to 65535")?;
+        report_invalid(rt, "number of connections", "0", SOME_CONNECTIONS)?;
         return Ok(WORDS);
     }
     let file = match trace_file::opened(rt, options.trace)? {
@@ -238,8 +235,9 @@ fn report_end(rt: &HostRuntime, fault: TapFault, error: Option<ErrorKind>) -> io
         TapFault::Trace => Ok(DEVICE),
         TapFault::Memory => report_fault(rt, &TraceFault::Memory),
         TapFault::Wait => {
-            eprintln!(rt;
-                "zvt: the system can't say which side has sent something, so the line ended"
+            report(
+                rt,
+                "the system can't say which side has sent something, so the line ended",
             )?;
             Ok(DEVICE)
         }
@@ -282,8 +280,8 @@ fn report_found<W: Write + Drop>(
 ) -> io::Result<u8> {
     let is_pipe_closed = found.output.inner.broken_pipe;
     let shown = match found.shown {
-        Ok(Tally { messages, bad }) if bad > 0 => {
-            eprintln!(rt; "zvt: messages: {messages}, streams refused or cut off: {bad}")?;
+        Ok(tally) if tally.bad > 0 => {
+            report_tally(rt, tally)?;
             BAD
         }
         Ok(_) => DONE,

@@ -1,10 +1,15 @@
 //! The file that the trace of a run goes to.
+use crate::reports::{report_failed, report_on};
 use std::fs::{File, OpenOptions};
 use std::io::{self, Read, Seek, SeekFrom, Write};
 use zvt_tool::statuses::{DEVICE, TRACE};
 
 /// What the first line of a journal begins with.
 const JOURNAL: [u8; 15] = *b"# zvt journal 1";
+
+/// What is reported of a file that is a book.
+const A_BOOK: &str =
+    "this is a till's book, which a trace would end: name another file for the trace";
 
 /// The file of a trace, if one is named. The trace goes behind what the file has, after a lost line. A file that can't be
 /// written, and one that is a journal, is reported, and the exit status is answered.
@@ -15,17 +20,15 @@ pub fn opened(rt: &HostRuntime, path: Option<&str>) -> io::Result<Result<Option<
     match open(rt, path) {
         Ok(Trace::New(file)) => Ok(Ok(Some(file))),
         Ok(Trace::Appended(file)) => {
-            eprintln!(rt; "zvt: '{path}': the trace goes behind what this file has")?;
+            report_on(rt, path, "the trace goes behind what this file has")?;
             Ok(Ok(Some(file)))
         }
         Ok(Trace::Journal) => {
-            eprintln!(rt;
-                "zvt: '{path}': this is a till's book, which a trace would end: name another file for the trace"
-            )?;
+            report_on(rt, path, A_BOOK)?;
             Ok(Err(TRACE))
         }
         Err(error) => {
-            eprintln!(rt; "zvt: '{path}': cannot create the trace file: {error}")?;
+            report_failed(rt, path, "cannot create the trace file", &error)?;
             Ok(Err(DEVICE))
         }
     }

@@ -1,0 +1,44 @@
+//! Reports on standard error: a line each, after the program's name.
+use std::fmt::Display;
+use std::io;
+use zvt_tool::Tally;
+
+/// What is expected of the port of a terminal.
+pub const TERMINAL_PORT: &str = "give the port that the terminal listens at";
+
+/// What is expected of a number of connections.
+pub const SOME_CONNECTIONS: &str = "expected 1 to 65535";
+
+/// What fails where the file of a trace can't be opened.
+pub const NO_TRACE: &str = "cannot open the trace";
+
+/// Reports this.
+pub fn report<T: Display + Drop>(rt: &HostRuntime, what: T) -> io::Result<()> {
+    eprintln!(rt; "zvt: {what}")
+}
+
+/// Reports this of a file or an argument.
+pub fn report_on<T: Display + Drop>(rt: &HostRuntime, about: &str, what: T) -> io::Result<()> {
+    eprintln!(rt; "zvt: '{about}': {what}")
+}
+
+/// Reports that a file or an argument failed at this, and why.
+pub fn report_failed<T: Display + Drop>(
+    rt: &HostRuntime,
+    about: &str,
+    what: &str,
+    why: T,
+) -> io::Result<()> {
+    eprintln!(rt; "zvt: '{about}': {what}: {why}")
+}
+
+/// Reports that an argument is not what it is to be.
+pub fn report_invalid(rt: &HostRuntime, what: &str, word: &str, expected: &str) -> io::Result<()> {
+    eprintln!(rt; "zvt: invalid {what} '{word}': {expected}")
+}
+
+/// Reports how much of a trace or a line was read, and how much of it is bad.
+pub fn report_tally(rt: &HostRuntime, tally: Tally) -> io::Result<()> {
+    let Tally { messages, bad } = tally;
+    eprintln!(rt; "zvt: messages: {messages}, streams refused or cut off: {bad}")
+}
