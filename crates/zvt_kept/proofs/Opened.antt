@@ -5,7 +5,7 @@ use Rattle.std.specs.Str.{bytes_eq}
 use Rattle.std.proofs.Math.Seq.{take-append_seam}
 use Rattle.std.proofs.lemmas.List.{take-append-drop}
 use Rattle.std.proofs.lemmas.Slice.Eq.{bytes_eq-Decides}
-use Rattle.zvt_kept.specs.Records.{trailing}
+use Rattle.zvt_text.specs.Words.{trailing}
 
 found_if : (prefix text : List ℕ) (same : Bool) → bytes_eq (take (length prefix) text) prefix ≡ same → IsTrue (is_some (trailing prefix text)) → (rest : List ℕ) × (text ≡ prefix ++ rest)
 found_if prefix text true same found =

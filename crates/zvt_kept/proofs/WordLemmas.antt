@@ -7,7 +7,8 @@ use Rattle.std.specs.List.{list_all}
 use borrow.Author.Tests.{ltb-true}
 use Rattle.zvt_till.specs.declared.orders.Order.{Order}
 use Rattle.zvt_till.specs.declared.orders.Order.TheVariants.{Register, Pay, Reverse, CloseDay, Cancel}
-use Rattle.zvt_kept.specs.Records.{IsSpelledOrder, number_of, or_else, order_of, order_words, trailing}
+use Rattle.zvt_text.specs.Words.{trailing}
+use Rattle.zvt_kept.specs.Records.{IsSpelledOrder, number_of, or_else, order_of, order_words}
 use Rattle.zvt_kept.proofs.Numbers.{decimal_plain, number_back}
 
 -- an order is read back from its words

@@ -1,12 +1,10 @@
 -- The records of a till's journal: the text of each, and what a text of records means. A line feed is 10.
-use Rattle.std.specs.Prelude.{◌≡◌, ◌<◌, ◌≤◌, ◌==◌, ◌&&◌, ⊤, ℕ, ◌+◌, ◌-◌, Bool, nat_lt, nat_le, if◌then◌else◌, List, [], ◌∷◌, ◌++◌, All, codes, decimal, length, take, drop, Option, Some, None, option_map, option_and_then, Result, Ok, Err}
-use Rattle.std.specs.Char.{is_ascii_digit}
-use Rattle.std.specs.List.{list_all}
+use Rattle.std.specs.Prelude.{◌≡◌, ◌<◌, ◌≤◌, ◌==◌, ◌&&◌, ⊤, ℕ, ◌+◌, ◌-◌, if◌then◌else◌, List, [], ◌∷◌, ◌++◌, All, codes, decimal, length, Option, Some, None, option_map, option_and_then, Result, Ok, Err}
 use Rattle.std.specs.Str.{bytes_eq}
 use Rattle.std.specs.Str.Lines.{lines}
-use Rattle.std.specs.Str.Parse.{digits_value}
 use Rattle.hex.specs.Hex.{IsBytes, decode_of, encode_upper}
 use Rattle.hex.specs.declared.error.FromHexError.{FromHexError}
+use Rattle.zvt_text.specs.Words.{number_in, trailing}
 use Rattle.zvt_till.specs.declared.orders.Order.{Order}
 use Rattle.zvt_till.specs.declared.orders.Order.TheVariants.{Register, Pay, Reverse, CloseDay, Cancel}
 use Rattle.zvt_journal.specs.Text.{recovered, IsRecord}
@@ -97,22 +95,12 @@ IsRecordOf lost text = text ≡ lost_record
 
 -- ---- what a line means
 
--- what follows this prefix, where the words begin with it
-abbrev pub trailing : (prefix : List ℕ) → (words : List ℕ) → Option (List ℕ)
-trailing prefix words = if bytes_eq (take (length prefix) words) prefix then Some (drop (length prefix) words) else None
-
-abbrev pub is_count : ℕ → Bool
-is_count n = nat_lt 0 n && nat_le n 12
-
-abbrev pub is_number : List ℕ → Bool
-is_number digits = is_count (length digits) && list_all is_ascii_digit digits
-
 abbrev pub not_zero : ℕ → Option ℕ
 not_zero n = if n == 0 then None else Some n
 
 -- one to twelve decimal digits of a number that is not 0
 abbrev pub number_of : List ℕ → Option ℕ
-number_of digits = if is_number digits then not_zero (digits_value 10 digits) else None
+number_of digits = option_and_then not_zero (number_in 12 digits)
 
 abbrev pub or_else : Option Order → Option Order → Option Order
 or_else None other = other

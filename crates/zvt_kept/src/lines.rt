@@ -8,10 +8,11 @@ ghost use Rattle.zvt_kept.specs.Records.{bytes_in, comment, heard, meaning, some
 ghost use Rattle.zvt_kept.specs.declared.lines.RecordError.TheVariants.{Memory};
 
 use crate::records::Entry;
-use crate::words::{order_of, trailing};
+use crate::words::order_of;
 use hex::FromHexError;
 use std::alloc::{AllocError, Global};
 use thiserror::Error;
+use zvt_text::words::trailing;
 use zvt_trace::next_line;
 
 /// Why records can't be read.

@@ -9,13 +9,13 @@ ghost use Rattle.zvt_till.specs.Settings.{settings_of};
 
 use crate::lines::{RecordError, read_records};
 use crate::records::{Entry, put_opening};
-use crate::words::trailing;
 use std::alloc::{AllocError, Global};
 use thiserror::Error;
 use zvt_apdu::scan_loose;
 use zvt_bcd::Currency;
 use zvt_grammar::Scan;
 use zvt_text::Text;
+use zvt_text::words::trailing;
 use zvt_till::heard::heard;
 use zvt_till::{Order, OrderRefusal, Till, TillSettings};
 

@@ -1,16 +1,14 @@
 //! The words of an order.
-ghost use Rattle.std.specs.Prelude.{◌≡◌, ◌≤◌, true, option_map, IfSome};
-ghost use Rattle.std.specs.Char.{is_ascii_digit};
-ghost use Rattle.std.specs.List.{list_all};
+ghost use Rattle.std.specs.Prelude.{◌≡◌, ◌≤◌, IfSome};
 ghost use Rattle.std.specs.Str.{bytes_eq};
-ghost use Rattle.std.specs.Str.Parse.{digits_value};
-ghost use Rattle.zvt_kept.specs.Records.{is_number, number_of, numbered, order_of, trailing};
+ghost use Rattle.zvt_kept.specs.Records.{number_of, numbered, order_of};
 
 use zvt_bcd::Amount;
+use zvt_text::words::{decimal_number, trailing};
 use zvt_till::Order;
 
 /// The most digits of a number.
-const MOST_DIGITS: usize = 12;
+const MAX_DIGITS: usize = 12;
 
 /// The order that words name.
 pub(crate) fn order_of(words: &[u8]) -> Option<Order>
@@ -46,13 +44,6 @@ fn numbered(words: &[u8]) -> Option<Order>
     Some(Order::Reverse(number as usize - 1))
 }
 
-/// The bytes after this prefix.
-pub(crate) fn trailing<'a>(prefix: &[u8], words: &'a [u8]) -> Option<&'a [u8]>
-    ensures { option_map (λ rest. rest.now) result ≡ trailing prefix.now words.now }
-{
-    words.strip_prefix(prefix)
-}
-
 /// The amount of that many digits.
 fn amount(digits: &[u8]) -> Option<Amount>
     ensures { result ≡ number_of digits.now }
@@ -66,40 +57,6 @@ fn number(digits: &[u8]) -> Option<u64>
     ensures least { IfSome result (λ number. 1 ≤ number) }
     ensures most { IfSome result (λ number. number ≤ 999999999999) }
 {
-    if !is_number(digits) {
-        return None;
-    }
-    let number = value(digits);
+    let number = decimal_number(digits, MAX_DIGITS)?;
     if number == 0 { None } else { Some(number) }
-}
-
-/// The value of one to twelve decimal digits.
-fn value(digits: &[u8]) -> u64
-    requires { is_number digits.now ≡ true }
-    ensures value { result ≡ digits_value 10 digits.now }
-    ensures small { result ≤ 999999999999 }
-{
-    let mut value = 0;
-    for byte in digits {
-        value = value * 10 + u64::from(*byte - b'0');
-    }
-    value
-}
-
-/// Whether these are one to twelve decimal digits.
-fn is_number(digits: &[u8]) -> bool
-    ensures { result ≡ is_number digits.now }
-{
-    let count = digits.len();
-    if count == 0 || count > MOST_DIGITS {
-        return false;
-    }
-    all_digits(digits)
-}
-
-/// Whether each of these is a decimal digit.
-fn all_digits(bytes: &[u8]) -> bool
-    ensures { result ≡ list_all is_ascii_digit bytes.now }
-{
-    bytes.iter().all(|byte| byte.is_ascii_digit())
 }

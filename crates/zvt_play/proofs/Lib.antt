@@ -2,7 +2,6 @@ pub mod NextLemmas
 pub mod HearLemmas
 pub mod PlayLemmas
 pub mod ScriptLemmas
-pub mod Numbers
 mod Rows
 pub mod CheckLemmas
 mod TextLemmas

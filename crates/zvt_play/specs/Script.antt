@@ -1,13 +1,11 @@
 -- What a trace has the player of one side do.
-use Rattle.std.specs.Prelude.{◌≡◌, ℕ, ◌+◌, ◌&&◌, ◌⊎◌, Bool, cond, nat_le, nat_lt, List, [], ◌∷◌, ◌++◌, codes, length, take, drop, map, Option, Some, None, option_and_then, option_map, Result, Ok, Err, Vec}
-use Rattle.std.specs.Char.{is_ascii_digit}
+use Rattle.std.specs.Prelude.{◌≡◌, ℕ, ◌+◌, ◌⊎◌, cond, List, [], ◌∷◌, ◌++◌, codes, length, map, Option, Some, None, option_and_then, option_map, Result, Ok, Err, Vec}
 use Rattle.std.specs.Global.{Global}
-use Rattle.std.specs.List.{list_all}
 use Rattle.std.specs.Str.{bytes_eq}
 use Rattle.std.specs.Str.Lines.{lines}
-use Rattle.std.specs.Str.Parse.{digits_value}
 use Rattle.zvt_grammar.specs.declared.why.Why.{Why}
 use Rattle.zvt_apdu.specs.Message.{Message}
+use Rattle.zvt_text.specs.Words.{number_in, trailing}
 use Rattle.zvt_stream.specs.Apdus.{Alive, Cut, IsRefused, Spelled}
 use Rattle.zvt_trace.specs.Journal.{readable}
 use Rattle.zvt_trace.specs.Meanings.{Meaning, comment, lost, meaning_of, piece}
@@ -41,23 +39,9 @@ act_of code.Silence = silence
 
 -- ---- one line
 
--- what follows this prefix, where the text begins with it
-abbrev pub trailing : List ℕ → List ℕ → Option (List ℕ)
-trailing prefix text = cond (bytes_eq (take (length prefix) text) prefix) (Some (drop (length prefix) text)) None
-
--- one to seven decimal digits
-abbrev pub is_count : ℕ → Bool
-is_count n = nat_lt 0 n && nat_le n 7
-
-abbrev pub is_number : List ℕ → Bool
-is_number digits = is_count (length digits) && list_all is_ascii_digit digits
-
-abbrev pub number_of : List ℕ → Option ℕ
-number_of digits = cond (is_number digits) (Some (digits_value 10 digits)) None
-
 -- A mark is '#~ silent', or '#~ ' and a number of milliseconds. These words come after '#~'.
 abbrev pub mark_of : List ℕ → Option Act
-mark_of words = cond (bytes_eq words (codes " silent")) (Some silence) (option_map wait (option_and_then number_of (trailing (codes " ") words)))
+mark_of words = cond (bytes_eq words (codes " silent")) (Some silence) (option_map wait (option_and_then (number_in 7) (trailing (codes " ") words)))
 
 abbrev pub mark_or_error : Option Act → Result (Option Act) ScriptLineError
 mark_or_error None = Err error.Mark

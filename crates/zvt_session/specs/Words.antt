@@ -1,36 +1,21 @@
 -- The words that name steps.
-use Rattle.std.specs.Prelude.{ℕ, ◌+◌, ◌-◌, ◌*◌, ◌==◌, ◌&&◌, Bool, cond, nat_lt, nat_le, List, [], ◌∷◌, codes, length, take, drop, Option, Some, None, option_map, option_and_then}
-use Rattle.std.specs.Char.{digit_value, is_ascii_digit, is_ascii_hexdigit}
-use Rattle.std.specs.List.{list_all}
+use Rattle.std.specs.Prelude.{ℕ, ◌+◌, ◌-◌, ◌*◌, ◌==◌, ◌&&◌, cond, List, [], ◌∷◌, codes, length, take, drop, Option, Some, None, option_map, option_and_then}
+use Rattle.std.specs.Char.{digit_value, is_ascii_hexdigit}
 use Rattle.std.specs.Str.{bytes_eq}
-use Rattle.std.specs.Str.Parse.{digits_value}
+use Rattle.zvt_text.specs.Words.{number_in, trailing}
 use Rattle.zvt_session.specs.declared.arguments.Ends.{Ends}
 use Rattle.zvt_session.specs.declared.arguments.Ends.TheVariants.{Both, Till}
 use Rattle.zvt_session.specs.declared.arguments.Step.{Step}
 use Rattle.zvt_session.specs.declared.arguments.Step.TheVariants.{Register, Pay, Reverse, CloseDay, Decline}
 
--- what follows this prefix, where the word begins with it
-abbrev pub trailing : List ℕ → List ℕ → Option (List ℕ)
-trailing prefix word = cond (bytes_eq (take (length prefix) word) prefix) (Some (drop (length prefix) word)) None
-
 -- ---- numbers
-
-abbrev pub is_count : ℕ → Bool
-is_count n = nat_lt 0 n && nat_le n 12
-
-abbrev pub is_number : List ℕ → Bool
-is_number digits = is_count (length digits) && list_all is_ascii_digit digits
-
--- one to twelve decimal digits
-abbrev pub number_of : List ℕ → Option ℕ
-number_of digits = cond (is_number digits) (Some (digits_value 10 digits)) None
 
 -- an amount is a number that is not 0
 abbrev pub not_zero : ℕ → Option ℕ
 not_zero n = cond (n == 0) None (Some n)
 
 abbrev pub amount_of : List ℕ → Option ℕ
-amount_of digits = option_and_then not_zero (number_of digits)
+amount_of digits = option_and_then not_zero (number_in 12 digits)
 
 -- an entry is counted from 1 in a word, and from 0 in the book
 abbrev pub entry_of : List ℕ → Option ℕ

@@ -1,12 +1,11 @@
 //! Steps of a run, and the words that name them.
-ghost use Rattle.std.specs.Prelude.{◌≡◌, ◌≤◌, true, option_map, if◌then◌else◌, IfSome};
-ghost use Rattle.std.specs.Char.{digit_value, is_ascii_digit, is_ascii_hexdigit};
-ghost use Rattle.std.specs.List.{list_all};
-ghost use Rattle.std.specs.Str.Parse.{digits_value};
-ghost use Rattle.zvt_session.specs.Words.{trailing, code_in, code_of, declined, declining, is_number, number_of, amount_of, entry_of, numbered, step_of};
+ghost use Rattle.std.specs.Prelude.{◌≡◌, if◌then◌else◌, Some, None};
+ghost use Rattle.std.specs.Char.{digit_value, is_ascii_hexdigit};
+ghost use Rattle.zvt_session.specs.Words.{code_in, code_of, declined, declining, amount_of, entry_of, numbered, step_of};
 
 use zvt_bcd::Amount;
 use zvt_term::Verdict;
+use zvt_text::words::{decimal_number, trailing};
 use zvt_till::Order;
 
 /// Which ends of a line a run works.
@@ -61,63 +60,13 @@ impl Step {
 }
 
 /// The most digits of a number in a word.
-const MOST_DIGITS: usize = 12;
-
-/// The bytes after this prefix.
-fn trailing<'a>(prefix: &[u8], word: &'a [u8]) -> Option<&'a [u8]>
-    ensures { option_map (λ rest. rest.now) result ≡ trailing prefix.now word.now }
-{
-    word.strip_prefix(prefix)
-}
-
-/// Whether each of these is a decimal digit.
-fn all_digits(bytes: &[u8]) -> bool
-    ensures { result ≡ list_all is_ascii_digit bytes.now }
-{
-    bytes.iter().all(|byte| byte.is_ascii_digit())
-}
-
-/// Whether these are one to twelve decimal digits.
-fn is_number(digits: &[u8]) -> bool
-    ensures { result ≡ is_number digits.now }
-{
-    let count = digits.len();
-    if count == 0 || count > MOST_DIGITS {
-        return false;
-    }
-    all_digits(digits)
-}
-
-/// The number of one to twelve decimal digits.
-fn number(digits: &[u8]) -> Option<u64>
-    ensures number { result ≡ number_of digits.now }
-    ensures small { IfSome result (λ number. number ≤ 999999999999) }
-{
-    if is_number(digits) {
-        Some(value(digits))
-    } else {
-        None
-    }
-}
-
-/// The value of one to twelve decimal digits.
-fn value(digits: &[u8]) -> u64
-    requires { is_number digits.now ≡ true }
-    ensures value { result ≡ digits_value 10 digits.now }
-    ensures small { result ≤ 999999999999 }
-{
-    let mut value = 0;
-    for byte in digits {
-        value = value * 10 + u64::from(*byte - b'0');
-    }
-    value
-}
+const MAX_DIGITS: usize = 12;
 
 /// The amount of that many digits.
 fn amount(digits: &[u8]) -> Option<Amount>
     ensures { result ≡ amount_of digits.now }
 {
-    let units = number(digits)?;
+    let units = decimal_number(digits, MAX_DIGITS)?;
     Amount::new(units)
 }
 
@@ -125,7 +74,7 @@ fn amount(digits: &[u8]) -> Option<Amount>
 fn entry(digits: &[u8]) -> Option<usize>
     ensures { result ≡ entry_of digits.now }
 {
-    let number = number(digits)?;
+    let number = decimal_number(digits, MAX_DIGITS)?;
     if number == 0 {
         None
     } else {

@@ -5,3 +5,4 @@ pub mod Secrets
 pub mod DetailLemmas
 pub mod ObjectLines
 pub mod FieldLemmas
+pub mod WordLemmas

@@ -1,5 +1,6 @@
 pub mod Bytes
 pub mod Numbers
+pub mod Words
 pub mod Results
 pub mod Lines
 pub mod MessageTexts

@@ -11,6 +11,7 @@ mod lines;
 mod objects;
 mod text;
 mod values;
+pub mod words;
 mod write;
 
 pub use bytes::{is_plain, plain_first};

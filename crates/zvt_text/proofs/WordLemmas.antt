@@ -1,4 +1,4 @@
--- Decimal digits of a number of milliseconds.
+-- Numbers in decimal digits.
 use Rattle.std.proofs.Common.{◌≡◌, ℕ, ◌+◌, ◌-◌, ◌*◌, ◌^◌, ◌<◌, ◌≤◌, ◌&&◌, Bool, true, false, nat_le, nat_lt, List, [], ◌∷◌, length, take, get_or, refl, arith, lit<, lit≤}
 use Rattle.std.proofs.lemmas.Bool.Decides.{nat_tests}
 use Rattle.std.proofs.lemmas.Bool.{leb-true}
@@ -9,7 +9,7 @@ use Rattle.std.specs.Char.{digit_value, is_ascii_digit}
 use Rattle.std.specs.Int.{IsInRange}
 use Rattle.std.specs.List.{list_all}
 use Rattle.std.specs.Str.Parse.{AllDigits, digits_value}
-use Rattle.zvt_play.specs.Script.{is_count, is_number}
+use Rattle.zvt_text.specs.Words.{WordRows, is_count, is_number}
 
 digit_small : (c : ℕ) → is_ascii_digit c ≡ true → digit_value c < 10
 digit_small c h = grind (arith, nat_tests)
@@ -22,44 +22,40 @@ split true true h = (refl, refl)
 split true false h = (refl, h)
 split false b h = absurd (cc)
 
-all_digits : (ds : List ℕ) → list_all is_ascii_digit ds ≡ true → AllDigits 10 ds
+pub all_digits : (ds : List ℕ) → list_all is_ascii_digit ds ≡ true → AllDigits 10 ds
 all_digits [] h = tt
 all_digits (c ∷ cs) h = let p = split (is_ascii_digit c) (list_all is_ascii_digit cs) h in (digit_small c p.0, all_digits cs p.1)
 
 -- what is in a number
-record Known (ds : List ℕ) : Type 0 where
-  pub all : AllDigits 10 ds
-  pub few : length ds ≤ 7
+pub record Known (most : ℕ) (ds : List ℕ) : Type 0 where
+  pub all : list_all is_ascii_digit ds ≡ true
+  pub few : length ds ≤ most
 
-known : (ds : List ℕ) → is_number ds ≡ true → Known ds
-known ds h =
-    let p = split (is_count (length ds)) (list_all is_ascii_digit ds) h in
-    let q = split (nat_lt 0 (length ds)) (nat_le (length ds) 7) p.0 in
-    record { all = all_digits ds p.1; few = leb-true (length ds) 7 q.1 }
+pub known : (most : ℕ) (ds : List ℕ) → is_number most ds ≡ true → Known most ds
+known most ds h =
+    let p = split (is_count most (length ds)) (list_all is_ascii_digit ds) h in
+    let q = split (nat_lt 0 (length ds)) (nat_le (length ds) most) p.0 in
+    record { all = p.1; few = leb-true (length ds) most q.1 }
 
-value_small : (ds : List ℕ) → Known ds → digits_value 10 ds < 10 ^ 7
-value_small ds known =
-    let p : digits_value 10 ds < 10 ^ length ds = digits_value-lt 10 ds known.all in
-    let q : 10 ^ length ds ≤ 10 ^ 7 = pow-le-pow_right (lit< tt) known.few in
+pub value_small : (most : ℕ) (ds : List ℕ) → list_all is_ascii_digit ds ≡ true → length ds ≤ most → digits_value 10 ds < 10 ^ most
+value_small most ds all few =
+    let p : digits_value 10 ds < 10 ^ length ds = digits_value-lt 10 ds (all_digits ds all) in
+    let q : 10 ^ length ds ≤ 10 ^ most = pow-le-pow_right (lit< tt) few in
     omega arith
 
 -- one digit more
 pub record Next (ds : List ℕ) (i number : ℕ) : Type 0 where
   pub value : number ≡ digits_value 10 (take (i + 1) ds)
-  pub small : number < 10 ^ 7
+  pub small : number < 10 ^ 19
 
-pub next : (ds : List ℕ) (i value : ℕ) → is_number ds ≡ true → i < length ds → value ≡ digits_value 10 (take i ds) → Next ds i (value * 10 + (get_or ds i 0 - 48))
-next ds i value h below is =
-    let k = known ds h in
-    let digit : digit_value (get_or ds i 0) ≡ get_or ds i 0 - 48 = digit_is (get_or ds i 0) (digit_at ds i k.all below) in
+pub next : (ds : List ℕ) (i value : ℕ) → list_all is_ascii_digit ds ≡ true → length ds ≤ 19 → i < length ds → value ≡ digits_value 10 (take i ds) → Next ds i (value * 10 + (get_or ds i 0 - 48))
+next ds i value all few below is =
+    let digit : digit_value (get_or ds i 0) ≡ get_or ds i 0 - 48 = digit_is (get_or ds i 0) (digit_at ds i (all_digits ds all) below) in
     let more : digits_value 10 (take (i + 1) ds) ≡ digits_value 10 (take i ds) * 10 + digit_value (get_or ds i 0) = digits_value_more 10 ds i below in
-    let whole : digits_value 10 ds < 10 ^ 7 = value_small ds k in
+    let whole : digits_value 10 ds < 10 ^ 19 = value_small 19 ds all few in
     let part : digits_value 10 (take (i + 1) ds) ≤ digits_value 10 ds = digits_value-take-le 10 ds (i + 1) (lit≤ tt) in
     let e : value * 10 + (get_or ds i 0 - 48) ≡ digits_value 10 (take (i + 1) ds) = rw (is, ← digit, ← more) refl in
     record { value = e; small = omega arith }
 
-pub small : (ds : List ℕ) (i value : ℕ) → is_number ds ≡ true → value ≡ digits_value 10 (take i ds) → value ≤ 9999999
-small ds i value h is =
-    let whole : digits_value 10 ds < 10 ^ 7 = value_small ds (known ds h) in
-    let part : digits_value 10 (take i ds) ≤ digits_value 10 ds = digits_value-take-le 10 ds i (lit≤ tt) in
-    omega (arith, is)
+rows : WordRows
+rows = (refl, refl, refl, refl, refl, refl, refl, refl)

@@ -1,0 +1,57 @@
+//! Words that people write: what follows a prefix, and numbers in decimal digits.
+ghost use Rattle.std.specs.Prelude.{◌≡◌, ◌<◌, ◌≤◌, ◌^◌, true, length, option_map, IfSome};
+ghost use Rattle.std.specs.Char.{is_ascii_digit};
+ghost use Rattle.std.specs.List.{list_all};
+ghost use Rattle.std.specs.Str.Parse.{digits_value};
+ghost use Rattle.zvt_text.specs.Words.{is_number, number_in, trailing};
+
+/// The bytes after this prefix, where the word begins with it.
+pub fn trailing<'a>(prefix: &[u8], word: &'a [u8]) -> Option<&'a [u8]>
+    ensures { option_map (λ rest. rest.now) result ≡ trailing prefix.now word.now }
+{
+    word.strip_prefix(prefix)
+}
+
+/// The number of at least one and at most `most` decimal digits. A sign is no digit, and zeros may come first.
+pub fn decimal_number(digits: &[u8], most: usize) -> Option<u64>
+    requires { most ≤ 19 }
+    ensures number { result ≡ number_in most digits.now }
+    ensures small { IfSome result (λ number. number < 10 ^ most) }
+{
+    if is_number(digits, most) {
+        Some(value(digits))
+    } else {
+        None
+    }
+}
+
+/// Whether these are decimal digits, at least one and at most `most`.
+fn is_number(digits: &[u8], most: usize) -> bool
+    ensures { result ≡ is_number most digits.now }
+{
+    let count = digits.len();
+    if count == 0 || count > most {
+        return false;
+    }
+    all_digits(digits)
+}
+
+/// Whether each of these is a decimal digit.
+fn all_digits(bytes: &[u8]) -> bool
+    ensures { result ≡ list_all is_ascii_digit bytes.now }
+{
+    bytes.iter().all(|byte| byte.is_ascii_digit())
+}
+
+/// The value of decimal digits.
+fn value(digits: &[u8]) -> u64
+    requires digits { list_all is_ascii_digit digits.now ≡ true }
+    requires few { length digits.now ≤ 19 }
+    ensures { result ≡ digits_value 10 digits.now }
+{
+    let mut value = 0;
+    for byte in digits {
+        value = value * 10 + u64::from(*byte - b'0');
+    }
+    value
+}
