@@ -1,4 +1,4 @@
-use Rattle.std.proofs.Common.{◌≡◌, ℕ, [], arith, length, refl, subst, sym, take}
+use Rattle.std.proofs.Common.{rules, ◌≡◌, ℕ, [], arith, length, refl, subst, sym, take}
 use Rattle.std.specs.Io.KnownBytes.{Appends}
 use Rattle.zvt_play.specs.Playing.{StopsPlay, acts_of, all_sent, line_state}
 use Rattle.zvt_play.specs.declared.difference.Difference.{Difference}
@@ -63,3 +63,9 @@ returns-in-Err-all_heard-clause-err g c =
     let P : Unplayed → Type 0 = λ u. StopsPlay c.args.steps.now u (line_state [] (g.R.Source.remaining c.args.end.now.reader) (g.W.Sink.written c.args.end.now.writer)) (g.R.Source.remaining c.loop-at.end.reader) (g.W.Sink.written c.loop-at.end.writer) c.loop-at.end.stream in
     let by_step : P (record { step = length c.args.steps.now; why = Surplus count }) = subst (λ (n : ℕ). P (record { step = n; why = Surplus count })) all stops in
     subst (λ (w : Difference). P (record { step = length c.args.steps.now; why = w })) (sym surplus) by_step
+
+pub returns-in-Err-clause-sent : goal.returns-in-Err-clause-sent
+returns-in-Err-clause-sent c = search rules
+
+pub returns-in-Err-clause-ok : goal.returns-in-Err-clause-ok
+returns-in-Err-clause-ok c = search rules

@@ -166,3 +166,6 @@ write_synced-requires-clause-within g c = grind (arith, common_steps)
 
 pub set_synced-requires-clause-within : goal.set_synced-requires-clause-within
 set_synced-requires-clause-within g c = grind (arith, common_steps)
+
+pub returns-clause-longest : goal.returns-clause-longest
+returns-clause-longest c = search rules

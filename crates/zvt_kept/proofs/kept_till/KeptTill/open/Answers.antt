@@ -1,4 +1,4 @@
-use Rattle.std.proofs.Common.{length}
+use Rattle.std.proofs.Common.{rules, length}
 use Rattle.zvt_till.specs.Settings.{settings_of}
 use Rattle.zvt_kept.proofs.Logged.{keeps_some}
 use Rattle.zvt_kept.proofs.Recovered.{opened_keeps}
@@ -16,3 +16,6 @@ pub returns-clause-log : goal.returns-clause-log
 returns-clause-log g c =
     let V = g.D.Device in
     opened_keeps (settings_of c.args.settings.now) (V.seen c.args.device) c.args.text.now (V.may_leave c.args.device) (length c.args.text.now) c.in_ok-till.till.state c.requires.settled c.requires.text c.in_ok-till.ensures
+
+pub returns-clause-device : goal.returns-clause-device
+returns-clause-device c = search rules

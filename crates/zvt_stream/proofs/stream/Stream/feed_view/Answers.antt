@@ -88,3 +88,9 @@ returns-in-Refused-clause-fed c =
 
 pub returns-in-Open-clause-count : goal.returns-in-Open-clause-count
 returns-in-Open-clause-count c = search rules
+
+pub returns-in-Refused-clause-count : goal.returns-in-Refused-clause-count
+returns-in-Refused-clause-count c = search rules
+
+pub returns-in-Ended-clause-count : goal.returns-in-Ended-clause-count
+returns-in-Ended-clause-count c = search rules

@@ -23,3 +23,12 @@ returns-in-Reverse-clause-state c =
     let within : c.in-Reverse.entry < length book = grind (arith, common_steps) in
     let read = read_is book c.in-Reverse.entry c.index_mut.result.now within c.index_mut.ensures.value in
     rw (c.in-Reverse.is, ← c.self.view_is, read) (search rules)
+
+pub end_payment-requires-clause-ended : goal.end_payment-requires-clause-ended
+end_payment-requires-clause-ended c = search rules
+
+pub returns-in-Pay-clause-state : goal.returns-in-Pay-clause-state
+returns-in-Pay-clause-state c = search rules
+
+pub returns-in_default-order : goal.returns-in_default-order
+returns-in_default-order c = search rules
