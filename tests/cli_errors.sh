@@ -127,8 +127,11 @@ padded=$here/examples/padded.trace
 normal=$here/examples/padded.normal
 books="booked 1234 trace 000017 receipt 0005
 total 1234"
-reads "a padded trace, audited strictly" 1 "unclear 1234 Malformed
-total 0" "zvt: line 5 of the trace: < Ack refused at 4, byte 00: NotShortest" audit "$padded"
+reads "a padded trace, audited strictly" 1 "total 0" "zvt: line 6 of the trace: < Ack refused at 4, byte 00: NotShortest" audit "$padded"
+# without the registration
+sed '4,10d' "$padded" > "$work/payment.trace"
+reads "a padded payment, audited strictly" 1 "unclear 1234 Malformed
+total 0" "zvt: line 6 of the trace: < Ack refused at 4, byte 00: NotShortest" audit "$work/payment.trace"
 reads "a padded trace in its strict spelling" 0 "$(cat "$normal")" "" normalise "$padded"
 reads "a strict trace in its strict spelling" 0 "$(cat "$normal")" "" normalise "$normal"
 reads "a padded trace, audited loosely" 0 "$books" "" audit --loose "$padded"

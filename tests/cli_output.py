@@ -159,8 +159,10 @@ def main():
         given = b"# a remark\n80 00 = whole 2\n" + line + b"\n80 = whole 1\n"
         found = run(["vectors"], given)
         check(f"the vector {line}", (*found[:2], b"line 3 " in found[2]), (3, b"line 2: got more\n", True))
-    with open(os.path.join(HERE, "..", "examples", "messages.txt"), "rb") as file:
-        check("every message", run(["show", os.path.join(HERE, "..", "examples", "messages.trace")], b"")[1], file.read())
+    for example in ("messages", "commands"):
+        path = os.path.join(HERE, "..", "examples", example)
+        with open(path + ".txt", "rb") as file:
+            check(f"every message of {example}.trace", run(["show", path + ".trace"], b"")[1], file.read())
     table_is_read()
     print("ok: the cases of commands.txt, traces and vectors that can't be read, and the table of fields" if not failed else f"{len(failed)} not as expected")
     return 1 if failed else 0

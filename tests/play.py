@@ -154,22 +154,36 @@ def recorded(folder):
 # ---- the examples of the repository
 
 
+# Of each example that is played as a terminal: the words of its till, and what that writes of its orders.
+PAID = "pay:1234 -> paid trace 000017 receipt 0005"
+OF_TERMINALS = {
+    "payment": (["register", "pay:1234"], ["register -> registered", PAID]),
+    "padded": (["--loose", "register", "pay:1234"], ["register -> registered", PAID]),
+    "messages": (["register", "pay:1234", "reverse:1", "close"], ["register -> registered", PAID, "reverse:1 -> aborted 6C abort by time-out or abort key", "close -> refused 83 function not possible"]),
+}
+# Of each example that is played as a till: how many connections it makes.
+OF_TILLS = {"first": 1, "commands": 1, "refused": 4}
+
+
 def examples(folder):
-    """The payment is played as either side, as the till with the numbers of the terminal left open. A trace whose other side sends
-    what is no message is refused before anything is opened, at that line."""
+    """Each example is played as the side that it is of, and the payment as either: as the till with the numbers of the terminal
+    left open. A trace whose other side sends what is no message is refused before anything is opened, at that line."""
     known = HERE.parent / "examples"
-    terminal = Listener("terminal", "--port", "0")
-    check("the first example, as the till", play_till(known / "first.trace", terminal.port), (0, "", ""))
-    terminal.ended()
-    kit = play_terminal(known / "payment.trace")
-    status, said, _ = till(kit.port, ["register", "pay:1234"])
-    check("the payment, as the terminal", (kit.ended(), status, said.splitlines()[1]), ((0, "", ""), 0, "pay:1234 -> paid trace 000017 receipt 0005"))
+    check("the examples", sorted([*OF_TERMINALS, *OF_TILLS]), sorted(it.stem for it in known.glob("*.trace")))
+    for name, (words, wanted) in OF_TERMINALS.items():
+        kit = play_terminal(known / f"{name}.trace")
+        _, said, _ = till(kit.port, words)
+        check(f"{name}, as the terminal", (kit.ended(), said.splitlines()), ((0, "", ""), [*wanted, "total 1234"]))
+    for name, connections in OF_TILLS.items():
+        terminal = Listener("terminal", "--port", "0", "--connections", str(connections))
+        check(f"{name}, as the till", play_till(known / f"{name}.trace", terminal.port), (0, "", ""))
+        terminal.ended()
     lines = (known / "payment.trace").read_text().splitlines(True)
     open_numbers = written(folder, "".join("< 04 0F\n" if line.startswith("< 04 0F") else line for line in lines))
     terminal = Listener("terminal", "--port", "0")
     check("the payment, as the till", play_till(open_numbers, terminal.port), (0, "", ""))
     check("the terminal of the payment", terminal.ended()[0], 0)
-    for name, side, line in (("messages", "till", 40), ("padded", "till", 5), ("refused", "till", 8), ("refused", "terminal", 4)):
+    for name, side, line in (("padded", "till", 6), ("refused", "terminal", 5)):
         status, said, errors = run("play", f"--{side}", str(known / f"{name}.trace"), "--port", "1")
         check(f"{name}, as the {side}", (status, said, f"line {line} of the trace: no message begins" in errors), (3, "", True))
 
