@@ -8,12 +8,11 @@ ghost use Rattle.zvt_play.specs.declared.line.BadLine.TheVariants.{Memory};
 
 use crate::marks::read_comment;
 use crate::step::Action;
-use hex::FromHexError;
 use std::alloc::{AllocError, Global};
 use thiserror::Error;
 use zvt_grammar::Why;
 use zvt_stream::{FedView, FeedError, Stream};
-use zvt_trace::{Direction, TraceLineError};
+use zvt_trace::{Direction, TraceLineError, spelled_bytes};
 
 /// Why a line can't be played.
 #[derive(Clone, Copy, Debug, PartialEq, Eq, Error)]
@@ -90,15 +89,9 @@ fn decode(alloc: Global, text: &[u8]) -> Result<Vec<u8>, BadLine>
     ensures ok { IfOk result (λ bytes. decode_of (without_spaces text.now) ≡ Ok bytes.items) }
     ensures wrong { (why : ScriptLineError) → result ≡ Err (BadLine.Wrong why) → (why ≡ ScriptLineError.Trace TraceLineError.Hex) × IsErr (decode_of (without_spaces text.now)) }
 {
-    let digits: Vec<u8> = text
-        .iter()
-        .copied()
-        .filter(|character| *character != b' ')
-        .collect(alloc)?;
-    match hex::decode(alloc, digits) {
-        Ok(bytes) => Ok(bytes),
-        Err(FromHexError::OutOfMemory) => Err(BadLine::Memory),
-        Err(_) => Err(BadLine::Wrong(ScriptLineError::Trace(TraceLineError::Hex))),
+    match spelled_bytes(alloc, text)? {
+        Some(bytes) => Ok(bytes),
+        None => Err(BadLine::Wrong(ScriptLineError::Trace(TraceLineError::Hex))),
     }
 }
 

@@ -27,5 +27,6 @@ pub use input::{read_chunk, read_trace};
 pub use journal::readable;
 pub use lines::next_line;
 pub use listener::{Listener, ListenerError, Scope};
+pub use spelled::spelled_bytes;
 pub use walker::walk;
 pub use zvt_stream::Head;

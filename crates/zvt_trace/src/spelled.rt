@@ -1,7 +1,11 @@
 //! Bytes that are spelled in hexadecimal text with spaces.
-ghost use Rattle.std.specs.Prelude.{◌≡◌, ◌≢◌, ◌*◌, ◌+◌, ◌++◌, ◌<◌, ◌≤◌, ℕ, List, length, slice_index, take, false, true, IfSome, MatchOption, None};
+ghost use Rattle.std.specs.Prelude.{◌≡◌, ◌≢◌, ◌*◌, ◌+◌, ◌++◌, ◌<◌, ◌≤◌, ℕ, List, length, slice_index, take, false, true, IfOk, IfSome, IsErr, MatchOption, None, Ok};
+ghost use Rattle.hex.specs.Hex.{decode_of};
 ghost use Rattle.zvt_trace.specs.Meanings.{EndsPairs, ReadsPairs, SpellsBytes, without_spaces};
 ghost use Rattle.zvt_trace.specs.Spelled.{AreHex, IsDigit, after_bytes, spells, worth};
+
+use hex::FromHexError;
+use std::alloc::{AllocError, Global};
 
 /// Reads bytes into the buffer until it is full or the text ends, and answers how many, and the text after them. It answers
 /// nothing where the text spells no bytes so far.
@@ -33,6 +37,22 @@ pub(crate) fn read<'t>(text: &'t [u8], buffer: &mut [u8]) -> Option<(usize, &'t 
         rest = skip_spaces(after);
     }
     Some((count, rest))
+}
+
+/// The bytes that the text spells, or `None` where it spells none.
+pub fn spelled_bytes(alloc: Global, text: &[u8]) -> Result<Option<Vec<u8>>, AllocError>
+    ensures { IfOk result (λ found. MatchOption found (IsErr (decode_of (without_spaces text.now))) (λ bytes. decode_of (without_spaces text.now) ≡ Ok bytes.items)) }
+{
+    let digits: Vec<u8> = text
+        .iter()
+        .copied()
+        .filter(|character| *character != b' ')
+        .collect(alloc)?;
+    match hex::decode(alloc, digits) {
+        Ok(bytes) => Ok(Some(bytes)),
+        Err(FromHexError::OutOfMemory) => Err(AllocError),
+        Err(_) => Ok(None),
+    }
 }
 
 /// Whether the text spells bytes.

@@ -7,9 +7,8 @@ ghost use Rattle.zvt_trace.specs.declared.fault.TraceLineError.{TraceLineError};
 ghost use Rattle.zvt_vectors.specs.Vectors.{IsOther, IsSpelling, IsVector, Means, meant_by, vector};
 
 use crate::claims::is_claim;
-use hex::FromHexError;
 use std::alloc::{AllocError, Global};
-use zvt_trace::TraceLineError;
+use zvt_trace::{TraceLineError, spelled_bytes};
 
 /// What a line means.
 #[derive(Drop)]
@@ -99,14 +98,8 @@ fn read_vector<'a>(
     ensures ok { IfOk result (λ read. (bytes : List ℕ) × (decode_of (without_spaces spelled.now) ≡ Ok bytes) × (meant_by read ≡ vector bytes claim.now)) }
     ensures wrong { (what : TraceLineError) → result ≡ Err (BadLine.Wrong what) → (what ≡ TraceLineError.Hex) × IsErr (decode_of (without_spaces spelled.now)) }
 {
-    let digits: Vec<u8> = spelled
-        .iter()
-        .copied()
-        .filter(|character| *character != b' ')
-        .collect(alloc)?;
-    match hex::decode(alloc, digits) {
-        Ok(bytes) => Ok(VectorLine::Vector { bytes, claim }),
-        Err(FromHexError::OutOfMemory) => Err(BadLine::Memory),
-        Err(_) => Err(BadLine::Wrong(TraceLineError::Hex)),
+    match spelled_bytes(alloc, spelled)? {
+        Some(bytes) => Ok(VectorLine::Vector { bytes, claim }),
+        None => Err(BadLine::Wrong(TraceLineError::Hex)),
     }
 }
