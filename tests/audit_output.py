@@ -157,7 +157,7 @@ def documented(trial):
 
 def traces(chance):
     """Traces, and whether each is read loosely."""
-    for path in sorted(HERE.parent.glob("examples/*.trace")):
+    for path in sorted(HERE.parent.glob("examples/**/*.trace")):
         yield path.read_bytes(), ()
         yield path.read_bytes(), ("--loose",)
     for dialogue in journal_dialogues.ALL:

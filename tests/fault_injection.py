@@ -87,7 +87,7 @@ class Trial:
 
     def make_traces(self):
         """A trace that is small, and one whose text goes beyond a block."""
-        examples = [(HERE.parent / f"examples/{name}.trace").read_bytes() for name in ("payment", "messages", "commands", "refused")]
+        examples = [(HERE.parent / f"examples/{name}.trace").read_bytes() for name in ("payment", "messages/terminal", "messages/till", "messages/refused")]
         small = b"!\n".join(examples) + b"< 04 0F 02 D0 00\n< 80 00 00\n> 06 01 0A 04\n!\n< 06 D1 FF FE 00\n> 06 00 06 00\n"
         payments = []
         for number in range(1, 1001):

@@ -190,7 +190,7 @@ def large(chance):
 
 def whole_traces():
     """Traces that are given to the program one by one."""
-    for path in sorted(HERE.parent.glob("examples/*.trace")):
+    for path in sorted(HERE.parent.glob("examples/**/*.trace")):
         yield path.name, path.read_bytes()
     for dialogue in journal_dialogues.ALL:
         journal = journal_dialogues.written(dialogue).file()

@@ -26,7 +26,7 @@ HERE = pathlib.Path(__file__).resolve().parent
 EXAMPLES = HERE.parent / "examples"
 PROGRAM = os.path.abspath(sys.argv[1]) if len(sys.argv) > 1 else str(HERE.parent / "crates/zvt/out/zvt")
 ODD_NAME = 'a "till" \\ \u00e4 \U0001F600.trace'
-INPUT = (EXAMPLES / "messages.trace").read_bytes()
+INPUT = (EXAMPLES / "messages/terminal.trace").read_bytes()
 COMMANDS = [
     ["show"], ["show", "--loose"], ["show", "--json"], ["show", "--json", "--loose"], ["join"], ["audit"], ["audit", "--loose"], ["audit", "--json"],
     ["audit", "--check"], ["audit", "--check", "--json"], ["receipts"], ["receipts", "--loose"], ["receipts", "--json"], ["vectors"],
@@ -67,8 +67,9 @@ def summed(names, singles, as_json):
 
 def make(folder):
     """The files, each with whether it can be read by a command for traces, and by `vectors`."""
-    for name in ("payment", "padded", "refused"):
-        (folder / f"{name}.trace").write_bytes((EXAMPLES / f"{name}.trace").read_bytes())
+    for name in ("payment", "messages/padded", "messages/refused"):
+        example = EXAMPLES / f"{name}.trace"
+        (folder / example.name).write_bytes(example.read_bytes())
     (folder / ODD_NAME).write_bytes((EXAMPLES / "payment.trace").read_bytes() + b"> 06\n")
     (folder / "unclear.trace").write_bytes(b"> 06 01 07 04 00 00 00 00 01 00\n< 80 00 00 06 0F 00\n")
     (folder / "empty.trace").write_bytes(b"")

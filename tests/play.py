@@ -5,8 +5,8 @@
 
 PROGRAM is the one that `rt ci` built, unless another is named. Each of 30 random dialogues, or of DIALOGUES, is recorded at
 both ends. Each trace is played as a terminal against a till with the same steps, and as a till against a terminal: it ends
-with status 0, and the other program with what it came to in the recording. The examples are played likewise. Then one byte of a message of the other side is
-changed, and the difference is told at its line. Lost lines, waits, silence, what comes besides, and wrong words and files
+with status 0, and the other program with what it came to in the recording. So is each example. Then one byte of a message of
+the other side is changed, and the difference is told at its line. Lost lines, waits, silence, what comes besides, and wrong words and files
 follow. The status is 1 where anything is not as expected.
 """
 import os
@@ -154,37 +154,38 @@ def recorded(folder):
 # ---- the examples of the repository
 
 
-# Of each example that is played as a terminal: the words of its till, and what that writes of its orders.
+# Of each example: the words of its till, what that writes of its orders, and its total. Either side is played.
+REGISTERED_LINE, FIRST = "register -> registered", "pay:1234 -> paid trace 000001 receipt 0001"
+DIALOGUES_SHOWN = {
+    "payment": (["register", "pay:1234"], [REGISTERED_LINE, FIRST], 1234),
+    "day": (["register", "pay:1234", "pay:500", "reverse:1", "close"], [REGISTERED_LINE, FIRST, "pay:500 -> paid trace 000002 receipt 0002", "reverse:1 -> reversed", "close -> day closed"], 500),
+}
+# Of the messages that no program here sends, those of terminals likewise.
 PAID = "pay:1234 -> paid trace 000017 receipt 0005"
 OF_TERMINALS = {
-    "payment": (["register", "pay:1234"], ["register -> registered", PAID]),
-    "padded": (["--loose", "register", "pay:1234"], ["register -> registered", PAID]),
-    "messages": (["register", "pay:1234", "reverse:1", "close"], ["register -> registered", PAID, "reverse:1 -> aborted 6C abort by time-out or abort key", "close -> refused 83 function not possible"]),
+    "messages/padded": (["--loose", "register", "pay:1234"], [REGISTERED_LINE, PAID], 1234),
+    "messages/terminal": (["register", "pay:1234", "reverse:1", "close"], [REGISTERED_LINE, PAID, "reverse:1 -> aborted 6C abort by time-out or abort key", "close -> refused 83 function not possible"], 1234),
 }
-# Of each example that is played as a till: how many connections it makes.
-OF_TILLS = {"first": 1, "commands": 1, "refused": 4}
+# Those of tills: how many connections they make.
+OF_TILLS = {"messages/authorisation": 1, "messages/till": 1, "messages/refused": 4}
 
 
-def examples(folder):
-    """Each example is played as the side that it is of, and the payment as either: as the till with the numbers of the terminal
-    left open. A trace whose other side sends what is no message is refused before anything is opened, at that line."""
+def examples():
+    """Each example is played as either side, and messages that no program here sends as the side that they are of. A trace whose
+    other side sends what is no message is refused before anything is opened, at that line."""
     known = HERE.parent / "examples"
-    check("the examples", sorted([*OF_TERMINALS, *OF_TILLS]), sorted(it.stem for it in known.glob("*.trace")))
-    for name, (words, wanted) in OF_TERMINALS.items():
+    found = sorted(str(it.relative_to(known).with_suffix("")) for it in known.glob("**/*.trace"))
+    check("the examples", sorted([*DIALOGUES_SHOWN, *OF_TERMINALS, *OF_TILLS]), found)
+    for name, (words, wanted, total) in {**DIALOGUES_SHOWN, **OF_TERMINALS}.items():
         kit = play_terminal(known / f"{name}.trace")
         _, said, _ = till(kit.port, words)
-        check(f"{name}, as the terminal", (kit.ended(), said.splitlines()), ((0, "", ""), [*wanted, "total 1234"]))
-    for name, connections in OF_TILLS.items():
+        check(f"{name}, as the terminal", (kit.ended(), said.splitlines()), ((0, "", ""), [*wanted, f"total {total}"]))
+    for name, connections in {**dict.fromkeys(DIALOGUES_SHOWN, 1), **OF_TILLS}.items():
         terminal = Listener("terminal", "--port", "0", "--connections", str(connections))
         check(f"{name}, as the till", play_till(known / f"{name}.trace", terminal.port), (0, "", ""))
         terminal.ended()
-    lines = (known / "payment.trace").read_text().splitlines(True)
-    open_numbers = written(folder, "".join("< 04 0F\n" if line.startswith("< 04 0F") else line for line in lines))
-    terminal = Listener("terminal", "--port", "0")
-    check("the payment, as the till", play_till(open_numbers, terminal.port), (0, "", ""))
-    check("the terminal of the payment", terminal.ended()[0], 0)
     for name, side, line in (("padded", "till", 6), ("refused", "terminal", 5)):
-        status, said, errors = run("play", f"--{side}", str(known / f"{name}.trace"), "--port", "1")
+        status, said, errors = run("play", f"--{side}", str(known / f"messages/{name}.trace"), "--port", "1")
         check(f"{name}, as the {side}", (status, said, f"line {line} of the trace: no message begins" in errors), (3, "", True))
 
 
@@ -314,7 +315,7 @@ def wrong(folder):
 with tempfile.TemporaryDirectory() as name:
     folder = pathlib.Path(name)
     recorded(folder)
-    examples(folder)
+    examples()
     lines(folder)
     waits(folder)
     lost_lines(folder)
