@@ -18,7 +18,7 @@ _zvt() {
     normalise) ;;
     vectors | book) options='--json' ;;
     loop) options='--trace --book --json' steps='register pay: decline: reverse: close' ;;
-    till) options='--port --host --password --config --currency --trace --book --loose --json' steps='register pay: reverse: close' ;;
+    till) options='--port --host --password --config --currency --timeout --trace --book --show --loose --json' steps='register pay: reverse: close' ;;
     terminal) options='--port --host --tid --connections --decline --trace --loose --json' ;;
     tap) options='--listen --to --trace --trace-required --connections' ;;
     play) options='--till --terminal --port --listen --host' ;;
@@ -41,7 +41,7 @@ _zvt() {
         COMPREPLY=($(compgen -A hostname -- "$word"))
         return
         ;;
-    --port | --listen | --to | --password | --config | --currency | --tid | --connections | --decline) return ;;
+    --port | --listen | --to | --password | --config | --currency | --timeout | --tid | --connections | --decline) return ;;
     esac
     case $word in
     -*) COMPREPLY=($(compgen -W "$options --help -h" -- "$word")); return ;;

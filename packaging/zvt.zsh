@@ -69,8 +69,10 @@ _zvt() {
             '--password[the password, six digits]:password:' \
             '--config[the configuration byte, two hexadecimal digits]:byte:' \
             "--currency[the currency's number, four digits]:number:" \
+            '--timeout[how many seconds to wait for the terminal]:seconds:' \
             '--trace[write a trace of the line to this file]:file:_files' \
             '--book[keep the book in this file]:file:_files' \
+            '--show[write each message of the terminal as it comes]' \
             '--loose[also read lengths in longer forms than they need]' \
             '--json[write JSON, one object a line]' \
             '*:step:(register pay\:1000 reverse\:1 close)'
@@ -80,7 +82,7 @@ _zvt() {
             '--port[the TCP port to listen on]:port:' \
             '--host[the address to listen on]:host:_hosts' \
             "--tid[the terminal's number]:number:" \
-            '--connections[serve so many tills one after another]:number:' \
+            '--connections[serve so many tills one after another, 0 for no end]:number:' \
             '--decline[decline every payment with this code]:code:' \
             '--trace[write a trace of the line to this file]:file:_files' \
             '--loose[also read lengths in longer forms than they need]' \
@@ -92,7 +94,7 @@ _zvt() {
             '--to[where the terminal listens]:address:' \
             '--trace[write a trace of the line to this file]:file:_files' \
             "--trace-required[forward nothing where the trace can't be written]" \
-            '--connections[forward so many lines one after another]:number:'
+            '--connections[forward so many lines one after another, 0 for no end]:number:'
         ;;
     play)
         _arguments $help \

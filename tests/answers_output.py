@@ -244,7 +244,8 @@ def serving(words):
 
 def hold_terminals():
     """Tills one after another, of which the second breaks its line within a message."""
-    for options, words, approvals in ((["--decline", "6C"], ["register", "pay:500"], 0), ([], ["register", "pay:1000", "pay:20", "reverse:1"], 2)):
+    ledger = [{"approved": 1000, "number": 1, "till": 1}, {"approved": 20, "number": 2, "till": 1}, {"number": 3, "original": 1, "reversed": 1000, "till": 1}]
+    for options, words, got, approvals in ((["--decline", "6C"], ["register", "pay:500"], [], 0), ([], ["register", "pay:1000", "pay:20", "reverse:1"], ledger, 2)):
         terminal, first, port = serving(["--connections", "3", *options])
         till = run(["till", "--port", str(port), "--json", *words])
         with socket.create_connection(("127.0.0.1", port), timeout=SECONDS) as line:
@@ -255,7 +256,7 @@ def hold_terminals():
         run(["till", "--port", str(port)])
         written, errors = terminal.communicate(timeout=SECONDS)
         cause = "the other end closed the connection after 4 bytes of a message"
-        rows = [{"listening": f"127.0.0.1:{port}"}, {"approvals": approvals, "till": 1}, {"approvals": approvals, "failed": cause, "till": 2}, {"approvals": approvals, "till": 3}]
+        rows = [{"listening": f"127.0.0.1:{port}"}, *got, {"approvals": approvals, "till": 1}, {"approvals": approvals, "failed": cause, "till": 2}, {"approvals": approvals, "till": 3}]
         hold(f"terminal {options}", first + written, "".join(text_of(row) + "\n" for row in rows))
         check(f"the end of terminal {options}", (terminal.returncode, errors), (4, f"zvt: connection failed: {cause}\n"))
         alone = run(["loop", *(f"decline:{word[4:]}:6C" if options and word.startswith("pay") else word for word in words)])

@@ -123,8 +123,8 @@ reads() { # NAME STATUS OUTPUT WORDS ARGUMENT..
     "$zvt" "$@" > "$work/out" 2> "$work/err"
     check "$name" "$?" "$wanted" "$output" "$words"
 }
-padded=$here/examples/padded.trace
-normal=$here/examples/padded.normal
+padded=$here/examples/messages/padded.trace
+normal=$here/examples/messages/padded.normal
 books="booked 1234 trace 000017 receipt 0005
 total 1234"
 reads "a padded trace, audited strictly" 1 "total 0" "zvt: line 6 of the trace: < Ack refused at 4, byte 00: NotShortest" audit "$padded"
@@ -176,7 +176,7 @@ refuses "a port that no terminal has" 2 "zvt: invalid port '0'" till --port 0
 refuses "a port that is none" 2 "'65536'" till --port 65536
 refuses "a step" 2 "zvt: 'pay:0': invalid step 2: expected 'register'" till --port 1 register pay:0
 refuses "a step of a loop" 2 "zvt: 'pay': invalid step 1" loop pay
-refuses "no connections" 2 "zvt: invalid number of connections '0': expected 1 to 65535" terminal --port 0 --connections 0
+refuses "no time to wait" 2 "zvt: invalid number of seconds '0': expected 1 to 65535" till --port 9 --timeout 0
 refuses "too many connections" 2 "'65536'" terminal --port 0 --connections 65536
 refuses "a code to decline with" 2 "zvt: invalid result code '00'" terminal --port 0 --decline 00
 refuses "a terminal's number" 2 "'100000000'" terminal --port 0 --tid 100000000
@@ -185,7 +185,7 @@ refuses "a terminal's number" 2 "'100000000'" terminal --port 0 --tid 100000000
 refuses "a trace that is a directory" 4 "zvt: '$work': cannot create the trace file: " loop --trace "$work"
 refuses "a trace in no directory" 4 "zvt: '$work/none/till.trace': cannot create the trace file: " till --port 1 --trace "$work/none/till.trace"
 echo '# mine' > "$work/mine.trace"
-refuses "a wrong word beside a trace" 2 "invalid number of connections '0'" terminal --port 0 --connections 0 --trace "$work/mine.trace"
+refuses "a wrong word beside a trace" 2 "invalid result code '00'" terminal --port 0 --decline 00 --trace "$work/mine.trace"
 refuses "a wrong step beside a trace" 2 "'pay:0'" loop --trace "$work/mine.trace" pay:0
 [ "$(cat "$work/mine.trace")" = "# mine" ] || echo "a trace that was to stay" >> "$work/failed"
 "$zvt" loop --trace /dev/full register > "$work/out" 2> "$work/err"

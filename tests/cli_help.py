@@ -32,6 +32,9 @@ REFUSED = [
     ("terminal --port=1 --tid=100000000", "error: invalid value '100000000' for '--tid <TID>': 100000000 is not in 0..=99999999\n"),
     ("terminal --port=1 --connections=65536", "error: invalid value '65536' for '--connections <N>': 65536 is not in 0..=65535\n"),
     ("terminal --port=1 register", "error: unexpected argument 'register' found\n\nUsage: zvt terminal [OPTIONS] --port <PORT>\n"),
+    ("till --port=1 --timeout=65536", "error: invalid value '65536' for '--timeout <SECONDS>': 65536 is not in 0..=65535\n"),
+    ("loop --timeout 1", "error: unexpected argument '--timeout' found\n"),
+    ("terminal --port=1 --show", "error: unexpected argument '--show' found"),
     ("tap --listen 1", "error: the following required arguments were not provided:\n  --to <ADDRESS>\n"),
     ("tap", "error: the following required arguments were not provided:\n  --listen <ADDRESS>\n  --to <ADDRESS>\n"),
     ("tap --listen 1 --to h:2 --connections=x", "error: invalid value 'x' for '--connections <N>': invalid digit found in string\n"),
@@ -51,6 +54,7 @@ NO_SETTINGS = [
     ([*TILL, "--password"], ["", "00000", "0000000", "00000a", "+00000"], "invalid password '{}': expected six decimal digits, e.g. 000000"),
     ([*TILL, "--config"], ["", "B", "0BE", "BG", "+1"], "invalid configuration byte '{}': expected two hexadecimal digits, e.g. BE"),
     ([*TILL, "--currency"], ["", "978", "09780", "097a", "+978"], "invalid currency '{}': expected four decimal digits, e.g. 0978"),
+    ([*TILL, "--timeout"], ["0"], "invalid number of seconds '{}': expected 1 to 65535"),
     ([*TERMINAL, "--decline"], ["", "00", "6", "06C", "6G"], "invalid result code '{}': expected two hexadecimal digits other than 00, e.g. 6C"),
 ]
 STEPS = """register -> registered

@@ -130,6 +130,18 @@ def status_of(bmp, content):
     return "< " + (bytes([0x04, 0x0F, len(field)]) + field).hex(" ") + "\n!\n"
 
 
+def log_is_read():
+    """The command of docs/FORMAT.md makes the trace of a log: of a till's line with times and other lines between, and two ends of lines."""
+    page = open(os.path.join(HERE, "..", "docs", "FORMAT.md"), encoding="utf-8").read()
+    command = re.search(r"^    (sed -nE .*) till\.log > till\.trace$", page, re.M)
+    trace = open(os.path.join(HERE, "..", "examples", "payment.trace"), encoding="ascii").read()
+    rows = [line for line in trace.splitlines() if line[:1] in ("<", ">")]
+    words = {">": "TX:", "<": "RX"}
+    log = "".join(f"10:15:0{at % 10}.123 {words[row[0]]}{row[1:]}{chr(13) * (at % 2)}\nTX buffer empty\n" for at, row in enumerate(rows))
+    done = subprocess.run(["sh", "-c", command[1]], input=log.encode(), capture_output=True)
+    check("a log", (done.returncode, done.stdout.decode()), (0, "".join(row + "\n" for row in rows)))
+
+
 def table_is_read():
     table = list(fields())
     check("the number of fields", len(table), 39)
@@ -159,10 +171,11 @@ def main():
         given = b"# a remark\n80 00 = whole 2\n" + line + b"\n80 = whole 1\n"
         found = run(["vectors"], given)
         check(f"the vector {line}", (*found[:2], b"line 3 " in found[2]), (3, b"line 2: got more\n", True))
-    for example in ("messages", "commands"):
-        path = os.path.join(HERE, "..", "examples", example)
+    for side in ("terminal", "till"):
+        path = os.path.join(HERE, "..", "examples", "messages", side)
         with open(path + ".txt", "rb") as file:
-            check(f"every message of {example}.trace", run(["show", path + ".trace"], b"")[1], file.read())
+            check(f"every message of a {side}", run(["show", path + ".trace"], b"")[1], file.read())
+    log_is_read()
     table_is_read()
     print("ok: the cases of commands.txt, traces and vectors that can't be read, and the table of fields" if not failed else f"{len(failed)} not as expected")
     return 1 if failed else 0

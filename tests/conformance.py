@@ -1,11 +1,11 @@
 #!/usr/bin/env python3
 """Plays the situations of conformance/ by `zvt check-till` and `zvt check-terminal` against `zvt till` and `zvt terminal`.
 
-    tests/conformance.py [PROGRAM] [--all]
+    tests/conformance.py [PROGRAM]
 
 PROGRAM is the one that `rt ci` built, unless another is named. Each till is given the steps that its situation names, and
-ends with the outcome that this names. A situation with a silent side takes a minute: it is left out without --all. The
-report in JUnit's form and the lines of TAP are read, by xmllint and prove where these are installed. A till that does
+ends with the outcome that this names. A till whose terminal is to be silent waits two seconds alone. The report in JUnit's
+form and the lines of TAP are read, by xmllint and prove where these are installed. A till that does
 something else is found. The status is 1 where anything is not as expected.
 """
 import os
@@ -19,9 +19,7 @@ import xml.etree.ElementTree as xml
 
 HERE = pathlib.Path(__file__).resolve().parent
 KIT = HERE.parent / "conformance"
-WORDS = [it for it in sys.argv[1:] if it != "--all"]
-PROGRAM = os.path.abspath(WORDS[0]) if WORDS else str(HERE.parent / "crates/zvt/out/zvt")
-TAKES_ALL = "--all" in sys.argv
+PROGRAM = os.path.abspath(sys.argv[1]) if len(sys.argv) > 1 else str(HERE.parent / "crates/zvt/out/zvt")
 SECONDS = 90
 failed = []
 
@@ -59,8 +57,7 @@ def head(file):
 
 
 def situations(folder):
-    files = sorted((KIT / folder).glob("*.trace"))
-    return [it for it in files if TAKES_ALL or it.stem != "silent"]
+    return sorted((KIT / folder).glob("*.trace"))
 
 
 def is_tap(name, written, files):
@@ -86,7 +83,8 @@ def tills(folder):
     kit = Listener("check-till", "--listen", 0, "--junit", report, *files)
     for file in files:
         said = head(file)
-        _, written, _ = run("till", "--port", kit.port, *said["Steps"].split())
+        waits = ["--timeout", 2] if file.stem == "silent" else []
+        _, written, _ = run("till", "--port", kit.port, *waits, *said["Steps"].split())
         outcome = [it.split(" -> ")[1] for it in written.splitlines() if " -> " in it]
         check(f"{file.stem}: the till", outcome[-1:], [said["Outcome"]])
     status, written, _ = kit.ended()

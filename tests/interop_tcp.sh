@@ -1,7 +1,6 @@
 #!/bin/sh
 # Runs a till and a terminal as two programs over TCP on this machine, breaks the line in each way that it can break,
 # and reaches each exit status of the program. It compares what is written and ends with 1 where anything differs.
-# The case of the silent terminal takes the minute that the till waits; it runs beside the others.
 # It needs python3, for the ends that break the line.
 # Give the program's path, or none for the one that `rt ci` built.
 here=$(CDPATH= cd -- "$(dirname -- "$0")/.." && pwd) || exit 4
@@ -43,11 +42,11 @@ till() { # PORT STEP..
     done
 }
 
-# A terminal that takes the registration, answers the payment with the given bytes, and closes the line, or says
+# A terminal that takes the registration, answers the payment with the given bytes, and closes the line, resets it, or says
 # nothing more for the given seconds.
-broken_terminal() { # PORT HEX [SECONDS]
+broken_terminal() { # PORT HEX [SECONDS | reset]
     python3 -c '
-import socket, sys, time
+import socket, struct, sys, time
 listener = socket.socket()
 listener.setsockopt(socket.SOL_SOCKET, socket.SO_REUSEADDR, 1)
 listener.bind(("127.0.0.1", int(sys.argv[1])))
@@ -60,7 +59,12 @@ hear(9)                                          # the registration
 line.sendall(bytes.fromhex("800000060F00"))      # it is taken, and completed
 hear(3 + 13)                                     # the answer, and the payment
 line.sendall(bytes.fromhex(sys.argv[2]))
-time.sleep(float(sys.argv[3]) if len(sys.argv) > 3 else 0.2)
+if sys.argv[3:] == ["reset"]:
+    time.sleep(0.5)
+    line.setsockopt(socket.SOL_SOCKET, socket.SO_LINGER, struct.pack("ii", 1, 0))
+    line.close()
+else:
+    time.sleep(float(sys.argv[3]) if len(sys.argv) > 3 else 0.2)
 ' "$@" &
 }
 
@@ -81,11 +85,11 @@ print(line.recv(4096).hex())                     # the answers: a line that clos
 }
 
 # the till against a terminal that breaks the line in the middle of a payment
-breaks() { # NAME HEX CAUSE [SECONDS]
+breaks() { # NAME HEX CAUSE [SECONDS | reset]
     port=$(free_port)
     broken_terminal "$port" "$2" $4
     peer=$!
-    till "$port" --trace "$work/broken.$port.trace" register pay:1234 close
+    till "$port" --timeout 2 --trace "$work/broken.$port.trace" register pay:1234 close
     kill "$peer" 2> /dev/null
     wait "$peer" 2> /dev/null
     check "$1" "$status" "$text" 4 "register -> registered
@@ -111,9 +115,11 @@ payment="06 01 0A 04 00 00 00 00 12 34 49 09 78"
 taken="80 00 00"
 approved="04 0F 10 27 00 04 00 00 00 00 12 34 0B 00 00 17 87 00 05"
 
-# A terminal that says nothing more counts for the till as a failed read after a minute.
-(breaks "a silent terminal" "$taken" Line 90) > "$work/silent" &
-silent=$!
+# A terminal that says nothing more has lost its connection once the till has waited, and that is told apart.
+breaks "a silent terminal" "$taken" Line 30
+check "that it was silent" 0 "$(cat "$work/till.$port")" 0 "zvt: connection failed: the terminal sent nothing for 2 s: check it, or let the till wait longer by --timeout"
+breaks "a terminal that resets the connection" "$taken" Line reset
+check "that the connection broke" 0 "$(cat "$work/till.$port")" 0 "zvt: connection failed: a read failed, as where the other end resets the connection"
 
 # Both ends as they should be.
 port=$(free_port)
@@ -127,6 +133,48 @@ close -> day closed
 total 0"
 wait "$served"
 check "the terminal" "$?" "$(cat "$work/terminal")" 0 ""
+
+# A terminal that counts from 1 again, beside a book that goes on.
+"$zvt" loop --book "$work/day.book" register pay:1000 > /dev/null 2>&1
+text=$("$zvt" loop --book "$work/day.book" register pay:20 2> "$work/says")
+check "a terminal that counts anew" "$?" "$text" 0 "register -> registered
+pay:20 -> unclear TraceUsed
+total 1000"
+check "what to do then" 0 "$(cat "$work/says")" 0 "zvt: '$work/day.book': 1 booked, 0 unclear, total 1000
+zvt: a payment is unclear, since the book has its trace number: if the terminal was exchanged or counts from 1 again, begin a new book"
+
+# What comes from the terminal is shown while it comes, and standard output has the outcomes alone. This terminal serves
+# tills without an end.
+port=$(free_port)
+"$zvt" terminal --port "$port" --connections 0 2> /dev/null &
+served=$!
+till "$port" --show register pay:1000
+check "a till that shows" "$status" "$text" 0 "register -> registered
+pay:1000 -> paid trace 000001 receipt 0001
+total 1000"
+check "what it shows" 0 "$(cat "$work/till.$port")" 0 '< Ack
+< Completion
+  29 terminal 12345678
+  49 currency 0978
+< Ack
+< Status
+  27 result 00 success
+  04 amount 1000
+  0B trace 000001
+  87 receipt 0001
+  49 currency 0978
+< PrintLine 00 "APPROVED 1000"
+< Completion'
+till "$port" --show --json register
+check "what it shows as JSON" "$status" "$(sed 's/"line":[0-9]*/"line":1/' "$work/till.$port")" 0 '{"from":"terminal","kind":"Ack","line":1,"size":3}
+{"fields":[{"bmp":"29","content":"12345678","name":"terminal"},{"bmp":"49","content":"0978","name":"currency"}],"from":"terminal","kind":"Completion","line":1,"size":11}'
+till "$port" register pay:1000
+check "a third till" "$status" "$text" 0 "register -> registered
+pay:1000 -> paid trace 000002 receipt 0002
+total 1000"
+kill "$served"
+wait "$served"
+check "a terminal without an end" "$?" "" 143 ""
 
 port=$(free_port)
 "$zvt" terminal --port "$port" --decline 6c 2> /dev/null &
@@ -186,8 +234,11 @@ line.sendall(bytes.fromhex(sys.argv[2]))         # a payment without a registrat
 print(line.recv(4096).hex())
 ' "$port" "$payment" > "$work/unregistered"
 wait "$served"
-check "what the terminal says of its tills" "$?" "$(sed 1d "$work/says")" 4 "zvt: till 1 disconnected; approvals in the ledger: 1
+check "what the terminal says of its tills" "$?" "$(sed 1d "$work/says")" 4 "zvt: approved 1000 as number 1
+zvt: till 1 disconnected; approvals in the ledger: 1
 zvt: connection of till 2 failed: the other end closed the connection after 4 bytes of a message; approvals in the ledger: 1
+zvt: approved 20 as number 2
+zvt: approved 3 as number 3
 zvt: till 3 disconnected; approvals in the ledger: 3
 zvt: till 4 disconnected; approvals in the ledger: 3
 zvt: connection failed: the other end closed the connection after 4 bytes of a message"
@@ -300,7 +351,4 @@ check "a port that nothing listens on" "$?" "$text" 4 ""
 text=$(head -c 16000000 /dev/zero | tr '\0' '#' | (ulimit -v 12000; "$zvt" show 2> /dev/null))
 check "too little memory for a trace" "$?" "$text" 5 ""
 
-echo "the silent terminal takes a minute"
-wait "$silent"
-cat "$work/silent"
 [ ! -s "$work/failed" ]

@@ -172,7 +172,7 @@ def programs():
 def dialogues():
     """What both sides of each example send."""
     found = []
-    for path in sorted(EXAMPLES.glob("*.trace")):
+    for path in sorted(EXAMPLES.glob("**/*.trace")):
         rows = re.sub(rb"[ \r]", b"", path.read_bytes()).split(b"\n")
         found.append(tuple(b"".join(bytes.fromhex(row[1:].decode()) for row in rows if row[:1] == sign) for sign in (b">", b"<")))
     return found
@@ -397,7 +397,7 @@ def missing():
         till.close()
     ended("no terminal", tap, 4, rf"(zvt: no connection to the terminal at '127\.0\.0\.1:{port}': nothing listens [^\n]*\n){{2}}")
     for words in (["--listen", "0", "--to", "nowhere"], ["--listen", "0", "--to", "127.0.0.1:0"], ["--listen", "here", "--to", "127.0.0.1:1"],
-                  ["--listen", "0", "--to", "127.0.0.1:1", "--connections", "0"], ["--listen", "0"]):
+                  ["--listen", "0", "--to", "127.0.0.1:1", "--connections", "65536"], ["--listen", "0"]):
         check(f"wrong words {words}", run(["tap", *words])[0], 2)
 
 

@@ -26,6 +26,10 @@ fn runs_say_why_they_ended(rt: HostRuntime) -> Result<(), Fail> {
             "cannot write the trace file, so the run stopped: check its permissions and the free space",
         ),
         (
+            &EndFault::Silent { seconds: 60 },
+            "connection failed: the terminal sent nothing for 60 s: check it, or let the till wait longer by --timeout",
+        ),
+        (
             &EndFault::Write,
             "cannot write to standard output: check where it goes and the free space there",
         ),
@@ -88,7 +92,7 @@ fn broken_lines_say_how_they_broke(rt: HostRuntime) -> Result<(), Fail> {
     let rows = [
         (
             LineFault::Read,
-            "connection failed: a read failed or timed out",
+            "connection failed: a read failed, as where the other end resets the connection",
         ),
         (LineFault::Write, "connection failed: a write failed"),
         (

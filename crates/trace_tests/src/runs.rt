@@ -273,13 +273,15 @@ fn till_at(rt: &HostRuntime, port: u16, words: &[&str]) -> (Result<(), EndFault>
     let run = TillRun {
         host: "127.0.0.1",
         port,
+        seconds: 1,
         settings: TillSettings::default(),
         lengths: Lengths::Shortest,
         trace: None,
+        show: None,
+        plan: plan.as_slice(),
         form: Form::Text,
     };
-    let steps = plan.as_slice();
-    let ended = run_till(rt, rt.alloc(), &run, steps, &mut writer, &mut report);
+    let ended = run_till(rt, rt.alloc(), &run, &mut writer, &mut report);
     (ended, writer.inner)
 }
 
@@ -289,6 +291,20 @@ fn no_terminal_listens(rt: HostRuntime) -> Result<(), Fail> {
     let (ended, written) = till_at(&rt, port, &[]);
     assert!(rt; matches!(ended, Err(EndFault::Net(NetFault::Refused))));
     assert!(rt; written.is_empty());
+    Ok(())
+}
+
+/// A connection that is in the backlog of a listener is taken by nobody, so that nothing comes.
+#[test]
+fn a_silent_terminal_is_reported(rt: HostRuntime) -> Result<(), Fail> {
+    let listener = TcpListener::bind(&rt, "127.0.0.1:0")?;
+    let (ended, written) = till_at(&rt, listener.local_addr()?.port(), &["register"]);
+    assert!(rt; matches!(ended, Err(EndFault::Silent { seconds: 1 })));
+    assert_equal(
+        &rt,
+        &written.as_slice(),
+        &b"register -> unclear Line\ntotal 0\n".as_slice(),
+    );
     Ok(())
 }
 

@@ -14,7 +14,7 @@ use zvt_term::Verdict;
 fn terminal_at(
     rt: &HostRuntime,
     port: u16,
-    connections: u16,
+    connections: u64,
     form: Form,
 ) -> (Result<(), EndFault>, Vec<u8>) {
     let mut report = Counted::new(Vec::new(rt.alloc()));

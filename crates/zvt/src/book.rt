@@ -4,11 +4,11 @@ ghost use Rattle.zvt_journal.specs.Text.{IsSettled};
 
 use crate::finish::finish_run;
 use crate::output::Output;
-use crate::reports::report_on;
+use crate::reports::{report, report_on};
 use std::{io, str};
 use zvt_bcd::Currency;
 use zvt_io::Counted;
-use zvt_till::Till;
+use zvt_till::{Cause, Till};
 use zvt_tool::statuses::{MEMORY, of_device, of_file_error, of_recovery};
 use zvt_tool::{
     FileDevice, Form, JournalFileError, KeptTill, Opened, RecoveryError, TillSettings, next_line,
@@ -18,6 +18,10 @@ use zvt_tool::{
 /// What is reported of a book in another currency than the till's, or of no book.
 const OTHER_BOOK: &str =
     "the first line is not that of a book in the till's currency: give the book's currency, or name another file";
+
+/// What is reported of a payment whose trace number the book has already.
+const USED_NUMBER: &str =
+    "a payment is unclear, since the book has its trace number: if the terminal was exchanged or counts from 1 again, begin a new book";
 
 /// What the first line of a book says before the number of its currency.
 const OPENING: [u8; 26] = *b"# zvt journal 1, currency ";
@@ -137,6 +141,18 @@ fn report_book(rt: &HostRuntime, path: &str, till: &Till) -> io::Result<()> {
     let unclear = till.unclear().len();
     let total = till.total();
     eprintln!(rt; "zvt: '{path}': {booked} booked, {unclear} unclear, total {total}")
+}
+
+/// Reports what to do where a payment is unclear since the terminal gave it a trace number that the book has.
+pub fn report_used_numbers(rt: &HostRuntime, till: &Till) -> io::Result<()> {
+    let used = till
+        .unclear()
+        .iter()
+        .any(|(_, cause)| *cause == Cause::TraceUsed);
+    if used {
+        report(rt, USED_NUMBER)?;
+    }
+    Ok(())
 }
 
 /// Reports that the file of a book is not opened, and answers the exit status.

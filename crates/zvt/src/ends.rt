@@ -3,12 +3,12 @@ ghost use Rattle.std.specs.Prelude.{◌≤◌};
 
 use crate::finish::{finish_plan, finish_run};
 use crate::output::Output;
-use crate::reports::{SOME_CONNECTIONS, TERMINAL_PORT, report_invalid};
+use crate::reports::{SOME_SECONDS, TERMINAL_PORT, report_invalid};
 use crate::settings::{settings, verdict};
 use crate::{book, trace_file};
 use std::io;
 use zvt_io::Counted;
-use zvt_tool::command::{LoopOptions, form_by, lengths_by};
+use zvt_tool::command::{LoopOptions, connections_by, form_by, lengths_by};
 use zvt_tool::statuses::WORDS;
 use zvt_tool::{
     BookRun, Ends, FileDevice, KeptTill, LoopRun, Planned, TerminalOptions, TerminalRun,
@@ -41,7 +41,9 @@ pub fn both_ends(rt: &HostRuntime, options: &LoopOptions<'_>) -> io::Result<u8> 
     let answer = match kept {
         None => run_loop(rt, rt.alloc(), &run, &mut writer, &mut report),
         Some(mut kept) => {
-            run_loop_kept(rt, rt.alloc(), &run, &mut kept, &mut writer, &mut report)
+            let answer = run_loop_kept(rt, rt.alloc(), &run, &mut kept, &mut writer, &mut report);
+            book::report_used_numbers(rt, kept.till())?;
+            answer
         }
     };
     finish_run(rt, writer.inner.broken_pipe, answer)
@@ -52,8 +54,7 @@ pub fn till(rt: &HostRuntime, options: &TillOptions<'_>) -> io::Result<u8> {
     let Some(settings) = settings(rt, options)? else {
         return Ok(WORDS);
     };
-    if options.port == 0 {
-        report_invalid(rt, "port", "0", TERMINAL_PORT)?;
+    if report_zero(rt, options)? {
         return Ok(WORDS);
     }
     let plan = match planned(rt, Ends::Till, options.steps.as_slice())? {
@@ -71,23 +72,42 @@ pub fn till(rt: &HostRuntime, options: &TillOptions<'_>) -> io::Result<u8> {
     let run = TillRun {
         host: options.host,
         port: options.port,
+        seconds: options.timeout,
         settings,
         lengths: lengths_by(options.loose),
         trace: file.as_ref(),
+        show: if options.show {
+            Some(rt.stderr())
+        } else {
+            None
+        },
+        plan: plan.as_slice(),
         form: form_by(options.json),
     };
-    let plan = plan.as_slice();
     match kept {
-        None => till_alone(rt, &run, plan),
-        Some(kept) => till_with_book(rt, &run, plan, kept),
+        None => till_alone(rt, &run),
+        Some(kept) => till_with_book(rt, &run, kept),
     }
 }
 
+/// Whether the port or the time to wait is 0, which is reported.
+fn report_zero(rt: &HostRuntime, options: &TillOptions<'_>) -> io::Result<bool> {
+    if options.port == 0 {
+        report_invalid(rt, "port", "0", TERMINAL_PORT)?;
+        return Ok(true);
+    }
+    if options.timeout == 0 {
+        report_invalid(rt, "number of seconds", "0", SOME_SECONDS)?;
+        return Ok(true);
+    }
+    Ok(false)
+}
+
 /// Runs a new till, and answers the exit status.
-fn till_alone(rt: &HostRuntime, run: &TillRun<'_, '_>, plan: &[Planned]) -> io::Result<u8> {
+fn till_alone(rt: &HostRuntime, run: &TillRun<'_, '_>) -> io::Result<u8> {
     let mut writer = Counted::new(Output::new(io::writer(rt)));
     let mut report = Counted::new(rt.stderr());
-    let answer = run_till(rt, rt.alloc(), run, plan, &mut writer, &mut report);
+    let answer = run_till(rt, rt.alloc(), run, &mut writer, &mut report);
     finish_run(rt, writer.inner.broken_pipe, answer)
 }
 
@@ -95,20 +115,22 @@ fn till_alone(rt: &HostRuntime, run: &TillRun<'_, '_>, plan: &[Planned]) -> io::
 fn till_with_book(
     rt: &HostRuntime,
     run: &TillRun<'_, '_>,
-    plan: &[Planned],
     mut kept: KeptTill<FileDevice>,
 ) -> io::Result<u8> {
     let run = BookRun {
         host: run.host,
         port: run.port,
+        seconds: run.seconds,
         lengths: run.lengths,
         trace: run.trace,
-        plan,
+        show: run.show,
+        plan: run.plan,
         form: run.form,
     };
     let mut writer = Counted::new(Output::new(io::writer(rt)));
     let mut report = Counted::new(rt.stderr());
     let answer = run_till_kept(rt, rt.alloc(), &run, &mut kept, &mut writer, &mut report);
+    book::report_used_numbers(rt, kept.till())?;
     finish_run(rt, writer.inner.broken_pipe, answer)
 }
 
@@ -117,10 +139,6 @@ fn till_with_book(
 pub fn terminal(rt: &HostRuntime, options: &TerminalOptions<'_>) -> io::Result<u8>
     requires { options.now.tid ≤ 99999999 }
 {
-    if options.connections == 0 {
-        report_invalid(rt, "number of connections", "0", SOME_CONNECTIONS)?;
-        return Ok(WORDS);
-    }
     let Some(verdict) = verdict(rt, options.decline)? else {
         return Ok(WORDS);
     };
@@ -135,7 +153,7 @@ pub fn terminal(rt: &HostRuntime, options: &TerminalOptions<'_>) -> io::Result<u
         tid: options.tid,
         verdict,
         lengths: lengths_by(options.loose),
-        connections: options.connections,
+        connections: connections_by(options.connections),
         trace,
         form: form_by(options.json),
     };

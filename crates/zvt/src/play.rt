@@ -13,14 +13,11 @@ use zvt_play::{
     surplus_text,
 };
 use zvt_stream::{Endpoint, Stream};
-use zvt_tcp::{Door, connect, listen};
+use zvt_tcp::{Door, SILENCE_SECONDS, connect, listen};
 use zvt_text::Text;
 use zvt_tool::statuses::{BAD, DEVICE, DONE, MEMORY, TRACE, WORDS};
 use zvt_tool::{EndFault, NetFault, PlayOptions, read_trace};
 use zvt_trace::Direction;
-
-/// For that many seconds a silence goes on without a byte from the other side.
-const SILENCE_SECONDS: u64 = 60;
 
 /// Where the connections of a script come from.
 #[derive(Drop)]
@@ -163,7 +160,7 @@ pub fn report_address(rt: &HostRuntime, place: &Place<'_>) -> io::Result<()> {
 /// The next connection.
 fn next_connection(rt: &HostRuntime, place: &mut Place<'_>) -> Result<TcpStream, NetFault> {
     match place {
-        Place::To(host, port) => connect(rt, host, *port),
+        Place::To(host, port) => connect(rt, host, *port, SILENCE_SECONDS),
         Place::From(door) => door.next(),
     }
 }
@@ -241,7 +238,7 @@ fn end_line<'s>(
     after: &'s [ScriptStep],
 ) -> io::Result<Result<&'s [ScriptStep], Played>> {
     if is_silence(after) {
-        let _ = connection.set_read_timeout(Some(Duration::from_secs(SILENCE_SECONDS)));
+        let _ = connection.set_read_timeout(Some(Duration::from_secs(u64::from(SILENCE_SECONDS))));
         stay_silent(&mut end.reader);
         return Ok(Ok(after_break(after)));
     }

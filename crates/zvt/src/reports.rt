@@ -6,8 +6,8 @@ use zvt_tool::Tally;
 /// What is expected of the port of a terminal.
 pub const TERMINAL_PORT: &str = "give the port that the terminal listens at";
 
-/// What is expected of a number of connections.
-pub const SOME_CONNECTIONS: &str = "expected 1 to 65535";
+/// What is expected of the time that a till waits.
+pub const SOME_SECONDS: &str = "expected 1 to 65535";
 
 /// What fails where the file of a trace can't be opened.
 pub const NO_TRACE: &str = "cannot open the trace";

@@ -1,13 +1,14 @@
 //! A tap between a till and its terminal, as the command line asks for it.
 use crate::output::Output;
-use crate::reports::{SOME_CONNECTIONS, report, report_invalid, report_tally};
+use crate::reports::{report, report_invalid, report_tally};
 use crate::trace_file;
 use std::fs::File;
 use std::io::{self, ErrorKind, Write};
 use std::net::TcpStream;
 use zvt_io::Counted;
 use zvt_tap::{Found, SocketTapped, TapFault, TapLog, Tracing, tap_sockets};
-use zvt_tcp::{Door, connect, listen};
+use zvt_tcp::{Door, SILENCE_SECONDS, connect, listen};
+use zvt_tool::command::connections_by;
 use zvt_tool::statuses::{BAD, DEVICE, DONE, MEMORY, WORDS};
 use zvt_tool::{Lengths, Tally, TapOptions, TraceFault};
 use zvt_trace::Direction;
@@ -71,10 +72,6 @@ pub fn tap(rt: &HostRuntime, options: &TapOptions<'_>) -> io::Result<u8> {
             return Ok(WORDS);
         }
     };
-    if options.connections == 0 {
-        report_invalid(rt, "number of connections", "0", SOME_CONNECTIONS)?;
-        return Ok(WORDS);
-    }
     let file = match trace_file::opened(rt, options.trace)? {
         Ok(file) => file,
         Err(status) => return Ok(status),
@@ -105,7 +102,7 @@ fn tap_all(
         eprintln!(rt; "zvt: a tap listens at {address}")?;
     }
     let mut status = DONE;
-    for _line in 0..options.connections {
+    for _line in 0..connections_by(options.connections) {
         let till = match door.next() {
             Ok(till) => till,
             Err(why) => {
@@ -113,7 +110,7 @@ fn tap_all(
                 return Ok(DEVICE);
             }
         };
-        let answer = match connect(rt, to.host, to.port) {
+        let answer = match connect(rt, to.host, to.port, SILENCE_SECONDS) {
             Ok(terminal) => tap_one(rt, &till, &terminal, trace)?,
             Err(why) => {
                 eprintln!(rt;

@@ -17,7 +17,7 @@ other_at : (place : ℕ) (name text : Text) → (slice_index name place ≢ slic
 other_at place name text differ e = differ (ap (λ (t : Text). slice_index t place) e)
 
 till_has : (rows : List Row) (choice : Choice) → IsCommandOf (codes "till") rows choice
-    → ((port : ℕ) → GivesNumber (codes "port") rows 65535 port → ⊥) → ⊥
+    → ((port timeout : ℕ) → GivesNumber (codes "port") rows 65535 port → GivesNumber (codes "timeout") rows 65535 timeout → ⊥) → ⊥
 till_has rows (Show options) said lacks = other_first (codes "till") (codes "show") (λ e. omega (arith, e)) said.0
 till_has rows (Join options) said lacks = other_first (codes "till") (codes "join") (λ e. omega (arith, e)) said.0
 till_has rows (Normalise options) said lacks = other_first (codes "till") (codes "normalise") (λ e. omega (arith, e)) said.0
@@ -30,7 +30,7 @@ till_has rows (CheckTerminal options) said lacks = other_first (codes "till") (c
 till_has rows (Vectors options) said lacks = other_first (codes "till") (codes "vectors") (λ e. omega (arith, e)) said.0
 till_has rows (Book file json) said lacks = other_first (codes "till") (codes "book") (λ e. omega (arith, e)) said.0
 till_has rows (Loop trace book json steps) said lacks = other_first (codes "till") (codes "loop") (λ e. omega (arith, e)) said.0
-till_has rows (Till options) said lacks = lacks options.port said.1
+till_has rows (Till options) said lacks = lacks options.port options.timeout said.1 said.6
 till_has rows (Terminal options) said lacks = other_second (codes "till") (codes "terminal") (λ e. omega (arith, e)) said.0
 
 till_has_host : (rows : List Row) (choice : Choice) → IsCommandOf (codes "till") rows choice → first_of (codes "host") rows ≢ None
@@ -166,7 +166,10 @@ check_terminal_has rows (CheckTill options) said lacks = other_at 7 (codes "chec
 check_terminal_has rows (CheckTerminal options) said lacks = lacks options.port options.host said.1.gives_port said.1.host
 
 pub till_without_port : (rows : List Row) → IsNumberOf (codes "port") rows 65535 None → HasNoChoice (Some (codes "till", rows))
-till_without_port rows lacks = λ choice said. till_has rows choice said lacks
+till_without_port rows lacks = λ choice said. till_has rows choice said (λ port timeout a b. lacks port a)
+
+pub till_without_timeout : (rows : List Row) → IsNumberOf (codes "timeout") rows 65535 None → HasNoChoice (Some (codes "till", rows))
+till_without_timeout rows lacks = λ choice said. till_has rows choice said (λ port timeout a b. lacks timeout b)
 
 pub book_without_file : (rows : List Row) → first_of (codes "file") rows ≡ None → HasNoChoice (Some (codes "book", rows))
 book_without_file rows lacks = λ choice said. book_has rows choice said lacks

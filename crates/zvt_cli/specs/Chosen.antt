@@ -81,8 +81,10 @@ IsCommandOf name rows (Till options) =
     × IsTextOf (codes "password") rows options.password
     × IsTextOf (codes "config") rows options.config
     × IsTextOf (codes "currency") rows options.currency
+    × GivesNumber (codes "timeout") rows 65535 options.timeout
     × IsTextOf (codes "trace") rows options.trace
     × IsTextOf (codes "book") rows options.book
+    × IsFlagOf (codes "show") rows options.show
     × IsFlagOf (codes "loose") rows options.loose
     × IsFlagOf (codes "json") rows options.json
     × (map (λ step. step.now) options.steps.items ≡ words_of (codes "step") rows)

@@ -46,10 +46,11 @@ tid_rule = record (option_rule (codes "tid")) {
   defaults = codes "12345678" ∷ [];
 }
 
-abbrev pub connections_rule : Rule
-connections_rule = record (option_rule (codes "connections")) {
+-- an option that has a number, and this one where it is not given
+abbrev pub number_rule : (name default : Text) → Rule
+number_rule name default = record (option_rule name) {
   parser = Some (parser.Signed (pos 0) (pos 65535));
-  defaults = codes "1" ∷ [];
+  defaults = default ∷ [];
 }
 
 -- an option, by what it is
@@ -63,7 +64,7 @@ rule_for (option.Port name text) = port_option_rule name.now
 rule_for (option.NeededPort name text) = needed_port_rule name.now
 rule_for (option.Host text) = host_rule
 rule_for (option.Tid text) = tid_rule
-rule_for (option.Connections text) = connections_rule
+rule_for (option.Number name value default text) = number_rule name.now default.now
 
 -- the options are those of their command alone
 abbrev pub AreLocal : List Arg → Type 0
@@ -140,8 +141,10 @@ till_app = command_app (codes "till") (
     option_rule (codes "password") ∷
     option_rule (codes "config") ∷
     option_rule (codes "currency") ∷
+    number_rule (codes "timeout") (codes "60") ∷
     option_rule (codes "trace") ∷
     option_rule (codes "book") ∷
+    flag_rule (codes "show") ∷
     flag_rule (codes "loose") ∷
     flag_rule (codes "json") ∷
     several_rule (codes "step") ∷
@@ -152,7 +155,7 @@ terminal_app = command_app (codes "terminal") (
     needed_port_rule (codes "port") ∷
     host_rule ∷
     tid_rule ∷
-    connections_rule ∷
+    number_rule (codes "connections") (codes "1") ∷
     option_rule (codes "decline") ∷
     option_rule (codes "trace") ∷
     flag_rule (codes "loose") ∷
@@ -165,7 +168,7 @@ tap_app = command_app (codes "tap") (
     needed_rule (codes "to") ∷
     option_rule (codes "trace") ∷
     flag_rule (codes "trace-required") ∷
-    connections_rule ∷
+    number_rule (codes "connections") (codes "1") ∷
     [])
 
 abbrev pub play_app : App

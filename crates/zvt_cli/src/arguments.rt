@@ -153,6 +153,9 @@ fn till<'a>(alloc: Global, inner: &ArgMatches<'a>) -> Result<Option<Choice<'a>>,
     let Some(host) = text(inner, "host") else {
         return Ok(None);
     };
+    let Some(timeout) = number(inner, "timeout") else {
+        return Ok(None);
+    };
     let steps = words(alloc, inner, "step")?;
     Ok(Some(Choice::Till(TillOptions {
         port,
@@ -160,8 +163,10 @@ fn till<'a>(alloc: Global, inner: &ArgMatches<'a>) -> Result<Option<Choice<'a>>,
         password: text(inner, "password"),
         config: text(inner, "config"),
         currency: text(inner, "currency"),
+        timeout,
         trace: text(inner, "trace"),
         book: text(inner, "book"),
+        show: flag(inner, "show"),
         loose: flag(inner, "loose"),
         json: flag(inner, "json"),
         steps,

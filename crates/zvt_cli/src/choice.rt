@@ -66,8 +66,12 @@ pub struct TillOptions<'a> {
     pub password: Option<&'a str>,
     pub config: Option<&'a str>,
     pub currency: Option<&'a str>,
+    /// How long to wait, in seconds. It is 60 unless a number is given, and may be 0.
+    pub timeout: u16,
     pub trace: Option<&'a str>,
     pub book: Option<&'a str>,
+    /// Whether the messages of the terminal are shown.
+    pub show: bool,
     /// Whether lengths are read in any form that holds them.
     pub loose: bool,
     /// Whether the output is JSON.
@@ -83,7 +87,7 @@ pub struct TerminalOptions<'a> {
     pub host: &'a str,
     /// The terminal's number is at most 99,999,999. It is 12345678 unless one is given.
     pub tid: u32,
-    /// The number of connections is 1 unless one is given. It may be 0.
+    /// The number of connections is 1 unless one is given. 0 stands for no end.
     pub connections: u16,
     pub decline: Option<&'a str>,
     pub trace: Option<&'a str>,
@@ -103,7 +107,7 @@ pub struct TapOptions<'a> {
     pub trace: Option<&'a str>,
     /// Whether nothing is forwarded once the trace can't be written.
     pub trace_required: bool,
-    /// The number of connections is 1 unless one is given. It may be 0.
+    /// The number of connections is 1 unless one is given. 0 stands for no end.
     pub connections: u16,
 }
 

@@ -208,8 +208,10 @@ fn till() -> CommandRow<'static>
             CommandOption::Value("password", "NNNNNN", help::PASSWORD),
             CommandOption::Value("config", "XX", help::CONFIG),
             CommandOption::Value("currency", "NNNN", help::CURRENCY),
+            CommandOption::Number("timeout", "SECONDS", "60", help::TIMEOUT),
             CommandOption::Value("trace", "FILE", help::TRACE),
             CommandOption::Value("book", "FILE", help::KEEP_BOOK),
+            CommandOption::Flag("show", help::TILL_SHOW),
             CommandOption::Flag("loose", help::TILL_LOOSE),
             CommandOption::Flag("json", help::JSON),
             CommandOption::Several("step", "STEP", help::TILL_STEP),
@@ -228,7 +230,7 @@ fn terminal() -> CommandRow<'static>
             CommandOption::NeededPort("port", help::TERMINAL_PORT),
             CommandOption::Host(help::TERMINAL_HOST),
             CommandOption::Tid(help::TID),
-            CommandOption::Connections(help::CONNECTIONS),
+            CommandOption::Number("connections", "N", "1", help::CONNECTIONS),
             CommandOption::Value("decline", "XX", help::DECLINE),
             CommandOption::Value("trace", "FILE", help::TRACE),
             CommandOption::Flag("loose", help::TERMINAL_LOOSE),
@@ -249,7 +251,7 @@ fn tap() -> CommandRow<'static>
             CommandOption::Needed("to", "ADDRESS", help::TAP_TO),
             CommandOption::Value("trace", "FILE", help::TAP_TRACE),
             CommandOption::Flag("trace-required", help::TRACE_REQUIRED),
-            CommandOption::Connections(help::TAP_CONNECTIONS),
+            CommandOption::Number("connections", "N", "1", help::TAP_CONNECTIONS),
         ],
     }
 }

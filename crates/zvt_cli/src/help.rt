@@ -178,6 +178,12 @@ pub const CONFIG: &str = "The configuration byte, two hexadecimal digits (defaul
 
 pub const CURRENCY: &str = "The currency's number, four decimal digits (default 0978)";
 
+pub const TIMEOUT: &str =
+    "How long to wait for the connection, and for each message of the terminal: 1 to 65535 seconds";
+
+pub const TILL_SHOW: &str =
+    "Write each message of the terminal on standard error, as it comes, with its fields";
+
 pub const TRACE: &str =
     "Write a trace of the line to this file, as the till sees it, behind what the file has";
 
@@ -212,7 +218,7 @@ pub const CHECK: &str = "End with status 1 where a payment is unclear";
 pub const TID: &str = "The terminal's number, at most 99999999";
 
 pub const CONNECTIONS: &str =
-    "Serve N tills one after another, then end: 1 to 65535. The ledger is kept between tills.";
+    "Serve N tills one after another, then end; 0 for no end. Other tills wait meanwhile. The ledger is kept between tills.";
 
 pub const TAP_LISTEN: &str =
     "Where the till connects: a TCP port, 0 for a free one, and the address to listen on before it (default 127.0.0.1)";
@@ -225,7 +231,7 @@ pub const TAP_TRACE: &str =
 pub const TRACE_REQUIRED: &str =
     "End with status 4 where the trace can't be written, and forward nothing more";
 
-pub const TAP_CONNECTIONS: &str = "Forward N lines one after another, then end: 1 to 65535";
+pub const TAP_CONNECTIONS: &str = "Forward N lines one after another, then end; 0 for no end";
 
 pub const PLAY_TILL: &str = "Play the till's side of this trace";
 

@@ -1,7 +1,7 @@
 //! The options and steps of the commands.
 ghost use Rattle.std.specs.Prelude.{◌≡◌, false};
 ghost use Rattle.clap.specs.Words.{rule_of};
-ghost use Rattle.zvt_cli.specs.Commands.{book_file_rule, connections_rule, flag_rule, host_rule, needed_port_rule, needed_rule, option_rule, port_option_rule, rule_for, several_rule, tid_rule};
+ghost use Rattle.zvt_cli.specs.Commands.{book_file_rule, flag_rule, host_rule, needed_port_rule, needed_rule, number_rule, option_rule, port_option_rule, rule_for, several_rule, tid_rule};
 
 use clap::{Arg, ArgAction, value_parser};
 use std::alloc::Global;
@@ -27,8 +27,8 @@ pub enum CommandOption<'a> {
     Host(&'a str),
     /// The number of a terminal.
     Tid(&'a str),
-    /// How many connections are taken.
-    Connections(&'a str),
+    /// An option of this name that has a number of at most 65,535: what help calls it, and its default.
+    Number(&'a str, &'a str, &'a str, &'a str),
 }
 
 impl<'a> CommandOption<'a> {
@@ -47,7 +47,9 @@ impl<'a> CommandOption<'a> {
             CommandOption::NeededPort(name, text) => needed_port(alloc, name, text),
             CommandOption::Host(text) => host(alloc, text),
             CommandOption::Tid(text) => tid(alloc, text),
-            CommandOption::Connections(text) => connections(alloc, text),
+            CommandOption::Number(name, value, default, text) => {
+                number(alloc, name, value, default, text)
+            }
         }
     }
 }
@@ -121,15 +123,22 @@ fn tid<'a>(alloc: Global, text: &'a str) -> Arg<'a>
         .help(text)
 }
 
-fn connections<'a>(alloc: Global, text: &'a str) -> Arg<'a>
-    ensures rule { rule_of result ≡ connections_rule }
+/// An option of this name that has a number of at most 65,535, and `default` where it is not given.
+fn number<'a>(
+    alloc: Global,
+    name: &'a str,
+    value: &'a str,
+    default: &'a str,
+    text: &'a str,
+) -> Arg<'a>
+    ensures rule { rule_of result ≡ number_rule name.entry.now default.entry.now }
     ensures local { result.global ≡ false }
 {
-    Arg::new(alloc, "connections")
-        .long("connections")
+    Arg::new(alloc, name)
+        .long(name)
         .value_parser(value_parser!(u16))
-        .default_value("1")
-        .value_name("N")
+        .default_value(default)
+        .value_name(value)
         .help(text)
 }
 

@@ -16,7 +16,7 @@ use Rattle.zvt_till.specs.declared.line.RunFault.{RunFault}
 use Rattle.zvt_till.specs.declared.line.RunFault.TheVariants.{Order, Line}
 use Rattle.zvt_till.specs.declared.outcomes.Outcome.{Outcome}
 use Rattle.zvt_session.specs.declared.fault.EndFault.{EndFault}
-use Rattle.zvt_session.specs.declared.fault.EndFault.TheVariants.{BadStep, Book, Line as LineBroke, Memory, Net, Trace, Write}
+use Rattle.zvt_session.specs.declared.fault.EndFault.TheVariants.{BadStep, Book, Line as LineBroke, Memory, Net, Silent, Trace, Write}
 use Rattle.zvt_session.specs.declared.plans.Planned.{Planned}
 use Rattle.zvt_session.specs.Objects.{step_line, total_line}
 use Rattle.zvt_session.specs.Runs.{Answers, AnswersStep, AnswersText, BreaksIn, EndsEarly, GoesOn, IsMissing, Law, Makes, MakesAll, MakesTo, PartlySaid, Ran, Said, Standing, WritesPart, fault_of}
@@ -130,6 +130,7 @@ step_stops seen makes form plan i planned before middle after old now new Memory
 step_stops seen makes form plan i planned before middle after old now new (LineBroke fault) below is so step = absurd step
 step_stops seen makes form plan i planned before middle after old now new (BadStep at) below is so step = absurd step
 step_stops seen makes form plan i planned before middle after old now new (Net why) below is so step = absurd step
+step_stops seen makes form plan i planned before middle after old now new (Silent seconds) below is so step = absurd step
 step_stops seen makes form plan i planned before middle after old now new Trace below is so step = absurd step
 step_stops seen makes form plan i planned before middle after old now new Book below is so step = absurd step
 
@@ -141,6 +142,7 @@ stops_in_total seen makes form plan broken said before after old now new Memory 
 stops_in_total seen makes form plan broken said before after old now new (LineBroke fault) made appended text = absurd text
 stops_in_total seen makes form plan broken said before after old now new (BadStep at) made appended text = absurd text
 stops_in_total seen makes form plan broken said before after old now new (Net why) made appended text = absurd text
+stops_in_total seen makes form plan broken said before after old now new (Silent seconds) made appended text = absurd text
 stops_in_total seen makes form plan broken said before after old now new Trace made appended text = absurd text
 stops_in_total seen makes form plan broken said before after old now new Book made appended text = absurd text
 

@@ -8,7 +8,7 @@ use Rattle.zvt_till.specs.View.{TillValue}
 use Rattle.zvt_till.specs.Till.{new_till, step}
 use Rattle.zvt_till.specs.declared.happenings.Happening.TheVariants.{Connected}
 use Rattle.zvt_session.specs.declared.fault.EndFault.{EndFault}
-use Rattle.zvt_session.specs.declared.fault.EndFault.TheVariants.{BadStep, Book, Line as LineBroke, Memory, Net, Trace, Write}
+use Rattle.zvt_session.specs.declared.fault.EndFault.TheVariants.{BadStep, Book, Line as LineBroke, Memory, Net, Silent, Trace, Write}
 use Rattle.zvt_session.specs.declared.plans.Planned.{Planned}
 use Rattle.zvt_session.specs.Runs.{Answers, EndsEarly, Law, MakesAll, MakesTo, Standing, itself, standing}
 use Rattle.zvt_session.specs.RunsPlan.{RunsPlan}
@@ -86,6 +86,7 @@ answers_seen look seen law form plan before after old new (Err Write) run = earl
 answers_seen look seen law form plan before after old new (Err Memory) run = early_seen look seen law form _ plan before after old new run
 answers_seen look seen law form plan before after old new (Err (BadStep at)) run = absurd run
 answers_seen look seen law form plan before after old new (Err (Net why)) run = absurd run
+answers_seen look seen law form plan before after old new (Err (Silent seconds)) run = absurd run
 answers_seen look seen law form plan before after old new (Err Trace) run = absurd run
 answers_seen look seen law form plan before after old new (Err Book) run = absurd run
 

@@ -13,7 +13,7 @@ use Rattle.zvt_till.specs.declared.orders.OrderRefusal.{OrderRefusal}
 use Rattle.zvt_till.specs.declared.orders.OrderRefusal.TheVariants.{Memory as NoMemory}
 use Rattle.zvt_till.specs.declared.outcomes.Outcome.{Outcome}
 use Rattle.zvt_session.specs.declared.fault.EndFault.{EndFault}
-use Rattle.zvt_session.specs.declared.fault.EndFault.TheVariants.{BadStep, Book, Line as LineBroke, Memory, Net, Trace, Write}
+use Rattle.zvt_session.specs.declared.fault.EndFault.TheVariants.{BadStep, Book, Line as LineBroke, Memory, Net, Silent, Trace, Write}
 use Rattle.zvt_session.specs.declared.plans.Planned.{Planned}
 use Rattle.zvt_session.specs.declared.arguments.Step.{Step}
 use Rattle.zvt_session.specs.Objects.{step_line, total_line}
@@ -139,6 +139,7 @@ Answers seen makes form plan before after old new (Err Write) = EndsEarly seen m
 Answers seen makes form plan before after old new (Err Memory) = EndsEarly seen makes form IsMissing plan before after old new
 Answers seen makes form plan before after old new (Err (BadStep at)) = ⊥
 Answers seen makes form plan before after old new (Err (Net why)) = ⊥
+Answers seen makes form plan before after old new (Err (Silent seconds)) = ⊥
 Answers seen makes form plan before after old new (Err Trace) = ⊥
 Answers seen makes form plan before after old new (Err Book) = ⊥
 
@@ -166,6 +167,7 @@ AnswersStep seen makes form planned before after old new (Err Memory) = PartlySa
 AnswersStep seen makes form planned before after old new (Err (LineBroke fault)) = ⊥
 AnswersStep seen makes form planned before after old new (Err (BadStep at)) = ⊥
 AnswersStep seen makes form planned before after old new (Err (Net why)) = ⊥
+AnswersStep seen makes form planned before after old new (Err (Silent seconds)) = ⊥
 AnswersStep seen makes form planned before after old new (Err Trace) = ⊥
 AnswersStep seen makes form planned before after old new (Err Book) = ⊥
 
@@ -177,5 +179,6 @@ AnswersText text old new (Err Memory) = WritesPart IsMissing text old new
 AnswersText text old new (Err (LineBroke fault)) = ⊥
 AnswersText text old new (Err (BadStep at)) = ⊥
 AnswersText text old new (Err (Net why)) = ⊥
+AnswersText text old new (Err (Silent seconds)) = ⊥
 AnswersText text old new (Err Trace) = ⊥
 AnswersText text old new (Err Book) = ⊥

@@ -39,6 +39,9 @@ pub enum EndFault {
     /// was made.
     #[error("connection failed: {0}")]
     Line(LineFault),
+    /// The terminal sent nothing for as long as the till waits. The rest is as at `Line`.
+    #[error("connection failed: the terminal sent nothing for {seconds} s: check it, or let the till wait longer by --timeout")]
+    Silent { seconds: u16 },
     /// The trace could not be written to its end. The connection was given up there: after the last step, or in the order
     /// that ran, which ended as after a failed connection. All of the text was written.
     #[error("cannot write the trace file, so the run stopped: check its permissions and the free space")]

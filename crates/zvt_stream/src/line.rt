@@ -139,7 +139,7 @@ impl Until {
 #[derive(Clone, Copy, Debug, Drop, PartialEq, Eq, Error)]
 pub enum LineFault {
     /// A read failed, or took longer than the device waits.
-    #[error("a read failed or timed out")]
+    #[error("a read failed, as where the other end resets the connection")]
     Read,
     /// A write failed. A prefix of the bytes may have been written.
     #[error("a write failed")]

@@ -1,5 +1,5 @@
 -- What is reported of a till that disconnected.
-use Rattle.std.proofs.Common.{◌≡◌, ◌∙◌, ℕ, List, [], ◌++◌, Option, Some, Result, Ok, Err, ap, subst}
+use Rattle.std.proofs.Common.{◌≡◌, ◌∙◌, ℕ, List, [], ◌++◌, drop, Option, Some, Result, Ok, Err, ap, subst}
 use Rattle.std.specs.Fmt.{decimal}
 use Rattle.std.specs.Prelude.{codes, OnOk}
 use Rattle.std.specs.declared.alloc.AllocError.{AllocError}
@@ -8,7 +8,9 @@ use Rattle.zvt_text.specs.Writing.{Adds}
 use Rattle.zvt_json.specs.declared.form.Form.{Form}
 use Rattle.zvt_json.specs.declared.form.Form.TheVariants as forms
 use Rattle.zvt_session.specs.Reporting.{Reports}
-use Rattle.zvt_tcp.specs.Reporting.{IsReport, SaysGone, ReportsGone, ledger_text}
+use Rattle.zvt_term.specs.declared.ledger.Row.{Row}
+use Rattle.zvt_tcp.specs.LedgerRows.{rows_text}
+use Rattle.zvt_tcp.specs.Reporting.{IsReport, SaysGone, ReportsGone, approvals, ledger_text}
 
 -- a till whose line broke
 pub says_broke : (r : Result (Unit {0}) AllocError) (till : ℕ) (fault : LineFault) (old t u v new why : List ℕ) → t ≡ old ++ codes "zvt: connection of till " → u ≡ t ++ decimal till → v ≡ u ++ codes " failed: " → Adds r v new why
@@ -22,10 +24,10 @@ pub says_words : (till : ℕ) (broke : Option LineFault) (approved : ℕ) (start
 says_words till broke approved start gone report empty says adds = (gone, subst (λ (s : List ℕ). SaysGone till broke s gone) empty says, adds)
 
 -- what was to be reported was reported
-pub reports_gone : (form : Form) (till : ℕ) (broke : Option LineFault) (count approved : ℕ) (report : List ℕ) (old new : Option (List ℕ)) (before after : ℕ) → IsReport form till broke count report → count ≡ approved
-    → Reports report old new before after → ReportsGone form till broke approved old new before after
-reports_gone form till broke count approved report old new before after is same reports = record {
-  report = report;
-  is_report = subst (λ (n : ℕ). IsReport form till broke n report) same is;
-  reports = reports;
+pub reports_gone : (form : Form) (till : ℕ) (broke : Option LineFault) (first count : ℕ) (ledger : List Row) (gone text : List ℕ) (old new : Option (List ℕ)) (before after : ℕ) → IsReport form till broke count gone → count ≡ approvals ledger
+    → text ≡ rows_text form till (drop first ledger) ++ gone → Reports text old new before after → ReportsGone form till broke first ledger old new before after
+reports_gone form till broke first count ledger gone text old new before after is same adds reports = record {
+  gone = gone;
+  is_report = subst (λ (n : ℕ). IsReport form till broke n gone) same is;
+  reports = subst (λ (t : List ℕ). Reports t old new before after) adds reports;
 }

@@ -3,4 +3,5 @@ pub mod Traced
 pub mod OverTcp
 pub mod KeptOverTcp
 pub mod Tills
+pub mod LedgerRows
 pub mod Reporting

@@ -1,5 +1,5 @@
 -- What is reported of a terminal whose till disconnected.
-use Rattle.std.specs.Prelude.{◌≡◌, ℕ, List, [], ◌∷◌, ◌++◌, codes, count_by, is_none, refl, Option, Some, None}
+use Rattle.std.specs.Prelude.{◌≡◌, ℕ, List, [], ◌∷◌, ◌++◌, codes, count_by, drop, is_none, refl, Option, Some, None}
 use Rattle.std.specs.Fmt.{decimal, digits}
 use Rattle.json.specs.Print.{escape_byte}
 use Rattle.serde_json.specs.Data.{Data, string, object, no_members, member}
@@ -7,6 +7,7 @@ use Rattle.zvt_json.specs.Strings.{count_value, line_text}
 use Rattle.zvt_json.specs.declared.form.Form.{Form}
 use Rattle.zvt_json.specs.declared.form.Form.TheVariants.{Text, Json}
 use Rattle.zvt_session.specs.Reporting.{Reports}
+use Rattle.zvt_tcp.specs.LedgerRows.{rows_text}
 use Rattle.zvt_stream.specs.declared.line.LineFault.{LineFault}
 use Rattle.zvt_term.specs.declared.ledger.Row.{Row}
 
@@ -51,8 +52,9 @@ gone_words : IsReport Text 1 None 3 (codes "zvt: till 1 disconnected; approvals 
 unfolding digits
 gone_words = (codes "zvt: till 1 disconnected", refl, refl)
 
--- That a till disconnected was reported in that form, with the number of approvals.
-pub record ReportsGone (form : Form) (till : ℕ) (broke : Option LineFault) (approved : ℕ) (old new : Option (List ℕ)) (failures_before failures_after : ℕ) : Type 0 where
-  pub report : List ℕ
-  pub is_report : IsReport form till broke approved report
-  pub reports : Reports report old new failures_before failures_after
+-- That a till disconnected was reported in that form: the rows that the ledger got after its first ones, and then the till
+-- with the number of approvals.
+pub record ReportsGone (form : Form) (till : ℕ) (broke : Option LineFault) (before : ℕ) (ledger : List Row) (old new : Option (List ℕ)) (failures_before failures_after : ℕ) : Type 0 where
+  pub gone : List ℕ
+  pub is_report : IsReport form till broke (approvals ledger) gone
+  pub reports : Reports (rows_text form till (drop before ledger) ++ gone) old new failures_before failures_after

@@ -9,7 +9,7 @@ use Rattle.zvt_term.specs.declared.turns.Verdict.{Verdict}
 use Rattle.zvt_session.specs.LineEnd.{EndState}
 use Rattle.zvt_session.specs.Service.{Serves}
 use Rattle.zvt_session.specs.declared.fault.EndFault.{EndFault}
-use Rattle.zvt_session.specs.declared.fault.EndFault.TheVariants.{BadStep, Book, Line as LineBroke, Memory, Net, Trace, Write}
+use Rattle.zvt_session.specs.declared.fault.EndFault.TheVariants.{BadStep, Book, Line as LineBroke, Memory, Net, Silent, Trace, Write}
 
 -- ---- one line
 
@@ -63,6 +63,7 @@ AnswersTills r count old new (Err (Net why)) = ServesSome r count old new
 AnswersTills r count old new (Err Trace) = ServesSome r count old new
 AnswersTills r count old new (Err Book) = ⊥
 AnswersTills r count old new (Err (BadStep at)) = ⊥
+AnswersTills r count old new (Err (Silent seconds)) = ⊥
 AnswersTills r count old new (Err Write) = ⊥
 AnswersTills r count old new (Err Memory) = ServesSome r count old new
 
@@ -74,6 +75,7 @@ TakesTills count before after (Err (Net why)) = after ≤ before + count
 TakesTills count before after (Err Trace) = after ≤ before + count
 TakesTills count before after (Err Book) = ⊥
 TakesTills count before after (Err (BadStep at)) = ⊥
+TakesTills count before after (Err (Silent seconds)) = ⊥
 TakesTills count before after (Err Write) = ⊥
 TakesTills count before after (Err Memory) = after ≤ before + count
 
@@ -89,5 +91,6 @@ AnswersTill r old new (Err Book) = ⊥
 AnswersTill r old new (Err (LineBroke fault)) = ⊥
 AnswersTill r old new (Err (Net why)) = ⊥
 AnswersTill r old new (Err (BadStep at)) = ⊥
+AnswersTill r old new (Err (Silent seconds)) = ⊥
 AnswersTill r old new (Err Write) = ⊥
 AnswersTill r old new (Err Memory) = new ≡ old

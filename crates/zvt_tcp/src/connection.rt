@@ -1,5 +1,5 @@
 //! Sockets, and why there are none.
-ghost use Rattle.std.specs.Prelude.{◌≡◌, ◌+◌, IfOk, MatchResult};
+ghost use Rattle.std.specs.Prelude.{◌≡◌, ◌+◌, ◌*◌, IfOk, MatchResult};
 ghost use Rattle.std.specs.Duration.{as_nanos};
 ghost use Rattle.std.specs.IoError.{error_kind};
 ghost use Rattle.zvt_tcp.specs.Connecting.{given_by, why_of};
@@ -11,9 +11,9 @@ use std::time::Duration;
 use zvt_io::GhostCount;
 use zvt_session::NetFault;
 
-/// For that many seconds a till waits: to be connected, for each read and for each write. A terminal that is silent for
-/// longer counts as a read that failed.
-const SILENCE_SECONDS: u64 = 60;
+/// For that many seconds a till waits unless it is told otherwise: to be connected, for each read and for each write. A
+/// terminal that is silent for longer counts as a read that failed.
+pub const SILENCE_SECONDS: u16 = 60;
 
 /// The address of this machine to itself.
 const HERE: &str = "127.0.0.1";
@@ -48,30 +48,30 @@ where
     let listener = TcpListener::bind(rt, (HERE, 0))?;
     let till_end = TcpStream::connect(rt, listener.local_addr()?)?;
     let (terminal_end, _) = listener.accept()?;
-    limit(&till_end)?;
-    limit(&terminal_end)?;
+    limit(&till_end, SILENCE_SECONDS)?;
+    limit(&terminal_end, SILENCE_SECONDS)?;
     Ok((till_end, terminal_end))
 }
 
-/// The till's end of a connection to a terminal that listens at this host and port. It waits 60 seconds at most, to be
-/// connected, for each read and for each write.
-pub fn connect<R>(rt: &R, host: &str, port: u16) -> Result<TcpStream, NetFault>
+/// The till's end of a connection to a terminal that listens at this host and port. It waits for so many seconds at most, to
+/// be connected, for each read and for each write. Of 0 seconds there is no connection.
+pub fn connect<R>(rt: &R, host: &str, port: u16, seconds: u16) -> Result<TcpStream, NetFault>
 where
     R: Net<Listener = TcpListener, Stream = TcpStream>,
 {
-    connect_to(rt, addresses(rt, host, port)?).map_err(|error| why(&error))
+    connect_to(rt, addresses(rt, host, port)?, seconds).map_err(|error| why(&error))
 }
 
 /// To the first of these addresses at which that can be done.
-fn connect_to<R>(rt: &R, addresses: HostAddrs) -> io::Result<TcpStream>
+fn connect_to<R>(rt: &R, addresses: HostAddrs, seconds: u16) -> io::Result<TcpStream>
 where
     R: Net<Listener = TcpListener, Stream = TcpStream>,
 {
     let mut last = io::Error::from(ErrorKind::NotFound);
     for address in addresses {
-        match TcpStream::connect_timeout(rt, &address, silence()) {
+        match TcpStream::connect_timeout(rt, &address, silence(seconds)) {
             Ok(end) => {
-                limit(&end)?;
+                limit(&end, seconds)?;
                 return Ok(end);
             }
             Err(error) => last = error,
@@ -160,16 +160,16 @@ fn addresses<R: Net>(rt: &R, host: &str, port: u16) -> Result<HostAddrs, NetFaul
     }
 }
 
-/// How long a till waits.
-fn silence() -> Duration
-    ensures { as_nanos result ≡ 60_000_000_000 }
+/// How long a till waits that waits for so many seconds.
+fn silence(seconds: u16) -> Duration
+    ensures { as_nanos result ≡ seconds * 1_000_000_000 }
 {
-    Duration::from_secs(SILENCE_SECONDS)
+    Duration::from_secs(u64::from(seconds))
 }
 
-/// Small messages go out at once, and no read or write waits for longer than the silence.
-fn limit(end: &TcpStream) -> io::Result<()> {
+/// Small messages go out at once, and no read or write waits for longer than so many seconds.
+fn limit(end: &TcpStream, seconds: u16) -> io::Result<()> {
     end.set_nodelay(true)?;
-    end.set_read_timeout(Some(silence()))?;
-    end.set_write_timeout(Some(silence()))
+    end.set_read_timeout(Some(silence(seconds)))?;
+    end.set_write_timeout(Some(silence(seconds)))
 }

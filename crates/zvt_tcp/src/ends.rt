@@ -4,9 +4,12 @@ ghost use Rattle.zvt_grammar.specs.Lengths.{reading_of};
 ghost use Rattle.zvt_stream.specs.StreamState.{at_start, start_in};
 ghost use Rattle.zvt_term.specs.Terminal.{new_terminal};
 
+use crate::shown::{Shown, ShownTrace};
+use crate::silence::Socket;
 use crate::trace_file::TraceFile;
 use std::alloc::{AllocError, Global};
 use std::fs::File;
+use std::io::Stderr;
 use std::net::TcpStream;
 use zvt_grammar::Lengths;
 use zvt_io::Counted;
@@ -19,8 +22,17 @@ use zvt_trace::Direction;
 /// An end over a connection that is not recorded.
 pub(crate) type PlainEnd<'a> = Endpoint<Counted<&'a TcpStream>, Counted<&'a TcpStream>>;
 
-/// A direction of a connection, whose bytes go to a trace.
-type TcpDevice<'a> = Recorded<Counted<&'a TcpStream>, Counted<TraceFile<'a>>>;
+/// A direction of a connection, whose bytes go to such a trace.
+pub(crate) type TracedSocket<'a, T> = Recorded<Counted<Socket<'a>>, T>;
+
+/// A direction of a connection, whose bytes go to the file of a trace.
+type TcpDevice<'a> = TracedSocket<'a, Counted<TraceFile<'a>>>;
+
+/// A till's end over a connection, whose reads and writes go to a trace. What is read may be shown.
+pub(crate) type TillLine<'a> = Endpoint<
+    TracedSocket<'a, ShownTrace<Counted<TraceFile<'a>>, Stderr>>,
+    TcpDevice<'a>,
+>;
 
 /// An end over a connection, whose reads and writes go to a trace.
 pub(crate) type TcpEnd<'a> = Endpoint<TcpDevice<'a>, TcpDevice<'a>>;
@@ -67,6 +79,29 @@ pub(crate) fn till_end_of<'a>(
     })
 }
 
+/// The till's end at its start. What is read comes from the terminal and may be shown, and what is written from the till.
+pub(crate) fn till_line_of<'a>(
+    alloc: Global,
+    connection: &'a TcpStream,
+    lengths: Lengths,
+    trace: Option<&'a File>,
+    shown: Option<Shown<Stderr>>,
+) -> Result<TillLine<'a>, AllocError>
+    ensures start { IfOk result (λ end. end.stream ≡ start_in (reading_of lengths)) }
+    ensures sides { IfOk result (λ end. (end.reader.from ≡ Direction.FromTerminal) × (end.writer.from ≡ Direction.FromTill)) }
+{
+    let shown_trace = ShownTrace {
+        trace: Counted::new(TraceFile { file: trace }),
+        shown,
+    };
+    let socket = Counted::new(Socket::new(connection));
+    Ok(Endpoint {
+        reader: Recorded::new(alloc, Direction::FromTerminal, socket, shown_trace)?,
+        writer: tcp_device(alloc, Direction::FromTill, connection, trace)?,
+        stream: Stream::of(alloc, lengths),
+    })
+}
+
 /// The terminal's end at its start: what is read comes from the till, and what is written from the terminal.
 pub(crate) fn terminal_end_of<'a>(
     alloc: Global,
@@ -95,12 +130,16 @@ fn tcp_device<'a>(
     ensures whole { IfOk result (λ device. device.broken ≡ false) }
 {
     let trace = Counted::new(TraceFile { file: trace });
-    Recorded::new(alloc, from, Counted::new(connection), trace)
+    let socket = Counted::new(Socket::new(connection));
+    Recorded::new(alloc, from, socket, trace)
 }
 
 /// Ends the trace of the line, and answers whether it lacks something: a piece that was read, one that was to be written,
 /// or its end.
-pub(crate) fn is_broken(end: &TcpEnd<'_>, trace: Option<&File>) -> bool
+pub(crate) fn is_broken<'a, T>(
+    end: &Endpoint<TracedSocket<'a, T>, TcpDevice<'a>>,
+    trace: Option<&File>,
+) -> bool
     ensures { (end.now.reader.broken || end.now.writer.broken) ≡ true → result ≡ true }
 {
     let lacks = end.reader.broken || end.writer.broken;

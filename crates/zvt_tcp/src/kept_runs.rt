@@ -10,8 +10,10 @@ ghost use Rattle.zvt_session.specs.TillEnd.{BeginsThere};
 ghost use Rattle.zvt_tcp.specs.KeptOverTcp.{AnswersBookRun};
 
 use crate::connection::{both_ends, connect};
-use crate::ends::{both_ends_of, is_broken, till_end_of};
+use crate::ends::{both_ends_of, is_broken, till_end_of, till_line_of};
 use crate::options::{BookRun, LoopRun};
+use crate::shown::shown_by;
+use crate::silence::{by_silence, waited};
 use crate::trace_file::by_trace;
 use std::alloc::Global;
 use std::net::{Net, TcpListener, TcpStream};
@@ -22,7 +24,7 @@ use zvt_kept::KeptTill;
 use zvt_session::{EndFault, StepRun, run_both_ends_kept, run_till_end_kept};
 
 /// Connects a till that keeps its book to its terminal, and runs the steps. [`run_till`](crate::run_till) says how the line
-/// is read and traced.
+/// is read, traced and shown.
 ///
 /// `Net` comes before anything is written, reported or recorded. [`run_till_end_kept`] says what else is answered.
 pub fn run_till_kept<R, D, W, E>(
@@ -46,10 +48,12 @@ where
         plan: run.plan,
         form: run.form,
     };
-    let end = connect(rt, run.host, run.port).map_err(EndFault::Net)?;
-    let mut line = till_end_of(alloc, &end, run.lengths, run.trace)?;
+    let end = connect(rt, run.host, run.port, run.seconds).map_err(EndFault::Net)?;
+    let shown = shown_by(alloc, run.form, run.lengths, run.show);
+    let mut line = till_line_of(alloc, &end, run.lengths, run.trace, shown)?;
     let answer = run_till_end_kept(alloc, &mut line, kept, &steps, writer, report);
-    by_trace(is_broken(&line, run.trace), answer)
+    let answer = by_trace(is_broken(&line, run.trace), answer);
+    by_silence(waited(&line, run.seconds), answer)
 }
 
 /// Runs the steps between a till that keeps its book and a terminal that are both in this process. [`run_loop`](crate::run_loop)

@@ -9,11 +9,14 @@ mod ends;
 mod kept_runs;
 mod options;
 mod reports;
+mod rows;
 mod runs;
+mod shown;
+mod silence;
 mod terminal;
 mod trace_file;
 
-pub use connection::{Door, connect, listen};
+pub use connection::{Door, SILENCE_SECONDS, connect, listen};
 pub use kept_runs::{run_loop_kept, run_till_kept};
 pub use options::{BookRun, LoopRun, TerminalRun, TillRun};
 pub use runs::{run_loop, run_till};

@@ -1,41 +1,52 @@
 //! What a run over TCP is given.
 use std::fs::File;
+use std::io::Stderr;
 use zvt_grammar::Lengths;
 use zvt_json::Form;
 use zvt_session::Planned;
 use zvt_term::Verdict;
 use zvt_till::TillSettings;
 
-/// The run of a till: the terminal that it connects to, its settings, how its line is read and traced, and what form its
-/// text has.
+/// The run of a till: the terminal that it connects to, its settings and steps, how its line is read, traced and shown, and
+/// what form its text has.
 #[derive(Clone, Copy)]
 pub struct TillRun<'a, 'f> {
     /// The name or address of the terminal's host.
     pub host: &'a str,
     /// The port that the terminal listens at.
     pub port: u16,
+    /// How many seconds the till waits for the connection, and for each message.
+    pub seconds: u16,
     /// The settings that the till registers with.
     pub settings: TillSettings,
     /// The length encodings that the till reads.
     pub lengths: Lengths,
     /// The file that the trace is written to.
     pub trace: Option<&'f File>,
+    /// Where the messages of the terminal are shown.
+    pub show: Option<Stderr>,
+    /// The steps of the till.
+    pub plan: &'a [Planned],
     /// The form in which the steps and the total are written.
     pub form: Form,
 }
 
-/// The run of a till that keeps its book: the terminal that it connects to, its steps, how its line is read and traced, and
-/// what form its text has.
+/// The run of a till that keeps its book: the terminal that it connects to, its steps, how its line is read, traced and shown,
+/// and what form its text has.
 #[derive(Clone, Copy)]
 pub struct BookRun<'a, 'f> {
     /// The name or address of the terminal's host.
     pub host: &'a str,
     /// The port that the terminal listens at.
     pub port: u16,
+    /// How many seconds the till waits for the connection, and for each message.
+    pub seconds: u16,
     /// The length encodings that the till reads.
     pub lengths: Lengths,
     /// The file that the trace is written to.
     pub trace: Option<&'f File>,
+    /// Where the messages of the terminal are shown.
+    pub show: Option<Stderr>,
     /// The steps of the till.
     pub plan: &'a [Planned],
     /// The form in which the steps and the total are written.
@@ -68,7 +79,7 @@ pub struct TerminalRun<'a, 'f> {
     /// The length encodings that the terminal reads.
     pub lengths: Lengths,
     /// The number of tills that are served, one after another.
-    pub connections: u16,
+    pub connections: u64,
     /// The file that the trace is written to.
     pub trace: Option<&'f File>,
     /// The form of the reports.

@@ -1,10 +1,11 @@
 //! What a terminal that listens and serves reports.
-ghost use Rattle.std.specs.Prelude.{◌≡◌, [], ◌∷◌, ◌++◌, Some, IfOk, OnOk};
+ghost use Rattle.std.specs.Prelude.{◌≡◌, [], ◌∷◌, ◌++◌, Some, IfOk, OnOk, drop};
 ghost use Rattle.serde_json.specs.View.{view};
 ghost use Rattle.zvt_json.specs.Strings.{line_text};
 ghost use Rattle.zvt_session.specs.Reporting.{Reports};
 ghost use Rattle.zvt_tcp.specs.Reporting.{IsReport, SaysGone, ReportsGone, approvals, failed_value, gone_value, ledger_text};
 
+use crate::rows::say_rows;
 use serde_json::{Value, json};
 use std::alloc::{AllocError, Global};
 use std::net::TcpListener;
@@ -32,29 +33,60 @@ pub(crate) fn report_address<W: Sink>(
     Ok(())
 }
 
-/// Reports in this form that the till of this number disconnected, how its connection failed, if it did, and how many
-/// approvals the terminal's ledger has. A device that fails is no fault of the service.
-pub(crate) fn report_ledger<W: Sink>(
+/// A till that disconnected.
+#[derive(Clone, Copy)]
+pub(crate) struct GoneTill {
+    /// Its number, counted from 1.
+    pub(crate) number: u64,
+    /// How its connection failed, if it did.
+    pub(crate) broke: Option<LineFault>,
+    /// The number of rows that the ledger had before the till connected.
+    pub(crate) rows_before: usize,
+}
+
+/// Reports in this form the rows that the ledger got from a till. Then it reports that the till disconnected, how its
+/// connection failed, if it did, and how many approvals the terminal's ledger has. A device that fails is no fault of the
+/// service.
+pub(crate) fn report_till<W: Sink>(
     alloc: Global,
     form: Form,
-    till: u16,
-    broke: Option<LineFault>,
+    till: &GoneTill,
     terminal: &Terminal,
     report: &mut W,
 ) -> Result<(), AllocError>
-    ensures { OnOk result (ReportsGone form till broke (approvals terminal.now.ledger) (W.written report.old) (W.written report.new) (W.failures report.old) (W.failures report.new)) }
+    ensures { OnOk result (ReportsGone form till.now.number till.now.broke till.now.rows_before terminal.now.ledger (W.written report.old) (W.written report.new) (W.failures report.old) (W.failures report.new)) }
 {
-    let approved = approvals(terminal.ledger());
-    let text = gone(alloc, form, till, broke, approved)?;
+    let ledger = terminal.ledger();
+    let mut text = Text::new(alloc);
+    say_rows(
+        alloc,
+        &mut text,
+        form,
+        till.number,
+        after(ledger, till.rows_before),
+    )?;
+    let gone = gone(alloc, form, till.number, till.broke, approvals(ledger))?;
+    text.word(gone.bytes())?;
     report_text(&text, report);
     Ok(())
+}
+
+/// The rows after so many first ones.
+fn after(rows: &[Row], count: usize) -> &[Row]
+    ensures { result.now ≡ drop count rows.now }
+{
+    if count < rows.len() {
+        &rows[count..]
+    } else {
+        &[]
+    }
 }
 
 /// What is reported in this form of a till that disconnected.
 fn gone(
     alloc: Global,
     form: Form,
-    till: u16,
+    till: u64,
     broke: Option<LineFault>,
     approved: usize,
 ) -> Result<Text, AllocError>
@@ -70,7 +102,7 @@ fn gone(
 /// The line of text of a till that disconnected.
 fn gone_words(
     alloc: Global,
-    till: u16,
+    till: u64,
     broke: Option<LineFault>,
     approved: usize,
 ) -> Result<Text, AllocError>
@@ -83,7 +115,7 @@ fn gone_words(
 }
 
 /// The JSON line of a till that disconnected, and whose connection did not fail.
-fn gone_object(alloc: Global, till: u16, approved: usize) -> Result<Text, AllocError>
+fn gone_object(alloc: Global, till: u64, approved: usize) -> Result<Text, AllocError>
     ensures { IfOk result (λ report. report ≡ line_text (gone_value till approved)) }
 {
     let value = gone_value(alloc, till, approved)?;
@@ -91,7 +123,7 @@ fn gone_object(alloc: Global, till: u16, approved: usize) -> Result<Text, AllocE
 }
 
 /// The JSON value of a till that disconnected, and whose connection did not fail.
-fn gone_value(alloc: Global, till: u16, approved: usize) -> Result<Value, AllocError>
+fn gone_value(alloc: Global, till: u64, approved: usize) -> Result<Value, AllocError>
     ensures { IfOk result (λ value. view value ≡ gone_value till approved) }
 {
     json!(in alloc; {"approvals": approved, "till": till})
@@ -100,7 +132,7 @@ fn gone_value(alloc: Global, till: u16, approved: usize) -> Result<Value, AllocE
 /// The JSON line of a till whose connection failed.
 fn failed_object(
     alloc: Global,
-    till: u16,
+    till: u64,
     fault: LineFault,
     approved: usize,
 ) -> Result<Text, AllocError>
@@ -112,14 +144,14 @@ fn failed_object(
 }
 
 /// The JSON value of a till whose connection failed, with the words of the fault.
-fn failed_value(alloc: Global, till: u16, why: &str, approved: usize) -> Result<Value, AllocError>
+fn failed_value(alloc: Global, till: u64, why: &str, approved: usize) -> Result<Value, AllocError>
     ensures { IfOk result (λ value. view value ≡ failed_value till approved why.now) }
 {
     json!(in alloc; {"approvals": approved, "failed": why, "till": till})
 }
 
 /// A line of this text.
-fn line(alloc: Global, word: &str) -> Result<Text, AllocError>
+pub(crate) fn line(alloc: Global, word: &str) -> Result<Text, AllocError>
     ensures { IfOk result (λ line. line ≡ word.now ++ 10 ∷ []) }
 {
     let mut text = Text::new(alloc);
@@ -139,7 +171,7 @@ fn report_text<W: Sink>(text: &Text, report: &mut W)
 fn say_gone(
     alloc: Global,
     text: &mut Text,
-    till: u16,
+    till: u64,
     broke: Option<LineFault>,
 ) -> Result<(), AllocError>
     ensures { OnOk result (SaysGone till broke text.old text.new) }

@@ -9,14 +9,16 @@ ghost use Rattle.zvt_till.specs.Events.{run_settings};
 ghost use Rattle.zvt_till.specs.Settings.{settings_of};
 
 use crate::connection::{both_ends, connect};
-use crate::ends::{both_ends_of, is_broken, till_end_of};
+use crate::ends::{both_ends_of, is_broken, till_end_of, till_line_of};
 use crate::options::{LoopRun, TillRun};
+use crate::shown::shown_by;
+use crate::silence::{by_silence, waited};
 use crate::trace_file::by_trace;
 use std::alloc::Global;
 use std::net::{Net, TcpListener, TcpStream};
 use zvt_grammar::Lengths;
 use zvt_io::Sink;
-use zvt_session::{EndFault, Planned, StepRun, run_both_ends, run_till_end};
+use zvt_session::{EndFault, StepRun, run_both_ends, run_till_end};
 use zvt_till::TillSettings;
 
 /// Runs the steps between a till and a terminal that are both in this process. It listens at a free port of 127.0.0.1 and
@@ -51,14 +53,14 @@ where
 
 /// Connects a till to its terminal, and runs the steps. Each order has 100,000 reads. The trace has what the till heard
 /// and sent: a line for each read and each write, and `!` at the end. A trace that can't be written ends the run with
-/// `Trace`.
+/// `Trace`. The messages of the terminal may be shown as they come; text that can't be shown is no fault of the run.
 ///
-/// `Net` comes before anything is written or reported. [`run_till_end`] says what else is answered.
+/// `Net` comes before anything is written or reported. `Silent` comes where a read waited for the seconds of the run.
+/// [`run_till_end`] says what else is answered.
 pub fn run_till<R, W, E>(
     rt: &R,
     alloc: Global,
     run: &TillRun<'_, '_>,
-    plan: &[Planned],
     writer: &mut W,
     report: &mut E,
 ) -> Result<(), EndFault>
@@ -66,15 +68,17 @@ where
     R: Net<Listener = TcpListener, Stream = TcpStream>,
     W: Sink,
     E: Sink,
-    ensures run { AnswersRun MakesThere (BeginsThere (reading_of run.now.lengths)) (settings_of run.now.settings) run.now.form plan.now (W.written writer.old) (W.written writer.new) (ReportsReversals (E.written report.old) (E.written report.new) (E.failures report.old) (E.failures report.new)) (ReportsNothing (E.written report.old) (E.written report.new) (E.failures report.old) (E.failures report.new)) result }
+    ensures run { AnswersRun MakesThere (BeginsThere (reading_of run.now.lengths)) (settings_of run.now.settings) run.now.form run.now.plan.now (W.written writer.old) (W.written writer.new) (ReportsReversals (E.written report.old) (E.written report.new) (E.failures report.old) (E.failures report.new)) (ReportsNothing (E.written report.old) (E.written report.new) (E.failures report.old) (E.failures report.new)) result }
     ensures write { result ≡ Err EndFault.Write → W.failures writer.old < W.failures writer.new }
 {
     let steps = StepRun {
-        plan,
+        plan: run.plan,
         form: run.form,
     };
-    let end = connect(rt, run.host, run.port).map_err(EndFault::Net)?;
-    let mut line = till_end_of(alloc, &end, run.lengths, run.trace)?;
+    let end = connect(rt, run.host, run.port, run.seconds).map_err(EndFault::Net)?;
+    let shown = shown_by(alloc, run.form, run.lengths, run.show);
+    let mut line = till_line_of(alloc, &end, run.lengths, run.trace, shown)?;
     let answer = run_till_end(alloc, &mut line, &run.settings, &steps, writer, report);
-    by_trace(is_broken(&line, run.trace), answer)
+    let answer = by_trace(is_broken(&line, run.trace), answer);
+    by_silence(waited(&line, run.seconds), answer)
 }

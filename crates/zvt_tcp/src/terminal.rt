@@ -7,7 +7,7 @@ ghost use Rattle.zvt_tcp.specs.Tills.{AnswersService, AnswersTill, AnswersTills,
 use crate::connection::{Door, listen};
 use crate::ends::{is_broken, terminal_end_of};
 use crate::options::TerminalRun;
-use crate::reports::{report_address, report_ledger};
+use crate::reports::{GoneTill, report_address, report_till};
 use std::alloc::Global;
 use std::fs::File;
 use std::net::{Net, TcpListener, TcpStream};
@@ -27,7 +27,8 @@ use zvt_term::{Served, Terminal};
 /// trace can't be written, and `Memory` where a till can't be begun with or reported.
 ///
 /// The trace has what the terminal heard and answered, as the till sees it. `report` gets the address at which the terminal
-/// listens. For each till that disconnects it gets the number of approvals in the ledger. Both come in the form of the run.
+/// listens. For each till that disconnects it gets the rows that the ledger got from it, and the number of approvals in the
+/// ledger. All come in the form of the run.
 pub fn run_terminal<R, W>(
     rt: &R,
     alloc: Global,
@@ -67,8 +68,14 @@ fn serve_tills<W: Sink>(
     let mut first = None;
     'tills: for gone in 0..run.connections {
         let connection = door.next().map_err(EndFault::Net)?;
+        let rows_before = served.terminal.ledger().len();
         let broke = serve_till(alloc, &connection, run.lengths, served, run.trace)?;
-        report_ledger(alloc, run.form, gone + 1, broke, &served.terminal, report)?;
+        let till = GoneTill {
+            number: gone + 1,
+            broke,
+            rows_before,
+        };
+        report_till(alloc, run.form, &till, &served.terminal, report)?;
         if first.is_none() {
             first = broke;
         }

@@ -1,5 +1,5 @@
 -- The commands of the program, by what it does for them.
-use Rattle.std.specs.Prelude.{◌≤◌, Bool, true, false, Option, Some, None}
+use Rattle.std.specs.Prelude.{◌≤◌, ◌==◌, if◌then◌else◌, ℕ, Bool, true, false, Option, Some, None}
 use Rattle.zvt_cli.specs.declared.choice.Choice.{Choice}
 use Rattle.zvt_cli.specs.declared.choice.Choice.TheVariants as choice
 use Rattle.zvt_cli.specs.declared.choice.TraceOptions.{TraceOptions}
@@ -29,6 +29,10 @@ style_by plain objects true = objects
 abbrev pub form_by : (is_json : Bool) → Form
 form_by false = Text
 form_by true = form.Json
+
+-- how many connections are taken: 0 stands for no end
+abbrev pub connections_by : ℕ → ℕ
+connections_by number = if number == 0 then 18446744073709551615 else number
 
 -- each line that is written is a JSON object
 abbrev pub is_json : TraceWork → Bool

@@ -47,6 +47,7 @@ status_of_end_fault (at_end.Net why) = 4
 status_of_end_fault at_end.Trace = 4
 status_of_end_fault at_end.Book = 4
 status_of_end_fault (at_end.Line fault) = status_of_line fault
+status_of_end_fault (at_end.Silent seconds) = 4
 status_of_end_fault at_end.Write = 4
 status_of_end_fault at_end.Memory = 5
 

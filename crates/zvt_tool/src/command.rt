@@ -2,7 +2,7 @@
 ghost use Rattle.std.specs.Prelude.{◌≡◌, Option, List};
 ghost use Rattle.clap.specs.Words.{Row, Text};
 ghost use Rattle.zvt_cli.specs.Chosen.{IsChoiceOf};
-ghost use Rattle.zvt_tool.specs.Commands.{HasTerminalNumber, chosen_on_trace, form_by, is_json, lengths_by, on_trace, style_by, text_scope, working};
+ghost use Rattle.zvt_tool.specs.Commands.{HasTerminalNumber, chosen_on_trace, connections_by, form_by, is_json, lengths_by, on_trace, style_by, text_scope, working};
 ghost use Rattle.zvt_tool.specs.declared.command.TraceWork.TheVariants.{Render};
 
 use zvt_cli::{
@@ -101,6 +101,17 @@ pub fn form_by(json: bool) -> Form
     ensures { result ≡ form_by json }
 {
     if json { Form::Json } else { Form::Text }
+}
+
+/// How many connections are taken one after another, where 0 stands for no end. No program lives to see that many.
+pub fn connections_by(number: u16) -> u64
+    ensures { result ≡ connections_by number }
+{
+    if number == 0 {
+        u64::MAX
+    } else {
+        u64::from(number)
+    }
 }
 
 /// A command that does this with the traces, by those lengths.

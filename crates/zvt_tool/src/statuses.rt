@@ -77,7 +77,7 @@ pub fn of_end_fault(fault: &EndFault) -> u8
         EndFault::BadStep { .. } => WORDS,
         EndFault::Net(_) | EndFault::Trace | EndFault::Book | EndFault::Write => DEVICE,
         EndFault::Line(LineFault::Memory) | EndFault::Memory => MEMORY,
-        EndFault::Line(_) => DEVICE,
+        EndFault::Line(_) | EndFault::Silent { .. } => DEVICE,
     }
 }
 

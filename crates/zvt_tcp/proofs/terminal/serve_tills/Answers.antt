@@ -9,9 +9,9 @@ returns-in_err-broke-clause-served g c =
     let p = err_from_is_err_and c.from_residual-in_err-broke.result c.from_residual-in_err-broke.ensures.1 in
     rw (p.1, p.2) (stopped (reading_of c.args.run.now.lengths) c.tills.gone c.args.run.now.connections c.tills.first c.in_err-broke.field-0.0 c.args.served.now c.tills.served c.serve_till.new.served c.tills-test.true c.tills.invariant.served c.in_err-broke.ensures)
 
-pub returns-in_err-report_ledger-clause-served : goal.returns-in_err-report_ledger-clause-served
-returns-in_err-report_ledger-clause-served g c =
-    let p = err_from_is_err_and c.from_residual-in_err-report_ledger.result c.from_residual-in_err-report_ledger.ensures.1 in
+pub returns-in_err-report_till-clause-served : goal.returns-in_err-report_till-clause-served
+returns-in_err-report_till-clause-served g c =
+    let p = err_from_is_err_and c.from_residual-in_err-report_till.result c.from_residual-in_err-report_till.ensures.1 in
     rw (p.1, p.2) (unreported (reading_of c.args.run.now.lengths) c.tills.gone c.args.run.now.connections c.tills.first c.in_ok-broke.broke c.args.served.now c.tills.served c.serve_till.new.served c.tills-test.true c.tills.invariant.served c.in_ok-broke.ensures)
 
 pub tills-preserved : goal.tills-preserved
