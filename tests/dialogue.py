@@ -12,6 +12,7 @@ import re
 import socket
 import subprocess
 import sys
+import threading
 
 HERE = os.path.dirname(os.path.abspath(__file__))
 PROGRAM = os.path.abspath(sys.argv[1]) if len(sys.argv) > 1 else os.path.join(HERE, "..", "crates", "zvt", "out", "zvt")
@@ -31,10 +32,15 @@ class Terminal:
         command = [PROGRAM, "terminal", "--port", "0", "--connections", str(lines), *words]
         self.process = subprocess.Popen(command, stdout=subprocess.DEVNULL, stderr=subprocess.PIPE, text=True)
         self.port = int(self.process.stderr.readline().rsplit(":", 1)[1])
+        # It has a line for each approval, which are more than a pipe holds.
+        self.said = []
+        self.reader = threading.Thread(target=lambda: self.said.append(self.process.stderr.read()), daemon=True)
+        self.reader.start()
 
     def ended(self):
         """The approvals that it said its ledger has, and its status."""
-        said = self.process.stderr.read()
+        self.reader.join(SECONDS)
+        said = "".join(self.said)
         return int(re.findall(r"approvals in the ledger: (\d+)", said)[-1]), self.process.wait(SECONDS)
 
 
