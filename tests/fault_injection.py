@@ -79,6 +79,7 @@ class Trial:
             self.fails_each_of(end)
         self.both_ends("both ends, a byte at a time", "one", {end: {"WRITES_OF_ONE": 1} for end in ("till", "terminal")}, 0)
         self.fails_between()
+        self.fails_shown()
         self.refuses_each_call()
         print("all as expected" if self.wrong == 0 else f"{self.wrong} not as expected")
         return 1 if self.wrong else 0
@@ -293,6 +294,29 @@ class Trial:
         if not PAID.startswith(text) and not is_prefix(text, PAID):
             self.differs(name, "the till's lines:", text)
         self.compare_books(name, of_terminal, of_till, text, as_ever)
+        return refused
+
+    # ---- a till that shows what comes
+
+    def fails_shown(self):
+        """What can't be shown is no fault of the run: it goes on, or ends as one that shows nothing."""
+        for kind, setting, status in (("request refused", "REFUSED_REQUEST", 5), ("read failing", "FAILED_READ", 4), ("write failing", "FAILED_WRITE", 4)):
+            def look(at, kind=kind, status=status, **setting):
+                return self.shows(f"a till that shows, {kind} {at}", f"shows.{at}", setting, status)
+
+            self.each(f"a till that shows, each {kind}", setting, look)
+
+    def shows(self, name, tag, setting, status):
+        """A till's run that shows what comes from a terminal which has all it needs; whether something was refused."""
+        terminal, _ = self.start(["terminal", "--port", "0", "--trace", "{}"], f"{tag}.terminal")
+        port = re.search(rb":(\d+)\n", terminal.stderr.readline())[1].decode()
+        ended, text, errors, refused = self.end_of(["till", "--port", port, "--show", "--trace", "{}", *STEPS], b"", f"{tag}.till", **setting)
+        release(int(port))
+        terminal.communicate(timeout=SECONDS)
+        if (ended, text) != (0, PAID) and not (refused and ended == status and is_prefix(text, PAID)):
+            self.differs(name, ended, text, errors, refused)
+        if not refused and b"< PrintLine 00" not in errors:
+            self.differs(name, "nothing is shown:", errors)
         return refused
 
     # ---- a tap between both ends, and one side that is played
