@@ -17,8 +17,8 @@ _zvt() {
     audit) options='--loose --check --json --follow' ;;
     normalise) ;;
     vectors | book) options='--json' ;;
-    loop) options='--trace --book --json' steps='register pay: decline: reverse: close' ;;
-    till) options='--port --host --password --config --currency --timeout --trace --book --show --loose --json' steps='register pay: reverse: close' ;;
+    loop) options='--trace --book --check --json' steps='register pay: decline: reverse: close' ;;
+    till) options='--port --host --password --config --currency --timeout --trace --book --check --show --loose --json' steps='register pay: reverse: close' ;;
     terminal) options='--port --host --tid --connections --decline --trace --loose --json' ;;
     tap) options='--listen --to --trace --trace-required --connections' ;;
     play) options='--till --terminal --port --listen --host' ;;

@@ -30,6 +30,7 @@ complete -c zvt -n '__fish_seen_subcommand_from show join normalise audit receip
 
 complete -c zvt -n '__fish_seen_subcommand_from loop' -l trace -rF -d 'Write a trace of the line to this file'
 complete -c zvt -n '__fish_seen_subcommand_from loop' -l book -rF -d 'Keep the book in this file'
+complete -c zvt -n '__fish_seen_subcommand_from loop' -l check -d 'End with status 1 where a step does not succeed'
 complete -c zvt -n '__fish_seen_subcommand_from loop' -a 'register pay: decline: reverse: close'
 
 complete -c zvt -n '__fish_seen_subcommand_from till' -l port -x -d 'The TCP port of the terminal'
@@ -41,6 +42,7 @@ complete -c zvt -n '__fish_seen_subcommand_from till' -l timeout -x -d 'How many
 complete -c zvt -n '__fish_seen_subcommand_from till' -l show -d 'Write each message of the terminal as it comes'
 complete -c zvt -n '__fish_seen_subcommand_from till' -l trace -rF -d 'Write a trace of the line to this file'
 complete -c zvt -n '__fish_seen_subcommand_from till' -l book -rF -d 'Keep the book in this file'
+complete -c zvt -n '__fish_seen_subcommand_from till' -l check -d 'End with status 1 where a step does not succeed'
 complete -c zvt -n '__fish_seen_subcommand_from till' -l loose -d 'Also read lengths in longer forms than they need'
 complete -c zvt -n '__fish_seen_subcommand_from till' -a 'register pay: reverse: close'
 

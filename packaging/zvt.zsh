@@ -59,6 +59,7 @@ _zvt() {
         _arguments $help \
             '--trace[write a trace of the line to this file]:file:_files' \
             '--book[keep the book in this file]:file:_files' \
+            '--check[end with status 1 where a step does not succeed]' \
             '--json[write JSON, one object a line]' \
             '*:step:(register pay\:1000 decline\:500\:6C reverse\:1 close)'
         ;;
@@ -72,6 +73,7 @@ _zvt() {
             '--timeout[how many seconds to wait for the terminal]:seconds:' \
             '--trace[write a trace of the line to this file]:file:_files' \
             '--book[keep the book in this file]:file:_files' \
+            '--check[end with status 1 where a step does not succeed]' \
             '--show[write each message of the terminal as it comes]' \
             '--loose[also read lengths in longer forms than they need]' \
             '--json[write JSON, one object a line]' \

@@ -23,6 +23,8 @@ import time
 
 import audit_model
 import audit_output
+import journal_dialogues
+import journal_model
 
 HERE = pathlib.Path(__file__).resolve().parent
 TOP = HERE.parent
@@ -30,6 +32,7 @@ PROGRAM = os.path.abspath(sys.argv[1]) if len(sys.argv) > 1 else str(TOP / "crat
 DEBIAN_PYTHON = "/usr/bin/python3"
 DAYS, SHOPS, TILLS, BATCH = ("2026-11-24", "2026-11-25"), 10, 10, 5
 SECONDS = 120
+BOOKS, DOUBTFUL_PAYMENTS, DOUBTFUL_REVERSALS, ROUND = 500, 10, 10, 5000
 UNREADABLE = "traces/2026-11-25/shop-03/till-07.trace"
 # The program, with a note of each run and a pause, so that a worker can be killed in the middle.
 SLOW = "#!/bin/sh\necho run >> '{calls}'\nsleep 0.2\nexec '{program}' \"$@\"\n"
@@ -74,6 +77,32 @@ def make(folder):
     return audits
 
 
+def make_books(folder):
+    """The books of 500 tills, and what the model has of each: 480 with a reversal, ten with an unclear payment, ten with an
+    unclear reversal."""
+    books = {}
+    for till in range(BOOKS):
+        dialogue = journal_dialogues.Dialogue()
+        dialogue.registered()
+        dialogue.paid(100 + till, 1)
+        dialogue.paid(ROUND, 2)
+        if till < DOUBTFUL_PAYMENTS:
+            dialogue.approved(700 + till, 3)
+            dialogue.lost()
+        else:
+            dialogue.reversing(2, 2)
+            if till < DOUBTFUL_PAYMENTS + DOUBTFUL_REVERSALS:
+                dialogue.lost()
+            else:
+                dialogue.hear(journal_model.status(ROUND, 3, 3, original=2))
+                dialogue.completed()
+        name = f"days/{DAYS[1]}/shop-{till % SHOPS:02}/till-{till:03}.book"
+        (folder / name).parent.mkdir(parents=True, exist_ok=True)
+        (folder / name).write_bytes(dialogue.file())
+        books[name] = journal_model.book_of(dialogue.file())
+    return books
+
+
 class Fleet:
     def __init__(self, folder):
         self.folder, self.audits = folder, make(folder)
@@ -98,6 +127,22 @@ class Fleet:
         check(name, dict(found), {file: list(audit.objects()) for file, audit in self.audits.items()})
         said.append(name)
 
+    def books(self):
+        """The totals are net, and each unclear payment and reversal is found."""
+        if not installed("jq"):
+            return
+        books = make_books(self.folder)
+        wanted = collections.Counter()
+        for file, book in books.items():
+            wanted[file.split("/")[2]] += book.total()
+        self.run(command("entries.json", "sums/XXXXXXXX"))
+        check("net totals by shop", self.run(command("awk", "total")).splitlines(), [f"{shop}\t{total}" for shop, total in sorted(wanted.items())])
+        rows = {f"{file}\tpayment\t{amount}\t{cause}" for file, book in books.items() for amount, cause in book.unclear}
+        rows |= {f"{file}\treversal\t{ROUND}\tLine" for file in list(books)[DOUBTFUL_PAYMENTS:DOUBTFUL_PAYMENTS + DOUBTFUL_REVERSALS]}
+        check("there are as many", len(rows), DOUBTFUL_PAYMENTS + DOUBTFUL_REVERSALS)
+        check("what to look at in books", sorted(self.run(command('"payment"', '"reversal"')).splitlines()), sorted(rows))
+        said.append("books")
+
     def one_machine(self):
         self.run(command("xargs", "books/XXXXXXXX"))
         self.holds_books("xargs")
@@ -110,7 +155,7 @@ class Fleet:
         if installed("jq"):
             check("what is missing", self.run(command("comm -23")).split(), [UNREADABLE])
             wanted = [f"{file}\t{amount}\t{cause}" for file, audit in self.audits.items() for amount, cause in audit.unclear]
-            check("what is unclear", sorted(self.run(command("@tsv")).splitlines()), sorted(wanted))
+            check("what is unclear", sorted(self.run(command(".unclear.cause] | @tsv' books.json")).splitlines()), sorted(wanted))
             said.append("jq")
 
     def database(self):
@@ -218,6 +263,7 @@ def main():
         return 2
     with tempfile.TemporaryDirectory() as folder:
         fleet = Fleet(pathlib.Path(folder))
+        fleet.books()
         fleet.one_machine()
         fleet.database()
         fleet.many_machines()

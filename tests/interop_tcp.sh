@@ -141,7 +141,8 @@ check "a terminal that counts anew" "$?" "$text" 0 "register -> registered
 pay:20 -> unclear TraceUsed
 total 1000"
 check "what to do then" 0 "$(cat "$work/says")" 0 "zvt: '$work/day.book': 1 booked, 0 unclear, total 1000
-zvt: a payment is unclear, since the book has its trace number: if the terminal was exchanged or counts from 1 again, begin a new book"
+zvt: the payment of 20 is unclear (TraceUsed): the terminal may have charged it or not: look at its journal or its last receipt before you order it again
+zvt: the book has its trace number: if the terminal was exchanged or counts from 1 again, begin a new book"
 
 # What comes from the terminal is shown while it comes, and standard output has the outcomes alone. This terminal serves
 # tills without an end.
@@ -322,6 +323,42 @@ check "is refused" 0 "$(cat "$work/answers")" 0 "800000060f082912345678490978846
 serves "a till that closes in the middle" "$registration $payment" 0
 serves "a till that sends half a message" "$registration 06 01 0A 04" 4
 serves "a till that sends an impossible byte" "$registration 06 01 02 D0" 4
+
+# --check: the status is 1 where a step does not succeed. The total is written all the same.
+"$zvt" loop --check > /dev/null 2>&1
+check "the default steps succeed, the declined payment too" "$?" "" 0 ""
+text=$("$zvt" loop --check register pay:1000 pay:1 close 2> /dev/null | tail -n 1)
+check "a payment succeeds" 0 "$text" 0 "total 1001"
+text=$("$zvt" loop --check pay:1000 2> "$work/says")
+check "a step that is not sent" "$?" "$text" 1 "pay:1000 -> not sent: NotRegistered
+total 0"
+check "what is said then" 0 "$(cat "$work/says")" 0 "zvt: a step did not succeed: its line says what became of it"
+text=$("$zvt" loop pay:1000 2> /dev/null)
+check "without --check" "$?" "$text" 0 "pay:1000 -> not sent: NotRegistered
+total 0"
+port=$(free_port)
+"$zvt" terminal --port "$port" --decline 6C > /dev/null 2>&1 &
+served=$!
+till "$port" --check register pay:1000
+check "a payment that is declined" "$status" "$text" 1 "register -> registered
+pay:1000 -> declined 6C abort by time-out or abort key
+total 0"
+wait "$served"
+# A reversal that completes without a status is unclear.
+rm -f "$work/unclear.trace"
+"$zvt" loop --trace "$work/unclear.trace" register pay:1000 reverse:1 > /dev/null 2>&1
+awk '/^> 0630/ { print; getline; print "< 800000060F00"; getline; print; exit } { print }' "$work/unclear.trace" > "$work/played.trace"
+for word in "" --check; do
+    port=$(free_port)
+    "$zvt" play --terminal "$work/played.trace" --listen "$port" > /dev/null 2>&1 &
+    served=$!
+    till "$port" $word register pay:1000 reverse:1
+    check "an unclear reversal $word" "$status" "$text" "$([ -z "$word" ] && echo 0 || echo 1)" "register -> registered
+pay:1000 -> paid trace 000001 receipt 0001
+reverse:1 -> unclear NoStatus
+total 1000"
+    wait "$served"
+done
 
 # Every exit status, besides 0 and 4 above.
 text=$(echo '> 06 01 02 D0' | "$zvt" show)

@@ -5,7 +5,7 @@ use std::alloc::Global;
 use std::test::Fail;
 use zvt_io::Counted;
 use zvt_json::Form;
-use zvt_session::{EndFault, Endpoint, Ends, StepRun, plan, run_till_end};
+use zvt_session::{EndFault, Endpoint, Ends, StepOptions, StepRun, plan, run_till_end};
 use zvt_stream::{LineFault, Stream};
 use zvt_tcp::{LoopRun, run_loop};
 use zvt_till::TillSettings;
@@ -28,7 +28,10 @@ fn looped(rt: &HostRuntime, words: &[&str]) -> Result<(Result<(), EndFault>, Vec
     let run = LoopRun {
         trace: None,
         plan: plan.as_slice(),
-        form: Form::Json,
+        options: StepOptions {
+            form: Form::Json,
+            check: false,
+        },
     };
     let mut writer = Counted::new(Vec::new(rt.alloc()));
     let mut report = Counted::new(Vec::new(rt.alloc()));
@@ -96,7 +99,10 @@ fn answered(alloc: Global) -> Result<(Result<(), EndFault>, Vec<u8>), EndFault> 
     let plan = plan(alloc, Ends::Till, &STEPS)?;
     let steps = StepRun {
         plan: plan.as_slice(),
-        form: Form::Json,
+        options: StepOptions {
+            form: Form::Json,
+            check: false,
+        },
     };
     let mut line = Endpoint {
         reader: Counted::new(Chunks {

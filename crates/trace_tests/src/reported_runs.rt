@@ -5,7 +5,7 @@ use std::io::{self, Read, Write};
 use std::test::Fail;
 use zvt_io::Counted;
 use zvt_json::Form;
-use zvt_session::{EndFault, Endpoint, Ends, StepRun, plan, run_till_end};
+use zvt_session::{EndFault, Endpoint, Ends, StepOptions, StepRun, plan, run_till_end};
 use zvt_stream::{LineFault, Stream};
 use zvt_tcp::{LoopRun, run_loop};
 use zvt_till::TillSettings;
@@ -32,7 +32,10 @@ fn a_text_that_cannot_be_written(rt: HostRuntime) -> Result<(), Fail> {
     let run = LoopRun {
         trace: None,
         plan: plan.as_slice(),
-        form: Form::Text,
+        options: StepOptions {
+            form: Form::Text,
+            check: false,
+        },
     };
     let ended = run_loop(&rt, rt.alloc(), &run, &mut writer, &mut report);
     assert!(rt; matches!(ended, Err(EndFault::Write)));
@@ -96,7 +99,10 @@ fn reverses<E: Write>(
     let settings = TillSettings::default();
     let steps = StepRun {
         plan: plan.as_slice(),
-        form: Form::Text,
+        options: StepOptions {
+            form: Form::Text,
+            check: false,
+        },
     };
     let ended = run_till_end(alloc, &mut line, &settings, &steps, &mut writer, report);
     Ok((ended, writer.inner))

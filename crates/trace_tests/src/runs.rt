@@ -11,8 +11,8 @@ use zvt_io::{Counted, Sink, Source};
 use zvt_json::Form;
 use zvt_recorder::Recorded;
 use zvt_session::{
-    BothEnds, EndFault, Ends, NetFault, Planned, StepRun, config_of, currency_of, password_of,
-    plan, run_both_ends, run_till_end, serve,
+    BothEnds, EndFault, Ends, NetFault, Planned, StepOptions, StepRun, config_of, currency_of,
+    password_of, plan, run_both_ends, run_till_end, serve,
 };
 use zvt_stream::{Endpoint, LineFault, Stream};
 use zvt_tcp::{LoopRun, TillRun, run_loop, run_till};
@@ -46,7 +46,10 @@ total 25
 fn as_text(plan: &[Planned]) -> StepRun<'_> {
     StepRun {
         plan,
-        form: Form::Text,
+        options: StepOptions {
+            form: Form::Text,
+            check: false,
+        },
     }
 }
 
@@ -62,7 +65,10 @@ fn looped(rt: &HostRuntime, words: &[&str]) -> (Result<(), EndFault>, Vec<u8>) {
     let run = LoopRun {
         trace: None,
         plan: plan.as_slice(),
-        form: Form::Text,
+        options: StepOptions {
+            form: Form::Text,
+            check: false,
+        },
     };
     let ended = run_loop(rt, rt.alloc(), &run, &mut writer, &mut report);
     (ended, writer.inner)
@@ -279,7 +285,10 @@ fn till_at(rt: &HostRuntime, port: u16, words: &[&str]) -> (Result<(), EndFault>
         trace: None,
         show: None,
         plan: plan.as_slice(),
-        form: Form::Text,
+        options: StepOptions {
+            form: Form::Text,
+            check: false,
+        },
     };
     let ended = run_till(rt, rt.alloc(), &run, &mut writer, &mut report);
     (ended, writer.inner)

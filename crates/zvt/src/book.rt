@@ -21,7 +21,7 @@ const OTHER_BOOK: &str =
 
 /// What is reported of a payment whose trace number the book has already.
 const USED_NUMBER: &str =
-    "a payment is unclear, since the book has its trace number: if the terminal was exchanged or counts from 1 again, begin a new book";
+    "the book has its trace number: if the terminal was exchanged or counts from 1 again, begin a new book";
 
 /// What the first line of a book says before the number of its currency.
 const OPENING: [u8; 26] = *b"# zvt journal 1, currency ";
@@ -143,14 +143,20 @@ fn report_book(rt: &HostRuntime, path: &str, till: &Till) -> io::Result<()> {
     eprintln!(rt; "zvt: '{path}': {booked} booked, {unclear} unclear, total {total}")
 }
 
-/// Reports what to do where a payment is unclear since the terminal gave it a trace number that the book has.
-pub fn report_used_numbers(rt: &HostRuntime, till: &Till) -> io::Result<()> {
-    let used = till
-        .unclear()
-        .iter()
-        .any(|(_, cause)| *cause == Cause::TraceUsed);
-    if used {
-        report(rt, USED_NUMBER)?;
+/// Reports each payment that became unclear in this run, after the ones that were known before, and what to do.
+pub fn report_unclear(rt: &HostRuntime, till: &Till, known: usize) -> io::Result<()> {
+    let Some(rows) = till.unclear().get(known..) else {
+        return Ok(());
+    };
+    'rows: for (amount, cause) in rows {
+        let amount = amount.get();
+        let name = cause.name();
+        eprintln!(rt;
+            "zvt: the payment of {amount} is unclear ({name}): the terminal may have charged it or not: look at its journal or its last receipt before you order it again"
+        )?;
+        if *cause == Cause::TraceUsed {
+            report(rt, USED_NUMBER)?;
+        }
     }
     Ok(())
 }

@@ -3,7 +3,7 @@ ghost use Rattle.std.specs.Prelude.{◌≤◌};
 
 use crate::finish::{finish_plan, finish_run};
 use crate::output::Output;
-use crate::reports::{SOME_SECONDS, TERMINAL_PORT, report_invalid};
+use crate::reports::{SOME_SECONDS, TERMINAL_PORT, report, report_invalid};
 use crate::settings::{settings, verdict};
 use crate::{book, trace_file};
 use std::io;
@@ -11,9 +11,9 @@ use zvt_io::Counted;
 use zvt_tool::command::{LoopOptions, connections_by, form_by, lengths_by};
 use zvt_tool::statuses::WORDS;
 use zvt_tool::{
-    BookRun, Ends, FileDevice, KeptTill, LoopRun, Planned, TerminalOptions, TerminalRun,
-    TillOptions, TillRun, TillSettings, plan, run_loop, run_loop_kept, run_terminal, run_till,
-    run_till_kept,
+    BookRun, Ends, FileDevice, KeptTill, LoopRun, Planned, StepOptions, TerminalOptions,
+    TerminalRun, TillOptions, TillRun, TillSettings, plan, run_loop, run_loop_kept, run_terminal,
+    run_till, run_till_kept,
 };
 
 /// Runs both ends in this process, and answers the exit status.
@@ -34,15 +34,16 @@ pub fn both_ends(rt: &HostRuntime, options: &LoopOptions<'_>) -> io::Result<u8> 
     let run = LoopRun {
         trace: file.as_ref(),
         plan: plan.as_slice(),
-        form: options.form,
+        options: options.options,
     };
     let mut writer = Counted::new(Output::new(io::writer(rt)));
     let mut report = Counted::new(rt.stderr());
     let answer = match kept {
         None => run_loop(rt, rt.alloc(), &run, &mut writer, &mut report),
         Some(mut kept) => {
+            let known = kept.till().unclear().len();
             let answer = run_loop_kept(rt, rt.alloc(), &run, &mut kept, &mut writer, &mut report);
-            book::report_used_numbers(rt, kept.till())?;
+            book::report_unclear(rt, kept.till(), known)?;
             answer
         }
     };
@@ -56,6 +57,12 @@ pub fn till(rt: &HostRuntime, options: &TillOptions<'_>) -> io::Result<u8> {
     };
     if report_zero(rt, options)? {
         return Ok(WORDS);
+    }
+    if options.steps.is_empty() {
+        report(
+            rt,
+            "no steps are given, so the till registers and closes the day",
+        )?;
     }
     let plan = match planned(rt, Ends::Till, options.steps.as_slice())? {
         Ok(plan) => plan,
@@ -82,7 +89,10 @@ pub fn till(rt: &HostRuntime, options: &TillOptions<'_>) -> io::Result<u8> {
             None
         },
         plan: plan.as_slice(),
-        form: form_by(options.json),
+        options: StepOptions {
+            form: form_by(options.json),
+            check: options.check,
+        },
     };
     match kept {
         None => till_alone(rt, &run),
@@ -125,12 +135,13 @@ fn till_with_book(
         trace: run.trace,
         show: run.show,
         plan: run.plan,
-        form: run.form,
+        options: run.options,
     };
     let mut writer = Counted::new(Output::new(io::writer(rt)));
     let mut report = Counted::new(rt.stderr());
+    let known = kept.till().unclear().len();
     let answer = run_till_kept(rt, rt.alloc(), &run, &mut kept, &mut writer, &mut report);
-    book::report_used_numbers(rt, kept.till())?;
+    book::report_unclear(rt, kept.till(), known)?;
     finish_run(rt, writer.inner.broken_pipe, answer)
 }
 

@@ -32,6 +32,11 @@ impl<'a> Input<'a> {
         }
     }
 
+    /// Whether this is the null device, which a list of files has so that each line names its file.
+    pub fn is_null_device(&self) -> bool {
+        self.is_labelled && self.file == "/dev/null"
+    }
+
     /// A writer of what a command finds in the trace: of one of several, each line names it.
     fn output<W: Write + Drop>(
         &self,

@@ -37,7 +37,7 @@ pub fn report_notes(
         return Ok(false);
     }
     if let Ok(found) = answer {
-        if !is_bad && found.tally.messages == 0 {
+        if !is_bad && found.tally.messages == 0 && !input.is_null_device() {
             errors.write_all(b"zvt: the trace contains no message\n")?;
         }
         if found.swapped {

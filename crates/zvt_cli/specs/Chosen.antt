@@ -70,9 +70,10 @@ IsCommandOf name rows (Audit options) = (name ≡ codes "audit") × AreTraceOpti
 IsCommandOf name rows (Receipts options) = (name ≡ codes "receipts") × AreTraceOptionsOf rows options
 IsCommandOf name rows (Vectors options) = (name ≡ codes "vectors") × AreTraceOptionsOf rows options
 IsCommandOf name rows (Book file json) = (name ≡ codes "book") × (first_of (codes "file") rows ≡ Some file.now) × IsFlagOf (codes "json") rows json
-IsCommandOf name rows (Loop trace book json steps) =
+IsCommandOf name rows (Loop trace book check json steps) =
     (name ≡ codes "loop") × IsTextOf (codes "trace") rows trace
     × IsTextOf (codes "book") rows book
+    × IsFlagOf (codes "check") rows check
     × IsFlagOf (codes "json") rows json
     × (map (λ step. step.now) steps.items ≡ words_of (codes "step") rows)
 IsCommandOf name rows (Till options) =
@@ -84,6 +85,7 @@ IsCommandOf name rows (Till options) =
     × GivesNumber (codes "timeout") rows 65535 options.timeout
     × IsTextOf (codes "trace") rows options.trace
     × IsTextOf (codes "book") rows options.book
+    × IsFlagOf (codes "check") rows options.check
     × IsFlagOf (codes "show") rows options.show
     × IsFlagOf (codes "loose") rows options.loose
     × IsFlagOf (codes "json") rows options.json

@@ -130,6 +130,7 @@ abbrev pub loop_app : App
 loop_app = command_app (codes "loop") (
     option_rule (codes "trace") ∷
     option_rule (codes "book") ∷
+    flag_rule (codes "check") ∷
     flag_rule (codes "json") ∷
     several_rule (codes "step") ∷
     [])
@@ -144,6 +145,7 @@ till_app = command_app (codes "till") (
     number_rule (codes "timeout") (codes "60") ∷
     option_rule (codes "trace") ∷
     option_rule (codes "book") ∷
+    flag_rule (codes "check") ∷
     flag_rule (codes "show") ∷
     flag_rule (codes "loose") ∷
     flag_rule (codes "json") ∷

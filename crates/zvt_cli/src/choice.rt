@@ -28,6 +28,8 @@ pub enum Choice<'a> {
     Loop {
         trace: Option<&'a str>,
         book: Option<&'a str>,
+        /// Whether a step that does not succeed is a fault.
+        check: bool,
         /// Whether the output is JSON.
         json: bool,
         steps: Vec<&'a str>,
@@ -70,6 +72,8 @@ pub struct TillOptions<'a> {
     pub timeout: u16,
     pub trace: Option<&'a str>,
     pub book: Option<&'a str>,
+    /// Whether a step that does not succeed is a fault.
+    pub check: bool,
     /// Whether the messages of the terminal are shown.
     pub show: bool,
     /// Whether lengths are read in any form that holds them.

@@ -189,6 +189,7 @@ fn looping() -> CommandRow<'static>
         options: &[
             CommandOption::Value("trace", "FILE", help::TRACE),
             CommandOption::Value("book", "FILE", help::KEEP_BOOK),
+            CommandOption::Flag("check", help::CHECK_STEPS),
             CommandOption::Flag("json", help::JSON),
             CommandOption::Several("step", "STEP", help::LOOP_STEP),
         ],
@@ -211,6 +212,7 @@ fn till() -> CommandRow<'static>
             CommandOption::Number("timeout", "SECONDS", "60", help::TIMEOUT),
             CommandOption::Value("trace", "FILE", help::TRACE),
             CommandOption::Value("book", "FILE", help::KEEP_BOOK),
+            CommandOption::Flag("check", help::CHECK_STEPS),
             CommandOption::Flag("show", help::TILL_SHOW),
             CommandOption::Flag("loose", help::TILL_LOOSE),
             CommandOption::Flag("json", help::JSON),

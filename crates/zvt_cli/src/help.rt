@@ -69,8 +69,8 @@ Lines of a trace:
   # TEXT  Comment. Empty lines are ignored.
 
 Exit status:
-  0  Done, or help was asked for
-  1  A stream of a trace was refused or cut off, or 'audit --check' found an unclear payment
+  0  Done, or help was asked for. Whether money moved is in the lines that are written, or is checked by --check
+  1  A stream of a trace was refused or cut off, or --check found an unclear payment or a step that did not succeed
   2  The command line or a step is wrong
   3  The input is no trace or no book, or is too long
   4  A read, a write, the line or the connection failed
@@ -122,10 +122,10 @@ pub const LOOP_EXAMPLE: &str = "Default steps: register pay:1000 decline:500:6C 
 Example:
   zvt loop register pay:1234 close";
 
-pub const TILL_EXAMPLE: &str = "Default steps: register close
+pub const TILL_EXAMPLE: &str = "Example:
+  zvt till --port 20007 --check register pay:1234 close
 
-Example:
-  zvt till --port 20007 register pay:1234 close";
+Without steps: register close, which closes the day";
 
 pub const TERMINAL_EXAMPLE: &str = "Example:
   zvt terminal --port 20007 --decline 6C";
@@ -214,6 +214,9 @@ pub const AUDIT_FOLLOW: &str =
     "Read FILE as it comes, of any size; the books are written at its end";
 
 pub const CHECK: &str = "End with status 1 where a payment is unclear";
+
+pub const CHECK_STEPS: &str =
+    "End with status 1 where a step does not succeed: one that is not sent, declined, refused, aborted or unclear. The total is written all the same";
 
 pub const TID: &str = "The terminal's number, at most 99999999";
 

@@ -2,7 +2,7 @@
 use Rattle.std.specs.Prelude.{◌≡◌, ◌⊎◌, ◌≤◌, ◌+◌, ℕ, List, Option, Result, Ok, Err}
 use Rattle.std.specs.Io.KnownBytes.{Keeps}
 use Rattle.zvt_journal.specs.declared.device.DeviceError.{DeviceError}
-use Rattle.zvt_json.specs.declared.form.Form.{Form}
+use Rattle.zvt_session.specs.declared.plans.StepOptions.{StepOptions}
 use Rattle.zvt_kept.specs.KeptTill.{KeptValue}
 use Rattle.zvt_kept.specs.Runs.{RanKept}
 use Rattle.zvt_kept.specs.declared.run.KeptFault.{KeptFault}
@@ -49,14 +49,14 @@ module _ {D : Type 0} (seen : D → List ℕ) (may_leave : D → List ℕ → Ty
 
 module _ {L D : Type 0} (connects : KeptValue D → KeptValue D → Result Unit DeviceError → Type 0) (makes : Law L (KeptValue D)) (begins : L → Type 0) where
   -- That the line is up was durable, the steps were made, and this was reported of the book.
-  pub record RunsBook (form : Form) (plan : List Planned) (old new : KeptValue D) (first last : Option (List ℕ)) (Reported : List Entry → Type 0) (result : Result Unit EndFault) : Type 0 where
+  pub record RunsBook (options : StepOptions) (plan : List Planned) (old new : KeptValue D) (first last : Option (List ℕ)) (Reported : List Entry → Type 0) (result : Result Unit EndFault) : Type 0 where
     pub before : L
     pub after : L
     pub connected : KeptValue D
     pub ended : Result Unit EndFault
     pub begun : begins before
     pub up : connects old connected (Ok tt)
-    pub answers : Answers till_of makes form plan (standing before connected) (standing after new) first last ended
+    pub answers : Answers till_of makes options plan (standing before connected) (standing after new) first last ended
     pub reported : Reported new.standing.till.state.book
     pub is : result ≡ by_book new.failed ended
 
@@ -69,5 +69,5 @@ module _ {L D : Type 0} (connects : KeptValue D → KeptValue D → Result Unit 
     pub is : result ≡ Err Book
 
   -- What a run of these steps answers on a line.
-  abbrev pub AnswersBook : Form → List Planned → (old new : KeptValue D) → (first last : Option (List ℕ)) → (Reported : List Entry → Type 0) → (Quiet : Type 0) → Result Unit EndFault → Type 0
-  AnswersBook form plan old new first last Reported Quiet result = RunsBook form plan old new first last Reported result ⊎ NoLine old new first last Quiet result
+  abbrev pub AnswersBook : StepOptions → List Planned → (old new : KeptValue D) → (first last : Option (List ℕ)) → (Reported : List Entry → Type 0) → (Quiet : Type 0) → Result Unit EndFault → Type 0
+  AnswersBook options plan old new first last Reported Quiet result = RunsBook options plan old new first last Reported result ⊎ NoLine old new first last Quiet result

@@ -3,7 +3,7 @@ use Rattle.std.specs.Prelude.{◌≡◌, ℕ, List, [], ◌∷◌, ◌++◌, cod
 use Rattle.std.specs.String.{string_bytes}
 use Rattle.std.specs.Global.{Global}
 use Rattle.zvt_session.specs.declared.fault.EndFault.{EndFault}
-use Rattle.zvt_session.specs.declared.fault.EndFault.TheVariants.{BadStep, Book, Line, Memory, Net, Silent, Trace, Write}
+use Rattle.zvt_session.specs.declared.fault.EndFault.TheVariants.{BadStep, Book, Line, Memory, Net, Silent, Trace, Unsuccessful, Write}
 use Rattle.zvt_session.specs.declared.plans.Planned.{Planned}
 use Rattle.zvt_session.specs.declared.arguments.Ends.{Ends}
 use Rattle.zvt_session.specs.declared.arguments.Ends.TheVariants.{Both, Till}
@@ -49,3 +49,4 @@ PlansOrStops ends words (Err (Net why)) = ⊥
 PlansOrStops ends words (Err (Silent seconds)) = ⊥
 PlansOrStops ends words (Err Trace) = ⊥
 PlansOrStops ends words (Err Book) = ⊥
+PlansOrStops ends words (Err Unsuccessful) = ⊥

@@ -1,6 +1,6 @@
 -- What a new till does on a line.
 use Rattle.std.specs.Prelude.{◌≡◌, ℕ, List, Option, Result}
-use Rattle.zvt_json.specs.declared.form.Form.{Form}
+use Rattle.zvt_session.specs.declared.plans.StepOptions.{StepOptions}
 use Rattle.zvt_till.specs.declared.entries.Entry.{Entry}
 use Rattle.zvt_till.specs.Sending.{Settings}
 use Rattle.zvt_till.specs.Till.{new_till, step}
@@ -11,10 +11,10 @@ use Rattle.zvt_session.specs.declared.fault.EndFault.{EndFault}
 use Rattle.zvt_session.specs.declared.plans.Planned.{Planned}
 
 -- A new till of these settings, connected to a line at its start, ran these steps, and this was reported of its book.
-pub record RunsPlan {L : Type 0} (makes : Law L TillValue) (begins : L → Type 0) (settings : Settings) (form : Form) (plan : List Planned) (old new : Option (List ℕ)) (Reported : List Entry → Type 0) (result : Result Unit EndFault) : Type 0 where
+pub record RunsPlan {L : Type 0} (makes : Law L TillValue) (begins : L → Type 0) (settings : Settings) (options : StepOptions) (plan : List Planned) (old new : Option (List ℕ)) (Reported : List Entry → Type 0) (result : Result Unit EndFault) : Type 0 where
   pub before : Standing L TillValue
   pub after : Standing L TillValue
   pub begun : begins before.line
   pub connected : before.till.state ≡ step (new_till settings) Connected
-  pub answers : Answers itself makes form plan before after old new result
+  pub answers : Answers itself makes options plan before after old new result
   pub reported : Reported after.till.state.book

@@ -85,7 +85,7 @@ pub fn run_both_ends<A: LineEnd, B: LineEnd, T: Sink, E: Sink>(
     report: &mut E,
 ) -> Result<(), EndFault>
     requires { BeginsHere (line_of A.state B.state line.old) }
-    ensures run { RunsPlan MakesHereBy BeginsHere (settings_of settings.now) steps.now.form steps.now.plan.now (T.written writer.old) (T.written writer.new) (ReportsReversals (E.written report.old) (E.written report.new) (E.failures report.old) (E.failures report.new)) result }
+    ensures run { RunsPlan MakesHereBy BeginsHere (settings_of settings.now) steps.now.options steps.now.plan.now (T.written writer.old) (T.written writer.new) (ReportsReversals (E.written report.old) (E.written report.new) (E.failures report.old) (E.failures report.new)) result }
     ensures write { result ≡ Err EndFault.Write → T.failures writer.old < T.failures writer.new }
 {
     let mut till = connected_till(alloc, settings);

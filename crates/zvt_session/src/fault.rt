@@ -50,8 +50,12 @@ pub enum EndFault {
     /// a failed connection. The book's file has what happened before.
     #[error("cannot write the book, so the run stopped and nothing more was sent: check the free space and the disk, then run 'zvt book' on the file")]
     Book,
+    /// All steps were made and the total was written, but a step did not succeed, and the run checks that. The line of the
+    /// step says what became of it.
+    #[error("a step did not succeed: its line says what became of it")]
+    Unsuccessful,
     /// The word at this place, counted from 0, names no step. Nothing was sent or written.
-    #[error("invalid step {number}: expected 'register', 'pay:N', 'reverse:N', 'close' or, in 'zvt loop', 'decline:N:XX'", number = from_one(.at))]
+    #[error("invalid step {number}: expected 'register', 'pay:N', 'reverse:N', 'close' or, in 'zvt loop', 'decline:N:XX', where N is an amount in cents, as 'pay:1000' for 10.00, or the number of an entry", number = from_one(.at))]
     BadStep { at: usize },
     /// There was no connection. Nothing was written.
     #[error("no connection: {0}")]
@@ -90,7 +94,7 @@ pub(crate) fn by_book(failed: bool, answer: Result<(), EndFault>) -> Result<(), 
     ensures { result ≡ by_book failed answer }
 {
     match answer {
-        Ok(()) | Err(EndFault::Line(_)) if failed => Err(EndFault::Book),
+        Ok(()) | Err(EndFault::Unsuccessful | EndFault::Line(_)) if failed => Err(EndFault::Book),
         answer => answer,
     }
 }

@@ -53,7 +53,7 @@ pub fn run_till_end_kept<R: Source, W: Sink, D: Device, T: Sink, E: Sink>(
     report: &mut E,
 ) -> Result<(), EndFault>
     requires { end.old.stream ≡ start_in end.old.stream.reading }
-    ensures run { AnswersBook (Connects D.seen D.may_leave D.moment D.left_since) (MakesThereKept D.seen D.may_leave D.moment D.left_since) (BeginsThere end.old.stream.reading) steps.now.form steps.now.plan.now kept.old kept.new (T.written writer.old) (T.written writer.new)
+    ensures run { AnswersBook (Connects D.seen D.may_leave D.moment D.left_since) (MakesThereKept D.seen D.may_leave D.moment D.left_since) (BeginsThere end.old.stream.reading) steps.now.options steps.now.plan.now kept.old kept.new (T.written writer.old) (T.written writer.new)
         (ReportsReversals (E.written report.old) (E.written report.new) (E.failures report.old) (E.failures report.new)) (ReportsNothing (E.written report.old) (E.written report.new) (E.failures report.old) (E.failures report.new)) result }
     ensures write { result ≡ Err EndFault.Write → T.failures writer.old < T.failures writer.new }
 {

@@ -112,7 +112,7 @@ pub fn run_both_ends_kept<A: LineEnd, B: LineEnd, D: Device, T: Sink, E: Sink>(
     report: &mut E,
 ) -> Result<(), EndFault>
     requires { BeginsHere (line_of A.state B.state line.old) }
-    ensures run { AnswersBook (Connects D.seen D.may_leave D.moment D.left_since) (MakesHereKept D.seen D.may_leave D.moment D.left_since) BeginsHere steps.now.form steps.now.plan.now kept.old kept.new (T.written writer.old) (T.written writer.new)
+    ensures run { AnswersBook (Connects D.seen D.may_leave D.moment D.left_since) (MakesHereKept D.seen D.may_leave D.moment D.left_since) BeginsHere steps.now.options steps.now.plan.now kept.old kept.new (T.written writer.old) (T.written writer.new)
         (ReportsReversals (E.written report.old) (E.written report.new) (E.failures report.old) (E.failures report.new)) (ReportsNothing (E.written report.old) (E.written report.new) (E.failures report.old) (E.failures report.new)) result }
     ensures write { result ≡ Err EndFault.Write → T.failures writer.old < T.failures writer.new }
 {

@@ -29,7 +29,7 @@ pub use fault::{EndFault, NetFault};
 pub use kept_end::run_till_end_kept;
 pub use kept_ends::run_both_ends_kept;
 pub use line_end::LineEnd;
-pub use plans::{Planned, StepRun, plan};
+pub use plans::{Planned, StepOptions, StepRun, plan};
 pub use service::serve;
 pub use settings::{config_of, currency_of, password_of};
 pub use till_end::run_till_end;

@@ -15,13 +15,22 @@ pub struct Planned {
     pub step: Step,
 }
 
-/// The steps of a run, and the form of what it writes of them.
+/// How a run reports its steps.
+#[derive(Clone, Copy)]
+pub struct StepOptions {
+    /// The form in which the steps and the total are written.
+    pub form: Form,
+    /// Whether the run fails where a step did not succeed.
+    pub check: bool,
+}
+
+/// The steps of a run, and how it reports them.
 #[derive(Clone, Copy)]
 pub struct StepRun<'a> {
     /// The steps, which are made in this order.
     pub plan: &'a [Planned],
-    /// The form in which the steps and the total are written.
-    pub form: Form,
+    /// How the steps are reported.
+    pub options: StepOptions,
 }
 
 /// The default steps of a run of both ends.

@@ -11,13 +11,13 @@ ghost use Rattle.zvt_session.specs.declared.arguments.Step.{Step};
 ghost use Rattle.zvt_session.specs.Objects.{step_line, total_line};
 ghost use Rattle.zvt_session.specs.Outcomes.{ending_text, step_text, total_text};
 ghost use Rattle.zvt_till.specs.Settings.{settings_of};
-ghost use Rattle.zvt_session.specs.Runs.{Answers, AnswersStep, AnswersText, fault_of, standing, wants_memory};
+ghost use Rattle.zvt_session.specs.Runs.{Answers, AnswersStep, AnswersText, fault_of, fell_short, standing, succeeded, wants_memory};
 
 use crate::arguments::Step;
 use crate::fault::EndFault;
 use crate::objects::{say_step_object, say_total_object};
 use crate::outcomes::outcome_text;
-use crate::plans::{Planned, StepRun};
+use crate::plans::{Planned, StepOptions, StepRun};
 use std::alloc::{AllocError, Global};
 use zvt_io::Sink;
 use zvt_json::Form;
@@ -58,8 +58,8 @@ pub(crate) trait StepLine<K: Keeper> {
 
 /// Makes the steps one after another. Each writes a line when it ends: its word and its outcome. The last line is the
 /// till's total. `steps` has the form of these lines. After a connection that failed no further step is made, and the
-/// fault is `Line`. An order that is not sent is a fault only where memory runs out. The other faults are `Write` and
-/// `Memory`. After these no step is made again, and no step after the one whose line is missing. The lines of all steps
+/// fault is `Line`. A run that checks its steps ends with `Unsuccessful` where one did not succeed. An order that is not sent
+/// is another fault only where memory runs out. The other faults are `Write` and `Memory`. After these no step is made again, and no step after the one whose line is missing. The lines of all steps
 /// before it were written. After `Write` a prefix of its own line may be written.
 pub(crate) fn run_steps<L: StepLine<K>, K: Keeper, W: Sink>(
     alloc: Global,
@@ -68,16 +68,23 @@ pub(crate) fn run_steps<L: StepLine<K>, K: Keeper, W: Sink>(
     steps: &StepRun<'_>,
     writer: &mut W,
 ) -> Result<(), EndFault>
-    ensures run { Answers K.till L.makes steps.now.form steps.now.plan.now (standing line.old till.old) (standing line.new till.new) (W.written writer.old) (W.written writer.new) result }
+    ensures run { Answers K.till L.makes steps.now.options steps.now.plan.now (standing line.old till.old) (standing line.new till.new) (W.written writer.old) (W.written writer.new) result }
     ensures write { result ≡ Err EndFault.Write → W.failures writer.old < W.failures writer.new }
 {
+    let mut short = false;
     'steps: for planned in steps.plan {
-        if let Some(fault) = make_step(alloc, line, till, steps.form, planned, writer)? {
-            write_total(alloc, till, steps.form, writer)?;
+        let end = make_step(alloc, line, till, steps.options, planned, writer)?;
+        if let Some(fault) = end.broken {
+            write_total(alloc, till, steps.options.form, writer)?;
             return Err(EndFault::Line(fault));
         }
+        short |= end.short;
     }
-    write_total(alloc, till, steps.form, writer)
+    write_total(alloc, till, steps.options.form, writer)?;
+    if steps.options.check && short {
+        return Err(EndFault::Unsuccessful);
+    }
+    Ok(())
 }
 
 /// A new till of these settings, whose line is up.
@@ -89,16 +96,25 @@ pub(crate) fn connected_till(alloc: Global, settings: &TillSettings) -> Till
     till
 }
 
-/// Makes a step and writes its line in this form. Answers how the line broke, if it did.
+/// How a step ended.
+#[derive(Clone, Copy)]
+struct StepEnd {
+    /// How the line broke, if it did.
+    broken: Option<LineFault>,
+    /// Whether the step did not succeed.
+    short: bool,
+}
+
+/// Makes a step and writes its line in this form.
 fn make_step<L: StepLine<K>, K: Keeper, W: Sink>(
     alloc: Global,
     line: &mut L,
     till: &mut K,
-    form: Form,
+    options: StepOptions,
     planned: &Planned,
     writer: &mut W,
-) -> Result<Option<LineFault>, EndFault>
-    ensures step { AnswersStep K.till L.makes form planned.now (standing line.old till.old) (standing line.new till.new) (W.written writer.old) (W.written writer.new) result }
+) -> Result<StepEnd, EndFault>
+    ensures step { AnswersStep K.till L.makes options planned.now (standing line.old till.old) (standing line.new till.new) (W.written writer.old) (W.written writer.new) result }
     ensures write { result ≡ Err EndFault.Write → W.failures writer.old < W.failures writer.new }
     ensures count { IfOk result (λ _. W.failures writer.new ≡ W.failures writer.old) }
 {
@@ -108,9 +124,44 @@ fn make_step<L: StepLine<K>, K: Keeper, W: Sink>(
     }
     let mut text = Text::new(alloc);
     let last = till.look().last_outcome();
-    say_step(alloc, &mut text, form, planned.word.as_str(), &made, last)?;
+    say_step(
+        alloc,
+        &mut text,
+        options.form,
+        planned.word.as_str(),
+        &made,
+        last,
+    )?;
     writer.write_all(text.bytes())?;
-    Ok(fault_of(&made))
+    Ok(StepEnd {
+        broken: fault_of(&made),
+        short: fell_short(&planned.step, &made),
+    })
+}
+
+/// Whether a step did not succeed: its order was not sent, ended otherwise than it was meant to, or was cut off by its line. A
+/// payment that the terminal is to decline succeeds where it is declined so.
+fn fell_short(step: &Step, made: &Result<Outcome, RunFault>) -> bool
+    ensures { result ≡ fell_short step.now made.now }
+{
+    match made {
+        Ok(outcome) => !succeeded(step, outcome),
+        Err(_) => true,
+    }
+}
+
+/// Whether a step succeeded whose order ended so.
+fn succeeded(step: &Step, outcome: &Outcome) -> bool
+    ensures { result ≡ succeeded step.now outcome.now }
+{
+    match (step, outcome) {
+        (Step::Register, Outcome::Registered) => true,
+        (Step::Pay(_), Outcome::Paid { .. }) => true,
+        (Step::Reverse(_), Outcome::Reversed) => true,
+        (Step::CloseDay, Outcome::DayClosed) => true,
+        (Step::Decline { code, .. }, Outcome::Declined(told)) => told == code,
+        _ => false,
+    }
 }
 
 /// Adds the line of a step in this form: its word, and what became of it, where the till says this of the order that ended

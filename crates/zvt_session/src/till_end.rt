@@ -53,7 +53,7 @@ pub fn run_till_end<R: Source, W: Sink, T: Sink, E: Sink>(
     report: &mut E,
 ) -> Result<(), EndFault>
     requires { end.old.stream ≡ start_in end.old.stream.reading }
-    ensures run { RunsPlan MakesThere (BeginsThere end.old.stream.reading) (settings_of settings.now) steps.now.form steps.now.plan.now (T.written writer.old) (T.written writer.new) (ReportsReversals (E.written report.old) (E.written report.new) (E.failures report.old) (E.failures report.new)) result }
+    ensures run { RunsPlan MakesThere (BeginsThere end.old.stream.reading) (settings_of settings.now) steps.now.options steps.now.plan.now (T.written writer.old) (T.written writer.new) (ReportsReversals (E.written report.old) (E.written report.new) (E.failures report.old) (E.failures report.new)) result }
     ensures write { result ≡ Err EndFault.Write → T.failures writer.old < T.failures writer.new }
 {
     let mut till = connected_till(alloc, settings);

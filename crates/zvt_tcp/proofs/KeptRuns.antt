@@ -2,7 +2,7 @@
 use Rattle.std.proofs.Common.{◌≡◌, ◌∙◌, ap, ℕ, List, Option, None, Bool, Result, subst, inl}
 use Rattle.zvt_grammar.specs.Reading.{Reading}
 use Rattle.zvt_journal.specs.declared.device.DeviceError.{DeviceError}
-use Rattle.zvt_json.specs.declared.form.Form.{Form}
+use Rattle.zvt_session.specs.declared.plans.StepOptions.{StepOptions}
 use Rattle.zvt_kept.specs.KeptTill.{KeptValue}
 use Rattle.zvt_till.specs.declared.entries.Entry.{Entry}
 use Rattle.zvt_session.specs.declared.fault.EndFault.{EndFault}
@@ -16,21 +16,21 @@ use Rattle.zvt_tcp.specs.Traced.{by_silence, by_trace}
 
 -- a run over TCP, with a trace perhaps
 pub traced_book : {L D : Type 0} (connects : KeptValue D → KeptValue D → Result Unit DeviceError → Type 0) (makes : Law L (KeptValue D)) (begins : L → Type 0)
-    (form : Form) (plan : List Planned) (old new : KeptValue D) (first last : Option (List ℕ)) (Reported : List Entry → Type 0) (Quiet : Type 0) (lacks : Bool) (ended result : Result Unit EndFault)
-    → result ≡ by_trace lacks ended → AnswersBook connects makes begins form plan old new first last Reported Quiet ended
-    → AnswersBookRun connects makes begins form plan old new first last Reported Quiet result
-traced_book connects makes begins form plan old new first last Reported Quiet lacks ended result is answers = inl (record { ended = ended; lacks = lacks; waited = None; answers = answers; is = is })
+    (options : StepOptions) (plan : List Planned) (old new : KeptValue D) (first last : Option (List ℕ)) (Reported : List Entry → Type 0) (Quiet : Type 0) (lacks : Bool) (ended result : Result Unit EndFault)
+    → result ≡ by_trace lacks ended → AnswersBook connects makes begins options plan old new first last Reported Quiet ended
+    → AnswersBookRun connects makes begins options plan old new first last Reported Quiet result
+traced_book connects makes begins options plan old new first last Reported Quiet lacks ended result is answers = inl (record { ended = ended; lacks = lacks; waited = None; answers = answers; is = is })
 
 -- the same where the terminal was silent for too long, or was not
 pub silenced_book : {L D : Type 0} (connects : KeptValue D → KeptValue D → Result Unit DeviceError → Type 0) (makes : Law L (KeptValue D)) (begins : L → Type 0)
-    (form : Form) (plan : List Planned) (old new : KeptValue D) (first last : Option (List ℕ)) (Reported : List Entry → Type 0) (Quiet : Type 0) (lacks : Bool) (waited : Option ℕ) (ended whole result : Result Unit EndFault)
-    → whole ≡ by_trace lacks ended → result ≡ by_silence waited whole → AnswersBook connects makes begins form plan old new first last Reported Quiet ended
-    → AnswersBookRun connects makes begins form plan old new first last Reported Quiet result
-silenced_book connects makes begins form plan old new first last Reported Quiet lacks waited ended whole result is silent answers =
+    (options : StepOptions) (plan : List Planned) (old new : KeptValue D) (first last : Option (List ℕ)) (Reported : List Entry → Type 0) (Quiet : Type 0) (lacks : Bool) (waited : Option ℕ) (ended whole result : Result Unit EndFault)
+    → whole ≡ by_trace lacks ended → result ≡ by_silence waited whole → AnswersBook connects makes begins options plan old new first last Reported Quiet ended
+    → AnswersBookRun connects makes begins options plan old new first last Reported Quiet result
+silenced_book connects makes begins options plan old new first last Reported Quiet lacks waited ended whole result is silent answers =
     inl (record { ended = ended; lacks = lacks; waited = waited; answers = answers; is = silent ∙ ap (by_silence waited) is })
 
 -- a run on a line whose stream has that reading
 pub begun_there : {D : Type 0} (connects : KeptValue D → KeptValue D → Result Unit DeviceError → Type 0) (makes : Law EndState (KeptValue D)) (r k : Reading)
-    (form : Form) (plan : List Planned) (old new : KeptValue D) (first last : Option (List ℕ)) (Reported : List Entry → Type 0) (Quiet : Type 0) (result : Result Unit EndFault)
-    → r ≡ k → AnswersBook connects makes (BeginsThere r) form plan old new first last Reported Quiet result → AnswersBook connects makes (BeginsThere k) form plan old new first last Reported Quiet result
-begun_there connects makes r k form plan old new first last Reported Quiet result e = subst (λ (x : Reading). AnswersBook connects makes (BeginsThere x) form plan old new first last Reported Quiet result) e
+    (options : StepOptions) (plan : List Planned) (old new : KeptValue D) (first last : Option (List ℕ)) (Reported : List Entry → Type 0) (Quiet : Type 0) (result : Result Unit EndFault)
+    → r ≡ k → AnswersBook connects makes (BeginsThere r) options plan old new first last Reported Quiet result → AnswersBook connects makes (BeginsThere k) options plan old new first last Reported Quiet result
+begun_there connects makes r k options plan old new first last Reported Quiet result e = subst (λ (x : Reading). AnswersBook connects makes (BeginsThere x) options plan old new first last Reported Quiet result) e

@@ -12,7 +12,7 @@ use Rattle.zvt_term.specs.Terminal.{TerminalState, lost_terminal}
 use Rattle.zvt_term.specs.declared.served.Served.{Served}
 use Rattle.zvt_session.specs.LineEnd.{EndState}
 use Rattle.zvt_session.specs.declared.fault.EndFault.{EndFault}
-use Rattle.zvt_session.specs.declared.fault.EndFault.TheVariants.{BadStep, Book, Line as LineBroke, Memory as NoMemory, Net, Silent, Trace, Write as NotWritten}
+use Rattle.zvt_session.specs.declared.fault.EndFault.TheVariants.{BadStep, Book, Line as LineBroke, Memory as NoMemory, Net, Silent, Trace, Unsuccessful, Write as NotWritten}
 use Rattle.zvt_session.specs.Service.{Serves}
 use Rattle.zvt_tcp.specs.Tills.{AnswersTill, AnswersTills, IsOffline, ServesLine, ServesLines, ServesMany, ServesSome, first_broken}
 
@@ -74,6 +74,7 @@ stopped r count most first (Net why) old middle new below so till = absurd till
 stopped r count most first (BadStep at) old middle new below so till = absurd till
 stopped r count most first (Silent seconds) old middle new below so till = absurd till
 stopped r count most first Book old middle new below so till = absurd till
+stopped r count most first Unsuccessful old middle new below so till = absurd till
 stopped r count most first NotWritten old middle new below so till = absurd till
 stopped r count most first NoMemory old middle new below so till = (count, first, omega (arith, below), subst (λ (s : Served). ServesMany r count first old s) (sym till) so)
 

@@ -9,7 +9,7 @@ use Rattle.zvt_term.specs.declared.turns.Verdict.{Verdict}
 use Rattle.zvt_session.specs.LineEnd.{EndState}
 use Rattle.zvt_session.specs.Service.{Serves}
 use Rattle.zvt_session.specs.declared.fault.EndFault.{EndFault}
-use Rattle.zvt_session.specs.declared.fault.EndFault.TheVariants.{BadStep, Book, Line as LineBroke, Memory, Net, Silent, Trace, Write}
+use Rattle.zvt_session.specs.declared.fault.EndFault.TheVariants.{BadStep, Book, Line as LineBroke, Memory, Net, Silent, Trace, Unsuccessful, Write}
 
 -- ---- one line
 
@@ -62,6 +62,7 @@ AnswersTills r count old new (Err (LineBroke fault)) = ServesMany r count (Some 
 AnswersTills r count old new (Err (Net why)) = ServesSome r count old new
 AnswersTills r count old new (Err Trace) = ServesSome r count old new
 AnswersTills r count old new (Err Book) = ⊥
+AnswersTills r count old new (Err Unsuccessful) = ⊥
 AnswersTills r count old new (Err (BadStep at)) = ⊥
 AnswersTills r count old new (Err (Silent seconds)) = ⊥
 AnswersTills r count old new (Err Write) = ⊥
@@ -74,6 +75,7 @@ TakesTills count before after (Err (LineBroke fault)) = after ≡ before + count
 TakesTills count before after (Err (Net why)) = after ≤ before + count
 TakesTills count before after (Err Trace) = after ≤ before + count
 TakesTills count before after (Err Book) = ⊥
+TakesTills count before after (Err Unsuccessful) = ⊥
 TakesTills count before after (Err (BadStep at)) = ⊥
 TakesTills count before after (Err (Silent seconds)) = ⊥
 TakesTills count before after (Err Write) = ⊥
@@ -88,6 +90,7 @@ abbrev pub AnswersTill : Reading → Served → Served → Result (Option LineFa
 AnswersTill r old new (Ok broke) = ServesLine r old broke new
 AnswersTill r old new (Err Trace) = (broke : Option LineFault) × ServesLine r old broke new
 AnswersTill r old new (Err Book) = ⊥
+AnswersTill r old new (Err Unsuccessful) = ⊥
 AnswersTill r old new (Err (LineBroke fault)) = ⊥
 AnswersTill r old new (Err (Net why)) = ⊥
 AnswersTill r old new (Err (BadStep at)) = ⊥

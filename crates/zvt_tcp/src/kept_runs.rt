@@ -40,16 +40,16 @@ where
     D: Device,
     W: Sink,
     E: Sink,
-    ensures run { AnswersBookRun (Connects D.seen D.may_leave D.moment D.left_since) (MakesThereKept D.seen D.may_leave D.moment D.left_since) (BeginsThere (reading_of run.now.lengths)) run.now.form run.now.plan.now kept.old kept.new (W.written writer.old) (W.written writer.new)
+    ensures run { AnswersBookRun (Connects D.seen D.may_leave D.moment D.left_since) (MakesThereKept D.seen D.may_leave D.moment D.left_since) (BeginsThere (reading_of run.now.lengths)) run.now.options run.now.plan.now kept.old kept.new (W.written writer.old) (W.written writer.new)
         (ReportsReversals (E.written report.old) (E.written report.new) (E.failures report.old) (E.failures report.new)) (ReportsNothing (E.written report.old) (E.written report.new) (E.failures report.old) (E.failures report.new)) result }
     ensures write { result ≡ Err EndFault.Write → W.failures writer.old < W.failures writer.new }
 {
     let steps = StepRun {
         plan: run.plan,
-        form: run.form,
+        options: run.options,
     };
     let end = connect(rt, run.host, run.port, run.seconds).map_err(EndFault::Net)?;
-    let shown = shown_by(alloc, run.form, run.lengths, run.show);
+    let shown = shown_by(alloc, run.options.form, run.lengths, run.show);
     let mut line = till_line_of(alloc, &end, run.lengths, run.trace, shown)?;
     let answer = run_till_end_kept(alloc, &mut line, kept, &steps, writer, report);
     let answer = by_trace(is_broken(&line, run.trace), answer);
@@ -73,13 +73,13 @@ where
     D: Device,
     W: Sink,
     E: Sink,
-    ensures run { AnswersBookRun (Connects D.seen D.may_leave D.moment D.left_since) (MakesHereKept D.seen D.may_leave D.moment D.left_since) BeginsHere run.now.form run.now.plan.now kept.old kept.new (W.written writer.old) (W.written writer.new)
+    ensures run { AnswersBookRun (Connects D.seen D.may_leave D.moment D.left_since) (MakesHereKept D.seen D.may_leave D.moment D.left_since) BeginsHere run.now.options run.now.plan.now kept.old kept.new (W.written writer.old) (W.written writer.new)
         (ReportsReversals (E.written report.old) (E.written report.new) (E.failures report.old) (E.failures report.new)) (ReportsNothing (E.written report.old) (E.written report.new) (E.failures report.old) (E.failures report.new)) result }
     ensures write { result ≡ Err EndFault.Write → W.failures writer.old < W.failures writer.new }
 {
     let steps = StepRun {
         plan: run.plan,
-        form: run.form,
+        options: run.options,
     };
     let (till_end, terminal_end) = both_ends(rt).map_err(EndFault::Net)?;
     let till = till_end_of(alloc, &till_end, Lengths::Shortest, run.trace)?;

@@ -3,12 +3,12 @@ use std::fs::File;
 use std::io::Stderr;
 use zvt_grammar::Lengths;
 use zvt_json::Form;
-use zvt_session::Planned;
+use zvt_session::{Planned, StepOptions};
 use zvt_term::Verdict;
 use zvt_till::TillSettings;
 
 /// The run of a till: the terminal that it connects to, its settings and steps, how its line is read, traced and shown, and
-/// what form its text has.
+/// how its steps are reported.
 #[derive(Clone, Copy)]
 pub struct TillRun<'a, 'f> {
     /// The name or address of the terminal's host.
@@ -27,12 +27,12 @@ pub struct TillRun<'a, 'f> {
     pub show: Option<Stderr>,
     /// The steps of the till.
     pub plan: &'a [Planned],
-    /// The form in which the steps and the total are written.
-    pub form: Form,
+    /// How the steps are reported.
+    pub options: StepOptions,
 }
 
 /// The run of a till that keeps its book: the terminal that it connects to, its steps, how its line is read, traced and shown,
-/// and what form its text has.
+/// and how its steps are reported.
 #[derive(Clone, Copy)]
 pub struct BookRun<'a, 'f> {
     /// The name or address of the terminal's host.
@@ -49,19 +49,19 @@ pub struct BookRun<'a, 'f> {
     pub show: Option<Stderr>,
     /// The steps of the till.
     pub plan: &'a [Planned],
-    /// The form in which the steps and the total are written.
-    pub form: Form,
+    /// How the steps are reported.
+    pub options: StepOptions,
 }
 
-/// The run of both ends in this process: the till's steps, how its line is traced, and what form its text has.
+/// The run of both ends in this process: the till's steps, how its line is traced, and how its steps are reported.
 #[derive(Clone, Copy)]
 pub struct LoopRun<'a, 'f> {
     /// The file that the trace is written to.
     pub trace: Option<&'f File>,
     /// The steps of the till.
     pub plan: &'a [Planned],
-    /// The form in which the steps and the total are written.
-    pub form: Form,
+    /// How the steps are reported.
+    pub options: StepOptions,
 }
 
 /// The run of a simulated terminal: where it listens, what it answers, how its lines are read and traced, and the form of its

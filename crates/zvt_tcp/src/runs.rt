@@ -36,13 +36,13 @@ where
     R: Net<Listener = TcpListener, Stream = TcpStream>,
     W: Sink,
     E: Sink,
-    ensures run { AnswersRun MakesHereBy BeginsHere run_settings run.now.form run.now.plan.now (W.written writer.old) (W.written writer.new) (ReportsReversals (E.written report.old) (E.written report.new) (E.failures report.old) (E.failures report.new)) (ReportsNothing (E.written report.old) (E.written report.new) (E.failures report.old) (E.failures report.new)) result }
+    ensures run { AnswersRun MakesHereBy BeginsHere run_settings run.now.options run.now.plan.now (W.written writer.old) (W.written writer.new) (ReportsReversals (E.written report.old) (E.written report.new) (E.failures report.old) (E.failures report.new)) (ReportsNothing (E.written report.old) (E.written report.new) (E.failures report.old) (E.failures report.new)) result }
     ensures write { result ≡ Err EndFault.Write → W.failures writer.old < W.failures writer.new }
 {
     let settings = TillSettings::default();
     let steps = StepRun {
         plan: run.plan,
-        form: run.form,
+        options: run.options,
     };
     let (till_end, terminal_end) = both_ends(rt).map_err(EndFault::Net)?;
     let till = till_end_of(alloc, &till_end, Lengths::Shortest, run.trace)?;
@@ -68,15 +68,15 @@ where
     R: Net<Listener = TcpListener, Stream = TcpStream>,
     W: Sink,
     E: Sink,
-    ensures run { AnswersRun MakesThere (BeginsThere (reading_of run.now.lengths)) (settings_of run.now.settings) run.now.form run.now.plan.now (W.written writer.old) (W.written writer.new) (ReportsReversals (E.written report.old) (E.written report.new) (E.failures report.old) (E.failures report.new)) (ReportsNothing (E.written report.old) (E.written report.new) (E.failures report.old) (E.failures report.new)) result }
+    ensures run { AnswersRun MakesThere (BeginsThere (reading_of run.now.lengths)) (settings_of run.now.settings) run.now.options run.now.plan.now (W.written writer.old) (W.written writer.new) (ReportsReversals (E.written report.old) (E.written report.new) (E.failures report.old) (E.failures report.new)) (ReportsNothing (E.written report.old) (E.written report.new) (E.failures report.old) (E.failures report.new)) result }
     ensures write { result ≡ Err EndFault.Write → W.failures writer.old < W.failures writer.new }
 {
     let steps = StepRun {
         plan: run.plan,
-        form: run.form,
+        options: run.options,
     };
     let end = connect(rt, run.host, run.port, run.seconds).map_err(EndFault::Net)?;
-    let shown = shown_by(alloc, run.form, run.lengths, run.show);
+    let shown = shown_by(alloc, run.options.form, run.lengths, run.show);
     let mut line = till_line_of(alloc, &end, run.lengths, run.trace, shown)?;
     let answer = run_till_end(alloc, &mut line, &run.settings, &steps, writer, report);
     let answer = by_trace(is_broken(&line, run.trace), answer);

@@ -30,7 +30,7 @@ pub(crate) fn by_trace(broken: bool, answer: Result<(), EndFault>) -> Result<(),
     ensures { result ≡ by_trace broken answer }
 {
     match answer {
-        Ok(()) | Err(EndFault::Line(_)) if broken => Err(EndFault::Trace),
+        Ok(()) | Err(EndFault::Unsuccessful | EndFault::Line(_)) if broken => Err(EndFault::Trace),
         answer => answer,
     }
 }

@@ -40,8 +40,9 @@ status_of_trace_fault on_trace.Read = 4
 status_of_trace_fault on_trace.Write = 4
 status_of_trace_fault on_trace.Memory = 5
 
--- a wrong word is 2, a device, a line, its trace, a book or a connection that failed 4, out of memory 5
+-- a step that did not succeed is 1, a wrong word 2, a device, a line, its trace, a book or a connection that failed 4, out of memory 5
 abbrev pub status_of_end_fault : EndFault → ℕ
+status_of_end_fault at_end.Unsuccessful = 1
 status_of_end_fault (at_end.BadStep at) = 2
 status_of_end_fault (at_end.Net why) = 4
 status_of_end_fault at_end.Trace = 4

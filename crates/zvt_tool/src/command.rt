@@ -10,6 +10,7 @@ use zvt_cli::{
 };
 use zvt_grammar::Lengths;
 use zvt_json::Form;
+use zvt_session::StepOptions;
 use zvt_show::Style;
 use zvt_trace::Scope;
 
@@ -60,13 +61,13 @@ impl TraceCommand {
     }
 }
 
-/// A run of both ends in this process: the files of its trace and of its till's book, if they are named, the form of its
-/// lines, and its steps.
+/// A run of both ends in this process: the files of its trace and of its till's book, if they are named, how its steps are
+/// reported, and the steps.
 #[derive(Clone, Copy)]
 pub struct LoopOptions<'a> {
     pub trace: Option<&'a str>,
     pub book: Option<&'a str>,
-    pub form: Form,
+    pub options: StepOptions,
     pub steps: &'a [&'a str],
 }
 
@@ -165,12 +166,16 @@ pub fn command_of<'a>(chosen: &'a Choice<'a>) -> Command<'a>
         Choice::Loop {
             trace,
             book,
+            check,
             json,
             steps,
         } => Command::Loop(LoopOptions {
             trace: *trace,
             book: *book,
-            form: form_by(*json),
+            options: StepOptions {
+                form: form_by(*json),
+                check: *check,
+            },
             steps: steps.as_slice(),
         }),
         Choice::Till(options) => Command::Till(options),

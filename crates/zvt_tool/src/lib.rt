@@ -36,8 +36,8 @@ pub use zvt_journal::{FileDevice, JournalFileError, Opened, open_file, read_book
 pub use zvt_json::Form;
 pub use zvt_kept::{KeptTill, RecoveryError, recover};
 pub use zvt_session::{
-    EndFault, Ends, NetFault, Planned, config_of, currency_of, password_of, plan, result_code,
-    write_book,
+    EndFault, Ends, NetFault, Planned, StepOptions, config_of, currency_of, password_of, plan,
+    result_code, write_book,
 };
 pub use zvt_show::follow_trace;
 pub use zvt_tcp::{

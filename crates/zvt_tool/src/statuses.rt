@@ -14,8 +14,8 @@ use zvt_trace::TraceFault;
 /// All was done, or help was asked for.
 pub const DONE: u8 = 0;
 
-/// A stream of the trace was refused or cut off, a payment is unclear where that is checked, or a trace that was played and
-/// what came differ.
+/// A stream of the trace was refused or cut off; a payment is unclear, or a step did not succeed, where that is checked; or a
+/// trace that was played and what came differ.
 pub const BAD: u8 = 1;
 
 /// The command line or a step is wrong.
@@ -74,6 +74,7 @@ pub fn of_end_fault(fault: &EndFault) -> u8
     ensures { result ≡ status_of_end_fault fault.now }
 {
     match fault {
+        EndFault::Unsuccessful => BAD,
         EndFault::BadStep { .. } => WORDS,
         EndFault::Net(_) | EndFault::Trace | EndFault::Book | EndFault::Write => DEVICE,
         EndFault::Line(LineFault::Memory) | EndFault::Memory => MEMORY,

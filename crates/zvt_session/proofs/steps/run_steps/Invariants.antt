@@ -5,6 +5,6 @@ use Rattle.zvt_session.proofs.steps.run_steps.Given as goal
 
 abbrev pub invariant-steps : goal.invariant-steps
 invariant-steps g l = record {
-  so_far : SoFar g.K.Keeper.till g.L.StepLine.makes l.fn.steps.form (take l.planned-index l.fn.steps.plan.now) (standing l.initial.line l.initial.till) (standing l.line l.till) (g.W.Sink.written l.initial.writer) (g.W.Sink.written l.writer);
+  so_far : SoFar g.K.Keeper.till g.L.StepLine.makes l.fn.steps.options (take l.planned-index l.fn.steps.plan.now) l.short (standing l.initial.line l.initial.till) (standing l.line l.till) (g.W.Sink.written l.initial.writer) (g.W.Sink.written l.writer);
   failures : g.W.Sink.failures l.writer ≡ g.W.Sink.failures l.initial.writer;
 }

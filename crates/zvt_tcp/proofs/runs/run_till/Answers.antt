@@ -10,5 +10,5 @@ pub returns-clause-run : goal.returns-clause-run
 returns-clause-run g c =
     let read = ap (λ (s : StreamState). s.reading) c.in_ok-line.ensures.start in
     let ran = begun_by read c.run_till_end-answer.ensures.run in
-    silenced_run MakesThere (BeginsThere (reading_of c.args.run.now.lengths)) (settings_of c.args.run.now.settings) (settings_of c.args.run.now.settings) c.args.run.now.form c.args.run.now.plan.now c.is_broken.result c.waited.result _ _ _ _ c.run_till_end-answer.result c.by_trace-answer.result c.by_silence.result
+    silenced_run MakesThere (BeginsThere (reading_of c.args.run.now.lengths)) (settings_of c.args.run.now.settings) (settings_of c.args.run.now.settings) c.args.run.now.options c.args.run.now.plan.now c.is_broken.result c.waited.result _ _ _ _ c.run_till_end-answer.result c.by_trace-answer.result c.by_silence.result
     refl c.by_trace-answer.ensures c.by_silence.ensures ran
