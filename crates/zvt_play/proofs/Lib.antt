@@ -6,3 +6,4 @@ mod Rows
 pub mod CheckLemmas
 mod TextLemmas
 pub mod UnheardLemmas
+pub mod ListeningLemmas

@@ -5,7 +5,7 @@ use Rattle.std.specs.Io.KnownBytes.{Appends}
 use Rattle.zvt_io.proofs.KnownLemmas.{appends_more}
 use Rattle.zvt_stream.proofs.HearingLemmas.{appends_none}
 use Rattle.zvt_stream.specs.StreamState.{StreamState}
-use Rattle.zvt_play.specs.Script.{Act, act_of, await, break, send, silence, wait}
+use Rattle.zvt_play.specs.Script.{Act, act_of, await, break, listen, send, silence, wait}
 use Rattle.zvt_play.specs.Playing.{EndsBefore, EndsLine, LineState, Played, Plays, PlaysTo, Stops, StopsAt, StopsPlay, acts_of, all_sent, line_state, sent_by}
 use Rattle.zvt_play.specs.declared.difference.Difference.{Difference}
 use Rattle.zvt_play.specs.declared.difference.Difference.TheVariants.{Closed, Malformed, Other, Read, Surplus, Write}
@@ -79,6 +79,7 @@ sent_one (await bytes) old new p = subst (λ (w : Option (List ℕ)). Appends ol
 sent_one break old new p = absurd p
 sent_one (wait milliseconds) old new p = subst (λ (s : LineState). Appends old.written s.written []) (sym p) (appends_none old.written)
 sent_one silence old new p = absurd p
+sent_one (listen milliseconds) old new p = absurd p
 
 pub sent : (acts : List Act) (old new : LineState) → Plays acts old new → Appends old.written new.written (all_sent acts)
 sent [] old new p = subst (λ (s : LineState). Appends old.written s.written []) (sym p) (appends_none old.written)
@@ -94,23 +95,28 @@ stopped_sends_nothing (Surplus count) (send bytes) old new stream never s = ap (
 stopped_sends_nothing (Surplus count) break old new stream never s = ap (λ (t : LineState). t.written) s.2
 stopped_sends_nothing (Surplus count) (wait n) old new stream never s = absurd s
 stopped_sends_nothing (Surplus count) silence old new stream never s = absurd s
+stopped_sends_nothing (Surplus count) (listen n) old new stream never s = ap (λ (t : LineState). t.written) s.2
 stopped_sends_nothing Write act old new stream never s = absurd (never refl)
 stopped_sends_nothing (Other at) (send bytes) old new stream never s = absurd s
 stopped_sends_nothing (Other at) break old new stream never s = absurd s
 stopped_sends_nothing (Other at) (wait n) old new stream never s = absurd s
 stopped_sends_nothing (Other at) silence old new stream never s = absurd s
+stopped_sends_nothing (Other at) (listen n) old new stream never s = absurd s
 stopped_sends_nothing (Closed have) (send bytes) old new stream never s = absurd s
 stopped_sends_nothing (Closed have) break old new stream never s = absurd s
 stopped_sends_nothing (Closed have) (wait n) old new stream never s = absurd s
 stopped_sends_nothing (Closed have) silence old new stream never s = absurd s
+stopped_sends_nothing (Closed have) (listen n) old new stream never s = absurd s
 stopped_sends_nothing (Malformed place w) (send bytes) old new stream never s = absurd s
 stopped_sends_nothing (Malformed place w) break old new stream never s = absurd s
 stopped_sends_nothing (Malformed place w) (wait n) old new stream never s = absurd s
 stopped_sends_nothing (Malformed place w) silence old new stream never s = absurd s
+stopped_sends_nothing (Malformed place w) (listen n) old new stream never s = absurd s
 stopped_sends_nothing Read (send bytes) old new stream never s = absurd s
 stopped_sends_nothing Read break old new stream never s = absurd s
 stopped_sends_nothing Read (wait n) old new stream never s = absurd s
 stopped_sends_nothing Read silence old new stream never s = absurd s
+stopped_sends_nothing Read (listen n) old new stream never s = absurd s
 
 stopped_at : (why : Difference) (acts : List Act) (old new : LineState) (stream : StreamState) → (why ≡ Write → ⊥) → StopsAt why acts old new stream → new.written ≡ old.written
 stopped_at why (act ∷ acts) old new stream never s = stopped_sends_nothing why act old new stream never s

@@ -8,7 +8,7 @@ use Rattle.zvt_grammar.specs.declared.why.Why.TheVariants.{UnknownField}
 use Rattle.zvt_apdu.specs.Message.{Message}
 use Rattle.zvt_play.specs.DifferenceTexts.{SaysWanted, beginning_text, cause_text, surplus}
 use Rattle.zvt_play.specs.Playing.{Meets}
-use Rattle.zvt_play.specs.Script.{LineSays, break, comment_says, send, silence, wait}
+use Rattle.zvt_play.specs.Script.{LineSays, break, comment_says, listen, send, silence, wait}
 use Rattle.zvt_play.specs.declared.difference.Difference.TheVariants.{Closed, Malformed}
 use Rattle.zvt_play.specs.declared.line.ScriptLineError.TheVariants.{Mark}
 
@@ -19,6 +19,12 @@ silent = refl
 
 pub a_wait : comment_says (codes "#~ 1500") ≡ Ok (Some (wait 1500))
 a_wait = refl
+
+pub a_listening : comment_says (codes "#~ listen 2000") ≡ Ok (Some (listen 2000))
+a_listening = refl
+
+pub no_listening : comment_says (codes "#~ listen") ≡ Err Mark
+no_listening = refl
 
 pub the_longest_wait : comment_says (codes "#~ 9999999") ≡ Ok (Some (wait 9999999))
 the_longest_wait = refl

@@ -14,7 +14,7 @@ use Rattle.zvt_stream.specs.Apdus.{IsRefused, Spells, Unfinished}
 use Rattle.zvt_play.specs.declared.difference.Difference.{Difference}
 use Rattle.zvt_play.specs.declared.difference.Difference.TheVariants.{Closed, Malformed, Other, Read, Surplus, Write}
 use Rattle.zvt_play.specs.declared.step.Action.{Action}
-use Rattle.zvt_play.specs.declared.step.Action.TheVariants.{Await, Break, Send, Silence, Wait}
+use Rattle.zvt_play.specs.declared.step.Action.TheVariants.{Await, Break, Listen, Send, Silence, Wait}
 use Rattle.zvt_play.specs.declared.step.ScriptStep.{ScriptStep}
 
 -- where in the trace a step is
@@ -64,6 +64,7 @@ SaysAction (Send bytes) why text = text ≡ nothing_text
 SaysAction Break why text = text ≡ nothing_text
 SaysAction (Wait milliseconds) why text = text ≡ nothing_text
 SaysAction Silence why text = text ≡ nothing_text
+SaysAction (Listen milliseconds) why text = text ≡ nothing_text
 
 abbrev pub SaysAwaited : Option (Bor ScriptStep) → Difference → (text : List ℕ) → Type 0
 SaysAwaited None why text = text ≡ nothing_text

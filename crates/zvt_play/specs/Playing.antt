@@ -7,7 +7,7 @@ use Rattle.zvt_grammar.specs.Reading.{shortest}
 use Rattle.zvt_apdu.specs.Message.{Message}
 use Rattle.zvt_stream.specs.Apdus.{IsRefused, Spells, Unfinished}
 use Rattle.zvt_stream.specs.StreamState.{IsReserved, StreamState}
-use Rattle.zvt_play.specs.Script.{Act, act_of, await, break, send, silence, wait}
+use Rattle.zvt_play.specs.Script.{Act, act_of, await, break, listen, send, silence, wait}
 use Rattle.zvt_play.specs.declared.difference.Difference.{Difference}
 use Rattle.zvt_play.specs.declared.difference.Difference.TheVariants.{Closed, Malformed, Other, Read, Surplus, Write}
 use Rattle.zvt_play.specs.declared.difference.Unplayed.{Unplayed}
@@ -144,14 +144,16 @@ Played (await bytes) old new = Hears bytes old.unheard old.coming new.unheard ne
 Played break old new = ⊥
 Played (wait milliseconds) old new = new ≡ old
 Played silence old new = ⊥
+Played (listen milliseconds) old new = ⊥
 
--- A step ends what is played over one connection. Before it is broken all that was read was heard.
+-- A step ends what is played over one connection. Before it is broken, or listened to, all that was read was heard.
 abbrev pub EndsLine : Act → LineState → Type 0
 EndsLine (send bytes) state = ⊥
 EndsLine (await bytes) state = ⊥
 EndsLine break state = state.unheard ≡ []
 EndsLine (wait milliseconds) state = ⊥
 EndsLine silence state = ⊤
+EndsLine (listen milliseconds) state = state.unheard ≡ []
 
 -- more was read than was awaited
 abbrev pub IsSurplus : (count : ℕ) → (old new : LineState) → Type 0
@@ -162,6 +164,7 @@ abbrev pub Stops : Difference → Act → (old new : LineState) → StreamState 
 Stops why (await bytes) old new stream = Differs why bytes old.unheard old.coming new.coming stream × (new.written ≡ old.written)
 Stops (Surplus count) (send bytes) old new stream = IsSurplus count old new
 Stops (Surplus count) break old new stream = IsSurplus count old new
+Stops (Surplus count) (listen milliseconds) old new stream = IsSurplus count old new
 Stops Write (send bytes) old new stream = (old.unheard ≡ []) × (new.coming ≡ old.coming) × (part : List ℕ) × IsPrefix part bytes × Appends old.written new.written part
 Stops why act old new stream = ⊥
 
@@ -169,6 +172,35 @@ Stops why act old new stream = ⊥
 abbrev pub PlaysStep : Act → (goes_on : Bool) → (old new : LineState) → Type 0
 PlaysStep act true old new = Played act old new
 PlaysStep act false old new = EndsLine act old × (new ≡ old)
+
+-- ---- after the last line
+
+-- the acknowledgement, where the other side owes one
+abbrev pub may_come : (owed : Bool) → List ℕ
+may_come true = 0x80 ∷ 0x00 ∷ 0x00 ∷ []
+may_come false = []
+
+-- After the last line the other side says nothing, or acknowledges what it was sent last.
+abbrev pub MayFollow : (owed : Bool) → List ℕ → Type 0
+MayFollow owed bytes = (bytes ≡ []) ⊎ (bytes ≡ may_come owed)
+
+-- A read brought nothing: the other side had closed, or the read failed, as one does that takes too long.
+abbrev pub NoneCame : (coming left : Option (List ℕ)) → (failures failures_now : ℕ) → Type 0
+NoneCame coming left failures failures_now = Consumes coming left [] × (IsAtEnd left ⊎ (failures_now ≡ failures + 1))
+
+-- Only that came after the last line, and the last read brought nothing.
+pub record FallsSilent (owed : Bool) (coming left : Option (List ℕ)) (failures failures_now : ℕ) : Type 0 where
+  pub came : List ℕ
+  pub may_follow : MayFollow owed came
+  pub consumed : Consumes coming left came
+  pub silent : IsAtEnd left ⊎ (failures_now ≡ failures + 1)
+
+-- So many bytes came after the last line, and they may not follow it.
+pub record SaysMore (owed : Bool) (why : Difference) (coming left : Option (List ℕ)) : Type 0 where
+  pub came : List ℕ
+  pub may_not_follow : MayFollow owed came → ⊥
+  pub consumed : Consumes coming left came
+  pub surplus : why ≡ Surplus (length came)
 
 -- ---- the steps over one connection
 
@@ -217,6 +249,7 @@ sent_by (await bytes) = []
 sent_by break = []
 sent_by (wait milliseconds) = []
 sent_by silence = []
+sent_by (listen milliseconds) = []
 
 abbrev pub all_sent : List Act → List ℕ
 all_sent [] = []

@@ -28,6 +28,7 @@ pub data Act : Type 0 where
   break : Act
   wait : (milliseconds : ℕ) → Act
   silence : Act
+  listen : (milliseconds : ℕ) → Act
 
 -- the act that an action of the code represents
 abbrev pub act_of : Action → Act
@@ -36,12 +37,18 @@ act_of (code.Await bytes) = await bytes.items
 act_of code.Break = break
 act_of (code.Wait milliseconds) = wait milliseconds
 act_of code.Silence = silence
+act_of (code.Listen milliseconds) = listen milliseconds
 
 -- ---- one line
 
--- A mark is '#~ silent', or '#~ ' and a number of milliseconds. These words come after '#~'.
+-- '#~ ' and a number of milliseconds, or '#~ listen ' and one
+abbrev pub timed_mark : (listened : Option (List ℕ)) → (words : List ℕ) → Option Act
+timed_mark None words = option_map wait (option_and_then (number_in 7) (trailing (codes " ") words))
+timed_mark (Some digits) words = option_map listen (number_in 7 digits)
+
+-- A mark is '#~ silent', or has a number of milliseconds. These words come after '#~'.
 abbrev pub mark_of : List ℕ → Option Act
-mark_of words = cond (bytes_eq words (codes " silent")) (Some silence) (option_map wait (option_and_then (number_in 7) (trailing (codes " ") words)))
+mark_of words = cond (bytes_eq words (codes " silent")) (Some silence) (timed_mark (trailing (codes " listen ") words) words)
 
 abbrev pub mark_or_error : Option Act → Result (Option Act) ScriptLineError
 mark_or_error None = Err error.Mark

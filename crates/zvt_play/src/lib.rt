@@ -6,6 +6,7 @@
 
 mod difference;
 mod line;
+mod listening;
 mod marks;
 mod messages;
 mod player;
@@ -17,6 +18,7 @@ mod unheard;
 
 pub use difference::{Difference, Unplayed};
 pub use line::ScriptLineError;
+pub use listening::listen_on;
 pub use player::play;
 pub use scripts::{ScriptFault, script};
 pub use silence::stay_silent;

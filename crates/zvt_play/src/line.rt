@@ -21,7 +21,7 @@ pub enum ScriptLineError {
     #[error("{0}")]
     Trace(TraceLineError),
     /// It begins as a mark and is none.
-    #[error("expected '#~ silent', or '#~' and milliseconds, e.g. '#~ 1500'")]
+    #[error("expected '#~ silent', or milliseconds, e.g. '#~ 1500' or '#~ listen 2000'")]
     Mark,
     /// It is a line of the other side, and no message begins with its bytes up to and with the one at `at`, which is
     /// counted from 0.

@@ -30,6 +30,9 @@ fn mark(words: &[u8]) -> Option<Action>
     if words == b" silent".as_slice() {
         return Some(Action::Silence);
     }
+    if let Some(digits) = trailing(b" listen ", words) {
+        return Some(Action::Listen(number(digits)?));
+    }
     Some(Action::Wait(number(trailing(b" ", words)?)?))
 }
 

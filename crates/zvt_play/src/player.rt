@@ -73,7 +73,7 @@ fn take_step<C: Clock, R: Source, W: Sink>(
             )?;
             Ok(true)
         }
-        Action::Break => {
+        Action::Break | Action::Listen(_) => {
             all_heard(unheard)?;
             Ok(false)
         }

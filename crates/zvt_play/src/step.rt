@@ -13,6 +13,8 @@ pub enum Action {
     Wait(u32),
     /// Answers nothing more on this connection.
     Silence,
+    /// Ends the connection once nothing came for so many milliseconds.
+    Listen(u32),
 }
 
 /// A step of a script.

@@ -1,6 +1,7 @@
 //! Bytes that were read before the messages in them are awaited.
 ghost use Rattle.std.specs.Prelude.{◌≡◌, ◌≤◌, ◌<◌, [], length, drop, MatchResult, slice_range};
 ghost use Rattle.std.specs.Io.KnownBytes.{Consumes, IsAtEnd, Keeps};
+ghost use Rattle.zvt_io.specs.Devices.{CountsFailure};
 
 use zvt_io::{Failed, Source};
 
@@ -65,6 +66,7 @@ impl Unheard {
         ensures read { MatchResult result
             (λ count. Consumes (R.remaining reader.old) (R.remaining reader.new) (unheard_in self.new) × (length (unheard_in self.new) ≡ count) × (count ≡ 0 → IsAtEnd (R.remaining reader.new)))
             (λ _. Keeps (R.remaining reader.old) (R.remaining reader.new) × (unheard_in self.new ≡ [])) }
+        ensures failures { CountsFailure (R.failures reader.old) (R.failures reader.new) result }
     {
         self.from = 0;
         self.to = 0;
