@@ -1,7 +1,8 @@
 //! Situations that are played one after another against a till or a terminal, and the report of them.
 
+use crate::connections::{Place, place_at, report_address};
 use crate::finish::finish_run;
-use crate::play::{Place, Played, place_at, play_script, read_text, report_address, script_of};
+use crate::play::{Played, play_script, read_text, script_of};
 use crate::reports::{TERMINAL_PORT, report, report_failed, report_invalid};
 use std::alloc::{AllocError, Global};
 use std::fs;
@@ -10,9 +11,12 @@ use zvt_play::ScriptStep;
 use zvt_text::Text;
 use zvt_tool::label::Label;
 use zvt_tool::statuses::{BAD, DEVICE, DONE, WORDS};
-use zvt_tool::verdicts::{add_case, add_plan, add_suite, add_verdict};
+use zvt_tool::verdicts::{add_case, add_error, add_plan, add_suite, add_verdict};
 use zvt_tool::{CheckOptions, EndFault, NetFault};
 use zvt_trace::Direction;
+
+/// Why a situation has no verdict after a play that ended all.
+const NOT_PLAYED: &[u8] = b"not played: there was no connection, or no memory\n";
 
 /// A situation: its name, the comments at its head, and what is played.
 #[derive(Drop)]
@@ -22,12 +26,16 @@ struct Situation<'a> {
     steps: Vec<ScriptStep>,
 }
 
-/// The verdicts so far: the cases of the report, and how many situations are not passed.
+/// The verdicts so far: the cases of the report, and how many situations differ, or broke off.
 #[derive(Drop)]
 struct Verdicts {
     cases: Text,
     failed: usize,
+    broken: usize,
 }
+
+/// For so many milliseconds a situation listens on after its last line, where it does not say for how many.
+const LISTENED: u32 = 500;
 
 /// Plays a terminal in each situation against a till, and answers the exit status.
 pub fn till(rt: &HostRuntime, options: &CheckOptions<'_>) -> io::Result<u8> {
@@ -150,14 +158,20 @@ fn check(
     let mut verdicts = Verdicts {
         cases: Text::new(rt.alloc()),
         failed: 0,
+        broken: 0,
     };
     let status = play_all(rt, own, &mut place, situations, &mut verdicts)?;
     let Some(path) = options.junit else {
         return Ok(status);
     };
     let mut text = Text::new(rt.alloc());
-    let Verdicts { cases, failed } = verdicts;
-    add_suite(&mut text, name, situations.len(), failed, cases.bytes())?;
+    let count = situations.len();
+    let Verdicts {
+        cases,
+        failed,
+        broken,
+    } = verdicts;
+    add_suite(&mut text, name, count, failed, broken, cases.bytes())?;
     if let Err(error) = fs::write(rt, path, text.bytes()) {
         report_failed(rt, path, "cannot write the report", &error)?;
         return Ok(DEVICE);
@@ -165,7 +179,7 @@ fn check(
     Ok(status)
 }
 
-/// Plays one situation after another. Where there is no connection the rest is not played.
+/// Plays one situation after another. Where one has no first connection the rest is not played.
 fn play_all(
     rt: &HostRuntime,
     own: Direction,
@@ -178,18 +192,41 @@ fn play_all(
     io::writer(rt).write_all(text.bytes())?;
     for (at, situation) in situations.iter().enumerate() {
         io::writer(rt).write_all(situation.head.bytes())?;
-        match play_script(rt, place, own, situation.steps.as_slice())? {
+        match play_script(rt, place, own, situation.steps.as_slice(), LISTENED)? {
             Played::Whole => report_verdict(rt, at, situation, b"", verdicts)?,
             Played::Differs(difference) => {
                 report_verdict(rt, at, situation, difference.bytes(), verdicts)?;
             }
+            Played::Broken(why) => report_broken(rt, at, situation, why.bytes(), verdicts)?,
             Played::Ended(status) => {
                 io::writer(rt).write_all(b"Bail out!\n")?;
+                for unplayed in situations.iter().skip(at) {
+                    add_error(&mut verdicts.cases, unplayed.name, NOT_PLAYED)?;
+                    verdicts.broken = verdicts.broken.saturating_add(1);
+                }
                 return Ok(status);
             }
         }
     }
-    Ok(if verdicts.failed == 0 { DONE } else { BAD })
+    let is_passed = verdicts.failed == 0 && verdicts.broken == 0;
+    Ok(if is_passed { DONE } else { BAD })
+}
+
+/// Writes that a situation broke off, and why as comments.
+fn report_broken(
+    rt: &HostRuntime,
+    at: usize,
+    situation: &Situation<'_>,
+    why: &[u8],
+    verdicts: &mut Verdicts,
+) -> io::Result<()> {
+    let mut text = Text::new(rt.alloc());
+    add_verdict(&mut text, false, at.saturating_add(1), situation.name)?;
+    Label::of_comment(rt.alloc())?.add(&mut text, b'\n', why)?;
+    io::writer(rt).write_all(text.bytes())?;
+    add_error(&mut verdicts.cases, situation.name, why)?;
+    verdicts.broken = verdicts.broken.saturating_add(1);
+    Ok(())
 }
 
 /// Writes the verdict on a situation, and the difference as comments, if there is one.

@@ -7,6 +7,7 @@ ghost use Rattle.zvt_cli.specs.Chosen.{IsChoiceOf};
 
 mod book;
 mod check;
+mod connections;
 mod ends;
 mod finish;
 mod inputs;

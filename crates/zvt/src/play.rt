@@ -1,32 +1,26 @@
 //! One side of a trace, played against a real other side.
 
+use crate::connections::{
+    CONNECTION_SECONDS, FIRST_SECONDS, Place, limit_reads, next_connection, next_within, place_at,
+    report_address,
+};
 use crate::finish::{finish_run, finish_trace};
 use crate::inputs::opened;
 use crate::reports::{NO_TRACE, report, report_failed, report_on};
 use std::alloc::AllocError;
-use std::io::{self, Read, Write};
+use std::io::{self, Write};
 use std::net::TcpStream;
-use std::time::Duration;
 use zvt_io::Counted;
 use zvt_play::{
-    Action, Difference, ScriptFault, ScriptStep, Unplayed, difference_text, script, stay_silent,
-    surplus_text,
+    Action, Difference, ScriptFault, ScriptStep, Unplayed, difference_text, listen_on, script,
+    stay_silent, surplus_text,
 };
 use zvt_stream::{Endpoint, Stream};
-use zvt_tcp::{Door, SILENCE_SECONDS, connect, listen};
+use zvt_tcp::SILENCE_SECONDS;
 use zvt_text::Text;
 use zvt_tool::statuses::{BAD, DEVICE, DONE, MEMORY, TRACE, WORDS};
 use zvt_tool::{EndFault, NetFault, PlayOptions, read_trace};
 use zvt_trace::Direction;
-
-/// Where the connections of a script come from.
-#[derive(Drop)]
-pub enum Place<'a> {
-    /// They are made to this port of this host.
-    To(&'a str, u16),
-    /// They come in here.
-    From(Door),
-}
 
 /// How the play of a script ended.
 #[derive(Drop)]
@@ -35,7 +29,9 @@ pub enum Played {
     Whole,
     /// What came differs: what was awaited, and what came.
     Differs(Text),
-    /// There was no connection or no memory, or a write failed. That is reported, and this is the exit status.
+    /// The connection was lost, or another one was not made: what was to be done on it.
+    Broken(Text),
+    /// There was no first connection, or no memory. That is reported, and this is the exit status.
     Ended(u8),
 }
 
@@ -72,7 +68,7 @@ pub fn play(rt: &HostRuntime, options: &PlayOptions<'_>) -> io::Result<u8> {
         Err(why) => return finish_run(rt, false, Err(EndFault::Net(why))),
     };
     report_address(rt, &place)?;
-    let played = play_script(rt, &mut place, own, steps.as_slice())?;
+    let played = play_script(rt, &mut place, own, steps.as_slice(), 0)?;
     finish_play(rt, played)
 }
 
@@ -94,6 +90,12 @@ fn finish_play(rt: &HostRuntime, played: Played) -> io::Result<u8> {
         Played::Differs(text) => {
             io::writer(rt).write_all(text.bytes())?;
             Ok(BAD)
+        }
+        Played::Broken(text) => {
+            let mut errors = rt.stderr();
+            errors.write_all(b"zvt: ")?;
+            errors.write_all(text.bytes())?;
+            Ok(DEVICE)
         }
         Played::Ended(status) => Ok(status),
     }
@@ -133,70 +135,89 @@ pub fn script_of(
     }
 }
 
-/// Where the connections come from.
-pub fn place_at<'a>(
-    rt: &HostRuntime,
-    port: Option<u16>,
-    awaited_at: Option<u16>,
-    host: &'a str,
-) -> Result<Place<'a>, NetFault> {
-    match (port, awaited_at) {
-        (None, Some(port)) => Ok(Place::From(listen(rt, host, port)?)),
-        (port, _) => Ok(Place::To(host, port.unwrap_or(0))),
-    }
-}
-
-/// Reports where the other side is awaited.
-pub fn report_address(rt: &HostRuntime, place: &Place<'_>) -> io::Result<()> {
-    match place {
-        Place::To(..) => Ok(()),
-        Place::From(door) => {
-            let address = door.address()?;
-            eprintln!(rt; "zvt: the other side is awaited at {address}")
-        }
-    }
-}
-
-/// The next connection.
-fn next_connection(rt: &HostRuntime, place: &mut Place<'_>) -> Result<TcpStream, NetFault> {
-    match place {
-        Place::To(host, port) => connect(rt, host, *port, SILENCE_SECONDS),
-        Place::From(door) => door.next(),
-    }
-}
-
-/// Plays the steps, over one connection after another.
+/// Plays the steps, over one connection after another. Then it listens on for so many milliseconds, or for as many as the last
+/// step says.
 pub fn play_script(
     rt: &HostRuntime,
     place: &mut Place<'_>,
     own: Direction,
     steps: &[ScriptStep],
+    listened: u32,
 ) -> io::Result<Played> {
     let mut rest = on_line(steps);
+    let mut is_first = true;
+    let milliseconds = listening(steps).unwrap_or(listened);
     for _ in 0..steps.len() {
         if rest.is_empty() {
-            return Ok(Played::Whole);
+            break;
         }
-        let connection = match next_connection(rt, place) {
+        let seconds = match (is_first, listened) {
+            (true, 0) => None,
+            (true, _) => Some(FIRST_SECONDS),
+            (false, _) => Some(CONNECTION_SECONDS),
+        };
+        let connection = match next_connection(rt, place, seconds) {
             Ok(connection) => connection,
-            Err(why) => {
+            Err(why) if is_first && why != NetFault::Silent => {
                 let status = finish_run(rt, false, Err(EndFault::Net(why)))?;
                 return Ok(Played::Ended(status));
             }
+            Err(why) => return not_connected(rt, rest, why),
         };
-        match play_line(rt, &connection, own, rest)? {
+        is_first = false;
+        match play_line(rt, &connection, own, rest, milliseconds)? {
             Ok(after) => rest = on_line(after),
             Err(ended) => return Ok(ended),
         }
     }
-    Ok(Played::Whole)
+    listen_for_another(rt, place, milliseconds)
+}
+
+/// For how many milliseconds the steps say to listen on, if they do.
+fn listening(steps: &[ScriptStep]) -> Option<u32> {
+    match steps.last()?.action {
+        Action::Listen(milliseconds) => Some(milliseconds),
+        _ => None,
+    }
+}
+
+/// Listens at the door for a connection that the trace does not have. One without a byte is none.
+fn listen_for_another(
+    rt: &HostRuntime,
+    place: &mut Place<'_>,
+    milliseconds: u32,
+) -> io::Result<Played> {
+    let Place::From(door) = place else {
+        return Ok(Played::Whole);
+    };
+    let Ok(connection) = next_within(rt, door, milliseconds) else {
+        return Ok(Played::Whole);
+    };
+    limit_reads(&connection, milliseconds);
+    match listen_on(&mut Counted::new(&connection), false) {
+        Err(Difference::Surplus { count }) => differing(rt, surplus_text(rt.alloc(), None, count)),
+        _ => Ok(Played::Whole),
+    }
+}
+
+/// How a play ended where the first of these steps has no connection.
+fn not_connected(rt: &HostRuntime, steps: &[ScriptStep], why: NetFault) -> io::Result<Played> {
+    let line = steps.first().map_or(0, |step| step.line);
+    let mut text = Text::new(rt.alloc());
+    text.word(b"line ")?;
+    text.number(line)?;
+    text.word(match why {
+        NetFault::Silent => b" has no connection: the other side made none in time\n",
+        _ => b" has no connection: look whether the other side still runs\n".as_slice(),
+    })?;
+    Ok(Played::Broken(text))
 }
 
 /// The steps from the first that wants a connection on.
 fn on_line(steps: &[ScriptStep]) -> &[ScriptStep] {
     for (at, step) in steps.iter().enumerate() {
         match step.action {
-            Action::Break | Action::Wait(_) => {}
+            Action::Break | Action::Wait(_) | Action::Listen(_) => {}
             Action::Send(_) | Action::Await(_) | Action::Silence => return &steps[at..],
         }
     }
@@ -209,6 +230,7 @@ fn play_line<'s>(
     connection: &TcpStream,
     own: Direction,
     steps: &'s [ScriptStep],
+    listened: u32,
 ) -> io::Result<Result<&'s [ScriptStep], Played>> {
     let Ok(stream) = Stream::reserved(rt.alloc()) else {
         return Ok(Err(Played::Ended(without_memory(rt)?)));
@@ -221,7 +243,7 @@ fn play_line<'s>(
     match zvt_play::play(rt, &mut end, steps) {
         Ok(count) => {
             let (played, after) = steps.split_at(count.min(steps.len()));
-            end_line(rt, connection, &mut end, played, after)
+            end_line(rt, connection, &mut end, played, after, listened)
         }
         Err(unplayed) => Ok(Err(differ(rt, &end, own, steps, unplayed)?)),
     }
@@ -229,29 +251,44 @@ fn play_line<'s>(
 
 /// Ends a connection between the steps that were played and those after, and answers what is left of these.
 ///
-/// What comes after an own line may be the answer to it, and is no difference.
+/// Before a break what comes after an own line may be the answer to it, and is no difference. After the last line it is one,
+/// but for an acknowledgement.
 fn end_line<'s>(
     rt: &HostRuntime,
     connection: &TcpStream,
     end: &mut LineEnd<'_>,
     played: &[ScriptStep],
     after: &'s [ScriptStep],
+    listened: u32,
 ) -> io::Result<Result<&'s [ScriptStep], Played>> {
     if is_silence(after) {
-        let _ = connection.set_read_timeout(Some(Duration::from_secs(u64::from(SILENCE_SECONDS))));
+        limit_reads(connection, u32::from(SILENCE_SECONDS) * 1_000);
         stay_silent(&mut end.reader);
         return Ok(Ok(after_break(after)));
     }
-    let count = if ends_with_own_line(played) {
-        0
-    } else {
-        waiting(connection)
-    };
-    if count > 0 {
-        let text = surplus_text(rt.alloc(), after.first(), count);
-        return Ok(Err(differing(rt, text)?));
+    let is_broken = matches!(
+        after,
+        [
+            ScriptStep {
+                action: Action::Break,
+                ..
+            },
+            ..
+        ]
+    );
+    let milliseconds = if is_broken { 0 } else { listened };
+    if milliseconds == 0 && ends_with_own_line(played) {
+        return Ok(Ok(after_break(after)));
     }
-    Ok(Ok(after_break(after)))
+    limit_reads(connection, milliseconds);
+    let is_owed = is_acknowledged(played);
+    match listen_on(&mut end.reader, is_owed) {
+        Err(Difference::Surplus { count }) => {
+            let text = surplus_text(rt.alloc(), after.first(), count);
+            Ok(Err(differing(rt, text)?))
+        }
+        _ => Ok(Ok(after_break(after))),
+    }
 }
 
 /// Whether the last of these steps sent bytes.
@@ -259,6 +296,19 @@ fn ends_with_own_line(played: &[ScriptStep]) -> bool {
     match played.last() {
         Some(step) => matches!(step.action, Action::Send(_)),
         None => false,
+    }
+}
+
+/// Whether the other side owes an acknowledgement: the last of these steps sent what is none itself.
+fn is_acknowledged(played: &[ScriptStep]) -> bool {
+    match played.last() {
+        Some(
+            ScriptStep {
+                action: Action::Send(bytes),
+                ..
+            },
+        ) => !matches!(bytes.as_slice(), [0x80 | 0x84, ..]),
+        _ => false,
     }
 }
 
@@ -286,16 +336,6 @@ fn after_break(steps: &[ScriptStep]) -> &[ScriptStep] {
     &[]
 }
 
-/// How many bytes have come by now, where there are some: it waits for none.
-fn waiting(connection: &TcpStream) -> usize {
-    let mut buffer = [0; 1_024];
-    if connection.set_nonblocking(true).is_err() {
-        return 0;
-    }
-    let mut reader = connection;
-    reader.read(&mut buffer).unwrap_or(0)
-}
-
 /// How a play ended with a step that could not be played.
 fn differ(
     rt: &HostRuntime,
@@ -306,11 +346,13 @@ fn differ(
 ) -> io::Result<Played> {
     let step = steps.get(unplayed.step);
     if unplayed.why == Difference::Write {
-        let line = step.map_or(0, |step| step.line);
-        eprintln!(rt;
-            "zvt: line {line} of the trace can't be sent: the other side closed the connection, or it failed"
+        let mut text = Text::new(rt.alloc());
+        text.word(b"line ")?;
+        text.number(step.map_or(0, |step| step.line))?;
+        text.word(
+            b" of the trace can't be sent: the other side closed the connection, or it failed\n",
         )?;
-        return Ok(Played::Ended(DEVICE));
+        return Ok(Played::Broken(text));
     }
     let text = difference_text(
         rt.alloc(),

@@ -105,6 +105,11 @@ impl Door {
         self.listener.local_addr()
     }
 
+    /// Has `next` answer at once, with a fault where no till has come, or wait again.
+    pub fn set_nonblocking(&self, is_nonblocking: bool) -> io::Result<()> {
+        self.listener.set_nonblocking(is_nonblocking)
+    }
+
     /// The terminal's end of the next connection, for which it waits as long as it takes.
     pub fn next(&mut self) -> Result<TcpStream, NetFault>
         ensures { MatchResult result (λ _. given_by self.new ≡ given_by self.old + 1) (λ _. given_by self.new ≡ given_by self.old) }

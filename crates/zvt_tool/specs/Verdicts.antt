@@ -30,11 +30,15 @@ case name [] = codes "  <testcase name=\"" ++ (escaped name ++ codes "\"/>\n")
 case name (byte ∷ more) =
     codes "  <testcase name=\"" ++ (escaped name ++ (codes "\"><failure>" ++ (escaped (byte ∷ more) ++ codes "</failure></testcase>\n")))
 
+-- a situation whose play broke off, and why
+abbrev pub broken : (name why : List ℕ) → List ℕ
+broken name why = codes "  <testcase name=\"" ++ (escaped name ++ (codes "\"><error>" ++ (escaped why ++ codes "</error></testcase>\n")))
+
 -- a report: its head, and its cases
-abbrev pub suite : (name : List ℕ) → (situations failed : ℕ) → (cases : List ℕ) → List ℕ
-suite name situations failed cases =
+abbrev pub suite : (name : List ℕ) → (situations failed errors : ℕ) → (cases : List ℕ) → List ℕ
+suite name situations failed errors cases =
     codes "<?xml version=\"1.0\" encoding=\"UTF-8\"?>\n<testsuite name=\"" ++ (name ++ (codes "\" tests=\"" ++ (decimal situations
-    ++ (codes "\" failures=\"" ++ (decimal failed ++ (codes "\">\n" ++ (cases ++ codes "</testsuite>\n")))))))
+    ++ (codes "\" failures=\"" ++ (decimal failed ++ (codes "\" errors=\"" ++ (decimal errors ++ (codes "\">\n" ++ (cases ++ codes "</testsuite>\n")))))))))
 
 passed : verdict_line true 3 (codes "decline") ≡ codes "ok 3 - decline\n"
 unfolding digits
@@ -57,6 +61,9 @@ passes = refl
 differs : case (codes "decline") (codes "a&b") ≡ codes "  <testcase name=\"decline\"><failure>a&amp;b</failure></testcase>\n"
 differs = refl
 
-reported : suite (codes "check-till") 2 1 (codes "x") ≡ codes "<?xml version=\"1.0\" encoding=\"UTF-8\"?>\n<testsuite name=\"check-till\" tests=\"2\" failures=\"1\">\nx</testsuite>\n"
+breaks : broken (codes "decline") (codes "a&b") ≡ codes "  <testcase name=\"decline\"><error>a&amp;b</error></testcase>\n"
+breaks = refl
+
+reported : suite (codes "check-till") 3 1 2 (codes "x") ≡ codes "<?xml version=\"1.0\" encoding=\"UTF-8\"?>\n<testsuite name=\"check-till\" tests=\"3\" failures=\"1\" errors=\"2\">\nx</testsuite>\n"
 unfolding digits
 reported = refl

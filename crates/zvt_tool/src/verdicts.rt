@@ -1,6 +1,6 @@
 //! The verdicts of situations: lines of TAP (the Test Anything Protocol), and a report in JUnit's form.
 ghost use Rattle.std.specs.Prelude.{◌≡◌, ◌++◌, OnOk};
-ghost use Rattle.zvt_tool.specs.Verdicts.{case, escaped, escaped_byte, plan, suite, verdict_line};
+ghost use Rattle.zvt_tool.specs.Verdicts.{broken, case, escaped, escaped_byte, plan, suite, verdict_line};
 
 use std::alloc::AllocError;
 use zvt_text::Text;
@@ -48,15 +48,27 @@ pub fn add_case(text: &mut Text, name: &str, difference: &[u8]) -> Result<(), Al
     text.word(b"</failure></testcase>\n")
 }
 
-/// Adds the report with these cases.
+/// Adds the case of a situation whose play broke off, and why, to the cases of a report.
+pub fn add_error(text: &mut Text, name: &str, why: &[u8]) -> Result<(), AllocError>
+    ensures { OnOk result (text.new ≡ text.old ++ broken name.now why.now) }
+{
+    text.word(b"  <testcase name=\"")?;
+    add_escaped(text, name.as_bytes())?;
+    text.word(b"\"><error>")?;
+    add_escaped(text, why)?;
+    text.word(b"</error></testcase>\n")
+}
+
+/// Adds the report with these cases. `failed` of them differ, and `broken` broke off.
 pub fn add_suite(
     text: &mut Text,
     name: &str,
     situations: usize,
     failed: usize,
+    broken: usize,
     cases: &[u8],
 ) -> Result<(), AllocError>
-    ensures { OnOk result (text.new ≡ text.old ++ suite name.now situations failed cases.now) }
+    ensures { OnOk result (text.new ≡ text.old ++ suite name.now situations failed broken cases.now) }
 {
     text.word(b"<?xml version=\"1.0\" encoding=\"UTF-8\"?>\n<testsuite name=\"")?;
     text.word(name.as_bytes())?;
@@ -64,6 +76,8 @@ pub fn add_suite(
     text.number(situations)?;
     text.word(b"\" failures=\"")?;
     text.number(failed)?;
+    text.word(b"\" errors=\"")?;
+    text.number(broken)?;
     text.word(b"\">\n")?;
     text.word(cases)?;
     text.word(b"</testsuite>\n")
