@@ -1,0 +1,15 @@
+"""Takes the first of two amounts. Found by: amount-twice."""
+import pathlib
+import sys
+
+sys.path.insert(0, str(pathlib.Path(__file__).parent.parent))
+from terminal import Terminal, start
+
+
+class Wrong(Terminal):
+    def judge(self, data):
+        why = super().judge(data)
+        return None if why == "two amounts" else why
+
+
+start(Wrong)

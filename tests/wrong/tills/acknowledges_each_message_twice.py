@@ -1,0 +1,14 @@
+"""Acknowledges each message twice. Found by: approval."""
+import pathlib
+import sys
+
+sys.path.insert(0, str(pathlib.Path(__file__).parent.parent))
+from till import ACK, Till, start
+
+
+class Wrong(Till):
+    def acknowledge(self, kind, data):
+        self.send(ACK + ACK)
+
+
+start(Wrong)

@@ -1,0 +1,15 @@
+"""Acknowledges no intermediate status. Found by: intermediate-status."""
+import pathlib
+import sys
+
+sys.path.insert(0, str(pathlib.Path(__file__).parent.parent))
+from till import ACK, Till, start
+
+
+class Wrong(Till):
+    def acknowledge(self, kind, data):
+        if kind != "04ff":
+            self.send(ACK)
+
+
+start(Wrong)
