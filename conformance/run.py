@@ -5,8 +5,8 @@
 
 In COMMAND `{port}` stands for the port of the kit's terminal, `{steps}` for the steps of the situation, a word each, and `{book}`
 for a file that does not exist yet. A situation whose steps have a `/` starts the till once for each part, with the same book.
-The last line `STEP -> OUTCOME` of the till's standard output must have the outcome that the situation names, or the last member
-`outcome` of its lines of JSON; with --messages-only it is not compared. A till has S seconds, 90 unless told otherwise.
+The last line `STEP -> OUTCOME` of the till's standard output must have the outcome that the situation names, or begin with the
+last member `outcome` of its lines of JSON; with --messages-only it is not compared. A till has S seconds, 90 unless told otherwise.
 
     conformance/run.py --kit ./zvt conformance/till/*.trace -- ./zvt till --timeout 5 --port {port} --book {book} {steps}
 
@@ -31,17 +31,18 @@ def head(file):
 
 
 def outcome_of(written):
-    """What the last step of a till came to, by what it wrote."""
-    found = None
+    """What the last step of a till came to, by what it wrote, and whether it wrote JSON, which has the words in parts."""
+    found, is_json = None, False
     for line in written.splitlines():
         if line.startswith("{"):
             try:
-                found = json.loads(line).get("outcome", found)
+                told = json.loads(line).get("outcome")
             except ValueError:
                 continue
+            found, is_json = (told, True) if told else (found, is_json)
         elif " -> " in line:
-            found = line.split(" -> ", 1)[1]
-    return found
+            found, is_json = line.split(" -> ", 1)[1], False
+    return found, is_json
 
 
 def words(command, port, steps, book):
@@ -100,9 +101,10 @@ def judge(options, file):
         return "\n".join(told) or wrong or "the kit gave no verdict", bool(told)
     if wrong:
         return wrong, False
-    found = outcome_of(written)
-    if not options.messages_only and found != said.get("Outcome"):
-        return f"the outcome is '{found}'\nbut the situation wants '{said.get('Outcome')}'", True
+    found, is_json = outcome_of(written)
+    wanted = said.get("Outcome", "")
+    if not options.messages_only and found != wanted and not (is_json and f"{wanted} ".startswith(f"{found} ")):
+        return f"the outcome is '{found}'\nbut the situation wants '{wanted}'", True
     return None
 
 

@@ -3,18 +3,21 @@
 
     tests/conformance.py [PROGRAM]
 
-PROGRAM is the one that `rt ci` built, unless another is named. Each till is given the steps that its situation names, and
-ends with the outcome that this names. A till whose terminal is to be silent waits two seconds alone. The report in JUnit's
-form and the lines of TAP are read, by xmllint and prove where these are installed. A till that does
-something else is found. The status is 1 where anything is not as expected.
+PROGRAM is the one that `rt ci` built, unless another is named. conformance/run.py starts the till in each situation, gives it the
+steps and compares its outcome. The report in JUnit's form and the lines of TAP are read, by xmllint and prove where these are
+installed. A till that does something else is found, and one that resets the line. The status is 1 where anything is not as
+expected.
 """
 import os
 import pathlib
 import re
 import shutil
+import socket
+import struct
 import subprocess
 import sys
 import tempfile
+import time
 import xml.etree.ElementTree as xml
 
 HERE = pathlib.Path(__file__).resolve().parent
@@ -77,24 +80,23 @@ def is_junit(name, report, files):
 
 
 def tills(folder):
-    """The till of this project passes each situation for tills, with the outcome that is named."""
+    """The till of this project passes each situation for tills, with the outcome that is named. run.py starts it."""
     files, report = situations("till"), folder / "till.xml"
     check("there are 40 situations for tills", len(files) >= 40, True)
-    kit = Listener("check-till", "--listen", 0, "--junit", report, *files)
-    for file in files:
-        said = head(file)
-        waits = ["--timeout", 2] if file.stem == "silent" else []
-        _, written, _ = run("till", "--port", kit.port, *waits, *said["Steps"].split())
-        outcome = [it.split(" -> ")[1] for it in written.splitlines() if " -> " in it]
-        check(f"{file.stem}: the till", outcome[-1:], [said["Outcome"]])
-    status, written, _ = kit.ended()
-    check("check-till", status, 0)
-    is_tap("check-till", written, files)
-    is_junit("check-till", report, files)
-    (folder / "till.tap").write_text(written)
+    command = [PROGRAM, "till", "--timeout", "5", "--port", "{port}", "{steps}"]
+    done = subprocess.run([sys.executable, str(KIT / "run.py"), "--kit", PROGRAM, "--jobs", "8", "--junit", str(report), *map(str, files), "--", *command], capture_output=True, text=True, timeout=300)
+    check("run.py", (done.returncode, done.stderr), (0, ""))
+    is_tap("run.py", done.stdout, files)
+    is_junit("run.py", report, files)
+    (folder / "till.tap").write_text(done.stdout)
     if shutil.which("prove"):
         done = subprocess.run(["prove", "-e", "cat", folder / "till.tap"], capture_output=True, text=True)
         check("prove", (done.returncode, "Result: PASS" in done.stdout), (0, True))
+    # JSON has the outcome too, and another outcome than the named one is found.
+    for name, kind, wanted in ("approval", "--json", 0), ("approval", "--loose", 0), ("padded-length", "--loose", 1):
+        words = ["--kit", PROGRAM, str(KIT / "till" / f"{name}.trace"), "--", PROGRAM, "till", kind, "--port", "{port}", "{steps}"]
+        done = subprocess.run([sys.executable, str(KIT / "run.py"), *words], capture_output=True, text=True, timeout=SECONDS)
+        check(f"run.py: {name} {kind}", done.returncode, wanted)
 
 
 def terminals(folder):
@@ -113,21 +115,52 @@ def terminals(folder):
         terminal.process.communicate()
 
 
+def verdicts(kit, count):
+    """The next verdicts of the kit."""
+    found = []
+    while len(found) < count and (line := kit.process.stdout.readline()):
+        if re.match("(not )?ok ", line):
+            found.append(line.rstrip())
+    return found
+
+
 def differences(folder):
     """What is not passed is told, and the other situations are played."""
     files = [KIT / "till" / f"{it}.trace" for it in ("approval", "decline", "approval-with-receipt")]
     report = folder / "differs.xml"
     kit = Listener("check-till", "--listen", 0, "--junit", report, *files)
+    found = []
     for steps in ("register pay:1000", "register close", "register pay:1000"):
         run("till", "--port", kit.port, *steps.split())
-    status, written, _ = kit.ended()
-    lines = written.splitlines()
-    check("another order: the status", status, 1)
-    check("another order: the verdicts", [it for it in lines if re.match("(not )?ok", it)], ["ok 1 - approval", "not ok 2 - decline", "ok 3 - approval-with-receipt"])
-    place = lines.index("not ok 2 - decline")
-    check("another order: what differs", lines[place + 1:place + 5], ["# line 11 awaits", "# > a message that begins with 0601, 2 bytes of it are given", "# but another message came", "# > EndOfDay"])
+        found += verdicts(kit, 1)
+    check("another order: the verdicts", found, ["ok 1 - approval", "not ok 2 - decline", "ok 3 - approval-with-receipt"])
+    check("another order: the status", kit.ended()[0], 1)
+    counts("another order", report, "3", "1", "0")
+
+
+def counts(name, report, tests, failures, errors):
     suite = xml.parse(report).getroot()
-    check("another order: the report", (suite.get("tests"), suite.get("failures"), len(suite.findall(".//failure"))), ("3", "1", 1))
+    check(f"{name}: the report", [suite.get(it) for it in ("tests", "failures", "errors")], [tests, failures, errors])
+    check(f"{name}: its cases", [str(len(suite.findall(f".//{it}"))) for it in ("testcase", "failure", "error")], [tests, failures, errors])
+
+
+def broken_lines(folder):
+    """A till that resets the line is not passed, and the next situation is played."""
+    trace, report = folder / "resets.trace", folder / "resets.xml"
+    trace.write_text("> 06 00\n#~ 300\n" + 3 * "< 80 00 00\n#~ 100\n")
+    kit = Listener("check-till", "--listen", 0, "--junit", report, trace, KIT / "till" / "approval.trace")
+    with socket.create_connection(("127.0.0.1", int(kit.port)), SECONDS) as line:
+        line.setsockopt(socket.SOL_SOCKET, socket.SO_LINGER, struct.pack("ii", 1, 0))
+        line.sendall(bytes.fromhex("06000600 0000BE0978".replace(" ", "")))
+        time.sleep(0.1)
+    check("a reset", verdicts(kit, 1), ["not ok 1 - resets"])
+    run("till", "--port", kit.port, "register", "pay:1000")
+    check("after a reset", verdicts(kit, 1), ["ok 2 - approval"])
+    check("a reset: the status", kit.ended()[0], 1)
+    counts("a reset", report, "2", "0", "1")
+    status, written, _ = run("check-terminal", "--port", 1, "--junit", report, KIT / "terminal" / "payment.trace", KIT / "terminal" / "decline.trace")
+    check("nobody listens: the verdicts", (status, "Bail out!" in written, "ok 1" in written), (4, True, False))
+    counts("nobody listens", report, "2", "0", "2")
 
 
 def wrong_words(folder):
@@ -156,6 +189,7 @@ def main():
         tills(folder)
         terminals(folder)
         differences(folder)
+        broken_lines(folder)
         wrong_words(folder)
     if not failed:
         print(f"ok: {len(situations('till'))} situations for tills, {len(situations('terminal'))} for terminals")
