@@ -299,8 +299,8 @@ def wrong(folder):
         ("This is no trace\n", "line 1 of the trace: expected '>' or '<'"),
         ("# one\n< 0\n", "line 2 of the trace: expected two hexadecimal digits"),
         ("> 0600\n\n< 80 00 00 06 0F 02 FF 00\n", "line 3 of the trace: no message begins with these bytes, up to the one at 6 (UnknownField)"),
-        ("#~ soon\n", "line 1 of the trace: expected '#~ silent', or '#~' and milliseconds"),
-        ("#~ 12345678\n", "line 1 of the trace: expected '#~ silent', or '#~' and milliseconds"),
+        ("#~ soon\n", "line 1 of the trace: expected '#~ silent', or milliseconds, e.g. '#~ 1500' or '#~ listen 2000'"),
+        ("#~ 12345678\n", "line 1 of the trace: expected '#~ silent', or milliseconds, e.g. '#~ 1500' or '#~ listen 2000'"),
     ):
         # Nothing listens at port 1: the file is read before a connection is made.
         status, said, errors = run("play", "--till", str(written(folder, text)), "--port", "1")

@@ -28,7 +28,7 @@ WORDED = {"decline", "refused-registration", "malformed-length"}
 
 def play_till(program, situation):
     only = ["--messages-only"] if situation in WORDED else []
-    words = ["--kit", PROGRAM, *only, str(TOP / f"conformance/till/{situation}.trace"), "--", sys.executable, str(program), "{port}", "{steps}"]
+    words = ["--kit", PROGRAM, *only, str(TOP / f"conformance/till/{situation}.trace"), "--", sys.executable, str(program), "{port}", "{book}", "{steps}"]
     return subprocess.run([sys.executable, str(TOP / "conformance/run.py"), *words], capture_output=True, text=True, timeout=200)
 
 

@@ -96,7 +96,7 @@ def plays(good, till, options, file):
 def tried(good, name, edit, room):
     """The situations that find a till, by how they do."""
     till, options = (good, [edit]) if edit.startswith("--") else (built(edit, room / re.sub(r"\W", "_", name)), [])
-    files = [it for it in sorted((TOP / "conformance/till").glob("*.trace")) if it.stem != "silent"]
+    files = [it for it in sorted((TOP / "conformance/till").glob("*.trace")) if it.stem not in ("silent", "restart")]
     with concurrent.futures.ThreadPoolExecutor(8) as pool:
         how = list(pool.map(lambda file: plays(good, till, options, file), files))
     return {kind: [file.stem for file, it in zip(files, how) if it == kind] for kind in ("line", "outcome")}

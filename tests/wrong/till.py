@@ -1,4 +1,6 @@
 """A small till over TCP, which shares nothing with the rest of the repository. Wrong tills change one part of it."""
+import json
+import pathlib
 import socket
 import sys
 import time
@@ -128,6 +130,15 @@ class Till:
             found[data[at]], at = data[at + 1:at + 1 + size], at + 1 + size
         return found
 
+    # ---- the book
+
+    def load(self, book):
+        if book.exists():
+            self.booked = [{int(key): bytes.fromhex(value) for key, value in it.items()} for it in json.loads(book.read_text())]
+
+    def save(self, book):
+        book.write_text(json.dumps([{key: value.hex() for key, value in it.items()} for it in self.booked]))
+
     # ---- steps
 
     def lost(self, step):
@@ -147,12 +158,14 @@ class Till:
 
 
 def start(kind):
-    till = kind(int(sys.argv[1]))
-    for step in sys.argv[2:]:
+    till, book = kind(int(sys.argv[1])), pathlib.Path(sys.argv[2])
+    till.load(book)
+    for step in sys.argv[3:]:
         try:
             outcome = till.step(step)
         except Lost:
             outcome = till.lost(step)
+        till.save(book)
         print(f"{step} -> {outcome}", flush=True)
     try:
         till.done()
