@@ -25,7 +25,7 @@ pub fn run(rt: &HostRuntime, path: &str, payments: u32) -> io::Result<()> {
 
 /// A till whose line is up, with a book in a file that is not there yet.
 fn new_book(rt: &HostRuntime, path: &str) -> Option<KeptTill<FileDevice>> {
-    let Ok(opened) = open_file(rt, rt.alloc(), path) else {
+    let Ok(opened) = open_file(rt.alloc(), path.as_bytes()) else {
         return None;
     };
     if !opened.text.is_empty() {

@@ -28,7 +28,7 @@ const OPENING: [u8; 26] = *b"# zvt journal 1, currency ";
 
 /// Writes what the book in this file has in this form, and answers the exit status.
 pub fn show(rt: &HostRuntime, path: &str, form: Form) -> io::Result<u8> {
-    let text = match read_book(rt, rt.alloc(), path) {
+    let text = match read_book(rt.alloc(), path.as_bytes()) {
         Ok(text) => text,
         Err(error) => return unopened(rt, path, &error),
     };
@@ -79,7 +79,7 @@ pub fn open(
     path: &str,
     settings: &TillSettings,
 ) -> io::Result<Result<KeptTill<FileDevice>, u8>> {
-    let opened = match open_file(rt, rt.alloc(), path) {
+    let opened = match open_file(rt.alloc(), path.as_bytes()) {
         Ok(opened) => opened,
         Err(error) => return Ok(Err(unopened(rt, path, &error)?)),
     };

@@ -8,22 +8,22 @@ ghost use Rattle.zvt_journal.specs.Calls.{seen_after, may_leave_after, left_sinc
 
 use crate::call::Call;
 use crate::calls::GhostCalls;
+use crate::descriptor::{set_len, sync_data, write_all_at};
 use crate::{Device, DeviceError};
-use std::fs::File;
 use std::io;
-use std::os::unix::fs::FileExt;
+use std::os::fd::OwnedFd;
 
 /// A file of the operating system. After a call that failed it makes no call any more, and each answers `Failed`.
 #[derive(Drop)]
 pub struct FileDevice {
-    file: File,
+    file: OwnedFd,
     failure: Option<io::Error>,
     calls: GhostCalls,
 }
 
 impl FileDevice {
     /// A device over a file that holds these bytes, all of them durable.
-    pub(crate) fn new(file: File, bytes: &[u8]) -> FileDevice
+    pub(crate) fn new(file: OwnedFd, bytes: &[u8]) -> FileDevice
         ensures start { result.calls.start ≡ bytes.now }
         ensures made { result.calls.made ≡ [] }
     {
@@ -42,7 +42,7 @@ impl FileDevice {
     }
 
     /// The file, if no call failed so far.
-    fn usable(&self) -> io::Result<&File>
+    fn usable(&self) -> io::Result<&OwnedFd>
         ensures { IsOk result ↔ IsNone self.now.failure }
     {
         match self.failure {
@@ -72,24 +72,24 @@ impl FileDevice {
 }
 
 /// Writes all of these bytes from this place on.
-fn write(file: io::Result<&File>, at: usize, bytes: &[u8]) -> io::Result<()>
+fn write(file: io::Result<&OwnedFd>, at: usize, bytes: &[u8]) -> io::Result<()>
     ensures { IsErr file.entry → IsErr result }
 {
-    file?.write_all_at(bytes, at as u64)
+    write_all_at(file?, at, bytes)
 }
 
 /// Cuts the file to this length.
-fn cut(file: io::Result<&File>, len: usize) -> io::Result<()>
+fn cut(file: io::Result<&OwnedFd>, len: usize) -> io::Result<()>
     ensures { IsErr file.entry → IsErr result }
 {
-    file?.set_len(len as u64)
+    set_len(file?, len)
 }
 
 /// Makes what was written durable.
-fn sync(file: io::Result<&File>) -> io::Result<()>
+fn sync(file: io::Result<&OwnedFd>) -> io::Result<()>
     ensures { IsErr file.entry → IsErr result }
 {
-    file?.sync_data()
+    sync_data(file?)
 }
 
 impl Device for FileDevice {

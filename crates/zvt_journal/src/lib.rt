@@ -10,6 +10,7 @@ mod call;
 mod calls;
 mod content;
 mod create;
+mod descriptor;
 mod device;
 mod durable;
 mod error;

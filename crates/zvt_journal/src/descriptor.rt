@@ -1,0 +1,153 @@
+//! An open file by its descriptor, without the runtime: a library that programs in C link has none.
+//!
+//! The paths are bytes: Linux names files by bytes, and no other text.
+ghost use Rattle.std.specs.Prelude.{◌≤◌, length};
+
+use os::FromRawFd;
+use std::alloc::Global;
+use std::io;
+use std::os::fd::{AsRawFd, OwnedFd};
+
+/// How often a call is made again that a signal interrupted, or that took a part of its bytes.
+const MAX_TURNS: u32 = 1 << 30;
+
+/// Why the last call failed.
+fn last_error() -> io::Error {
+    io::Error::from_raw_os_error(os::errno())
+}
+
+/// Turns C's -1 into its error.
+fn checked(status: i32) -> io::Result<()> {
+    if status < 0 {
+        Err(last_error())
+    } else {
+        Ok(())
+    }
+}
+
+/// Opens a file by C's flags. Its number is none of a standard stream: what is printed to a stream that was closed must
+/// not land in it.
+pub(crate) fn opened(path: &[u8], flags: i32, mode: u32) -> io::Result<OwnedFd> {
+    let number = os::open_with(path, libc::O_CLOEXEC | flags, mode);
+    if number < 0 {
+        return Err(last_error());
+    }
+    let file = unsafe { OwnedFd::from_raw_fd(number) };
+    if number <= 2 {
+        return file.try_clone();
+    }
+    Ok(file)
+}
+
+/// Takes the lock of the file, which its last descriptor gives back. It answers whether it was free.
+pub(crate) fn try_lock(file: &OwnedFd) -> io::Result<bool> {
+    if libc::flock(file.as_raw_fd(), libc::LOCK_EX | libc::LOCK_NB) == 0 {
+        return Ok(true);
+    }
+    let error = last_error();
+    if error.kind() == io::ErrorKind::WouldBlock {
+        Ok(false)
+    } else {
+        Err(error)
+    }
+}
+
+/// Makes all of a file durable.
+pub(crate) fn sync_all(file: &OwnedFd) -> io::Result<()> {
+    checked(libc::fsync(file.as_raw_fd()))
+}
+
+/// Makes what was written durable.
+pub(crate) fn sync_data(file: &OwnedFd) -> io::Result<()> {
+    checked(libc::fdatasync(file.as_raw_fd()))
+}
+
+/// Cuts the file to this length.
+pub(crate) fn set_len(file: &OwnedFd, len: usize) -> io::Result<()> {
+    match i64::try_from(len) {
+        Ok(len) => checked(libc::ftruncate(file.as_raw_fd(), len)),
+        Err(_) => Err(io::Error::from_raw_os_error(libc::EINVAL)),
+    }
+}
+
+/// Writes all of these bytes from this place on.
+pub(crate) fn write_all_at(file: &OwnedFd, at: usize, bytes: &[u8]) -> io::Result<()> {
+    let Ok(start) = i64::try_from(at) else {
+        return Err(io::Error::from_raw_os_error(libc::EINVAL));
+    };
+    let mut done = 0;
+    for _ in 0..MAX_TURNS {
+        if done >= bytes.len() {
+            return Ok(());
+        }
+        let place = start.wrapping_add_unsigned(done as u64);
+        let put = libc::pwrite(file.as_raw_fd(), &bytes[done..], place);
+        match usize::try_from(put) {
+            Ok(0) => return Err(io::Error::from(io::ErrorKind::WriteZero)),
+            Ok(put) => done = done.saturating_add(put),
+            Err(_) => {
+                let error = last_error();
+                if error.kind() != io::ErrorKind::Interrupted {
+                    return Err(error);
+                }
+            }
+        }
+    }
+    Err(io::Error::from(io::ErrorKind::WriteZero))
+}
+
+/// The bytes of the file, all of them durable; the kernel is asked to read from the disk.
+pub(crate) fn durable_bytes(alloc: Global, file: &OwnedFd) -> io::Result<Vec<u8>> {
+    sync_all(file)?;
+    let advised = libc::posix_fadvise(file.as_raw_fd(), 0, 0, libc::POSIX_FADV_DONTNEED);
+    if advised != 0 {
+        return Err(io::Error::from_raw_os_error(advised));
+    }
+    let mut bytes = Vec::new(alloc);
+    read_all(file, &mut bytes)?;
+    Ok(bytes)
+}
+
+/// Adds the bytes of the file.
+pub(crate) fn read_all(file: &OwnedFd, buf: &mut Vec<u8>) -> io::Result<()> {
+    let mut piece = [0; 4096];
+    for _ in 0..MAX_TURNS {
+        let got = libc::pread(file.as_raw_fd(), &mut piece, buf.len() as i64);
+        match usize::try_from(got) {
+            Ok(0) => return Ok(()),
+            Ok(got) => buf.extend_from_slice(&piece[..got])?,
+            Err(_) => {
+                let error = last_error();
+                if error.kind() != io::ErrorKind::Interrupted {
+                    return Err(error);
+                }
+            }
+        }
+    }
+    Err(io::Error::from_raw_os_error(libc::EFBIG))
+}
+
+/// Makes the name of a file durable.
+pub(crate) fn sync_folder(path: &[u8]) -> io::Result<()> {
+    let mut whole = [0; libc::PATH_MAX];
+    checked(os::realpath(path, &mut whole))?;
+    let size = os::name_length(&whole);
+    let folder = match whole[..size].iter().rposition(|byte| *byte == b'/') {
+        Some(0) => &whole[..1],
+        Some(at) => &whole[..at],
+        None => b".",
+    };
+    let number = os::open_read(folder);
+    if number < 0 {
+        return Err(last_error());
+    }
+    sync_all(&unsafe { OwnedFd::from_raw_fd(number) })
+}
+
+/// Writes these bytes at the end of a file, which it makes if there is none, and makes them durable.
+pub(crate) fn append_synced(path: &[u8], bytes: &[u8]) -> io::Result<()> {
+    let file = opened(path, libc::O_WRONLY | libc::O_APPEND | libc::O_CREAT, 0o600)?;
+    write_all_at(&file, 0, bytes)?;
+    sync_all(&file)?;
+    sync_folder(path)
+}
