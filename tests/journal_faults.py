@@ -123,7 +123,10 @@ class Trial:
             ("a word", "no journal", b"ab"),
             ("two empty lines and a text", "no journal", b"\n\n" + b"x" * 300),
             ("another version", "", b"# zvt journal 2, currency 978\n\n"),
-            ("too much after the gate", "after the first empty line", journal().file() + after),
+            ("too much after the gate", "after the first empty line", journal().file() + b"0" + after),
+            ("one byte", "no journal", b"x"),
+            ("a note behind an empty line", "no journal", b"\nmilk, bread and cheese"),
+            ("an opening of another program", "no journal", b"\n zvt journal 1, password"),
             ("an order of an entry that is none", "", journal().file()[:-1] + again + b"\n"),
             ("a line that is none", "", journal().file()[:-1] + b"pay 1\n\n"),
             ("a message that is none", "", journal().file()[:-1] + b"< 06D0\n\n"),
@@ -134,6 +137,23 @@ class Trial:
             self.refuses(name, BAD, said, path)
         path.write_bytes(journal(756).file())
         self.refuses("another currency", BAD, "", path, reads=False)
+
+    def empty_lines(self):
+        """An empty line within a book: no crash leaves it, and what lies behind it is not given up."""
+        of = journal_dialogues.Dialogue()
+        of.registered()
+        for number in range(1, 31):
+            of.paid(number, number)
+        for at in range(1, len(of.records)):
+            front, rest = b"".join(of.records[:at]), b"".join(of.records[at:])
+            said = f"line {front.count(10) + 1} is empty, and {len(of.records) - at} records lie behind it"
+            for name, content in (("an empty line", front + b"\n" + rest + b"\n"), ("and none at the end", front + b"\n" + rest)):
+                path = self.work / "emptied"
+                path.write_bytes(content)
+                if at % 7 == 1 or name == "an empty line" and at % 7 == 2:
+                    self.refuses(f"{name} before record {at}", BAD, said, path)
+        path.write_bytes(b"".join(of.records)[:-1])
+        self.refuses("a last line that is cut short, and no gate", BAD, "is empty, and", path)
 
     # ---- what is beside it
 
@@ -259,6 +279,7 @@ class Trial:
     def run(self):
         self.kinds()
         self.contents()
+        self.empty_lines()
         self.beside()
         self.in_use()
         self.read_only()

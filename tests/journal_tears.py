@@ -1,9 +1,9 @@
 #!/usr/bin/env python3
 """Tears the journals of thirteen dialogues in every way a crash may, and compares what the program reads with the model.
 
-For each record: all cuts of what is written behind the closed gate, new bytes mixed with zeros and with others at each
-place, the gate's byte old and new. Then a crash in the recovery: the cut torn at each length, the gate not written, or
-another byte in its place. `zvt book` reads each file, and so does the model; both answer the book of the records that
+For each record: all cuts of what is written behind the closed gate, new bytes mixed with zeros at each place and by chance,
+the gate's byte old and new. Each byte of a torn write is the new one, or 0, since the file grew there. Then a crash in the
+recovery: the cut torn at each length, the gate not written, or 0 in its place. `zvt book` reads each file, and so does the model; both answer the book of the records that
 count. `zvt audit` reads the file at rest behind each record. Each tenth torn file is opened too, by a till whose terminal is not
 there: then the file is at rest, and what was cut is kept beside it.
 
@@ -26,8 +26,8 @@ HERE = pathlib.Path(__file__).resolve().parent
 ZVT = sys.argv[1] if len(sys.argv) > 1 else str(HERE.parent / "crates/zvt/out/zvt")
 EVERY = int(sys.argv[2]) if len(sys.argv) > 2 else 1
 SECONDS = 60
-OTHERS = b"\n\n#<>!0A \r\0"  # bytes that mean something in a journal
-GATES = b"\n\0#<>!x\r\xff"
+GATES = b"\n\0"  # what a torn write of a gate leaves at the end of a file
+MARKS = b"!#<>"  # what lines of records begin with
 
 
 def torn_appends(file, record, chance):
@@ -36,8 +36,9 @@ def torn_appends(file, record, chance):
     new = calls[0][2]
     size = len(new)
     for cut in range(size + 1):
-        mixed = bytes(chance.choice((byte, chance.choice(OTHERS))) for byte in new)
+        mixed = bytes(chance.choice((byte, 0)) for byte in new)
         for rest in (new[:cut], new[:cut] + bytes(size - cut), bytes(cut) + new[cut:], mixed[:cut], mixed[:cut] + new[cut:]):
+            assert rest[:1] not in MARKS or not rest, "a crash leaves a record without its first byte"
             yield file + rest, False
     yield file[:-1] + record[:1] + new, True
 

@@ -23,12 +23,13 @@ module _ (text : List ℕ) (is : whole 0 text ≡ length text) (gate : ℕ) (at_
   length-at_rest = omega (arith, at_gate, length-append text (10 ∷ []))
 
   -- the closed gate is there whatever the first write leaves
-  pub torn_after : (n : ℕ) (file : List ℕ) → Torn (gate + 1) n (at_rest text) file → recovered file ≡ text
-  torn_after n file torn =
+  pub torn_parted : (bytes file : List ℕ) → Torn (gate + 1) bytes (at_rest text) file → file ≡ text ++ 10 ∷ drop (gate + 1) file
+  torn_parted bytes file torn =
       let prefix : take (gate + 1) file ≡ at_rest text = torn.before ∙ take_all (gate + 1) (at_rest text) (omega (arith, length-at_rest)) in
-      let parted : file ≡ text ++ 10 ∷ drop (gate + 1) file =
-      sym (take-append-drop (gate + 1) file) ∙ ap (λ (l : List ℕ). l ++ drop (gate + 1) file) prefix ∙ append_assoc text (10 ∷ []) (drop (gate + 1) file) in
-      ap recovered parted ∙ recovered_closed text (drop (gate + 1) file) is
+      sym (take-append-drop (gate + 1) file) ∙ ap (λ (l : List ℕ). l ++ drop (gate + 1) file) prefix ∙ append_assoc text (10 ∷ []) (drop (gate + 1) file)
+
+  pub torn_after : (bytes file : List ℕ) → Torn (gate + 1) bytes (at_rest text) file → recovered file ≡ text
+  torn_after bytes file torn = ap recovered (torn_parted bytes file torn) ∙ recovered_closed text (drop (gate + 1) file) is
 
   pub written_after : (bytes file : List ℕ) → Over (gate + 1) bytes (at_rest text) file → file ≡ text ++ 10 ∷ bytes
   written_after bytes file over =

@@ -1,8 +1,8 @@
 -- What a file represents, said of lines.
-use Rattle.std.proofs.Common.{◌≡◌, ◌≢◌, ℕ, zero, suc, ◌+◌, ◌<◌, List, [], ◌∷◌, ◌++◌, length, take, All, refl, sym, ◌∙◌, ap, arith, append_assoc, length-append}
+use Rattle.std.proofs.Common.{◌≡◌, ◌≢◌, ℕ, zero, suc, ◌+◌, ◌<◌, List, [], ◌∷◌, ◌++◌, length, take, drop, false, All, refl, sym, ◌∙◌, ap, arith, append_assoc, length-append}
 use Rattle.std.proofs.lemmas.List.{take_all}
 use Rattle.std.proofs.lemmas.List.Elements.{All-nil, All-cons, All-head, All-tail, All-push}
-use Rattle.zvt_journal.specs.Text.{whole, IsLine, text_of, LinesAreRecovered, RecoveredIsLines, IsRecord}
+use Rattle.zvt_journal.specs.Text.{whole, begins_marked, IsLine, text_of, LinesAreRecovered, RecoveredIsLines, IsRecord}
 use Rattle.zvt_journal.proofs.Lines.{empty, ends, within, way, take_past, ends_is, within_is, recovered_closed, itself_whole}
 
 -- a line, in whose midst we are, is counted at its end
@@ -67,8 +67,8 @@ pub recovered_is_lines : RecoveredIsLines
 recovered_is_lines file = lines_from [] file (All-nil (λ b. b ≢ 10))
 
 -- the test of a record
-pub record_if : (text : List ℕ) → 0 < length text → whole 0 text ≡ length text → IsRecord text
-record_if text some is = record { lines = take_all (whole 0 text) text (omega (arith, is)); some = some }
+pub record_if : (text : List ℕ) → 0 < length text → begins_marked (drop 1 text) ≡ false → whole 0 text ≡ length text → IsRecord text
+record_if text some unmarked is = record { lines = take_all (whole 0 text) text (omega (arith, is)); some = some; unmarked = unmarked }
 
 pub record_whole : (text : List ℕ) → IsRecord text → whole 0 text ≡ length text
 record_whole text good = itself_whole text good.lines

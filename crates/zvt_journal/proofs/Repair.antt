@@ -12,7 +12,7 @@ cut_keeps file left cut =
 
 module _ (text : List ℕ) (is : whole 0 text ≡ length text) where
   -- one byte after them is no line
-  pub torn_end : (left : List ℕ) → Torn (length text) 1 text left → recovered left ≡ text
+  pub torn_end : (left : List ℕ) → Torn (length text) (10 ∷ []) text left → recovered left ≡ text
   torn_end left torn =
       let prefix : take (length text) left ≡ text = torn.before ∙ take_all (length text) text (omega arith) in
       let parted : left ≡ text ++ drop (length text) left =

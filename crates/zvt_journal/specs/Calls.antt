@@ -25,7 +25,7 @@ seen_after start ((call, bytes, false) ∷ made) = seen_after start made
 
 -- what a crash makes of a file in this call, or after it and before the next sync
 abbrev pub IsCutShort : Call → List ℕ → List ℕ → List ℕ → Type 0
-IsCutShort (Wrote at) bytes old new = Torn at (length bytes) old new
+IsCutShort (Wrote at) bytes old new = Torn at bytes old new
 IsCutShort (SetByte at byte) bytes old new = Swapped at byte old new
 IsCutShort (CutTo len) bytes old new = Cut len old new
 IsCutShort Synced bytes old new = old ≡ new

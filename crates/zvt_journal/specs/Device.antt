@@ -1,5 +1,5 @@
 -- What the calls of a device do to its file, and which files a crash may leave.
-use Rattle.std.specs.Prelude.{◌<◌, ◌≡◌, ◌⊎◌, ℕ, ◌+◌, ◌≤◌, min, max, List, [], ◌∷◌, ◌++◌, length, take, drop, Result, IsErrOf}
+use Rattle.std.specs.Prelude.{◌<◌, ◌≡◌, ◌⊎◌, ℕ, ◌+◌, ◌≤◌, min, max, List, [], ◌∷◌, ◌++◌, get_or, length, take, drop, Result, IsErrOf}
 use Rattle.zvt_journal.specs.declared.device.DeviceError.{DeviceError}
 use Rattle.zvt_journal.specs.declared.device.DeviceError.TheVariants.{Failed, Full}
 
@@ -7,12 +7,14 @@ use Rattle.zvt_journal.specs.declared.device.DeviceError.TheVariants.{Failed, Fu
 abbrev pub Over : ℕ → List ℕ → List ℕ → List ℕ → Type 0
 Over at bytes old new = new ≡ take at old ++ bytes ++ drop (at + length bytes) old
 
--- A write of n bytes from `at` on that a crash cuts short: any bytes there and past the old end, what was there elsewhere.
-pub record Torn (at n : ℕ) (old new : List ℕ) : Type 0 where
+-- A write of these bytes from `at` on that a crash cuts short. Each byte of it is the new one or the one from before, and that
+-- is 0 where the file grew. What was there elsewhere stays.
+pub record Torn (at : ℕ) (bytes old new : List ℕ) : Type 0 where
   pub before : take at new ≡ take at old
-  pub after : drop (at + n) new ≡ drop (at + n) old
+  pub after : drop (at + length bytes) new ≡ drop (at + length bytes) old
   pub no_shorter : length old ≤ length new
-  pub no_longer : length new ≤ max (length old) (at + n)
+  pub no_longer : length new ≤ max (length old) (at + length bytes)
+  pub each : (i : ℕ) → i < length bytes → (get_or (drop at new) i 0 ≡ get_or bytes i 0) ⊎ (get_or (drop at new) i 0 ≡ get_or (drop at old) i 0)
 
 -- One byte over another that a crash cuts short: the one or the other.
 abbrev pub Swapped : ℕ → ℕ → List ℕ → List ℕ → Type 0

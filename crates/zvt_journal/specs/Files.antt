@@ -1,8 +1,8 @@
 -- What a journal's file may hold.
-use Rattle.std.specs.Prelude.{◌≡◌, ◌⊎◌, ◌≤◌, ◌+◌, ◌-◌, ◌^◌, ℕ, List, [], ◌∷◌, length, take, codes, ◌==◌, if◌then◌else◌}
+use Rattle.std.specs.Prelude.{◌≡◌, ◌⊎◌, ◌≤◌, ◌+◌, ◌-◌, ◌^◌, ℕ, List, [], ◌∷◌, length, take, drop, codes, ◌==◌, ◌&&◌, not, Bool, true, false, if◌then◌else◌}
 use Rattle.zvt_journal.specs.declared.file.FileDevice.{FileDevice}
 use Rattle.zvt_journal.specs.Calls.{seen_after, may_leave_after}
-use Rattle.zvt_journal.specs.Text.{whole}
+use Rattle.zvt_journal.specs.Text.{begins_marked, is_mark, recovered, whole}
 
 -- what a read of the device's file returns
 abbrev pub file_seen : FileDevice → List ℕ
@@ -20,11 +20,47 @@ IsNamed file = take 15 file ≡ codes "# zvt journal 1"
 abbrev pub IsBegun : List ℕ → Type 0
 IsBegun file = (length file ≤ 1) ⊎ ((take 1 file ≡ 10 ∷ []) × (length file ≤ 2 ^ 8 + 1))
 
--- no crash leaves more bytes after the whole lines
-abbrev pub HasFewAfter : List ℕ → Type 0
-HasFewAfter file = length file - whole 0 file ≤ 2 ^ 18 + 1
-
 -- the bytes after a closed gate, or all of them where they begin with none
 abbrev pub after_gate : List ℕ → List ℕ
 after_gate [] = []
 after_gate (byte ∷ rest) = if byte == 10 then rest else byte ∷ rest
+
+-- what comes behind the whole lines of a file and its closed gate
+abbrev pub behind_gate : List ℕ → List ℕ
+behind_gate file = after_gate (drop (whole 0 file) file)
+
+-- no crash leaves more bytes after the whole lines
+abbrev pub HasFewAfter : List ℕ → Type 0
+HasFewAfter file = length file - whole 0 file ≤ 2 ^ 18 + 1
+
+-- No crash leaves what begins as a line of a record there: an append leaves a record without its first byte.
+abbrev pub HasNoLineBehind : List ℕ → Type 0
+HasNoLineBehind file = begins_marked (behind_gate file) ≡ false
+
+-- the end of a file as a crash leaves it: opening cuts it
+pub record IsRepairable (file : List ℕ) : Type 0 where
+  pub few : HasFewAfter file
+  pub no_line : HasNoLineBehind file
+
+-- the file is one that might have been left before, or opening repairs it
+abbrev pub IsRepairableAsBefore : (List ℕ → Type 0) → List ℕ → Type 0
+IsRepairableAsBefore might_leave file = might_leave file ⊎ IsRepairable file
+
+-- how many lines end in a text
+abbrev pub lines_ended : List ℕ → ℕ
+lines_ended [] = 0
+lines_ended (byte ∷ rest) = if byte == 10 then lines_ended rest + 1 else lines_ended rest
+
+-- how many lines begin with `!`, `#` or `<`, as the first one of a record does; whether the text begins a line is told
+abbrev pub records_from : Bool → List ℕ → ℕ
+records_from begins [] = 0
+records_from begins (byte ∷ rest) =
+    if begins && is_mark byte && not (byte == 62) then records_from (byte == 10) rest + 1 else records_from (byte == 10) rest
+
+-- the line, counted from 1, that is empty and ends the text
+abbrev pub gate_line : List ℕ → ℕ
+gate_line file = lines_ended (recovered file) + 1
+
+-- how many records lie behind the gate
+abbrev pub records_behind : List ℕ → ℕ
+records_behind file = records_from true (behind_gate file)

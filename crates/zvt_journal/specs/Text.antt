@@ -1,5 +1,5 @@
 -- What a file of lines represents. A line feed is 10.
-use Rattle.std.specs.Prelude.{◌≡◌, ◌≢◌, All, ◌⊎◌, ℕ, ◌+◌, ◌<◌, List, [], ◌∷◌, ◌++◌, length, take, if◌then◌else◌, ◌==◌, Vec}
+use Rattle.std.specs.Prelude.{◌≡◌, ◌≢◌, All, ◌⊎◌, ℕ, ◌+◌, ◌<◌, List, [], ◌∷◌, ◌++◌, length, take, drop, if◌then◌else◌, ◌==◌, ◌||◌, Bool, false, Vec}
 use Rattle.std.specs.declared.alloc.Global.{Global}
 use Rattle.zvt_journal.specs.Device.{Only}
 
@@ -30,10 +30,20 @@ LinesAreRecovered = (lines : List (List ℕ)) (rest : List ℕ) → All IsLine l
 abbrev pub RecoveredIsLines : Type 0
 RecoveredIsLines = (file : List ℕ) → (lines : List (List ℕ)) × All IsLine lines × (text_of lines ≡ recovered file)
 
--- whole lines, none of them empty, and at least one
+-- one of the bytes with which the lines of a till's records begin: `!`, `#`, `<`, `>`
+abbrev pub is_mark : ℕ → Bool
+is_mark byte = byte == 33 || byte == 35 || byte == 60 || byte == 62
+
+abbrev pub begins_marked : List ℕ → Bool
+begins_marked [] = false
+begins_marked (byte ∷ rest) = is_mark byte
+
+-- Whole lines, none of them empty, and at least one. Without its first byte the text begins with no mark: so it can't be
+-- taken for a record then.
 pub record IsRecord (text : List ℕ) : Type 0 where
   pub lines : recovered text ≡ text
   pub some : 0 < length text
+  pub unmarked : begins_marked (drop 1 text) ≡ false
 
 -- whole lines, and then the closed gate, which reads as an empty line
 abbrev pub at_rest : List ℕ → List ℕ

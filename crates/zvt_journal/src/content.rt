@@ -1,10 +1,10 @@
 //! What a journal's file may hold, and what of it counts.
-ghost use Rattle.std.specs.Prelude.{◌≡◌, ◌≤◌, ◌⊎◌, ◌↔◌, ◌-◌, length, drop, IfOk, IfErr, IsTrue, codes};
+ghost use Rattle.std.specs.Prelude.{◌≡◌, ◌≤◌, ◌⊎◌, ◌↔◌, ◌-◌, length, drop, IfOk, IfErr, IsTrue, true};
 ghost use Rattle.zvt_journal.specs.Text.{whole};
-ghost use Rattle.zvt_journal.specs.Files.{IsNamed, IsBegun, HasFewAfter, after_gate};
+ghost use Rattle.zvt_journal.specs.Files.{IsNamed, IsBegun, IsRepairable, HasFewAfter, HasNoLineBehind, after_gate, gate_line, lines_ended, records_behind, records_from};
 
 use crate::JournalFileError;
-use crate::journal::{LINE_FEED, MAX_RECORD_LEN, whole_lines};
+use crate::journal::{LINE_FEED, MAX_RECORD_LEN, begins_marked, whole_lines};
 
 /// What a journal's first line begins with.
 const FORMAT: [u8; 15] = *b"# zvt journal 1";
@@ -30,14 +30,23 @@ fn is_begun(bytes: &[u8]) -> bool
 pub(crate) fn accepted_lines(bytes: &[u8]) -> Result<usize, JournalFileError>
     ensures whole { IfOk result (λ end. end ≡ whole 0 bytes.now) }
     ensures within { IfOk result (λ end. end ≤ length bytes.now) }
-    ensures accepted { IfOk result (λ _. (IsNamed bytes.now ⊎ IsBegun bytes.now) × HasFewAfter bytes.now) }
+    ensures known { IfOk result (λ _. IsNamed bytes.now ⊎ IsBegun bytes.now) }
+    ensures repairable { IfOk result (λ _. IsRepairable bytes.now) }
     ensures refused { IfErr result (λ error. ((error ≡ JournalFileError.NotAJournal) × (IsNamed bytes.now ⊎ IsBegun bytes.now → ⊥))
+        ⊎ ((error ≡ JournalFileError.RecordsBehind (gate_line bytes.now) (records_behind bytes.now)) × (HasNoLineBehind bytes.now → ⊥))
         ⊎ ((error ≡ JournalFileError.TooMuchAfter (length bytes.now - whole 0 bytes.now)) × (HasFewAfter bytes.now → ⊥))) }
 {
     if !is_named(bytes) && !is_begun(bytes) {
         return Err(JournalFileError::NotAJournal);
     }
     let end = whole_lines(bytes);
+    let behind = to_cut(bytes, end);
+    if begins_marked(behind) {
+        return Err(JournalFileError::RecordsBehind {
+            line: lines_ended(&bytes[..end]) + 1,
+            records: records_in(behind),
+        });
+    }
     let after = bytes.len() - end;
     if after > MAX_RECORD_LEN + 1 {
         return Err(JournalFileError::TooMuchAfter { bytes: after });
@@ -55,4 +64,33 @@ pub(crate) fn to_cut(bytes: &[u8], end: usize) -> &[u8]
         Some((&LINE_FEED, after)) => after,
         _ => rest,
     }
+}
+
+/// How many lines end in the text.
+fn lines_ended(text: &[u8]) -> usize
+    ensures count { result ≡ lines_ended text.now }
+    ensures within { result ≤ length text.now }
+{
+    let mut count = 0;
+    for (at, byte) in text.iter().enumerate() {
+        if *byte == LINE_FEED {
+            count += 1;
+        }
+    }
+    count
+}
+
+/// How many records begin in the text.
+fn records_in(text: &[u8]) -> usize
+    ensures { result ≡ records_from true text.now }
+{
+    let mut begins = true;
+    let mut count = 0;
+    for (at, byte) in text.iter().enumerate() {
+        if begins && matches!(*byte, b'!' | b'#' | b'<') {
+            count += 1;
+        }
+        begins = *byte == LINE_FEED;
+    }
+    count
 }

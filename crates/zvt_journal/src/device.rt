@@ -34,8 +34,8 @@ impl<T: Drop> From<AllocFailed<T>> for DeviceError {
 
 /// A file on a disk that may lose power at any moment. Nothing is durable before a `sync`.
 ///
-/// The crash model: a write of one byte over another leaves the old byte or the new one. A write of several bytes leaves
-/// any bytes in its range. Bytes outside of a write stay as they are.
+/// The crash model: each byte of a write that was cut short is the new one or the one from before, and 0 where the file
+/// grew. Bytes outside of a write stay as they are. The bytes of one write may go to the disk in any order.
 ///
 /// No call reads. Whoever makes a device reads the file first, since no contract of std says what a file holds.
 pub trait Device {
@@ -54,11 +54,11 @@ pub trait Device {
     /// How often the disk has failed.
     ghost faults: { Self → ℕ };
 
-    /// Writes over the file, and past its end. Until the next `sync` a crash may leave any bytes there.
+    /// Writes over the file, and past its end. Until the next `sync` a crash may leave any of them.
     fn write_at(&mut self, at: usize, bytes: &[u8]) -> Result<(), DeviceError>
         requires { at ≤ length (seen self.old) }
         ensures written { OnOk result (Over at bytes.now (seen self.old) (seen self.new)) }
-        ensures crash { Follows (Torn at (length bytes.now)) (may_leave self.old) (may_leave self.new) }
+        ensures crash { Follows (Torn at bytes.now) (may_leave self.old) (may_leave self.new) }
         ensures time { Elapses (moment self.old) (moment self.new) (left_since self.old) (left_since self.new) (may_leave self.new) }
         ensures cause { HasCause (faults self.old) (faults self.new) result };
 

@@ -23,6 +23,11 @@ pub enum JournalFileError {
     /// The file is no journal: its first line doesn't begin with the name of the format.
     #[error("this is no journal, and it was left as it is: name a journal, or a file that is not there yet")]
     NotAJournal,
+    /// Whole records lie behind the first empty line, which this line is. No crash leaves such a file: an editor put the empty
+    /// line there, or the disk lost what stood in its place.
+    #[error("line {line} is empty, and {records} records lie behind it, which no crash leaves: \
+        remove that line to have them back, or all that comes after it to give them up")]
+    RecordsBehind { line: usize, records: usize },
     /// More bytes come after the whole lines up to the first empty one than a crash leaves.
     #[error("{bytes} bytes come after the first empty line, more than a crash leaves: remove that line if an editor put it there")]
     TooMuchAfter { bytes: usize },

@@ -1,8 +1,8 @@
 //! Records of text lines, and the gate that makes each of them count at once.
 ghost use Rattle.std.specs.Prelude.{◌≡◌, All, ◌↔◌, ◌⊎◌, ◌+◌, ◌<◌, ◌≤◌, ◌^◌, ◌++◌, [], ◌∷◌, List, ℕ, length, drop, IfOk, OnOk, IsErrOf, IsTrue};
 ghost use Rattle.zvt_journal.specs.Device.{Only, LeavesOnly};
-ghost use Rattle.zvt_journal.specs.Files.{HasFewAfter};
-ghost use Rattle.zvt_journal.specs.Text.{whole, recovered, IsRecord, IsSettled, IsWithOrWithout, IsAsBefore, joined, HasFirst, LinesAreRecovered, RecoveredIsLines};
+ghost use Rattle.zvt_journal.specs.Files.{IsRepairable, IsRepairableAsBefore};
+ghost use Rattle.zvt_journal.specs.Text.{whole, begins_marked, recovered, IsRecord, IsSettled, IsWithOrWithout, IsAsBefore, joined, HasFirst, LinesAreRecovered, RecoveredIsLines};
 
 use crate::durable::{cut_synced, set_synced, write_synced};
 use crate::{Device, DeviceError};
@@ -42,8 +42,8 @@ impl<D: Device> Journal<D> {
         ensures any_moment { LeavesOnly D.moment D.left_since self.old.device self.new.device
             (IsWithOrWithout (recovered (D.seen self.old.device)) entry.now) }
 
-        // And no more after its whole lines than a record and one byte.
-        ensures few_after { LeavesOnly D.moment D.left_since self.old.device self.new.device HasFewAfter }
+        // Opening repairs that file: no more comes after its whole lines than a record and one byte, and no line.
+        ensures repairable { LeavesOnly D.moment D.left_since self.old.device self.new.device IsRepairable }
 
         // It doesn't give up by itself.
         ensures failed { IsErrOf result DeviceError.Failed → D.faults self.old.device < D.faults self.new.device }
@@ -103,6 +103,10 @@ pub fn open<D: Device>(device: &mut D, mut bytes: Vec<u8>) -> Result<Vec<u8>, De
     ensures any_moment { LeavesOnly D.moment D.left_since device.old device.new
         (IsAsBefore (D.may_leave device.old) (recovered (D.seen device.old))) }
 
+    // Nor does it leave a file that opening refuses, if it was given none.
+    ensures repairable { IsRepairable (D.seen device.old) → LeavesOnly D.moment D.left_since device.old device.new
+        (IsRepairableAsBefore (D.may_leave device.old)) }
+
     ensures failed { IsErrOf result DeviceError.Failed → D.faults device.old < D.faults device.new }
     ensures full { IsErrOf result DeviceError.Full → ⊥ }
 {
@@ -115,12 +119,12 @@ pub fn open<D: Device>(device: &mut D, mut bytes: Vec<u8>) -> Result<Vec<u8>, De
     Ok(bytes)
 }
 
-/// Whether these are whole lines, none of them empty, and at least one: what a journal takes as a record.
+/// Whether these are whole lines, none of them empty, at least one, and no mark comes second: what a journal takes as a record.
 #[tactic(auto, using(crate::proofs::Meaning::record_if, crate::proofs::Meaning::record_whole))]
 pub fn is_record(text: &[u8]) -> bool
     ensures { IsTrue result ↔ IsRecord text.now }
 {
-    !text.is_empty() && whole_lines(text) == text.len()
+    !text.is_empty() && !begins_marked(&text[1..]) && whole_lines(text) == text.len()
 }
 
 /// Lines before a closed gate are what is recovered, whatever comes after it; each file stands for such lines, and so do they.
@@ -129,6 +133,13 @@ pub fn lines_are_recovered()
     ensures converse { RecoveredIsLines }
     ensures again { (file : List ℕ) → recovered (recovered file) ≡ recovered file }
 {}
+
+/// Whether the text begins as a line of a till's record does.
+pub(crate) fn begins_marked(text: &[u8]) -> bool
+    ensures { result ≡ begins_marked text.now }
+{
+    matches!(text.first(), Some(&(b'!' | b'#' | b'<' | b'>')))
+}
 
 /// How many bytes of whole lines come before the first empty line.
 pub(crate) fn whole_lines(bytes: &[u8]) -> usize

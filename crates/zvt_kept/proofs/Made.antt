@@ -1,12 +1,12 @@
 -- The lines of records, and what they mean.
-use Rattle.std.proofs.Common.{◌≡◌, ℕ, ◌<◌, ◌≤◌, List, [], ◌∷◌, ◌++◌, All, length, map, Option, Some, option_map, refl, ap, sym, ◌∙◌, subst, arith, append_assoc, length-append}
+use Rattle.std.proofs.Common.{◌≡◌, ℕ, ◌<◌, ◌≤◌, List, [], ◌∷◌, ◌++◌, All, length, drop, false, map, Option, Some, option_map, refl, ap, sym, ◌∙◌, subst, arith, append_assoc, length-append}
 use Rattle.std.specs.Prelude.{codes, decimal}
 use Rattle.std.proofs.lemmas.List.{append-nil}
 use Rattle.std.proofs.lemmas.List.Elements.{All-nil, All-cons, All-head, All-tail, All-weaker}
 use Rattle.std.specs.Str.Lines.{lines, strip_carriage_return}
 use Rattle.hex.specs.Hex.{IsBytes, encode_upper}
 use Rattle.zvt_till.specs.declared.orders.Order.{Order}
-use Rattle.zvt_journal.specs.Text.{IsLine, IsRecord, recovered, text_of, whole}
+use Rattle.zvt_journal.specs.Text.{begins_marked, IsLine, IsRecord, recovered, text_of, whole}
 use Rattle.zvt_journal.proofs.Lines.{itself_whole, recovered_then, recovered_whole}
 use Rattle.zvt_journal.proofs.Meaning.{lines_are_recovered, record_if, recovered_is_lines}
 use Rattle.zvt_kept.specs.Records.{Kept, ordered, heard, lost, IsPiece, IsOrderRecord, IsHeardRecord, IsRecordOf, OpeningIsTaken, RecordsAreKept, RecordsAreTaken, RecordsAreWhole, kept_in, lost_record, meaning, meanings, one_or_none, opening, order_words, ordered_by, sent_lines}
@@ -23,6 +23,7 @@ record IsMade (kept : List Kept) (text : List ℕ) : Type 0 where
   pub is : text ≡ text_of (line ∷ more)
   pub plain : All IsPlain (line ∷ more)
   pub means : meanings (line ∷ more) ≡ Some kept
+  pub unmarked : begins_marked (drop 1 (text_of (line ∷ more))) ≡ false
 
 -- ---- lines of bytes
 
@@ -75,6 +76,7 @@ made_order order text is =
     let pieces = one_piece is.sent is.bytes in
     let line : IsPlain (order_body order) = record { some = omega arith; plain = both_plain (codes "# ") (order_words order) (word_plain (codes "# ") refl) (words_plain order is.spelled) } in
     record {
+      unmarked = refl;
       line = order_body order;
       more = map sent_body (one_or_none is.sent);
       is = is.is ∙ first_text (order_body order) (one_or_none is.sent);
@@ -86,6 +88,7 @@ made_heard : (message text : List ℕ) → IsHeardRecord message text → IsMade
 made_heard message text is =
     let line : IsPlain (heard_body message) = record { some = omega arith; plain = both_plain (codes "< ") (encode_upper message) (word_plain (codes "< ") refl) (encode_plain message is.piece.bytes) } in
     record {
+      unmarked = refl;
       line = heard_body message;
       more = map sent_body is.answers;
       is = is.is ∙ first_text (heard_body message) is.answers;
@@ -95,6 +98,7 @@ made_heard message text is =
 
 made_lost : (text : List ℕ) → text ≡ lost_record → IsMade (lost ∷ []) text
 made_lost text is = record {
+  unmarked = refl;
   line = codes "!";
   more = [];
   is = is;
@@ -112,6 +116,7 @@ opening_made currency fits =
     let words = codes "# zvt journal 1, currency " in
     let plain = both_plain words (decimal currency) (word_plain words refl) (decimal_plain currency (omega arith)) in
     record {
+      unmarked = refl;
       line = words ++ decimal currency;
       more = [];
       is = refl;
@@ -136,7 +141,7 @@ made_record kept text m =
     let first = All-head IsPlain m.line m.more m.plain in
     let some : 0 < length (text_of lines) = omega (arith, first.some, length-append m.line (10 ∷ text_of m.more)) in
     let P : List ℕ → Type 0 = λ (l : List ℕ). IsRecord l in
-    subst P (sym m.is) (record_if (text_of lines) some (whole_lines lines good))
+    subst P (sym m.is) (record_if (text_of lines) some m.unmarked (whole_lines lines good))
 
 -- the lines of a text that comes after whole lines come after those
 lines_after : (text added : List ℕ) → recovered text ≡ text → lines (text ++ added) ≡ lines text ++ lines added

@@ -63,6 +63,7 @@ status_of_file_error on_file.InUse = 4
 status_of_file_error on_file.Folder = 4
 status_of_file_error on_file.NotAFile = 4
 status_of_file_error on_file.NotAJournal = 3
+status_of_file_error (on_file.RecordsBehind line records) = 3
 status_of_file_error (on_file.TooMuchAfter bytes) = 3
 status_of_file_error (on_file.CutNotKept error) = status_of_call (error_kind error)
 status_of_file_error (on_file.Io error) = status_of_call (error_kind error)

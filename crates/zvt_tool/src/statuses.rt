@@ -87,7 +87,9 @@ pub fn of_file_error(error: &JournalFileError) -> u8
     ensures { result ≡ status_of_file_error error.now }
 {
     match error {
-        JournalFileError::NotAJournal | JournalFileError::TooMuchAfter { .. } => TRACE,
+        JournalFileError::NotAJournal
+        | JournalFileError::RecordsBehind { .. }
+        | JournalFileError::TooMuchAfter { .. } => TRACE,
         JournalFileError::InUse | JournalFileError::Folder | JournalFileError::NotAFile => DEVICE,
         JournalFileError::CutNotKept(error) | JournalFileError::Io(error) => of_call(error),
         JournalFileError::Memory => MEMORY,

@@ -1,11 +1,11 @@
 use Rattle.std.proofs.Common.{◌≤◌, ◌^◌, rules, ◌+◌, [], ◌∷◌, ◌++◌, length, get_or, inl, ◌∙◌, ap, subst, arith}
 use Rattle.std.proofs.lemmas.Grind.{common_steps}
 use Rattle.zvt_journal.specs.Device.{Over, Torn, Swapped}
-use Rattle.zvt_journal.specs.Files.{HasFewAfter}
+use Rattle.zvt_journal.specs.Files.{IsRepairable}
 use Rattle.zvt_journal.specs.Text.{recovered, IsWithOrWithout}
 use Rattle.zvt_journal.proofs.Moments.{started, and_then}
 use Rattle.zvt_journal.proofs.Lines.{recovered_whole}
-use Rattle.zvt_journal.proofs.Few.{short_following, few_at_rest, few_torn, few_swapped}
+use Rattle.zvt_journal.proofs.Repairable.{short_following, unmarked_following, repairable_at_rest, repairable_torn, repairable_swapped}
 use Rattle.zvt_journal.proofs.Append.{torn_after, written_after, opened, swapped_gate, settled, stands_for_more}
 use Rattle.zvt_journal.proofs.journal.Journal.append.Goals as goal
 
@@ -21,8 +21,8 @@ returns-in_err-write_synced-clause-any_moment g c =
     let is = recovered_whole (g.D.Device.seen device) in
     let P = IsWithOrWithout text entry in
     let start = started g.D.Device.moment g.D.Device.left_since device P (λ file left. inl (ap recovered (s.durable file (g.met.D.Device.only_now device file left)))) in
-    let written = and_then g.D.Device.moment g.D.Device.left_since device device c.write_synced.new.device P (Torn (gate + 1) (length bytes) (g.D.Device.seen device)) start c.write_synced.ensures.any_moment
-    (λ file torn. inl (torn_after text is gate s.at_gate (length bytes) file (subst (λ was. Torn (gate + 1) (length bytes) was file) s.rest torn))) in
+    let written = and_then g.D.Device.moment g.D.Device.left_since device device c.write_synced.new.device P (Torn (gate + 1) bytes (g.D.Device.seen device)) start c.write_synced.ensures.any_moment
+    (λ file torn. inl (torn_after text is gate s.at_gate bytes file (subst (λ was. Torn (gate + 1) bytes was file) s.rest torn))) in
     written
 
 -- the second leaves it with the record or without
@@ -37,8 +37,8 @@ returns-in_err-set_synced-clause-any_moment g c =
     let is = recovered_whole (g.D.Device.seen device) in
     let P = IsWithOrWithout text entry in
     let start = started g.D.Device.moment g.D.Device.left_since device P (λ file left. inl (ap recovered (s.durable file (g.met.D.Device.only_now device file left)))) in
-    let written = and_then g.D.Device.moment g.D.Device.left_since device device c.write_synced.new.device P (Torn (gate + 1) (length bytes) (g.D.Device.seen device)) start c.write_synced.ensures.any_moment
-    (λ file torn. inl (torn_after text is gate s.at_gate (length bytes) file (subst (λ was. Torn (gate + 1) (length bytes) was file) s.rest torn))) in
+    let written = and_then g.D.Device.moment g.D.Device.left_since device device c.write_synced.new.device P (Torn (gate + 1) bytes (g.D.Device.seen device)) start c.write_synced.ensures.any_moment
+    (λ file torn. inl (torn_after text is gate s.at_gate bytes file (subst (λ was. Torn (gate + 1) bytes was file) s.rest torn))) in
     let following_is = c.deref.ensures.value ∙ c.in_ok-following.ensures in
     let over = subst (λ was. Over (gate + 1) bytes was (g.D.Device.seen c.write_synced.new.device)) s.rest c.in_ok-write_synced.ensures.written in
     let is_staged = written_after text is gate s.at_gate bytes _ over ∙ ap (λ l. text ++ 10 ∷ l) following_is in
@@ -57,8 +57,8 @@ returns-clause-any_moment g c =
     let is = recovered_whole (g.D.Device.seen device) in
     let P = IsWithOrWithout text entry in
     let start = started g.D.Device.moment g.D.Device.left_since device P (λ file left. inl (ap recovered (s.durable file (g.met.D.Device.only_now device file left)))) in
-    let written = and_then g.D.Device.moment g.D.Device.left_since device device c.write_synced.new.device P (Torn (gate + 1) (length bytes) (g.D.Device.seen device)) start c.write_synced.ensures.any_moment
-    (λ file torn. inl (torn_after text is gate s.at_gate (length bytes) file (subst (λ was. Torn (gate + 1) (length bytes) was file) s.rest torn))) in
+    let written = and_then g.D.Device.moment g.D.Device.left_since device device c.write_synced.new.device P (Torn (gate + 1) bytes (g.D.Device.seen device)) start c.write_synced.ensures.any_moment
+    (λ file torn. inl (torn_after text is gate s.at_gate bytes file (subst (λ was. Torn (gate + 1) bytes was file) s.rest torn))) in
     let following_is = c.deref.ensures.value ∙ c.in_ok-following.ensures in
     let over = subst (λ was. Over (gate + 1) bytes was (g.D.Device.seen c.write_synced.new.device)) s.rest c.in_ok-write_synced.ensures.written in
     let is_staged = written_after text is gate s.at_gate bytes _ over ∙ ap (λ l. text ++ 10 ∷ l) following_is in
@@ -100,8 +100,8 @@ returns-clause-acknowledged g c =
     stands_for_more text is gate s.at_gate entry c.requires.entry _ is_open
 
 -- and no more than the record and one byte after the whole lines
-pub returns-in_err-write_synced-clause-few_after : goal.returns-in_err-write_synced-clause-few_after
-returns-in_err-write_synced-clause-few_after g c =
+pub returns-in_err-write_synced-clause-repairable : goal.returns-in_err-write_synced-clause-repairable
+returns-in_err-write_synced-clause-repairable g c =
     let s = c.requires.settled in
     let device = c.args.self.now.device in
     let entry = c.args.entry.now in
@@ -110,14 +110,16 @@ returns-in_err-write_synced-clause-few_after g c =
     let text = recovered (g.D.Device.seen device) in
     let is = recovered_whole (g.D.Device.seen device) in
     let short : length entry ≤ 2 ^ 18 = search rules in
+    let following_is = c.deref.ensures.value ∙ c.in_ok-following.ensures in
+    let unmarked = unmarked_following entry bytes c.requires.entry following_is in
     let bound = short_following entry bytes c.requires.entry.some short (c.deref.ensures.value ∙ c.in_ok-following.ensures) in
-    let start = started g.D.Device.moment g.D.Device.left_since device HasFewAfter (λ file left. let at = s.durable file (g.met.D.Device.only_now device file left) in few_at_rest text is gate s.at_gate file (at ∙ s.rest) (ap recovered at)) in
-    let written = and_then g.D.Device.moment g.D.Device.left_since device device c.write_synced.new.device HasFewAfter (Torn (gate + 1) (length bytes) (g.D.Device.seen device)) start c.write_synced.ensures.any_moment
-    (λ file torn. few_torn text is gate s.at_gate (length bytes) file bound (subst (λ was. Torn (gate + 1) (length bytes) was file) s.rest torn)) in
+    let start = started g.D.Device.moment g.D.Device.left_since device IsRepairable (λ file left. let at = s.durable file (g.met.D.Device.only_now device file left) in repairable_at_rest text is gate s.at_gate file (at ∙ s.rest) (ap recovered at)) in
+    let written = and_then g.D.Device.moment g.D.Device.left_since device device c.write_synced.new.device IsRepairable (Torn (gate + 1) bytes (g.D.Device.seen device)) start c.write_synced.ensures.any_moment
+    (λ file torn. repairable_torn text is gate s.at_gate bytes file bound unmarked (subst (λ was. Torn (gate + 1) bytes was file) s.rest torn)) in
     written
 
-pub returns-in_err-set_synced-clause-few_after : goal.returns-in_err-set_synced-clause-few_after
-returns-in_err-set_synced-clause-few_after g c =
+pub returns-in_err-set_synced-clause-repairable : goal.returns-in_err-set_synced-clause-repairable
+returns-in_err-set_synced-clause-repairable g c =
     let s = c.requires.settled in
     let device = c.args.self.now.device in
     let entry = c.args.entry.now in
@@ -126,19 +128,20 @@ returns-in_err-set_synced-clause-few_after g c =
     let text = recovered (g.D.Device.seen device) in
     let is = recovered_whole (g.D.Device.seen device) in
     let short : length entry ≤ 2 ^ 18 = search rules in
-    let bound = short_following entry bytes c.requires.entry.some short (c.deref.ensures.value ∙ c.in_ok-following.ensures) in
-    let start = started g.D.Device.moment g.D.Device.left_since device HasFewAfter (λ file left. let at = s.durable file (g.met.D.Device.only_now device file left) in few_at_rest text is gate s.at_gate file (at ∙ s.rest) (ap recovered at)) in
-    let written = and_then g.D.Device.moment g.D.Device.left_since device device c.write_synced.new.device HasFewAfter (Torn (gate + 1) (length bytes) (g.D.Device.seen device)) start c.write_synced.ensures.any_moment
-    (λ file torn. few_torn text is gate s.at_gate (length bytes) file bound (subst (λ was. Torn (gate + 1) (length bytes) was file) s.rest torn)) in
     let following_is = c.deref.ensures.value ∙ c.in_ok-following.ensures in
+    let unmarked = unmarked_following entry bytes c.requires.entry following_is in
+    let bound = short_following entry bytes c.requires.entry.some short (c.deref.ensures.value ∙ c.in_ok-following.ensures) in
+    let start = started g.D.Device.moment g.D.Device.left_since device IsRepairable (λ file left. let at = s.durable file (g.met.D.Device.only_now device file left) in repairable_at_rest text is gate s.at_gate file (at ∙ s.rest) (ap recovered at)) in
+    let written = and_then g.D.Device.moment g.D.Device.left_since device device c.write_synced.new.device IsRepairable (Torn (gate + 1) bytes (g.D.Device.seen device)) start c.write_synced.ensures.any_moment
+    (λ file torn. repairable_torn text is gate s.at_gate bytes file bound unmarked (subst (λ was. Torn (gate + 1) bytes was file) s.rest torn)) in
     let over = subst (λ was. Over (gate + 1) bytes was (g.D.Device.seen c.write_synced.new.device)) s.rest c.in_ok-write_synced.ensures.written in
     let is_staged = written_after text is gate s.at_gate bytes _ over ∙ ap (λ l. text ++ 10 ∷ l) following_is in
-    let gone_on = and_then g.D.Device.moment g.D.Device.left_since device c.write_synced.new.device c.set_synced.new.device HasFewAfter (Swapped gate (get_or entry 0 0) (g.D.Device.seen c.write_synced.new.device)) written c.set_synced.ensures.any_moment
-    (λ file swapped. few_swapped text is gate s.at_gate entry c.requires.entry short file (subst (λ was. Swapped gate (get_or entry 0 0) was file) is_staged swapped)) in
+    let gone_on = and_then g.D.Device.moment g.D.Device.left_since device c.write_synced.new.device c.set_synced.new.device IsRepairable (Swapped gate (get_or entry 0 0) (g.D.Device.seen c.write_synced.new.device)) written c.set_synced.ensures.any_moment
+    (λ file swapped. repairable_swapped text is gate s.at_gate entry c.requires.entry short file (subst (λ was. Swapped gate (get_or entry 0 0) was file) is_staged swapped)) in
     gone_on
 
-pub returns-clause-few_after : goal.returns-clause-few_after
-returns-clause-few_after g c =
+pub returns-clause-repairable : goal.returns-clause-repairable
+returns-clause-repairable g c =
     let s = c.requires.settled in
     let device = c.args.self.now.device in
     let entry = c.args.entry.now in
@@ -147,19 +150,20 @@ returns-clause-few_after g c =
     let text = recovered (g.D.Device.seen device) in
     let is = recovered_whole (g.D.Device.seen device) in
     let short : length entry ≤ 2 ^ 18 = search rules in
-    let bound = short_following entry bytes c.requires.entry.some short (c.deref.ensures.value ∙ c.in_ok-following.ensures) in
-    let start = started g.D.Device.moment g.D.Device.left_since device HasFewAfter (λ file left. let at = s.durable file (g.met.D.Device.only_now device file left) in few_at_rest text is gate s.at_gate file (at ∙ s.rest) (ap recovered at)) in
-    let written = and_then g.D.Device.moment g.D.Device.left_since device device c.write_synced.new.device HasFewAfter (Torn (gate + 1) (length bytes) (g.D.Device.seen device)) start c.write_synced.ensures.any_moment
-    (λ file torn. few_torn text is gate s.at_gate (length bytes) file bound (subst (λ was. Torn (gate + 1) (length bytes) was file) s.rest torn)) in
     let following_is = c.deref.ensures.value ∙ c.in_ok-following.ensures in
+    let unmarked = unmarked_following entry bytes c.requires.entry following_is in
+    let bound = short_following entry bytes c.requires.entry.some short (c.deref.ensures.value ∙ c.in_ok-following.ensures) in
+    let start = started g.D.Device.moment g.D.Device.left_since device IsRepairable (λ file left. let at = s.durable file (g.met.D.Device.only_now device file left) in repairable_at_rest text is gate s.at_gate file (at ∙ s.rest) (ap recovered at)) in
+    let written = and_then g.D.Device.moment g.D.Device.left_since device device c.write_synced.new.device IsRepairable (Torn (gate + 1) bytes (g.D.Device.seen device)) start c.write_synced.ensures.any_moment
+    (λ file torn. repairable_torn text is gate s.at_gate bytes file bound unmarked (subst (λ was. Torn (gate + 1) bytes was file) s.rest torn)) in
     let over = subst (λ was. Over (gate + 1) bytes was (g.D.Device.seen c.write_synced.new.device)) s.rest c.in_ok-write_synced.ensures.written in
     let is_staged = written_after text is gate s.at_gate bytes _ over ∙ ap (λ l. text ++ 10 ∷ l) following_is in
-    let gone_on = and_then g.D.Device.moment g.D.Device.left_since device c.write_synced.new.device c.set_synced.new.device HasFewAfter (Swapped gate (get_or entry 0 0) (g.D.Device.seen c.write_synced.new.device)) written c.set_synced.ensures.any_moment
-    (λ file swapped. few_swapped text is gate s.at_gate entry c.requires.entry short file (subst (λ was. Swapped gate (get_or entry 0 0) was file) is_staged swapped)) in
+    let gone_on = and_then g.D.Device.moment g.D.Device.left_since device c.write_synced.new.device c.set_synced.new.device IsRepairable (Swapped gate (get_or entry 0 0) (g.D.Device.seen c.write_synced.new.device)) written c.set_synced.ensures.any_moment
+    (λ file swapped. repairable_swapped text is gate s.at_gate entry c.requires.entry short file (subst (λ was. Swapped gate (get_or entry 0 0) was file) is_staged swapped)) in
     gone_on
 
-pub returns-in_err-following-clause-few_after : goal.returns-in_err-following-clause-few_after
-returns-in_err-following-clause-few_after g c = grind (arith, common_steps)
+pub returns-in_err-following-clause-repairable : goal.returns-in_err-following-clause-repairable
+returns-in_err-following-clause-repairable g c = grind (arith, common_steps)
 
 pub write_synced-requires-clause-within : goal.write_synced-requires-clause-within
 write_synced-requires-clause-within g c = grind (arith, common_steps)
