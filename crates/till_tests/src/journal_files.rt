@@ -4,8 +4,7 @@ use std::fs;
 use std::os::unix::fs::{MetadataExt, PermissionsExt};
 use std::test::Fail;
 use zvt_journal::{
-    Journal, JournalFileError, MAX_OPENING_LEN, MAX_RECORD_LEN, Opened, a_read_may_be_left,
-    open_file, read_book,
+    Journal, JournalFileError, MAX_RECORD_LEN, Opened, a_read_may_be_left, open_file, read_book,
 };
 
 const OPENING: &[u8] = b"# zvt journal 1, currency 978\n";
@@ -96,11 +95,15 @@ fn what_is_no_journal_is_left_as_it_is(rt: HostRuntime) -> Result<(), Fail> {
         &fs::read(&rt, path)?.as_slice(),
         &b"# zvt trace\n".as_slice(),
     );
-    let mut begun = vec![in alloc; b'a'; MAX_OPENING_LEN + 2]?;
-    begun[0] = b'\n';
-    fs::write(&rt, path, begun.as_slice())?;
-    let begun = open_file(alloc, path.as_bytes());
-    assert!(rt; matches!(begun, Err(JournalFileError::NotAJournal)));
+    for note in [
+        b"\nmilk and bread".as_slice(),
+        b"x",
+        b"\n zvt journal 1, currency 12345",
+    ] {
+        fs::write(&rt, path, note)?;
+        let begun = open_file(alloc, path.as_bytes());
+        assert!(rt; matches!(begun, Err(JournalFileError::NotAJournal)));
+    }
     let mut long = OPENING.to_vec(alloc)?;
     long.push(b'\n')?;
     long.resize(OPENING.len() + MAX_RECORD_LEN + 2, b'a')?;

@@ -1,5 +1,5 @@
 -- What a journal's file may hold.
-use Rattle.std.specs.Prelude.{◌≡◌, ◌⊎◌, ◌≤◌, ◌+◌, ◌-◌, ◌^◌, ℕ, List, [], ◌∷◌, length, take, drop, codes, ◌==◌, ◌&&◌, not, Bool, true, false, if◌then◌else◌}
+use Rattle.std.specs.Prelude.{◌≡◌, ◌⊎◌, ◌≤◌, ◌+◌, ◌-◌, ◌^◌, ℕ, List, [], ◌∷◌, length, take, drop, codes, ◌==◌, ◌&&◌, ◌||◌, ◌++◌, nat_le, replicate, not, Bool, true, false, if◌then◌else◌}
 use Rattle.zvt_journal.specs.declared.file.FileDevice.{FileDevice}
 use Rattle.zvt_journal.specs.Calls.{seen_after, may_leave_after}
 use Rattle.zvt_journal.specs.Text.{begins_marked, is_mark, recovered, whole}
@@ -16,9 +16,31 @@ file_may_leave device = may_leave_after device.calls.start device.calls.made
 abbrev pub IsNamed : List ℕ → Type 0
 IsNamed file = take 15 file ≡ codes "# zvt journal 1"
 
--- A crash leaves such a file before the first record is there: one byte, or a closed gate and a part of that record after it.
+-- what the first append writes behind the gate, for a currency of so many digits; `0` stands for each of them here
+abbrev pub opening_behind : ℕ → List ℕ
+opening_behind digits = codes " zvt journal 1, currency " ++ replicate digits 48 ++ 10 ∷ 10 ∷ []
+
+-- a byte where this one is wanted: it is there, or still 0
+abbrev pub may_stand : ℕ → ℕ → Bool
+may_stand byte wanted = byte == 0 || byte == wanted || wanted == 48 && nat_le 48 byte && nat_le byte 57
+
+-- a beginning of these bytes, each of which is there or still 0
+abbrev pub is_part : List ℕ → List ℕ → Bool
+is_part [] wanted = true
+is_part (byte ∷ part) [] = false
+is_part (byte ∷ part) (first ∷ wanted) = may_stand byte first && is_part part wanted
+
+abbrev pub is_opening_part : List ℕ → Bool
+is_opening_part part = is_part part (opening_behind 1) || is_part part (opening_behind 2) || is_part part (opening_behind 3) || is_part part (opening_behind 4)
+
+-- nothing, a gate that isn't there yet, or a closed gate and a part of an opening behind it
+abbrev pub is_begun : List ℕ → Bool
+is_begun [] = true
+is_begun (byte ∷ rest) = if byte == 10 then is_opening_part rest else byte == 0 && length rest == 0
+
+-- A crash leaves such a file before the first record is there.
 abbrev pub IsBegun : List ℕ → Type 0
-IsBegun file = (length file ≤ 1) ⊎ ((take 1 file ≡ 10 ∷ []) × (length file ≤ 2 ^ 8 + 1))
+IsBegun file = is_begun file ≡ true
 
 -- the bytes after a closed gate, or all of them where they begin with none
 abbrev pub after_gate : List ℕ → List ℕ

@@ -1,16 +1,13 @@
 //! What a journal's file may hold, and what of it counts.
 ghost use Rattle.std.specs.Prelude.{◌≡◌, ◌≤◌, ◌⊎◌, ◌↔◌, ◌-◌, length, drop, IfOk, IfErr, IsTrue, true};
 ghost use Rattle.zvt_journal.specs.Text.{whole};
-ghost use Rattle.zvt_journal.specs.Files.{IsNamed, IsBegun, IsRepairable, HasFewAfter, HasNoLineBehind, after_gate, gate_line, lines_ended, records_behind, records_from};
+ghost use Rattle.zvt_journal.specs.Files.{IsNamed, IsBegun, IsRepairable, is_begun, is_opening_part, is_part, may_stand, HasFewAfter, HasNoLineBehind, after_gate, gate_line, lines_ended, records_behind, records_from};
 
 use crate::JournalFileError;
 use crate::journal::{LINE_FEED, MAX_RECORD_LEN, begins_marked, whole_lines};
 
 /// What a journal's first line begins with.
 const FORMAT: [u8; 15] = *b"# zvt journal 1";
-
-/// The length of the longest first record of a journal. Its first line names the format.
-pub const MAX_OPENING_LEN: usize = 1 << 8;
 
 /// Whether the first line names the format.
 fn is_named(bytes: &[u8]) -> bool
@@ -21,9 +18,45 @@ fn is_named(bytes: &[u8]) -> bool
 
 /// Whether a crash may leave these bytes before the first record is there.
 fn is_begun(bytes: &[u8]) -> bool
-    ensures { IsTrue result ↔ IsBegun bytes.now }
+    ensures { result ≡ is_begun bytes.now }
 {
-    bytes.len() <= 1 || bytes[0] == LINE_FEED && bytes.len() <= MAX_OPENING_LEN + 1
+    match bytes.split_first() {
+        None => true,
+        Some((&LINE_FEED, behind)) => is_opening_part(behind),
+        Some((byte, rest)) => *byte == 0 && rest.is_empty(),
+    }
+}
+
+/// Whether the first append may leave these bytes behind the gate.
+fn is_opening_part(part: &[u8]) -> bool
+    ensures { result ≡ is_opening_part part.now }
+{
+    is_part(part, b" zvt journal 1, currency 0\n\n")
+        || is_part(part, b" zvt journal 1, currency 00\n\n")
+        || is_part(part, b" zvt journal 1, currency 000\n\n")
+        || is_part(part, b" zvt journal 1, currency 0000\n\n")
+}
+
+/// Whether these are first ones of the wanted bytes, each of them there or still 0. A wanted `0` stands for each digit.
+fn is_part(part: &[u8], wanted: &[u8]) -> bool
+    ensures { result ≡ is_part part.now wanted.now }
+{
+    for (at, byte) in part.iter().enumerate() {
+        if at >= wanted.len() {
+            return false;
+        }
+        if !may_stand(*byte, wanted[at]) {
+            return false;
+        }
+    }
+    true
+}
+
+/// Whether a torn write may leave this byte where that one is wanted.
+fn may_stand(byte: u8, wanted: u8) -> bool
+    ensures { result ≡ may_stand byte wanted }
+{
+    byte == 0 || byte == wanted || wanted == b'0' && b'0' <= byte && byte <= b'9'
 }
 
 /// How many bytes of whole lines come before the first empty line, if a journal's file may hold these bytes.

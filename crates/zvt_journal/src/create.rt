@@ -5,7 +5,9 @@ ghost use Rattle.zvt_journal.specs.Text.{recovered, IsSettled};
 ghost use Rattle.zvt_journal.specs.Files.{file_seen, file_may_leave};
 
 use crate::content::{accepted_lines, to_cut};
-use crate::descriptor::{append_synced, durable_bytes, opened, read_all, sync_folder, try_lock};
+use crate::descriptor::{
+    append_synced, durable_bytes, is_in_place, opened, read_all, sync_folder, try_lock,
+};
 use crate::{FileDevice, JournalFileError, open};
 use std::alloc::Global;
 use std::io;
@@ -29,8 +31,7 @@ pub struct Opened {
 /// Opens a journal's file, which it makes if there is none, and recovers its records.
 ///
 /// The text is empty where the file was made, and where a crash left it before the first record was there. Then the first
-/// record is appended: it begins with `# zvt journal 1`, and it has no more than [`MAX_OPENING_LEN`](crate::MAX_OPENING_LEN)
-/// bytes.
+/// record is appended: one line, `# zvt journal 1, currency ` and a number of at most four digits.
 pub fn open_file(alloc: Global, path: &[u8]) -> Result<Opened, JournalFileError>
     ensures text { IfOk result (λ opened. opened.text.items ≡ recovered (file_seen opened.device)) }
     ensures whole { IfOk result (λ opened. recovered opened.text.items ≡ opened.text.items) }
@@ -41,10 +42,13 @@ pub fn open_file(alloc: Global, path: &[u8]) -> Result<Opened, JournalFileError>
         return Err(JournalFileError::InUse);
     }
     let bytes = durable_bytes(alloc, &file).map_err(why_no_file)?;
+    if !is_in_place(path, bytes.len())? {
+        return Err(JournalFileError::Displaced);
+    }
     let end = accepted_lines(&bytes)?;
     let cut = keep_cut(alloc, path, to_cut(&bytes, end))?;
     sync_folder(path)?;
-    let mut device = FileDevice::new(file, &bytes);
+    let mut device = FileDevice::new(file, path.to_vec(alloc)?, &bytes);
     match open(&mut device, bytes) {
         Ok(text) => Ok(Opened {
             device,

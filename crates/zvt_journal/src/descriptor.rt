@@ -52,6 +52,27 @@ pub(crate) fn try_lock(file: &OwnedFd) -> io::Result<bool> {
     }
 }
 
+/// Whether a file of this name is there that is locked and has this many bytes.
+///
+/// A lock belongs to an open file. So where this one is free, the name is that of another file than the one that the caller
+/// has locked. Where another till has locked that other file, the bytes tell.
+pub(crate) fn is_in_place(path: &[u8], size: usize) -> io::Result<bool> {
+    let named = match opened(path, libc::O_RDWR, 0) {
+        Ok(named) => named,
+        Err(error) if error.kind() == io::ErrorKind::NotFound => return Ok(false),
+        Err(error) => return Err(error),
+    };
+    if try_lock(&named)? {
+        return Ok(false);
+    }
+    let Ok(place) = i64::try_from(size.saturating_sub(1)) else {
+        return Ok(false);
+    };
+    let mut last = [0; 2];
+    let wanted = if size == 0 { 0 } else { 1 };
+    Ok(libc::pread(named.as_raw_fd(), &mut last, place) == wanted)
+}
+
 /// Makes all of a file durable.
 pub(crate) fn sync_all(file: &OwnedFd) -> io::Result<()> {
     checked(libc::fsync(file.as_raw_fd()))

@@ -14,6 +14,9 @@ pub enum JournalFileError {
     /// Another process has the file open as its journal.
     #[error("another till has this book open: end that till first, or name another file")]
     InUse,
+    /// Another file had this name, or the file other bytes, once it was locked.
+    #[error("this file was moved, replaced or changed while it was opened: open it again")]
+    Displaced,
     /// There is a folder of this name.
     #[error("this is a folder: name a file in it")]
     Folder,

@@ -3,32 +3,36 @@
 //! No contract of std says what a file holds. So the device notes each call and its answer in a record that contracts alone
 //! see, and what a read returns and what a crash may leave are read off that record. It is trusted that each method here makes
 //! the call that it notes, that a file is as the crash model of `Device` says, and that nobody else writes it.
-ghost use Rattle.std.specs.Prelude.{◌≡◌, ◌↔◌, [], ◌∷◌, length, is_ok, IfErr, IsOk, IsErr, IsNone, IsSome, OnOk, OnErr};
+ghost use Rattle.std.specs.Prelude.{◌≡◌, ◌↔◌, [], ◌∷◌, length, is_ok, IfErr, IsOk, IsErr, IsNone, IsSome, IsTrue, OnOk, OnErr};
 ghost use Rattle.zvt_journal.specs.Calls.{seen_after, may_leave_after, left_since_after, failed_among, counts_now, only_now, SeenMayBeLeft};
 
 use crate::call::Call;
 use crate::calls::GhostCalls;
-use crate::descriptor::{set_len, sync_data, write_all_at};
+use crate::descriptor::{is_in_place, set_len, sync_data, write_all_at};
 use crate::{Device, DeviceError};
 use std::io;
 use std::os::fd::OwnedFd;
 
 /// A file of the operating system. After a call that failed it makes no call any more, and each answers `Failed`.
+///
+/// A write of bytes fails where the file of its name is another one by then, or ends elsewhere than where the bytes go.
 #[derive(Drop)]
 pub struct FileDevice {
     file: OwnedFd,
+    path: Vec<u8>,
     failure: Option<io::Error>,
     calls: GhostCalls,
 }
 
 impl FileDevice {
-    /// A device over a file that holds these bytes, all of them durable.
-    pub(crate) fn new(file: OwnedFd, bytes: &[u8]) -> FileDevice
+    /// A device over the file of this name, which holds these bytes, all of them durable.
+    pub(crate) fn new(file: OwnedFd, path: Vec<u8>, bytes: &[u8]) -> FileDevice
         ensures start { result.calls.start ≡ bytes.now }
         ensures made { result.calls.made ≡ [] }
     {
         FileDevice {
             file,
+            path,
             failure: None,
             calls: GhostCalls::none(bytes),
         }
@@ -39,6 +43,16 @@ impl FileDevice {
         ensures { result ≡ self.now.failure }
     {
         self.failure
+    }
+
+    /// Whether the file of the name was another one than the one that was opened, or had other bytes at its end.
+    pub fn is_displaced(&self) -> bool
+        ensures { IsTrue result → IsSome self.now.failure }
+    {
+        match self.failure {
+            Some(error) => error.kind() == io::ErrorKind::NotFound,
+            None => false,
+        }
     }
 
     /// The file, if no call failed so far.
@@ -71,11 +85,22 @@ impl FileDevice {
     }
 }
 
-/// Writes all of these bytes from this place on.
-fn write(file: io::Result<&OwnedFd>, at: usize, bytes: &[u8]) -> io::Result<()>
+/// Writes all of these bytes at the end of the file, which is at this place, if the file of this name is still that one.
+fn write(file: io::Result<&OwnedFd>, path: &[u8], at: usize, bytes: &[u8]) -> io::Result<()>
     ensures { IsErr file.entry → IsErr result }
 {
-    write_all_at(file?, at, bytes)
+    let file = file?;
+    if !is_in_place(path, at)? {
+        return Err(io::Error::from_raw_os_error(libc::ENOENT));
+    }
+    write_all_at(file, at, bytes)
+}
+
+/// Writes one byte over another.
+fn set(file: io::Result<&OwnedFd>, at: usize, byte: u8) -> io::Result<()>
+    ensures { IsErr file.entry → IsErr result }
+{
+    write_all_at(file?, at, &[byte])
 }
 
 /// Cuts the file to this length.
@@ -108,12 +133,12 @@ impl Device for FileDevice {
     ghost only_now = { λ f file left. only_now f.calls.start f.calls.made file left };
 
     fn write_at(&mut self, at: usize, bytes: &[u8]) -> Result<(), DeviceError> {
-        let answer = write(self.usable(), at, bytes);
+        let answer = write(self.usable(), &self.path, at, bytes);
         self.note(Call::Wrote(at), bytes, answer)
     }
 
     fn set_byte(&mut self, at: usize, byte: u8) -> Result<(), DeviceError> {
-        let answer = write(self.usable(), at, &[byte]);
+        let answer = set(self.usable(), at, byte);
         self.note(Call::SetByte(at, byte), &[], answer)
     }
 

@@ -19,7 +19,6 @@ mod journal;
 mod memory;
 mod tears;
 
-pub use content::MAX_OPENING_LEN;
 pub use create::{Opened, open_file, read_book};
 pub use device::{Device, DeviceError};
 pub use error::JournalFileError;
