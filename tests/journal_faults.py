@@ -163,6 +163,10 @@ class Trial:
         path.write_bytes(journal().file() + b" pay 7\n> 06")
         (self.work / "torn.cut").mkdir()
         self.refuses("a folder where what is cut is kept", FAILED, ".cut", path, reads=False)
+        (self.work / "torn.cut").rmdir()
+        os.mkfifo(self.work / "torn.cut")
+        self.refuses("a FIFO where what is cut is kept", FAILED, ".cut", path, reads=False)
+        (self.work / "torn.cut").unlink()
         path = self.work / "traced"
         path.write_bytes(journal().file())
         for words in (["till", "--port", str(self.listener.port)], ["loop"]):
@@ -191,6 +195,36 @@ class Trial:
             first.kill()
             first.wait()
             line.close()
+
+    def displaced(self):
+        """The file is deleted, moved, replaced or changed while the terminal works: the till hears nothing more, and says why."""
+        path, other = self.work / "displaced", self.work / "elsewhere"
+        hows = {
+            "deleted": path.unlink,
+            "moved": lambda: path.rename(other),
+            "replaced": lambda: (other.write_bytes(path.read_bytes()), other.rename(path)),
+            "copied over": lambda: path.write_bytes(journal().file()),
+        }
+        for how, displace in hows.items():
+            path.write_bytes(journal().file())
+            with socket.create_server(("127.0.0.1", 0)) as server:
+                words = [ZVT, "till", "--port", str(server.getsockname()[1]), "--book", str(path), "register", "pay:7"]
+                till = subprocess.Popen(words, stdin=subprocess.DEVNULL, stdout=subprocess.PIPE, stderr=subprocess.PIPE)
+                line = server.accept()[0]
+                line.settimeout(5)
+                asked = line.recv(300)
+                displace()
+                answers = b""
+                with contextlib.suppress(OSError):
+                    line.sendall(bytes.fromhex("800000060F00"))
+                    while piece := line.recv(300):
+                        answers += piece
+                till.kill() if till.poll() is None and answers else None
+                out, errors = till.communicate(timeout=SECONDS)
+                line.close()
+            if asked[:2] != b"\x06\x00" or answers or till.returncode != FAILED or b"no longer the one that was opened" not in errors:
+                self.differs(f"a book that is {how}", asked, answers, till.returncode, out, errors)
+            self.cases += 1
 
     def read_only(self):
         """As another user, since no rights bind root."""
@@ -282,6 +316,7 @@ class Trial:
         self.empty_lines()
         self.beside()
         self.in_use()
+        self.displaced()
         self.read_only()
         self.full_disk()
         self.read_only_mount()

@@ -37,7 +37,7 @@ fn a_file_is_made_and_opened_again(rt: HostRuntime) -> Result<(), Fail> {
     journal.append(b"# pay 1234\n> 0601\n")?;
     let again = open_file(alloc, path.as_bytes());
     assert!(rt; matches!(again, Err(JournalFileError::InUse)));
-    assert_equal(&rt, &read_book(alloc, path.as_bytes())?.len(), &48);
+    assert_equal(&rt, &read_book(&rt, alloc, path)?.len(), &48);
     drop(journal);
     let opened = open_file(alloc, path.as_bytes())?;
     assert_equal(
@@ -60,7 +60,7 @@ fn what_a_crash_left_is_kept_and_cut(rt: HostRuntime) -> Result<(), Fail> {
     let alloc = rt.alloc();
     let _ = fs::remove_file(&rt, beside);
     fs::write(&rt, path, LEFT)?;
-    assert_equal(&rt, &read_book(alloc, path.as_bytes())?.len(), &32);
+    assert_equal(&rt, &read_book(&rt, alloc, path)?.len(), &32);
     assert_equal(&rt, &fs::read(&rt, path)?.as_slice(), &LEFT);
     let opened = open_file(alloc, path.as_bytes())?;
     assert_equal(
@@ -85,7 +85,7 @@ fn what_is_no_journal_is_left_as_it_is(rt: HostRuntime) -> Result<(), Fail> {
     let alloc = rt.alloc();
     let folder = open_file(alloc, b".");
     assert!(rt; matches!(folder, Err(JournalFileError::Folder)));
-    let device = read_book(alloc, b"/dev/null");
+    let device = read_book(&rt, alloc, "/dev/null");
     assert!(rt; matches!(device, Err(JournalFileError::NotAFile)));
     fs::write(&rt, path, b"# zvt trace\n".as_slice())?;
     let trace = open_file(alloc, path.as_bytes());

@@ -23,12 +23,16 @@ const OTHER_BOOK: &str =
 const USED_NUMBER: &str =
     "the book has its trace number: if the terminal was exchanged or counts from 1 again, begin a new book";
 
+/// What is reported of a book whose file is no longer the one that was opened.
+const DISPLACED: &str =
+    "the file of the book is no longer the one that was opened: it was moved, deleted, replaced or changed, so nothing more was sent";
+
 /// What the first line of a book says before the number of its currency.
 const OPENING: [u8; 26] = *b"# zvt journal 1, currency ";
 
 /// Writes what the book in this file has in this form, and answers the exit status.
 pub fn show(rt: &HostRuntime, path: &str, form: Form) -> io::Result<u8> {
-    let text = match read_book(rt.alloc(), path.as_bytes()) {
+    let text = match read_book(rt, rt.alloc(), path) {
         Ok(text) => text,
         Err(error) => return unopened(rt, path, &error),
     };
@@ -157,6 +161,14 @@ pub fn report_unclear(rt: &HostRuntime, till: &Till, known: usize) -> io::Result
         if *cause == Cause::TraceUsed {
             report(rt, USED_NUMBER)?;
         }
+    }
+    Ok(())
+}
+
+/// Reports that the file of the book's name was another one by the time that a record was to be written.
+pub fn report_displaced(rt: &HostRuntime, device: &FileDevice) -> io::Result<()> {
+    if device.is_displaced() {
+        report(rt, DISPLACED)?;
     }
     Ok(())
 }

@@ -44,6 +44,7 @@ pub fn both_ends(rt: &HostRuntime, options: &LoopOptions<'_>) -> io::Result<u8> 
             let known = kept.till().unclear().len();
             let answer = run_loop_kept(rt, rt.alloc(), &run, &mut kept, &mut writer, &mut report);
             book::report_unclear(rt, kept.till(), known)?;
+            book::report_displaced(rt, kept.device())?;
             answer
         }
     };
@@ -142,6 +143,7 @@ fn till_with_book(
     let known = kept.till().unclear().len();
     let answer = run_till_kept(rt, rt.alloc(), &run, &mut kept, &mut writer, &mut report);
     book::report_unclear(rt, kept.till(), known)?;
+    book::report_displaced(rt, kept.device())?;
     finish_run(rt, writer.inner.broken_pipe, answer)
 }
 

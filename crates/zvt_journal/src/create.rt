@@ -1,5 +1,5 @@
-//! A journal's file: made or opened, locked and recovered. No call takes the runtime: a library that programs in C link has
-//! none.
+//! A journal's file: made or opened, locked and recovered. No call that opens it takes the runtime: a library that programs in
+//! C link has none.
 ghost use Rattle.std.specs.Prelude.{◌≡◌, length, IfOk};
 ghost use Rattle.zvt_journal.specs.Text.{recovered, IsSettled};
 ghost use Rattle.zvt_journal.specs.Files.{file_seen, file_may_leave};
@@ -10,8 +10,8 @@ use crate::descriptor::{
 };
 use crate::{FileDevice, JournalFileError, open};
 use std::alloc::Global;
-use std::io;
 use std::os::fd::OwnedFd;
+use std::{fs, io};
 
 /// Who may read and write a file that is made here: its owner.
 const OWNER_ALONE: u32 = 0o600;
@@ -63,15 +63,28 @@ pub fn open_file(alloc: Global, path: &[u8]) -> Result<Opened, JournalFileError>
 /// The records that a journal's file has at this moment, for a program that only looks. It takes no lock and writes nothing.
 ///
 /// Its text is whole lines, none of them empty. They need not be durable.
-pub fn read_book(alloc: Global, path: &[u8]) -> Result<Vec<u8>, JournalFileError>
+pub fn read_book(rt: &HostRuntime, alloc: Global, path: &str) -> Result<Vec<u8>, JournalFileError>
     ensures { IfOk result (λ text. recovered text.items ≡ text.items) }
 {
-    let file = opened(path, libc::O_RDONLY, 0)?;
+    only_regular(rt, path)?;
+    let file = opened(path.as_bytes(), libc::O_RDONLY, 0)?;
     let mut bytes = Vec::new(alloc);
     read_all(&file, &mut bytes)?;
     let end = accepted_lines(&bytes)?;
     bytes.truncate(end);
     Ok(bytes)
+}
+
+/// Refuses what is no regular file: a FIFO without a writer is not opened for reading before one comes.
+fn only_regular(rt: &HostRuntime, path: &str) -> Result<(), JournalFileError> {
+    let found = fs::metadata(rt, path)?;
+    if found.is_dir() {
+        return Err(JournalFileError::Folder);
+    }
+    if !found.is_file() {
+        return Err(JournalFileError::NotAFile);
+    }
+    Ok(())
 }
 
 /// The file, and whether this call made it.

@@ -165,9 +165,10 @@ pub(crate) fn sync_folder(path: &[u8]) -> io::Result<()> {
     sync_all(&unsafe { OwnedFd::from_raw_fd(number) })
 }
 
-/// Writes these bytes at the end of a file, which it makes if there is none, and makes them durable.
+/// Writes these bytes at the end of a file, which it makes if there is none, and makes them durable. It is opened for reading
+/// too: so a FIFO of that name fails, and does not wait for a reader.
 pub(crate) fn append_synced(path: &[u8], bytes: &[u8]) -> io::Result<()> {
-    let file = opened(path, libc::O_WRONLY | libc::O_APPEND | libc::O_CREAT, 0o600)?;
+    let file = opened(path, libc::O_RDWR | libc::O_APPEND | libc::O_CREAT, 0o600)?;
     write_all_at(&file, 0, bytes)?;
     sync_all(&file)?;
     sync_folder(path)

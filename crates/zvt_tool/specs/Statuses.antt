@@ -60,6 +60,7 @@ status_of_call _ = 4
 -- a file that is no journal is 3, one that can't be had 4, out of memory 5
 abbrev pub status_of_file_error : JournalFileError → ℕ
 status_of_file_error on_file.InUse = 4
+status_of_file_error on_file.Displaced = 4
 status_of_file_error on_file.Folder = 4
 status_of_file_error on_file.NotAFile = 4
 status_of_file_error on_file.NotAJournal = 3

@@ -90,7 +90,10 @@ pub fn of_file_error(error: &JournalFileError) -> u8
         JournalFileError::NotAJournal
         | JournalFileError::RecordsBehind { .. }
         | JournalFileError::TooMuchAfter { .. } => TRACE,
-        JournalFileError::InUse | JournalFileError::Folder | JournalFileError::NotAFile => DEVICE,
+        JournalFileError::InUse
+        | JournalFileError::Displaced
+        | JournalFileError::Folder
+        | JournalFileError::NotAFile => DEVICE,
         JournalFileError::CutNotKept(error) | JournalFileError::Io(error) => of_call(error),
         JournalFileError::Memory => MEMORY,
     }
