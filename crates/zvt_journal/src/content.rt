@@ -22,7 +22,7 @@ fn is_begun(bytes: &[u8]) -> bool
 {
     match bytes.split_first() {
         None => true,
-        Some((&LINE_FEED, behind)) => is_opening_part(behind),
+        Some((&LINE_FEED, part)) => is_opening_part(part),
         Some((byte, rest)) => *byte == 0 && rest.is_empty(),
     }
 }
@@ -73,11 +73,11 @@ pub(crate) fn accepted_lines(bytes: &[u8]) -> Result<usize, JournalFileError>
         return Err(JournalFileError::NotAJournal);
     }
     let end = whole_lines(bytes);
-    let behind = to_cut(bytes, end);
-    if begins_marked(behind) {
+    let left = to_cut(bytes, end);
+    if begins_marked(left) {
         return Err(JournalFileError::RecordsBehind {
             line: lines_ended(&bytes[..end]) + 1,
-            records: records_in(behind),
+            records: records_in(left),
         });
     }
     let after = bytes.len() - end;
