@@ -27,21 +27,21 @@ TILL = sys.argv[2:]
 SECONDS = 60
 CALLS = "openat,close,dup,fcntl,connect,write,pwrite64,ftruncate,fsync,fdatasync,sendto,sendmsg"
 STEPS = ["register", "pay:1000", "pay:20", "reverse:1", "close", "pay:3"]
-OTHERS = b"\n#<>!0\0"
 
 
 def torn(file, call):
-    """The files that a crash may leave of one call on a file that was durable."""
+    """The files that a crash may leave of one call on a file that was durable: each byte old or new, or 0 where it grew."""
     kind, at, data = call
     if kind == "cut":
         return [file[:size] for size in range(at, len(file) + 1)]
     if len(data) == 1 and at < len(file):
         return [file, over(file, at, data)]
     left = [file]
+    there = file[at:at + len(data)]
+    there += bytes(len(data) - len(there))
     for cut in range(len(data) + 1):
-        for other in OTHERS:
-            left.append(over(file, at, data[:cut] + bytes([other]) * (len(data) - cut)))
-            left.append(over(file, at, bytes([other]) * cut + data[cut:]))
+        left.append(over(file, at, data[:cut] + there[cut:]))
+        left.append(over(file, at, there[:cut] + data[cut:]))
         left.append(over(file, at, data[:cut]))
     return left
 
@@ -95,7 +95,8 @@ class Run:
 
     def takes(self, name, words, answer):
         number = int(words[0]) if words[0].lstrip("-").isdigit() else None
-        if name == "openat" and text(words[1]).decode(errors="replace") == self.path and answer >= 0:
+        if name == "openat" and text(words[1]).decode(errors="replace") == self.path and answer >= 0 and self.journal is None:
+            # (later ones look whether the file of this name is still that one)
             self.journal = answer
         elif name == "connect" and f"htons({self.trial.port})" in ", ".join(words):
             # (some wait for the end of a connect that goes on)
