@@ -7,7 +7,7 @@ use std::marker::Model;
 /// How often something happened, for contracts alone.
 #[derive(Drop)]
 pub struct GhostCount {
-    pub ghost count: { ℕ },
+    ghost count: { ℕ },
 }
 
 impl Model for GhostCount {
@@ -25,13 +25,6 @@ impl GhostCount {
     /// It happened once more.
     pub fn next(&self) -> GhostCount
         ensures { result.count ≡ self.now.count + 1 }
-    {
-        GhostCount {}
-    }
-
-    /// It happened so many times more.
-    pub fn plus(&self, _times: usize) -> GhostCount
-        ensures { result.count ≡ self.now.count + _times }
     {
         GhostCount {}
     }

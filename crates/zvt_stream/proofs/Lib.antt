@@ -17,4 +17,3 @@ pub mod JudgeLemmas
 pub mod WholeLemmas
 pub mod JudgedFeeds
 pub mod RunLemmas
-pub mod PassedContent

@@ -60,11 +60,7 @@ Ran r bytes more run.Open new = StandsFor new (bytes ++ more) × (new.reading �
 Ran r bytes more (run.Ended taken) new = (0 < taken) × (taken ≤ length more) × IsMessageIn r (bytes ++ take taken more) × (new ≡ start r)
 Ran r bytes more (run.Refused at why) new = (at < length more) × IsRefusedIn r (bytes ++ take (suc at) more) (length bytes + at) why × (new ≡ start r)
 
--- The judge by that reading that goes on so, within these levels.
-abbrev pub judge_at : Reading → (outer : List ℕ) → Goes → JudgeState
-judge_at r outer goes = record { reading = r; at = goes.at; left = goes.left; outer = outer; head = goes.head }
-
--- How many bytes were judged or passed over.
+-- How many bytes were judged.
 abbrev pub judged_of : Steps → ℕ
 judged_of steps = steps.judged.count
 

@@ -1,17 +1,15 @@
-//! The judge of a line's bytes, each looked at once at most.
-//!
-//! Bytes of a content to which no test applies are passed over, as many as there are before its last one.
+//! The judge of a line's bytes: `Judge::step` looks at each of them once, and it alone counts.
 //!
 //! The functions of a run and of a step are `#[inline(always)]`: no byte costs a call. `bench/throughput` counts the
 //! instructions for a byte.
 
-ghost use Rattle.std.specs.Prelude.{◌≡◌, ℕ, ◌+◌, ◌-◌, ◌<◌, ◌≤◌, List, [], ◌∷◌, ◌++◌, false, length, take, reverse, IfNone, IfSome};
-ghost use Rattle.zvt_grammar.specs.Reading.{AreBytes, Reading, padded, shortest};
+ghost use Rattle.std.specs.Prelude.{◌≡◌, ℕ, ◌+◌, ◌≤◌, List, [], ◌∷◌, ◌++◌, reverse};
+ghost use Rattle.zvt_grammar.specs.Reading.{Reading, padded, shortest};
 ghost use Rattle.zvt_grammar.specs.Lengths.{reading_of};
 ghost use Rattle.zvt_stream.specs.DecoderState.{Between};
-ghost use Rattle.zvt_stream.specs.Moves.{IsReady, Moves};
+ghost use Rattle.zvt_stream.specs.Moves.{Moves};
 ghost use Rattle.zvt_stream.specs.Head.{head_of};
-ghost use Rattle.zvt_stream.specs.Judge.{start, beginning, StandsFor, HasLevelsIn, Stepped, Ran, taken_by, judged_of, judge_at, Closes, Settles};
+ghost use Rattle.zvt_stream.specs.Judge.{start, beginning, StandsFor, HasLevelsIn, Stepped, Ran, taken_by, judged_of, Closes, Settles};
 
 use crate::head::Head::{self, One, Two};
 use crate::transitions::{
@@ -25,7 +23,7 @@ use zvt_grammar::{Lengths, Why};
 use zvt_io::GhostCount;
 use zvt_tlv::TagAt;
 
-/// How many bytes were judged or passed over. Contracts alone see it: it takes no memory and no time.
+/// How many bytes were judged. Contracts alone see it: it takes no memory and no time.
 #[derive(Drop)]
 pub struct Steps {
     judged: GhostCount,
@@ -94,41 +92,6 @@ impl Goes {
         self.at = at;
         self.head = head;
         Ok(Judged::Open)
-    }
-
-    /// Passes over bytes of a content to which no test applies: all but its last one, or this many. Answers how many.
-    #[inline(always)]
-    fn pass_content(&mut self, most: usize) -> usize
-        requires ready { IsReady self.old.at self.old.left }
-        ensures few { result ≤ most }
-        ensures stands { (r : Reading) (outer held passed : List ℕ) → AreBytes passed → length passed ≡ result → StandsFor (judge_at r outer self.old) held → StandsFor (judge_at r outer self.new) (held ++ passed) }
-    {
-        match self.at {
-            At::Payload => {
-                let count = most.min(self.left - 1);
-                self.left -= count;
-                count
-            }
-            At::Content {
-                digits: false,
-                more,
-            } => {
-                let count = most.min(more - 1);
-                self.at = At::Content {
-                    digits: false,
-                    more: more - count,
-                };
-                self.left -= count;
-                count
-            }
-            At::Object { more } => {
-                let count = most.min(more - 1);
-                self.at = At::Object { more: more - count };
-                self.left -= count;
-                count
-            }
-            _ => 0,
-        }
     }
 }
 
@@ -302,21 +265,8 @@ impl Judge {
                 Err(why) => return DecodeRun::Refused { at: taken, why },
             }
             taken += 1;
-            taken += self.pass(steps, &bytes[taken..]);
         }
         DecodeRun::Open
-    }
-
-    /// Passes over the first of these bytes where no test applies to them, and answers how many.
-    #[inline(always)]
-    fn pass(&mut self, steps: &mut Steps, bytes: &[u8]) -> usize
-        ensures stands { (held : List ℕ) → StandsFor self.old held → StandsFor self.new (held ++ take result bytes.now) × (self.new.reading ≡ self.old.reading) }
-        ensures few { result ≤ length bytes.now }
-        ensures count { judged_of steps.new ≡ judged_of steps.old + result }
-    {
-        let count = self.goes.pass_content(bytes.len());
-        steps.judged = steps.judged.plus(count);
-        count
     }
 }
 

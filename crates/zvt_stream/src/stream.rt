@@ -192,7 +192,7 @@ impl Stream {
     /// Takes bytes of the piece up to the end of a message, or all of it where none ends. A refusal is answered in the
     /// feed that brings the fatal byte, and each later feed answers `Stopped`.
     ///
-    /// Each byte is judged or passed over once. The message is built of the bytes that are held.
+    /// Each byte is judged once. The message is built of the bytes that are held.
     pub fn feed(&mut self, alloc: Global, piece: &[u8]) -> Result<Fed, FeedError>
         ensures fed { IfOk result (λ fed. Feeds self.old piece.now fed self.new) }
         ensures stopped { self.old.stopped ≡ true → IsErrOf result FeedError.Stopped }

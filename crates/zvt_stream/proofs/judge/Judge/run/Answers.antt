@@ -3,7 +3,7 @@ use Rattle.zvt_grammar.specs.Reading.{Reading}
 use Rattle.zvt_stream.specs.Apdus.{IsRefusedIn}
 use Rattle.zvt_stream.specs.Judge.{start}
 use Rattle.zvt_stream.proofs.JudgeLemmas.{ran_refused}
-use Rattle.zvt_stream.proofs.RunLemmas.{few_after, passed_after, stands_after}
+use Rattle.zvt_stream.proofs.RunLemmas.{stands_after}
 use Rattle.zvt_stream.proofs.judge.Judge.run.Goals as goal
 
 pub returns-in-Err-clause-judged : goal.returns-in-Err-clause-judged
@@ -20,14 +20,11 @@ bytes-preserved c =
     let bytes = c.args.bytes.now in
     let k = c.bytes.taken in
     let lt = c.bytes-test.true in
-    let n = c.pass-taken.result in
-    let few = few_after bytes (k + 1) n c.pass-taken.ensures.few in
     record {
       stands = λ held h.
           let before = c.bytes.invariant.stands held h in
           let q = rw c.in-Ok-Open.field-0-is at (c.in-Ok-Open.ensures.judged (held ++ take k bytes) before.0) in
-          let more = c.pass-taken.ensures.stands (held ++ take (k + 1) bytes) (stands_after _ held bytes k lt q.0) in
-          (passed_after _ held bytes (k + 1) n few more.0, more.1 ∙ q.1 ∙ before.1);
-      few = omega (arith, few, lt);
-      count = omega (arith, c.bytes.invariant.count, c.step.ensures.count, c.pass-taken.ensures.count);
+          (stands_after _ held bytes k lt q.0, q.1 ∙ before.1);
+      few = omega (arith, lt);
+      count = omega (arith, c.bytes.invariant.count, c.step.ensures.count);
     }
