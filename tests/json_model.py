@@ -11,7 +11,6 @@ import json
 import re
 import sys
 
-FORMAT_OF_JOURNALS = b"# zvt journal 1"
 SIDES = {b">": "till", b"<": "terminal"}
 MARKS = {"till": ">", "terminal": "<"}
 DEEPEST = 6
@@ -323,12 +322,8 @@ def lines_of(trace):
     """The lines that are read of a trace, from 1."""
     rows = trace.split(b"\n")
     last = rows.pop()
-    rows = [row.removesuffix(b"\r") if row != b"" else None for row in rows] + ([last] if last else [])
-    journal = trace.startswith(FORMAT_OF_JOURNALS)
-    for number, row in enumerate(rows, 1):
-        if row is None and journal:
-            return
-        yield number, row or b""
+    rows = [row.removesuffix(b"\r") for row in rows] + ([last] if last else [])
+    yield from enumerate(rows, 1)
 
 
 def bytes_of(number, row):

@@ -12,7 +12,6 @@ use Rattle.zvt_till.specs.declared.happenings.Happening.TheVariants.{Connected}
 use Rattle.zvt_trace.specs.Listening.{AnswersWalk, HearsAll, Stops}
 use Rattle.zvt_trace.specs.TraceEvent.{At, Tallies}
 use Rattle.zvt_trace.specs.Emitting.{EventsSoFar}
-use Rattle.zvt_trace.specs.Journal.{readable}
 use Rattle.zvt_trace.specs.Written.{limit}
 use Rattle.zvt_trace.specs.declared.direction.Direction.TheVariants.{FromTill, FromTerminal}
 use Rattle.zvt_trace.specs.declared.fault.Tally.{Tally}
@@ -111,7 +110,7 @@ keeps_same None = tt
 keeps_same (Some bytes) = refl
 
 pub audited : {r : Reading} (trace : List ℕ) (form : Form) (tally : Tally) (answer : Result AuditSummary TraceFault) (old new : Option (List ℕ)) (connected closed : Listening)
-    → HasJudged (Connected ∷ []) connected.0.books → connected.0.orders.till ≡ false → connected.0.orders.terminal ≡ false → connected.0.named ≡ Absent → AreEndLines [] (lines_of connected.0.ends) → AnswersWalk r hears wants_memory WholeLine (lines (readable trace)) connected closed (Ok tally)
+    → HasJudged (Connected ∷ []) connected.0.books → connected.0.orders.till ≡ false → connected.0.orders.terminal ≡ false → connected.0.named ≡ Absent → AreEndLines [] (lines_of connected.0.ends) → AnswersWalk r hears wants_memory WholeLine (lines trace) connected closed (Ok tally)
     → ((log : List Happening) → HasJudged log closed.0.books → AnswersBooks form log tally (has_swapped closed.0.orders) (agreed closed.0.named) (lines_of closed.0.ends) old new answer) → AnswersReadBy r form trace old new answer
 audited {r = r} trace form tally answer old new connected closed start till terminal unnamed unended walked closes =
     by answer (subst (λ (c : Option ℕ). AnswersBooks form (log_of walked.0) tally (has_swapped closed.0.orders) c (lines_of closed.0.ends) old new answer) (currency_heard walked.0 connected closed unnamed walked.2) (closes (log_of walked.0) (log_judged walked.0 connected closed start walked.2)))
@@ -153,10 +152,10 @@ pub none_written : (r : Reading) (lines : List (List ℕ)) (old new : Listening)
 none_written r lines old new fault failed is = no_write lines old new (subst (λ (f : TraceFault). AnswersWalk r hears wants_memory WholeLine lines old new (Err f)) is failed)
 
 pub walk_failed : (r : Reading) (form : Form) (trace : List ℕ) (fault : TraceFault) (held : Option (List ℕ)) (old new : Listening)
-    → AnswersWalk r hears wants_memory WholeLine (lines (readable trace)) old new (Err fault) → AnswersReadBy r form trace held held (Err fault)
+    → AnswersWalk r hears wants_memory WholeLine (lines trace) old new (Err fault) → AnswersReadBy r form trace held held (Err fault)
 walk_failed r form trace (Trace number what) held old new walked = (walked.0, walked.1, keeps_same held)
 walk_failed r form trace Memory held old new walked = keeps_same held
-walk_failed r form trace Write held old new walked = absurd (no_write (lines (readable trace)) old new walked)
+walk_failed r form trace Write held old new walked = absurd (no_write (lines trace) old new walked)
 walk_failed r form trace TooLong held old new never = absurd never
 walk_failed r form trace Read held old new never = absurd never
 

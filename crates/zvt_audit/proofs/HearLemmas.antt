@@ -1,14 +1,12 @@
 -- What an audit hears of a trace that comes piece by piece.
-use Rattle.std.proofs.Common.{◌≡◌, ℕ, ◌<◌, ◌⊎◌, inr, List, [], ◌++◌, length, Option, Result, Ok, Err, sym, ◌∙◌, ap, subst, append-nil, take}
+use Rattle.std.proofs.Common.{◌≡◌, ℕ, ◌<◌, inr, List, [], ◌++◌, length, Option, Result, Ok, Err, sym, ◌∙◌, subst, append-nil, take}
 use Rattle.std.proofs.KnownBytes.{Consumes-trans}
 use Rattle.std.specs.Io.KnownBytes.{Consumes, IsAtEnd}
 use Rattle.std.specs.Str.Lines.{lines}
 use Rattle.zvt_grammar.specs.Reading.{Reading}
-use Rattle.zvt_trace.specs.Chunks.{AnswersFeed, FeedFaults, HasRead, IsEnded, IsOver, IsTaken, read_as, walker_reading, walker_scope}
-use Rattle.zvt_trace.specs.Journal.{readable}
+use Rattle.zvt_trace.specs.Chunks.{AnswersFeed, FeedFaults, HasRead, walker_reading, walker_scope}
 use Rattle.zvt_trace.specs.Listening.{AnswersFrom, AnswersWalk, most}
 use Rattle.zvt_trace.specs.TraceEvent.{At}
-use Rattle.zvt_trace.specs.declared.chunks.Form.{Form}
 use Rattle.zvt_trace.specs.declared.chunks.Walker.{Walker}
 use Rattle.zvt_trace.specs.declared.fault.Tally.{Tally}
 use Rattle.zvt_trace.specs.declared.fault.TraceFault.{TraceFault}
@@ -17,9 +15,9 @@ use Rattle.zvt_trace.specs.declared.listener.Scope.{Scope}
 use Rattle.zvt_trace.specs.declared.listener.Scope.TheVariants.{WholeLine}
 use Rattle.zvt_trace.proofs.EventLemmas.{hears_append}
 use Rattle.zvt_trace.proofs.WalkedLemmas.{from_before, whole_walk}
-use Rattle.zvt_trace.proofs.WalkerLemmas.{fault_before, still_read, too_long}
-use Rattle.zvt_audit.specs.Audited.{AnswersFollowed, AnswersReadBy, IsConnected, hears, wants_memory}
-use Rattle.zvt_audit.specs.Heard.{AnswersHearing, AnswersTurn, HasAudited, HasEnded, HasHeard, HearingFaults}
+use Rattle.zvt_trace.proofs.WalkerLemmas.{fault_before, too_long}
+use Rattle.zvt_audit.specs.Audited.{AnswersFollowed, AnswersReadBy, hears, wants_memory}
+use Rattle.zvt_audit.specs.Heard.{AnswersHearing, AnswersTurn, HasAudited, HasHeard, HearingFaults}
 use Rattle.zvt_audit.specs.declared.follow.Audit.{Audit}
 use Rattle.zvt_audit.specs.declared.auditor.Auditor.{Auditor}
 use Rattle.zvt_json.specs.declared.form.Form.{Form as Written}
@@ -60,7 +58,7 @@ turn_failed r bytes chunk start now next old new fault has feeds =
     by : (fault : TraceFault) → FeedFaults r hears wants_memory WholeLine (bytes ++ chunk) [] (start, tt) (next, tt) fault → HearingFaults r (bytes ++ chunk) fault
     by (Trace number what) failed = (failed.0, failed.1)
     by Memory failed = tt
-    by Write failed = absurd (no_write (lines (readable (bytes ++ chunk))) (start, tt) (next, tt) failed)
+    by Write failed = absurd (no_write (lines (bytes ++ chunk)) (start, tt) (next, tt) failed)
     by TooLong (events, long, heard) = (events, long)
     by Read never = absurd never
 
@@ -78,24 +76,17 @@ turn_heard r bytes chunk old next new (Err fault) has feeds same_reading same_sc
 
 -- all that the bytes say was walked
 pub all_walked : (r : Reading) (bytes : List ℕ) (audit : Audit) (next : Auditor) (answer : Result Tally TraceFault) → (has : HasAudited r bytes audit)
-    → ((bytes : List ℕ) (earlier : List At) → HasRead (walker_reading audit.walker) (walker_scope audit.walker) bytes earlier audit.walker → AnswersFrom (walker_reading audit.walker) hears wants_memory (walker_scope audit.walker) (lines (readable bytes)) earlier (audit.auditor, tt) (next, tt) answer)
-    → AnswersWalk r hears wants_memory WholeLine (lines (readable bytes)) (has.start, tt) (next, tt) answer
-all_walked r bytes audit next answer has feeds = whole_walk r hears wants_memory WholeLine (lines (readable bytes)) answer (has.start, tt) (next, tt) (from_before r hears wants_memory WholeLine (lines (readable bytes)) [] has.has.events answer (has.start, tt) (audit.auditor, tt) (next, tt) has.has.heard there)
+    → ((bytes : List ℕ) (earlier : List At) → HasRead (walker_reading audit.walker) (walker_scope audit.walker) bytes earlier audit.walker → AnswersFrom (walker_reading audit.walker) hears wants_memory (walker_scope audit.walker) (lines bytes) earlier (audit.auditor, tt) (next, tt) answer)
+    → AnswersWalk r hears wants_memory WholeLine (lines bytes) (has.start, tt) (next, tt) answer
+all_walked r bytes audit next answer has feeds = whole_walk r hears wants_memory WholeLine (lines bytes) answer (has.start, tt) (next, tt) (from_before r hears wants_memory WholeLine (lines bytes) [] has.has.events answer (has.start, tt) (audit.auditor, tt) (next, tt) has.has.heard there)
   where
-    there : AnswersFrom r hears wants_memory WholeLine (lines (readable bytes)) has.has.events (audit.auditor, tt) (next, tt) answer
-    there = at_both (λ q s. HasRead q s bytes has.has.events audit.walker → AnswersFrom q hears wants_memory s (lines (readable bytes)) has.has.events (audit.auditor, tt) (next, tt) answer) (walker_reading audit.walker) r (walker_scope audit.walker) WholeLine has.has.reading has.has.whole_line (feeds bytes has.has.events) has.has.read
-
--- a journal has ended
-pub hearing_ended : (r : Reading) (bytes : List ℕ) (audit : Audit) → HasAudited r bytes audit → HasEnded audit → IsEnded bytes
-hearing_ended r bytes audit has over more =
-    let to = has.has.read.to in
-    let reads : (more : List ℕ) → readable (bytes ++ more) ≡ to.done ++ [] = λ more. to.later more ∙ ap (λ (f : Option Form). to.done ++ read_as f (audit.walker.begun.items ++ more)) over in
-    reads more ∙ sym (reads []) ∙ ap readable (append-nil bytes)
+    there : AnswersFrom r hears wants_memory WholeLine (lines bytes) has.has.events (audit.auditor, tt) (next, tt) answer
+    there = at_both (λ q s. HasRead q s bytes has.has.events audit.walker → AnswersFrom q hears wants_memory s (lines bytes) has.has.events (audit.auditor, tt) (next, tt) answer) (walker_reading audit.walker) r (walker_scope audit.walker) WholeLine has.has.reading has.has.whole_line (feeds bytes has.has.events) has.has.read
 
 -- no reader brings so many bytes
-pub hearing_endless : (r : Reading) (bytes : List ℕ) (audit : Audit) → HasAudited r bytes audit → (HasEnded audit → ⊥) → most < length bytes → HearingFaults r bytes TooLong
-hearing_endless r bytes audit has never many =
-    (has.has.events, too_long r WholeLine bytes audit.walker.begun.items audit.walker.begun.items [] has.has.events audit.walker.ended has.has.read.to never (sym (append-nil audit.walker.begun.items)) (inr many))
+pub hearing_endless : (r : Reading) (bytes : List ℕ) (audit : Audit) → HasAudited r bytes audit → most < length bytes → HearingFaults r bytes TooLong
+hearing_endless r bytes audit has many =
+    (has.has.events, too_long r WholeLine bytes audit.walker.begun.items audit.walker.begun.items [] has.has.events audit.walker.progress has.has.read.to (sym (append-nil audit.walker.begun.items)) (inr many))
 
 -- a turn failed over the last bytes that were taken
 pub faults_hearing : (r : Reading) (taken : List ℕ) (rest : Option (List ℕ)) (fault : TraceFault) → HearingFaults r taken fault → AnswersHearing r taken rest (Err fault) × (fault ≡ Read → ⊥)
@@ -114,7 +105,7 @@ hearing_failed r form taken rest held Write never = absurd never
 hearing_failed r form taken rest held TooLong long = (long, keeps_same held)
 hearing_failed r form taken rest held Read unread = keeps_same held
 
-pub books_followed : (r : Reading) (form : Written) (taken : List ℕ) (rest old new : Option (List ℕ)) (answer : Result AuditSummary TraceFault) → AnswersReadBy r form taken old new answer → IsAtEnd rest ⊎ IsEnded taken → AnswersFollowed r form taken rest old new answer
+pub books_followed : (r : Reading) (form : Written) (taken : List ℕ) (rest old new : Option (List ℕ)) (answer : Result AuditSummary TraceFault) → AnswersReadBy r form taken old new answer → IsAtEnd rest → AnswersFollowed r form taken rest old new answer
 books_followed r form taken rest old new (Ok audited) answers end = (answers, end)
 books_followed r form taken rest old new (Err (Trace number what)) answers end = answers
 books_followed r form taken rest old new (Err Memory) answers end = answers
@@ -127,10 +118,6 @@ pub none_more : (start before after : Option (List ℕ)) (taken buffer : List �
 none_more start before after taken buffer n none so more =
     let nothing : Consumes before after [] = subst (λ (k : ℕ). Consumes before after (take k buffer)) none more in
     subst (λ (t : List ℕ). Consumes start after t) (append-nil taken) (Consumes-trans start before after taken [] so nothing)
-
--- no more bytes came
-pub none_taken : (r : Reading) (scope : Scope) (bytes : List ℕ) (events : List At) (walker : Walker) → HasRead r scope bytes events walker → (IsOver walker → ⊥) → IsTaken bytes
-none_taken r scope bytes events walker has never = subst IsTaken (append-nil bytes) (still_read r scope bytes [] events walker has never)
 
 -- writing books reads nothing
 pub books_unread : (r : Reading) (form : Written) (taken : List ℕ) (old new : Option (List ℕ)) (answer : Result AuditSummary TraceFault) → AnswersReadBy r form taken old new answer → answer ≡ Err Read → ⊥

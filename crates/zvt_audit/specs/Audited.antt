@@ -1,5 +1,5 @@
 -- What an audit answers and writes.
-use Rattle.std.specs.Prelude.{◌≡◌, ◌⊎◌, ℕ, ◌<◌, ◌≤◌, Bool, false, not, ◌&&◌, List, [], ◌∷◌, ◌++◌, length, Option, Result, Ok, Err}
+use Rattle.std.specs.Prelude.{◌≡◌, ℕ, ◌<◌, ◌≤◌, Bool, false, not, ◌&&◌, List, [], ◌∷◌, ◌++◌, length, Option, Result, Ok, Err}
 use Rattle.std.specs.Io.KnownBytes.{Appends, IsAtEnd, Keeps}
 use Rattle.std.specs.Str.Lines.{lines}
 use Rattle.zvt_grammar.specs.Reading.{Reading, shortest}
@@ -7,11 +7,10 @@ use Rattle.zvt_till.specs.Books.{Books, books}
 use Rattle.zvt_till.specs.Judging.{BooksSoFar, HasJudged}
 use Rattle.zvt_till.specs.declared.happenings.Happening.{Happening}
 use Rattle.zvt_till.specs.declared.happenings.Happening.TheVariants.{Connected}
-use Rattle.zvt_trace.specs.Chunks.{IsEnded, IsTooLong}
+use Rattle.zvt_trace.specs.Chunks.{IsTooLong}
 use Rattle.zvt_trace.specs.Listening.{Fails, Hears}
 use Rattle.zvt_trace.specs.TraceEvent.{At, Tallies}
 use Rattle.zvt_trace.specs.Emitting.{BrokenTrace, WholeTrace}
-use Rattle.zvt_trace.specs.Journal.{readable}
 use Rattle.zvt_trace.specs.Written.{AppendsPrefix, limit}
 use Rattle.zvt_trace.specs.declared.fault.Tally.{Tally}
 use Rattle.zvt_trace.specs.declared.fault.TraceFault.{TraceFault}
@@ -86,19 +85,19 @@ wants_memory old event why new = why ≡ failure.Memory
 -- the device has besides the text of the books of what the trace emits, by that reading of lengths
 abbrev pub WritesBooks : Reading → (trace : List ℕ) → Tally → (old new : Option (List ℕ)) → Type 0
 WritesBooks r trace tally old new =
-    (events : List At) × WholeTrace r WholeLine (lines (readable trace)) events × Appends old new (books_text (books (log_of events))) × Tallies tally events
+    (events : List At) × WholeTrace r WholeLine (lines trace) events × Appends old new (books_text (books (log_of events))) × Tallies tally events
 
 -- What an audit answers for a trace that was read, in that form and by that reading of lengths. Where it fails nothing is
 -- written, but of a write that failed a prefix of the text.
 abbrev pub AnswersReadBy : Reading → Form → (trace : List ℕ) → (old new : Option (List ℕ)) → Result AuditSummary TraceFault → Type 0
 AnswersReadBy r form trace old new (Ok audited) =
-    (events : List At) × (ends : Lines) × WholeTrace r WholeLine (lines (readable trace)) events × AreEndLines events ends × Appends old new (books_in form audited.tally (one_currency (currencies_of events)) ends (books (log_of events)))
+    (events : List At) × (ends : Lines) × WholeTrace r WholeLine (lines trace) events × AreEndLines events ends × Appends old new (books_in form audited.tally (one_currency (currencies_of events)) ends (books (log_of events)))
     × Tallies audited.tally events × (audited.swapped ≡ are_swapped events)
     × SumsUp audited (books (log_of events))
-AnswersReadBy r form trace old new (Err (Trace number what)) = (events : List At) × BrokenTrace r WholeLine (lines (readable trace)) number what events × Keeps old new
+AnswersReadBy r form trace old new (Err (Trace number what)) = (events : List At) × BrokenTrace r WholeLine (lines trace) number what events × Keeps old new
 AnswersReadBy r form trace old new (Err Memory) = Keeps old new
 AnswersReadBy r form trace old new (Err Write) =
-    (events : List At) × (tally : Tally) × (ends : Lines) × WholeTrace r WholeLine (lines (readable trace)) events × AreEndLines events ends × AppendsPrefix old new (books_in form tally (one_currency (currencies_of events)) ends (books (log_of events)))
+    (events : List At) × (tally : Tally) × (ends : Lines) × WholeTrace r WholeLine (lines trace) events × AreEndLines events ends × AppendsPrefix old new (books_in form tally (one_currency (currencies_of events)) ends (books (log_of events)))
     × Tallies tally events
 AnswersReadBy r form trace old new (Err TooLong) = ⊥
 AnswersReadBy r form trace old new (Err Read) = ⊥
@@ -106,12 +105,12 @@ AnswersReadBy r form trace old new (Err Read) = ⊥
 -- What an audit answers for a trace of known bytes, which may be too long, by that reading of lengths.
 abbrev pub AnswersAuditBy : Reading → (trace : List ℕ) → (old new : Option (List ℕ)) → Result Tally TraceFault → Type 0
 AnswersAuditBy r trace old new (Ok tally) = (length trace ≤ limit) × WritesBooks r trace tally old new
-AnswersAuditBy r trace old new (Err (Trace number what)) = (length trace ≤ limit) × (events : List At) × BrokenTrace r WholeLine (lines (readable trace)) number what events × Keeps old new
+AnswersAuditBy r trace old new (Err (Trace number what)) = (length trace ≤ limit) × (events : List At) × BrokenTrace r WholeLine (lines trace) number what events × Keeps old new
 AnswersAuditBy r trace old new (Err TooLong) = (limit < length trace) × Keeps old new
 AnswersAuditBy r trace old new (Err Read) = Keeps old new
 AnswersAuditBy r trace old new (Err Memory) = Keeps old new
 AnswersAuditBy r trace old new (Err Write) =
-    (length trace ≤ limit) × (events : List At) × WholeTrace r WholeLine (lines (readable trace)) events × AppendsPrefix old new (books_text (books (log_of events)))
+    (length trace ≤ limit) × (events : List At) × WholeTrace r WholeLine (lines trace) events × AppendsPrefix old new (books_text (books (log_of events)))
 
 -- what a strict audit answers
 abbrev pub AnswersAudit : (trace : List ℕ) → (old new : Option (List ℕ)) → Result Tally TraceFault → Type 0
@@ -119,7 +118,7 @@ AnswersAudit trace old new answer = AnswersAuditBy shortest trace old new answer
 
 -- What an audit of a trace answers that comes piece by piece, once these bytes of it were taken. Where a line is too long, or a read fails, nothing is written.
 abbrev pub AnswersFollowed : Reading → Form → (taken : List ℕ) → (rest old new : Option (List ℕ)) → Result AuditSummary TraceFault → Type 0
-AnswersFollowed r form taken rest old new (Ok audited) = AnswersReadBy r form taken old new (Ok audited) × (IsAtEnd rest ⊎ IsEnded taken)
+AnswersFollowed r form taken rest old new (Ok audited) = AnswersReadBy r form taken old new (Ok audited) × IsAtEnd rest
 AnswersFollowed r form taken rest old new (Err (Trace number what)) = AnswersReadBy r form taken old new (Err (Trace number what))
 AnswersFollowed r form taken rest old new (Err Memory) = Keeps old new
 AnswersFollowed r form taken rest old new (Err Write) = AnswersReadBy r form taken old new (Err Write)

@@ -1,11 +1,10 @@
 -- What an audit has heard of a trace that comes chunk by chunk.
-use Rattle.std.specs.Prelude.{◌≡◌, ◌⊎◌, ℕ, List, Option, Result, Ok, Err}
+use Rattle.std.specs.Prelude.{◌≡◌, ℕ, List, Option, Result, Ok, Err}
 use Rattle.std.specs.Io.KnownBytes.{IsAtEnd}
 use Rattle.std.specs.Str.Lines.{lines}
 use Rattle.zvt_grammar.specs.Reading.{Reading}
-use Rattle.zvt_trace.specs.Chunks.{HasRead, IsEnded, IsOver, IsReady, IsTooLong, walker_reading, walker_scope}
+use Rattle.zvt_trace.specs.Chunks.{HasRead, IsReady, IsTooLong, walker_reading, walker_scope}
 use Rattle.zvt_trace.specs.Emitting.{BrokenTrace}
-use Rattle.zvt_trace.specs.Journal.{readable}
 use Rattle.zvt_trace.specs.Listening.{HearsAll}
 use Rattle.zvt_trace.specs.TraceEvent.{At}
 use Rattle.zvt_trace.specs.declared.chunks.Walker.{Walker}
@@ -36,13 +35,9 @@ pub record HasAudited (r : Reading) (bytes : List ℕ) (audit : Audit) : Type 0 
 abbrev pub IsAuditing : Audit → Type 0
 IsAuditing audit = IsReady audit.walker
 
--- nothing more is heard: a journal has ended
-abbrev pub HasEnded : Audit → Type 0
-HasEnded audit = IsOver audit.walker
-
 -- What a fault says of the bytes over the last of which it came.
 abbrev pub HearingFaults : Reading → (bytes : List ℕ) → TraceFault → Type 0
-HearingFaults r bytes (Trace number what) = (events : List At) × BrokenTrace r WholeLine (lines (readable bytes)) number what events
+HearingFaults r bytes (Trace number what) = (events : List At) × BrokenTrace r WholeLine (lines bytes) number what events
 HearingFaults r bytes TooLong = (events : List At) × IsTooLong r WholeLine bytes events
 HearingFaults r bytes Memory = Unit {0}
 HearingFaults r bytes Write = ⊥
@@ -57,7 +52,7 @@ AnswersTurn r bytes audit (Err fault) = HearingFaults r bytes fault
 
 -- What hearing all of a trace answers, once these bytes of it were taken, and what is left of them.
 abbrev pub AnswersHearing : Reading → (taken : List ℕ) → (rest : Option (List ℕ)) → Result Audit TraceFault → Type 0
-AnswersHearing r taken rest (Ok audit) = HasAudited r taken audit × (IsAtEnd rest ⊎ IsEnded taken)
+AnswersHearing r taken rest (Ok audit) = HasAudited r taken audit × IsAtEnd rest
 AnswersHearing r taken rest (Err (Trace number what)) = HearingFaults r taken (Trace number what)
 AnswersHearing r taken rest (Err TooLong) = HearingFaults r taken TooLong
 AnswersHearing r taken rest (Err Memory) = HearingFaults r taken Memory

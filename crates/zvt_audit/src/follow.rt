@@ -3,10 +3,9 @@ ghost use Rattle.std.specs.Prelude.{◌≡◌, ◌<◌, ◌≤◌, ◌++◌, [],
 ghost use Rattle.std.specs.Io.KnownBytes.{Consumes};
 ghost use Rattle.zvt_grammar.specs.Lengths.{reading_of};
 ghost use Rattle.zvt_grammar.specs.Reading.{Reading};
-ghost use Rattle.zvt_trace.specs.Chunks.{IsTaken};
 ghost use Rattle.zvt_trace.specs.Written.{limit};
 ghost use Rattle.zvt_audit.specs.Audited.{AnswersFollowed, AnswersReadBy};
-ghost use Rattle.zvt_audit.specs.Heard.{AnswersHearing, AnswersTurn, HasAudited, HasEnded, IsAuditing};
+ghost use Rattle.zvt_audit.specs.Heard.{AnswersHearing, AnswersTurn, HasAudited, IsAuditing};
 
 use crate::auditor::Auditor;
 use crate::summary::{AuditSummary, connected, write_books};
@@ -21,8 +20,7 @@ const CHUNK: usize = 65_536;
 
 /// Writes the books of a trace, as [`audit_trace`] does, once the trace has come to its end.
 ///
-/// The trace may have any length; a line has at most as many bytes as a trace in memory. A journal is read to its first
-/// empty line, and no read follows. Nothing is written where a line can't be read or is too long, where a read fails, and
+/// The trace may have any length; a line has at most as many bytes as a trace in memory. Nothing is written where a line can't be read or is too long, where a read fails, and
 /// where there is too little memory.
 ///
 /// [`audit_trace`]: crate::audit_trace
@@ -33,7 +31,7 @@ pub fn follow_audit<R: Source, W: Sink>(
     reader: &mut R,
     writer: &mut W,
 ) -> Result<AuditSummary, TraceFault>
-    ensures follows { (taken : List ℕ) × Consumes (R.remaining reader.old) (R.remaining reader.new) taken × IsTaken taken × AnswersFollowed (reading_of lengths) form taken (R.remaining reader.new) (W.written writer.old) (W.written writer.new) result }
+    ensures follows { (taken : List ℕ) × Consumes (R.remaining reader.old) (R.remaining reader.new) taken × AnswersFollowed (reading_of lengths) form taken (R.remaining reader.new) (W.written writer.old) (W.written writer.new) result }
     ensures read { result ≡ Err TraceFault.Read → R.failures reader.old < R.failures reader.new }
     ensures write { result ≡ Err TraceFault.Write → W.failures writer.old < W.failures writer.new }
 {
@@ -43,7 +41,7 @@ pub fn follow_audit<R: Source, W: Sink>(
 
 /// An audit that has heard all that the reader brings, as it comes.
 fn hear_all<R: Source>(alloc: Global, lengths: Lengths, reader: &mut R) -> Result<Audit, TraceFault>
-    ensures hears { (taken : List ℕ) × Consumes (R.remaining reader.old) (R.remaining reader.new) taken × IsTaken taken × AnswersHearing (reading_of lengths) taken (R.remaining reader.new) result }
+    ensures hears { (taken : List ℕ) × Consumes (R.remaining reader.old) (R.remaining reader.new) taken × AnswersHearing (reading_of lengths) taken (R.remaining reader.new) result }
     ensures ready { IfOk result IsAuditing }
     ensures read { result ≡ Err TraceFault.Read → R.failures reader.old < R.failures reader.new }
 {
@@ -55,9 +53,6 @@ fn hear_all<R: Source>(alloc: Global, lengths: Lengths, reader: &mut R) -> Resul
             return Ok(audit);
         }
         audit.feed(&buffer[..taken])?;
-        if audit.is_over() {
-            return Ok(audit);
-        }
     }
     Err(TraceFault::TooLong)
 }
@@ -74,21 +69,12 @@ impl Audit {
     pub fn new(alloc: Global, lengths: Lengths) -> Result<Audit, AllocError>
         ensures heard { IfOk result (λ audit. HasAudited (reading_of lengths) [] audit) }
         ensures ready { IfOk result IsAuditing }
-        ensures hears_on { IfOk result (λ audit. ¬ HasEnded audit) }
     {
         let auditor = connected(alloc)?;
         Ok(Audit {
             auditor,
             walker: Walker::new(alloc, Scope::WholeLine, lengths),
         })
-    }
-
-    /// Whether nothing more is heard, since the trace is a journal and its first empty line has come.
-    pub fn is_over(&self) -> bool
-        ensures yes { result ≡ true → HasEnded self.now }
-        ensures no { result ≡ false → ¬ HasEnded self.now }
-    {
-        self.walker.is_over()
     }
 
     /// Hears all that the lines say which end in this chunk. After a fault the audit is of no use.

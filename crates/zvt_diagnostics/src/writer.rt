@@ -2,7 +2,6 @@
 ghost use Rattle.std.specs.Prelude.{◌≡◌, ◌≢◌, ◌<◌, ◌≤◌, length, Err, IfErr, OnOk};
 ghost use Rattle.std.specs.Str.Lines.{lines};
 ghost use Rattle.zvt_grammar.specs.Lengths.{reading_of};
-ghost use Rattle.zvt_trace.specs.Journal.{readable};
 ghost use Rattle.zvt_trace.specs.Written.{limit};
 ghost use Rattle.zvt_diagnostics.specs.Written.{AnswersNotes};
 
@@ -30,7 +29,7 @@ pub fn write_notes<W: Sink>(
     device: &mut W,
 ) -> Result<(), ListenerError>
     requires { length trace.now ≤ limit }
-    ensures writes { AnswersNotes (reading_of lengths) scope (lines (readable trace.now)) (W.written device.old) (W.written device.new) result }
+    ensures writes { AnswersNotes (reading_of lengths) scope (lines trace.now) (W.written device.old) (W.written device.new) result }
     ensures write { result ≡ Err ListenerError.Write → W.failures device.old < W.failures device.new }
 {
     let mut notes = Notes::new(alloc, scope);

@@ -7,7 +7,6 @@ use Rattle.zvt_grammar.specs.declared.why.Why.{Why}
 use Rattle.zvt_apdu.specs.Message.{Message}
 use Rattle.zvt_text.specs.Words.{number_in, trailing}
 use Rattle.zvt_stream.specs.Apdus.{Alive, Cut, IsRefused, Spelled}
-use Rattle.zvt_trace.specs.Journal.{readable}
 use Rattle.zvt_trace.specs.Meanings.{Meaning, comment, lost, meaning_of, piece}
 use Rattle.zvt_trace.specs.declared.direction.Direction.{Direction}
 use Rattle.zvt_trace.specs.declared.direction.Direction.TheVariants.{FromTill, FromTerminal}
@@ -139,6 +138,6 @@ pub record IsFirstWrong (own : Direction) (lines : List (List ℕ)) (number : �
 
 -- what reading a script of the trace answers
 abbrev pub ReadsScript : (own : Direction) → (trace : List ℕ) → Result (Vec ScriptStep Global) ScriptFault → Type 0
-ReadsScript own trace (Ok steps) = LinesSay own 0 (lines (readable trace)) (steps_at steps.items)
-ReadsScript own trace (Err (fault.Line number why)) = IsFirstWrong own (lines (readable trace)) number why
+ReadsScript own trace (Ok steps) = LinesSay own 0 (lines trace) (steps_at steps.items)
+ReadsScript own trace (Err (fault.Line number why)) = IsFirstWrong own (lines trace) number why
 ReadsScript own trace (Err fault.Memory) = Unit {0}

@@ -7,7 +7,7 @@ use crate::line::{BadLine, ScriptLineError, read_line};
 use crate::step::ScriptStep;
 use std::alloc::{AllocError, Global};
 use thiserror::Error;
-use zvt_trace::{Direction, next_line, readable};
+use zvt_trace::{Direction, next_line};
 
 /// Why a trace can't be played.
 #[derive(Clone, Copy, Debug, Drop, PartialEq, Eq, Error)]
@@ -29,13 +29,12 @@ impl From<AllocError> for ScriptFault {
 
 /// The steps of the trace for the player of that side: one for each line of bytes, each `!` and each mark, in order.
 ///
-/// Of a journal the lines before the first empty one are read. An own line may have any bytes. A line of the other side has
-/// messages, and perhaps the beginning of one, or no bytes.
+/// An own line may have any bytes. A line of the other side has messages, and perhaps the beginning of one, or no bytes.
 pub fn script(alloc: Global, own: Direction, trace: &[u8]) -> Result<Vec<ScriptStep>, ScriptFault>
     ensures { ReadsScript own trace.now result }
 {
     let mut steps = Vec::new(alloc);
-    let mut rest = readable(trace);
+    let mut rest = trace;
     let mut number = 0;
     'lines: while !rest.is_empty() {
         let (line, after) = next_line(rest);

@@ -9,7 +9,6 @@ use Rattle.zvt_trace.specs.Listening.{AnswersWalk, Fails, FailsIn, Hears, HearsA
 use Rattle.zvt_trace.specs.TraceEvent.{At}
 use Rattle.zvt_trace.specs.Emitting.{BrokenTrace, PrefixOf, SideEnds, EventsSoFar, WholeTrace}
 use Rattle.zvt_trace.specs.Trace.{new_line, running}
-use Rattle.zvt_trace.specs.Journal.{readable}
 use Rattle.zvt_trace.specs.Written.{AppendsPrefix, ReadsTrace, limit}
 use Rattle.zvt_stream.proofs.Beginnings.{nothing_in}
 use Rattle.zvt_trace.specs.declared.direction.Direction.{Direction}
@@ -263,19 +262,19 @@ pub read_failed : (r : Reading) (style : Style) (left held : Option (List ℕ)) 
 read_failed r style None held fault reads = tt
 read_failed r style (Some trace) held TooLong reads = (reads, keeps_same held)
 read_failed r style (Some trace) held Read reads = keeps_same held
-read_failed r style (Some trace) held Memory reads = unread r OneSide style (lines (readable trace)) held
+read_failed r style (Some trace) held Memory reads = unread r OneSide style (lines trace) held
 read_failed r style (Some trace) held Write never = absurd never
 read_failed r style (Some trace) held (Trace number what) never = absurd never
 
 -- ---- a trace that is read first
 
 pub read_answered : (r : Reading) (style : Style) (left : Option (List ℕ)) (trace slice : List ℕ) (old new : Option (List ℕ)) (answer : Result Tally TraceFault) → IfSome left (λ bytes. trace ≡ bytes) → length trace ≤ limit → slice ≡ trace
-    → AnswersLinesBy r OneSide style (lines (readable slice)) old new answer → IfSome left (λ bytes. AnswersTraceBy r style bytes old new answer)
+    → AnswersLinesBy r OneSide style (lines slice) old new answer → IfSome left (λ bytes. AnswersTraceBy r style bytes old new answer)
 read_answered r style None trace slice old new answer read few same answers = tt
 read_answered r style (Some bytes) trace slice old new answer read few same answers =
-    subst (λ (b : List ℕ). AnswersTraceBy r style b old new answer) read (by answer (subst (λ (b : List ℕ). AnswersLinesBy r OneSide style (lines (readable b)) old new answer) same answers))
+    subst (λ (b : List ℕ). AnswersTraceBy r style b old new answer) read (by answer (subst (λ (b : List ℕ). AnswersLinesBy r OneSide style (lines b) old new answer) same answers))
   where
-    by : (answer : Result Tally TraceFault) → AnswersLinesBy r OneSide style (lines (readable trace)) old new answer → AnswersTraceBy r style trace old new answer
+    by : (answer : Result Tally TraceFault) → AnswersLinesBy r OneSide style (lines trace) old new answer → AnswersTraceBy r style trace old new answer
     by (Ok tally) written = (few, written)
     by (Err (Trace number what)) written = (few, written)
     by (Err Memory) written = written

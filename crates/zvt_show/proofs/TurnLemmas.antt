@@ -1,21 +1,19 @@
 -- What is written at one turn, and after all turns.
-use Rattle.std.proofs.Common.{◌≡◌, inr, ℕ, ◌<◌, ◌⊎◌, List, [], ◌++◌, length, Result, Option, Ok, Err, refl, sym, ◌∙◌, ap, subst, arith, append-nil, take}
+use Rattle.std.proofs.Common.{◌≡◌, inr, ℕ, ◌<◌, List, [], ◌++◌, length, Result, Option, Ok, Err, refl, sym, ◌∙◌, subst, arith, append-nil, take}
 use Rattle.std.proofs.KnownBytes.{Consumes-trans}
 use Rattle.std.specs.Io.KnownBytes.{Appends, Consumes, IsAtEnd}
 use Rattle.std.specs.Str.Lines.{lines}
 use Rattle.zvt_grammar.specs.Reading.{Reading}
-use Rattle.zvt_trace.specs.Chunks.{AnswersFeed, FeedFaults, HasRead, IsEnded, IsOver, IsTaken, read_as, walker_reading, walker_scope}
-use Rattle.zvt_trace.specs.Journal.{readable}
+use Rattle.zvt_trace.specs.Chunks.{AnswersFeed, FeedFaults, HasRead, walker_reading, walker_scope}
 use Rattle.zvt_trace.specs.Listening.{AnswersFrom, most}
 use Rattle.zvt_trace.specs.TraceEvent.{At}
 use Rattle.zvt_trace.specs.Written.{AppendsPrefix}
-use Rattle.zvt_trace.specs.declared.chunks.Form.{Form}
 use Rattle.zvt_trace.specs.declared.chunks.Walker.{Walker}
 use Rattle.zvt_trace.specs.declared.fault.Tally.{Tally}
 use Rattle.zvt_trace.specs.declared.fault.TraceFault.{TraceFault}
 use Rattle.zvt_trace.specs.declared.fault.TraceFault.TheVariants.{Memory, Read, TooLong, Trace, Write}
 use Rattle.zvt_trace.specs.declared.listener.Scope.{Scope}
-use Rattle.zvt_trace.proofs.WalkerLemmas.{read_so_far, still_read, too_long, whole_lines}
+use Rattle.zvt_trace.proofs.WalkerLemmas.{read_so_far, too_long, whole_lines}
 use Rattle.zvt_show.specs.Followed.{AnswersFollow, AnswersTurn, CountsWrites, HasWritten, TurnFaults}
 use Rattle.zvt_show.specs.Written.{AnswersLinesBy, Page, page}
 use Rattle.zvt_show.specs.declared.pages.Pages.{Pages}
@@ -36,10 +34,10 @@ turn_fed r scope view style bytes all first now old walker answer x y has feeds 
     at_both (λ q s. HasRead q s bytes has.events old.walker → AnswersFeed q (writes view) (fails view) s all has.events walker x y answer) (walker_reading old.walker) r (walker_scope old.walker) scope has.reading has.by_scope feeds has.read
 
 pub end_fed : {S : Type 0} (r : Reading) (scope : Scope) (view : S → Page) (style : Style) (bytes : List ℕ) (first now : Option (List ℕ)) (old : Follower) (answer : Result Tally TraceFault) (x y : S) → (has : HasWritten r scope style bytes first now old)
-    → (HasRead (walker_reading old.walker) (walker_scope old.walker) bytes has.events old.walker → AnswersFrom (walker_reading old.walker) (writes view) (fails view) (walker_scope old.walker) (lines (readable bytes)) has.events x y answer)
-    → AnswersFrom r (writes view) (fails view) scope (lines (readable bytes)) has.events x y answer
+    → (HasRead (walker_reading old.walker) (walker_scope old.walker) bytes has.events old.walker → AnswersFrom (walker_reading old.walker) (writes view) (fails view) (walker_scope old.walker) (lines bytes) has.events x y answer)
+    → AnswersFrom r (writes view) (fails view) scope (lines bytes) has.events x y answer
 end_fed r scope view style bytes first now old answer x y has feeds =
-    at_both (λ q s. HasRead q s bytes has.events old.walker → AnswersFrom q (writes view) (fails view) s (lines (readable bytes)) has.events x y answer) (walker_reading old.walker) r (walker_scope old.walker) scope has.reading has.by_scope feeds has.read
+    at_both (λ q s. HasRead q s bytes has.events old.walker → AnswersFrom q (writes view) (fails view) s (lines bytes) has.events x y answer) (walker_reading old.walker) r (walker_scope old.walker) scope has.reading has.by_scope feeds has.read
 
 -- ---- one turn
 
@@ -49,9 +47,9 @@ turn_said r scope style bytes first page follower has empty = said_before style 
 
 fault_turn : {S : Type 0} (r : Reading) (scope : Scope) (view : S → Page) (style : Style) (all : List ℕ) (earlier : List At) (first device : Option (List ℕ)) (fault : TraceFault) (x y : S) → (view x).style ≡ style → Said style earlier first (view x)
     → FeedFaults r (writes view) (fails view) scope all earlier x y fault → Appends (view y).written device (view y).block → TurnFaults r scope style all first device fault
-fault_turn r scope view style all earlier first device (Trace number what) x y in_style said failed out = fault_written r scope style (lines (readable all)) first device (view y) (Trace number what) (fault_said r scope view style (lines (readable all)) earlier first (Trace number what) x y in_style said failed) out
-fault_turn r scope view style all earlier first device Memory x y in_style said failed out = fault_written r scope style (lines (readable all)) first device (view y) Memory (fault_said r scope view style (lines (readable all)) earlier first Memory x y in_style said failed) out
-fault_turn r scope view style all earlier first device Write x y in_style said failed out = fault_written r scope style (lines (readable all)) first device (view y) Write (fault_said r scope view style (lines (readable all)) earlier first Write x y in_style said failed) out
+fault_turn r scope view style all earlier first device (Trace number what) x y in_style said failed out = fault_written r scope style (lines all) first device (view y) (Trace number what) (fault_said r scope view style (lines all) earlier first (Trace number what) x y in_style said failed) out
+fault_turn r scope view style all earlier first device Memory x y in_style said failed out = fault_written r scope style (lines all) first device (view y) Memory (fault_said r scope view style (lines all) earlier first Memory x y in_style said failed) out
+fault_turn r scope view style all earlier first device Write x y in_style said failed out = fault_written r scope style (lines all) first device (view y) Write (fault_said r scope view style (lines all) earlier first Write x y in_style said failed) out
 fault_turn r scope view style all earlier first device TooLong x y in_style said (own, long, heard) out =
     let more = said_more view style earlier own first x y in_style said heard in
     (earlier ++ own, more.text, long, more.says, said_out style (earlier ++ own) first device (view y) more out)
@@ -76,24 +74,24 @@ turn_written r scope view style all earlier first device follower (Err fault) x 
 
 -- the block could not go out
 pub turn_lost : {S : Type 0} (r : Reading) (scope : Scope) (view : S → Page) (style : Style) (all : List ℕ) (earlier : List At) (first device : Option (List ℕ)) (walker : Walker) (answer : Result Unit TraceFault) (x y : S) → (view x).style ≡ style → Said style earlier first (view x)
-    → AnswersFeed r (writes view) (fails view) scope all earlier walker x y answer → AppendsPrefix (view y).written device (view y).block → AnswersLinesBy r scope style (lines (readable all)) first device (Err Write)
+    → AnswersFeed r (writes view) (fails view) scope all earlier walker x y answer → AppendsPrefix (view y).written device (view y).block → AnswersLinesBy r scope style (lines all) first device (Err Write)
 turn_lost {S = S} r scope view style all earlier first device walker answer x y in_style said fed out = by answer fed
   where
-    by : (answer : Result Unit TraceFault) → AnswersFeed r (writes view) (fails view) scope all earlier walker x y answer → AnswersLinesBy r scope style (lines (readable all)) first device (Err Write)
-    by (Ok fed) (own, has, heard) = lost_out r scope style (lines (readable all)) (earlier ++ own) first device (view y) (read_so_far r scope all _ (earlier ++ own) walker.ended has.to) (said_less style (earlier ++ own) first (view y) (said_more view style earlier own first x y in_style said heard)) out
-    by (Err (Trace number what)) failed = fault_lost r scope style (lines (readable all)) first device (view y) (Trace number what) (fault_said r scope view style (lines (readable all)) earlier first (Trace number what) x y in_style said failed) out
-    by (Err Memory) failed = fault_lost r scope style (lines (readable all)) first device (view y) Memory (fault_said r scope view style (lines (readable all)) earlier first Memory x y in_style said failed) out
-    by (Err Write) failed = fault_lost r scope style (lines (readable all)) first device (view y) Write (fault_said r scope view style (lines (readable all)) earlier first Write x y in_style said failed) out
-    by (Err TooLong) (own, long, heard) = lost_out r scope style (lines (readable all)) (earlier ++ own) first device (view y) long.so_far (said_less style (earlier ++ own) first (view y) (said_more view style earlier own first x y in_style said heard)) out
+    by : (answer : Result Unit TraceFault) → AnswersFeed r (writes view) (fails view) scope all earlier walker x y answer → AnswersLinesBy r scope style (lines all) first device (Err Write)
+    by (Ok fed) (own, has, heard) = lost_out r scope style (lines all) (earlier ++ own) first device (view y) (read_so_far r scope all _ (earlier ++ own) walker.progress has.to) (said_less style (earlier ++ own) first (view y) (said_more view style earlier own first x y in_style said heard)) out
+    by (Err (Trace number what)) failed = fault_lost r scope style (lines all) first device (view y) (Trace number what) (fault_said r scope view style (lines all) earlier first (Trace number what) x y in_style said failed) out
+    by (Err Memory) failed = fault_lost r scope style (lines all) first device (view y) Memory (fault_said r scope view style (lines all) earlier first Memory x y in_style said failed) out
+    by (Err Write) failed = fault_lost r scope style (lines all) first device (view y) Write (fault_said r scope view style (lines all) earlier first Write x y in_style said failed) out
+    by (Err TooLong) (own, long, heard) = lost_out r scope style (lines all) (earlier ++ own) first device (view y) long.so_far (said_less style (earlier ++ own) first (view y) (said_more view style earlier own first x y in_style said heard)) out
     by (Err Read) never = absurd never
 
 -- no failure is taken back, and a turn that failed by a write counted one
 pub turn_counted : {S : Type 0} (r : Reading) (scope : Scope) (view : S → Page) (all : List ℕ) (earlier : List At) (walker : Walker) (answer : Result Unit TraceFault) (x y : S) → AnswersFeed r (writes view) (fails view) scope all earlier walker x y answer
     → CountsWrites (view x).failures (view y).failures answer
 turn_counted r scope view all earlier walker (Ok fed) x y (own, has, heard) = (omega (arith, (shown view own x y heard).failures), λ is. cc is)
-turn_counted r scope view all earlier walker (Err (Trace number what)) x y failed = let counted = fault_counted r scope view (lines (readable all)) earlier (Trace number what) x y failed in (counted.0, λ is. cc is)
-turn_counted r scope view all earlier walker (Err Memory) x y failed = let counted = fault_counted r scope view (lines (readable all)) earlier Memory x y failed in (counted.0, λ is. cc is)
-turn_counted r scope view all earlier walker (Err Write) x y failed = let counted = fault_counted r scope view (lines (readable all)) earlier Write x y failed in (counted.0, λ is. counted.1 refl)
+turn_counted r scope view all earlier walker (Err (Trace number what)) x y failed = let counted = fault_counted r scope view (lines all) earlier (Trace number what) x y failed in (counted.0, λ is. cc is)
+turn_counted r scope view all earlier walker (Err Memory) x y failed = let counted = fault_counted r scope view (lines all) earlier Memory x y failed in (counted.0, λ is. cc is)
+turn_counted r scope view all earlier walker (Err Write) x y failed = let counted = fault_counted r scope view (lines all) earlier Write x y failed in (counted.0, λ is. counted.1 refl)
 turn_counted r scope view all earlier walker (Err TooLong) x y (own, long, heard) = (omega (arith, (shown view own x y heard).failures), λ is. cc is)
 turn_counted r scope view all earlier walker (Err Read) x y never = absurd never
 
@@ -105,7 +103,7 @@ viewed written failures s = page s.0.style (written s.1) s.0.block (failures s.1
 -- ---- all turns
 
 -- at the end of what is read
-pub follow_end : (r : Reading) (scope : Scope) (style : Style) (taken : List ℕ) (rest first device : Option (List ℕ)) (answer : Result Tally TraceFault) → AnswersLinesBy r scope style (lines (readable taken)) first device answer → IsAtEnd rest ⊎ IsEnded taken
+pub follow_end : (r : Reading) (scope : Scope) (style : Style) (taken : List ℕ) (rest first device : Option (List ℕ)) (answer : Result Tally TraceFault) → AnswersLinesBy r scope style (lines taken) first device answer → IsAtEnd rest
     → AnswersFollow r scope style taken rest first device answer
 follow_end r scope style taken rest first device (Ok tally) wrote end = (wrote, end)
 follow_end r scope style taken rest first device (Err (Trace number what)) wrote end = wrote
@@ -127,17 +125,10 @@ pub follow_unread : (r : Reading) (scope : Scope) (style : Style) (taken : List 
 follow_unread r scope style taken rest first device fault follower has is =
     subst (λ (f : TraceFault). AnswersFollow r scope style taken rest first device (Err f)) (sym is) (has.events, has.text, whole_lines r scope taken has.events follower.walker has.read, has.says, has.written)
 
--- a journal has ended
-pub journal_ended : (r : Reading) (scope : Scope) (style : Style) (taken : List ℕ) (first device : Option (List ℕ)) (follower : Follower) → HasWritten r scope style taken first device follower → IsOver follower.walker → IsEnded taken
-journal_ended r scope style taken first device follower has over more =
-    let to = has.read.to in
-    let reads : (more : List ℕ) → readable (taken ++ more) ≡ to.done ++ [] = λ more. to.later more ∙ ap (λ (f : Option Form). to.done ++ read_as f (follower.walker.begun.items ++ more)) over in
-    reads more ∙ sym (reads []) ∙ ap readable (append-nil taken)
-
 -- no reader brings so many bytes
-pub follow_endless : (r : Reading) (scope : Scope) (style : Style) (taken : List ℕ) (rest first device : Option (List ℕ)) (follower : Follower) → HasWritten r scope style taken first device follower → (IsOver follower.walker → ⊥) → most < length taken → AnswersFollow r scope style taken rest first device (Err TooLong)
-follow_endless r scope style taken rest first device follower has never many =
-    (has.events, has.text, too_long r scope taken follower.walker.begun.items follower.walker.begun.items [] has.events follower.walker.ended has.read.to never (sym (append-nil follower.walker.begun.items)) (inr many), has.says, has.written)
+pub follow_endless : (r : Reading) (scope : Scope) (style : Style) (taken : List ℕ) (rest first device : Option (List ℕ)) (follower : Follower) → HasWritten r scope style taken first device follower → most < length taken → AnswersFollow r scope style taken rest first device (Err TooLong)
+follow_endless r scope style taken rest first device follower has many =
+    (has.events, has.text, too_long r scope taken follower.walker.begun.items follower.walker.begun.items [] has.events follower.walker.progress has.read.to (sym (append-nil follower.walker.begun.items)) (inr many), has.says, has.written)
 
 -- nothing came
 pub none_more : (start before after : Option (List ℕ)) (taken buffer : List ℕ) (n : ℕ) → n ≡ 0 → Consumes start before taken → Consumes before after (take n buffer) → Consumes start after taken
@@ -146,12 +137,8 @@ none_more start before after taken buffer n none so more =
     subst (λ (t : List ℕ). Consumes start after t) (append-nil taken) (Consumes-trans start before after taken [] so nothing)
 
 -- no fault of what was taken is one of a read
-pub end_no_read : (r : Reading) (scope : Scope) (style : Style) (taken : List ℕ) (first device : Option (List ℕ)) (answer : Result Tally TraceFault) → AnswersLinesBy r scope style (lines (readable taken)) first device answer → answer ≡ Err Read → ⊥
-end_no_read r scope style taken first device answer wrote is = subst (λ (a : Result Tally TraceFault). AnswersLinesBy r scope style (lines (readable taken)) first device a) is wrote
+pub end_no_read : (r : Reading) (scope : Scope) (style : Style) (taken : List ℕ) (first device : Option (List ℕ)) (answer : Result Tally TraceFault) → AnswersLinesBy r scope style (lines taken) first device answer → answer ≡ Err Read → ⊥
+end_no_read r scope style taken first device answer wrote is = subst (λ (a : Result Tally TraceFault). AnswersLinesBy r scope style (lines taken) first device a) is wrote
 
 pub turn_no_read : (r : Reading) (scope : Scope) (style : Style) (taken : List ℕ) (first device : Option (List ℕ)) (fault : TraceFault) → TurnFaults r scope style taken first device fault → fault ≡ Read → ⊥
 turn_no_read r scope style taken first device fault failed is = subst (λ (f : TraceFault). TurnFaults r scope style taken first device f) is failed
-
--- no more bytes came
-pub none_taken : (r : Reading) (scope : Scope) (bytes : List ℕ) (events : List At) (walker : Walker) → HasRead r scope bytes events walker → (IsOver walker → ⊥) → IsTaken bytes
-none_taken r scope bytes events walker has never = subst IsTaken (append-nil bytes) (still_read r scope bytes [] events walker has never)

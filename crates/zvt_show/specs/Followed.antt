@@ -1,10 +1,9 @@
 -- What is written of a trace that comes piece by piece.
-use Rattle.std.specs.Prelude.{◌≡◌, ◌⊎◌, ◌<◌, ◌≤◌, ℕ, List, [], Option, Result, Ok, Err}
+use Rattle.std.specs.Prelude.{◌≡◌, ◌<◌, ◌≤◌, ℕ, List, [], Option, Result, Ok, Err}
 use Rattle.std.specs.Io.KnownBytes.{Appends, IsAtEnd}
 use Rattle.std.specs.Str.Lines.{lines}
 use Rattle.zvt_grammar.specs.Reading.{Reading}
-use Rattle.zvt_trace.specs.Chunks.{HasRead, IsEnded, IsReady, IsTooLong, WholeLinesEmit, walker_reading, walker_scope}
-use Rattle.zvt_trace.specs.Journal.{readable}
+use Rattle.zvt_trace.specs.Chunks.{HasRead, IsReady, IsTooLong, WholeLinesEmit, walker_reading, walker_scope}
 use Rattle.zvt_trace.specs.TraceEvent.{At}
 use Rattle.zvt_trace.specs.declared.fault.Tally.{Tally}
 use Rattle.zvt_trace.specs.declared.fault.TraceFault.{TraceFault}
@@ -39,9 +38,9 @@ WritesText style Says first now = (events : List At) × (text : List ℕ) × Say
 
 -- A turn failed over the last of these bytes. Before a line that is too long, the text of all lines is written.
 abbrev pub TurnFaults : Reading → Scope → Style → (bytes : List ℕ) → (first now : Option (List ℕ)) → TraceFault → Type 0
-TurnFaults r scope style bytes first now (Trace number what) = AnswersLinesBy r scope style (lines (readable bytes)) first now (Err (Trace number what))
-TurnFaults r scope style bytes first now Memory = AnswersLinesBy r scope style (lines (readable bytes)) first now (Err Memory)
-TurnFaults r scope style bytes first now Write = AnswersLinesBy r scope style (lines (readable bytes)) first now (Err Write)
+TurnFaults r scope style bytes first now (Trace number what) = AnswersLinesBy r scope style (lines bytes) first now (Err (Trace number what))
+TurnFaults r scope style bytes first now Memory = AnswersLinesBy r scope style (lines bytes) first now (Err Memory)
+TurnFaults r scope style bytes first now Write = AnswersLinesBy r scope style (lines bytes) first now (Err Write)
 TurnFaults r scope style bytes first now TooLong = WritesText style (IsTooLong r scope bytes) first now
 TurnFaults r scope style bytes first now Read = ⊥
 
@@ -57,7 +56,7 @@ CountsWrites old new result = (old ≤ new) × (result ≡ Err Write → old < n
 
 -- What following a trace answers, once these bytes of it were taken. After a read that failed, the text of all whole lines is written.
 abbrev pub AnswersFollow : Reading → Scope → Style → (taken : List ℕ) → (rest first now : Option (List ℕ)) → Result Tally TraceFault → Type 0
-AnswersFollow r scope style taken rest first now (Ok tally) = AnswersLinesBy r scope style (lines (readable taken)) first now (Ok tally) × (IsAtEnd rest ⊎ IsEnded taken)
+AnswersFollow r scope style taken rest first now (Ok tally) = AnswersLinesBy r scope style (lines taken) first now (Ok tally) × IsAtEnd rest
 AnswersFollow r scope style taken rest first now (Err (Trace number what)) = TurnFaults r scope style taken first now (Trace number what)
 AnswersFollow r scope style taken rest first now (Err Memory) = TurnFaults r scope style taken first now Memory
 AnswersFollow r scope style taken rest first now (Err Write) = TurnFaults r scope style taken first now Write

@@ -7,7 +7,6 @@ use Rattle.zvt_grammar.specs.Reading.{Reading, shortest}
 use Rattle.zvt_apdu.specs.Message.{Message}
 use Rattle.zvt_trace.specs.TraceEvent.{At, Tallies, TraceEvent}
 use Rattle.zvt_trace.specs.Emitting.{BrokenTrace, EventsSoFar, WholeTrace}
-use Rattle.zvt_trace.specs.Journal.{readable}
 use Rattle.zvt_trace.specs.Written.{AppendsPrefix, limit}
 use Rattle.zvt_trace.specs.declared.direction.Direction.{Direction}
 use Rattle.zvt_trace.specs.declared.fault.Tally.{Tally}
@@ -105,12 +104,12 @@ AnswersLinesBy r scope style lines old new (Err Read) = ⊥
 
 -- What a command answers for a trace of known bytes, by that reading of lengths.
 abbrev pub AnswersTraceBy : Reading → Style → (trace : List ℕ) → (old new : Option (List ℕ)) → Result Tally TraceFault → Type 0
-AnswersTraceBy r style trace old new (Ok tally) = (length trace ≤ limit) × AnswersLinesBy r OneSide style (lines (readable trace)) old new (Ok tally)
-AnswersTraceBy r style trace old new (Err (Trace line what)) = (length trace ≤ limit) × AnswersLinesBy r OneSide style (lines (readable trace)) old new (Err (Trace line what))
+AnswersTraceBy r style trace old new (Ok tally) = (length trace ≤ limit) × AnswersLinesBy r OneSide style (lines trace) old new (Ok tally)
+AnswersTraceBy r style trace old new (Err (Trace line what)) = (length trace ≤ limit) × AnswersLinesBy r OneSide style (lines trace) old new (Err (Trace line what))
 AnswersTraceBy r style trace old new (Err TooLong) = (limit < length trace) × Keeps old new
 AnswersTraceBy r style trace old new (Err Read) = Keeps old new
-AnswersTraceBy r style trace old new (Err Write) = (length trace ≤ limit) × AnswersLinesBy r OneSide style (lines (readable trace)) old new (Err Write)
-AnswersTraceBy r style trace old new (Err Memory) = AnswersLinesBy r OneSide style (lines (readable trace)) old new (Err Memory)
+AnswersTraceBy r style trace old new (Err Write) = (length trace ≤ limit) × AnswersLinesBy r OneSide style (lines trace) old new (Err Write)
+AnswersTraceBy r style trace old new (Err Memory) = AnswersLinesBy r OneSide style (lines trace) old new (Err Memory)
 
 -- The same of a strict command.
 abbrev pub AnswersTrace : Style → (trace : List ℕ) → (old new : Option (List ℕ)) → Result Tally TraceFault → Type 0

@@ -4,8 +4,6 @@ ghost use Rattle.std.specs.Io.KnownBytes.{Consumes};
 ghost use Rattle.std.specs.Str.Lines.{lines};
 ghost use Rattle.zvt_grammar.specs.Lengths.{reading_of};
 ghost use Rattle.zvt_grammar.specs.Reading.{Reading};
-ghost use Rattle.zvt_trace.specs.Chunks.{IsOver, IsTaken};
-ghost use Rattle.zvt_trace.specs.Journal.{readable};
 ghost use Rattle.zvt_trace.specs.Written.{limit};
 ghost use Rattle.zvt_show.specs.Followed.{AnswersFollow, AnswersTurn, CountsWrites, HasWritten, IsFollowing};
 ghost use Rattle.zvt_show.specs.Written.{AnswersLinesBy};
@@ -25,7 +23,7 @@ const CHUNK: usize = 65_536;
 /// Writes the text of a trace in this style, as [`render_trace`] does, while the trace comes.
 ///
 /// After each read the text of all lines that have ended is written, before the next read. The trace may have any length;
-/// a line has at most as many bytes as a trace in memory. A journal is read to its first empty line, and no read follows.
+/// a line has at most as many bytes as a trace in memory.
 ///
 /// [`render_trace`]: crate::render_trace
 pub fn follow_trace<R: Source, W: Sink>(
@@ -36,7 +34,7 @@ pub fn follow_trace<R: Source, W: Sink>(
     reader: &mut R,
     writer: &mut W,
 ) -> Result<Tally, TraceFault>
-    ensures follows { (taken : List ℕ) × Consumes (R.remaining reader.old) (R.remaining reader.new) taken × IsTaken taken × AnswersFollow (reading_of lengths) scope style taken (R.remaining reader.new) (W.written writer.old) (W.written writer.new) result }
+    ensures follows { (taken : List ℕ) × Consumes (R.remaining reader.old) (R.remaining reader.new) taken × AnswersFollow (reading_of lengths) scope style taken (R.remaining reader.new) (W.written writer.old) (W.written writer.new) result }
     ensures read { result ≡ Err TraceFault.Read → R.failures reader.old < R.failures reader.new }
     ensures write { result ≡ Err TraceFault.Write → W.failures writer.old < W.failures writer.new }
 {
@@ -48,9 +46,6 @@ pub fn follow_trace<R: Source, W: Sink>(
             return follower.finish(writer);
         }
         follower.feed(writer, &buffer[..taken])?;
-        if follower.is_over() {
-            return follower.finish(writer);
-        }
     }
     Err(TraceFault::TooLong)
 }
@@ -67,20 +62,11 @@ impl Follower {
     pub fn new(alloc: Global, style: Style, scope: Scope, lengths: Lengths) -> Follower
         ensures written { (held : Option (List ℕ)) → HasWritten (reading_of lengths) scope style [] held held result }
         ensures following { IsFollowing result }
-        ensures reads_on { ¬ IsOver result.walker }
     {
         Follower {
             pages: Pages::new(alloc, style),
             walker: Walker::new(alloc, scope, lengths),
         }
-    }
-
-    /// Whether nothing more is read, since the trace is a journal and its first empty line has come.
-    pub fn is_over(&self) -> bool
-        ensures yes { result ≡ true → IsOver self.now.walker }
-        ensures no { result ≡ false → ¬ IsOver self.now.walker }
-    {
-        self.walker.is_over()
     }
 
     /// Writes the text of all lines that end in this chunk, also of those before a fault.
@@ -99,7 +85,7 @@ impl Follower {
     /// Writes the text of a last line without a line feed, and of what is cut off.
     pub fn finish<W: Sink>(self, writer: &mut W) -> Result<Tally, TraceFault>
         requires following { IsFollowing self }
-        ensures writes { (r : Reading) (scope : Scope) (style : Style) (bytes : List ℕ) (first : Option (List ℕ)) → HasWritten r scope style bytes first (W.written writer.old) self → AnswersLinesBy r scope style (lines (readable bytes)) first (W.written writer.new) result }
+        ensures writes { (r : Reading) (scope : Scope) (style : Style) (bytes : List ℕ) (first : Option (List ℕ)) → HasWritten r scope style bytes first (W.written writer.old) self → AnswersLinesBy r scope style (lines bytes) first (W.written writer.new) result }
         ensures counts { (r : Reading) (scope : Scope) (style : Style) (bytes : List ℕ) (first : Option (List ℕ)) → HasWritten r scope style bytes first (W.written writer.old) self → CountsWrites (W.failures writer.old) (W.failures writer.new) result }
     {
         let Follower { mut pages, walker } = self;

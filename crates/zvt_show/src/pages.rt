@@ -4,7 +4,6 @@ ghost use Rattle.std.specs.Io.KnownBytes.{Appends, Keeps};
 ghost use Rattle.std.specs.Str.Lines.{lines};
 ghost use Rattle.zvt_grammar.specs.Lengths.{reading_of};
 ghost use Rattle.zvt_io.specs.Devices.{CountsFailure};
-ghost use Rattle.zvt_trace.specs.Journal.{readable};
 ghost use Rattle.zvt_trace.specs.Written.{AppendsPrefix, limit};
 ghost use Rattle.zvt_show.specs.Written.{AnswersLinesBy, Extends, IsShortOf, after};
 
@@ -33,7 +32,7 @@ pub fn render_trace<W: Sink>(
     writer: &mut W,
 ) -> Result<Tally, TraceFault>
     requires { length trace.now ≤ limit }
-    ensures writes { AnswersLinesBy (reading_of lengths) scope style (lines (readable trace.now)) (W.written writer.old) (W.written writer.new) result }
+    ensures writes { AnswersLinesBy (reading_of lengths) scope style (lines trace.now) (W.written writer.old) (W.written writer.new) result }
     ensures write { result ≡ Err TraceFault.Write → W.failures writer.old < W.failures writer.new }
 {
     let mut pages = Pages::new(alloc, style);

@@ -14,7 +14,6 @@ use Rattle.zvt_show.specs.Followed.{HasWritten, IsFollowing, TurnFaults}
 use Rattle.zvt_show.specs.Written.{AnswersLinesBy}
 use Rattle.zvt_show.specs.declared.follow.Follower.{Follower}
 use Rattle.zvt_show.specs.declared.render.Style.TheVariants.{Show}
-use Rattle.zvt_trace.specs.Journal.{readable}
 use Rattle.zvt_trace.specs.declared.fault.Tally.{Tally}
 use Rattle.zvt_trace.specs.declared.fault.TraceFault.{TraceFault}
 use Rattle.zvt_tap.specs.declared.shown.Shown.{Shown}
@@ -44,9 +43,9 @@ HasShown r trace first now shown = HasShownBy shown.fault r trace first now show
 
 -- What is shown of a whole trace: its text; or showing failed at its end, or over the last line of a prefix.
 abbrev pub AnswersShown : Reading → (trace : List ℕ) → (first now : Option (List ℕ)) → Result Tally TraceFault → Type 0
-AnswersShown r trace first now (Ok tally) = AnswersLinesBy r OneSide Show (lines (readable trace)) first now (Ok tally)
+AnswersShown r trace first now (Ok tally) = AnswersLinesBy r OneSide Show (lines trace) first now (Ok tally)
 AnswersShown r trace first now (Err fault) =
-    AnswersLinesBy r OneSide Show (lines (readable trace)) first now (Err fault) ⊎ (part : List ℕ) × IsPrefix part trace × TurnFaults r OneSide Show part first now fault
+    AnswersLinesBy r OneSide Show (lines trace) first now (Err fault) ⊎ (part : List ℕ) × IsPrefix part trace × TurnFaults r OneSide Show part first now fault
 
 -- ---- the audit
 

@@ -14,8 +14,6 @@ use Rattle.zvt_audit.specs.declared.summary.AuditSummary.{AuditSummary}
 use Rattle.zvt_vectors.specs.Checked.{AnswersVectors}
 use Rattle.zvt_show.specs.Followed.{AnswersFollow}
 use Rattle.zvt_show.specs.Written.{AnswersLinesBy}
-use Rattle.zvt_trace.specs.Chunks.{IsTaken}
-use Rattle.zvt_trace.specs.Journal.{readable}
 use Rattle.zvt_trace.specs.declared.fault.Tally.{Tally}
 use Rattle.zvt_trace.specs.declared.fault.TraceFault.{TraceFault}
 
@@ -25,7 +23,7 @@ tally_of (Err fault) = Err fault
 
 -- what is answered and written of a trace by these lengths
 abbrev pub AnswersWork : TraceWork → Reading → Scope → (trace : List ℕ) → (old new : Option (List ℕ)) → Result AuditSummary TraceFault → Type 0
-AnswersWork (Render style) r scope trace old new result = AnswersLinesBy r scope style (lines (readable trace)) old new (tally_of result)
+AnswersWork (Render style) r scope trace old new result = AnswersLinesBy r scope style (lines trace) old new (tally_of result)
 AnswersWork (Audit form) r scope trace old new result = AnswersReadBy r form trace old new result
 AnswersWork (Vectors form) r scope trace old new result = AnswersVectors form trace old new (tally_of result)
 
@@ -36,7 +34,7 @@ AnswersOnTrace command trace old new result = AnswersWork command.work (reading_
 -- what is answered and written of a trace that comes, by these lengths; vectors are read whole
 abbrev pub FollowsWork : TraceWork → Reading → Scope → (left rest old new : Option (List ℕ)) → Result AuditSummary TraceFault → Type 0
 FollowsWork (Render style) r scope left rest old new result = (taken : List ℕ) × Consumes left rest taken × AnswersFollow r scope style taken rest old new (tally_of result)
-FollowsWork (Audit form) r scope left rest old new result = (taken : List ℕ) × Consumes left rest taken × IsTaken taken × AnswersFollowed r form taken rest old new result
+FollowsWork (Audit form) r scope left rest old new result = (taken : List ℕ) × Consumes left rest taken × AnswersFollowed r form taken rest old new result
 FollowsWork (Vectors form) r scope left rest old new result = IfSome left (λ text. AnswersVectors form text old new (tally_of result))
 
 -- what the command answers for a trace that comes

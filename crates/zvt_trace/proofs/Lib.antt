@@ -3,7 +3,6 @@ mod ChunkRows
 pub mod EventLemmas
 pub mod FeedLemmas
 pub mod InputLemmas
-mod JournalRows
 pub mod LineLemmas
 pub mod PairLemmas
 mod PartRows

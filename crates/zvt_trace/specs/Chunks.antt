@@ -1,22 +1,19 @@
 -- What is read of a trace that comes chunk by chunk.
-use Rattle.std.specs.Prelude.{◌≡◌, ◌<◌, ◌≤◌, ◌⊎◌, ◌==◌, ◌+◌, if◌then◌else◌, false, ℕ, List, [], ◌∷◌, ◌++◌, length, take, drop, MatchResult, Option, None, Some, Result, Ok, Err}
+use Rattle.std.specs.Prelude.{◌≡◌, ◌<◌, ◌≤◌, ◌⊎◌, ◌==◌, ◌+◌, false, ℕ, List, [], ◌∷◌, ◌++◌, length, take, drop, MatchResult, Option, Result, Ok, Err}
 use Rattle.std.specs.Io.KnownBytes.{Consumes, IsAtEnd, Keeps}
 use Rattle.std.specs.List.{All}
 use Rattle.std.specs.Str.Lines.{lines}
 use Rattle.zvt_grammar.specs.Reading.{Reading}
 use Rattle.zvt_trace.specs.Emitting.{EventsSoFar, LinesEmit}
-use Rattle.zvt_trace.specs.Journal.{before_empty_line, is_journal, readable}
 use Rattle.zvt_trace.specs.Listening.{FaultsFrom, Fails, HasWalked, Hears, HearsAll, IsSound, most, reading_by, scope_of}
 use Rattle.zvt_trace.specs.Trace.{Sides, new_line}
 use Rattle.zvt_trace.specs.TraceEvent.{At}
 use Rattle.zvt_trace.specs.Written.{limit}
-use Rattle.zvt_trace.specs.declared.chunks.Ended.{Ended}
-use Rattle.zvt_trace.specs.declared.chunks.Form.{Form}
-use Rattle.zvt_trace.specs.declared.chunks.Form.TheVariants.{Journal, Over, Plain}
 use Rattle.zvt_trace.specs.declared.chunks.Walker.{Walker}
 use Rattle.zvt_trace.specs.declared.fault.TraceFault.{TraceFault}
 use Rattle.zvt_trace.specs.declared.fault.TraceFault.TheVariants.{Memory, Read, TooLong, Trace, Write}
 use Rattle.zvt_trace.specs.declared.listener.Scope.{Scope}
+use Rattle.zvt_trace.specs.declared.walker.Progress.{Progress}
 
 -- ---- whole lines
 
@@ -45,81 +42,47 @@ EndsFirst text end = (end < length text) × IsEnd (take (end + 1) text)
 abbrev pub EndsAt : List ℕ → ℕ → Type 0
 EndsAt text last = (last < length text) × IsWhole (take (last + 1) text) × HasNoEnd (drop (last + 1) text)
 
--- ---- a journal, or any other trace
-
--- What is read of a text of this form after whole lines. Before the first line nobody knows the form.
-abbrev pub read_as : Option Form → List ℕ → List ℕ
-read_as None text = readable text
-read_as (Some Plain) text = text
-read_as (Some Journal) text = before_empty_line 10 text
-read_as (Some Over) text = []
-
--- the form of a trace that begins with these lines
-abbrev pub form_from : List ℕ → Form
-form_from text = if is_journal text then Journal else Plain
-
--- the form of the lines, by that of those before them
-abbrev pub IsForm : Option Form → List ℕ → Form → Type 0
-IsForm None text form = form ≡ form_from text
-IsForm (Some known) text form = form ≡ known
-
--- the form after lines of which so much was read
-abbrev pub IsFormAfter : Form → (text part : List ℕ) → Form → Type 0
-IsFormAfter form text part next = ((length part < length text) × (next ≡ Over)) ⊎ ((length text ≤ length part) × (next ≡ form))
-
 -- ---- what a walker has read
 
--- Of these bytes the whole lines emit these events, and the rest is still to be read, by the form of the trace.
-pub record ReadTo (r : Reading) (scope : Scope) (bytes rest : List ℕ) (events : List At) (ended : Ended) : Type 0 where
+-- Of these bytes the whole lines before the rest emit these events.
+pub record ReadTo (r : Reading) (scope : Scope) (bytes rest : List ℕ) (events : List At) (progress : Progress) : Type 0 where
   pub done : List ℕ
   pub whole : IsWhole done
-  pub walked : HasWalked r scope (lines done) events ended.progress
-  pub size : ended.progress.size ≤ length done
-  pub later : (more : List ℕ) → readable (bytes ++ more) ≡ done ++ read_as ended.form (rest ++ more)
-  pub all : (ended.form ≡ Some Over) ⊎ (bytes ≡ done ++ rest)
+  pub walked : HasWalked r scope (lines done) events progress
+  pub size : progress.size ≤ length done
+  pub cut : bytes ≡ done ++ rest
 
--- After chunks that spell these bytes, all whole lines that are read of them emit these events, and the walker holds what
--- comes after those lines.
+-- After chunks that spell these bytes, all their whole lines emit these events, and the walker holds what comes after those
+-- lines.
 pub record HasRead (r : Reading) (scope : Scope) (bytes : List ℕ) (events : List At) (walker : Walker) : Type 0 where
-  pub to : ReadTo r scope bytes walker.begun.items events walker.ended
-  pub cut : readable bytes ≡ to.done ++ walker.begun.items
+  pub to : ReadTo r scope bytes walker.begun.items events walker.progress
   pub unended : HasNoEnd walker.begun.items
 
--- These are the events of all whole lines that are read of the bytes.
+-- These are the events of all whole lines of the bytes.
 pub record WholeLinesEmit (r : Reading) (scope : Scope) (bytes : List ℕ) (events : List At) : Type 0 where
   pub done : List ℕ
   pub begun : List ℕ
   pub sides : Sides
-  pub cut : readable bytes ≡ done ++ begun
+  pub cut : bytes ≡ done ++ begun
   pub whole : IsWhole done
   pub unended : HasNoEnd begun
   pub emit : LinesEmit r scope 0 new_line (lines done) events sides
 
 abbrev pub walker_reading : Walker → Reading
-walker_reading walker = reading_by walker.ended.progress
+walker_reading walker = reading_by walker.progress
 
 abbrev pub walker_scope : Walker → Scope
-walker_scope walker = scope_of walker.ended.progress
+walker_scope walker = scope_of walker.progress
 
 -- the counts are small, and so is what is held
 pub record IsReady (walker : Walker) : Type 0 where
-  pub sound : IsSound walker.ended.progress
+  pub sound : IsSound walker.progress
   pub small : length walker.begun.items ≤ limit
-  pub fits : walker.ended.progress.size + length walker.begun.items ≤ most
+  pub fits : walker.progress.size + length walker.begun.items ≤ most
 
--- nothing more is read: a journal has ended
-abbrev pub IsOver : Walker → Type 0
-IsOver walker = walker.ended.form ≡ Some Over
-
--- ---- the line that has begun
-
--- these bytes come after those that are held, unless nothing more is read
-abbrev pub Holds : Walker → List ℕ → List ℕ → Type 0
-Holds walker bytes held = (IsOver walker × (held ≡ walker.begun.items)) ⊎ ((¬ IsOver walker) × (held ≡ walker.begun.items ++ bytes))
-
--- why these bytes can't be held
+-- why these bytes can't be held after those that are
 abbrev pub IsHeldFault : Walker → List ℕ → TraceFault → Type 0
-IsHeldFault walker bytes fault = (fault ≡ Memory) ⊎ ((fault ≡ TooLong) × (limit < length walker.begun.items + length bytes) × ¬ IsOver walker)
+IsHeldFault walker bytes fault = (fault ≡ Memory) ⊎ ((fault ≡ TooLong) × (limit < length walker.begun.items + length bytes))
 
 -- ---- a line that is too long
 
@@ -132,23 +95,23 @@ pub record IsTooLong (r : Reading) (scope : Scope) (bytes : List ℕ) (events : 
   pub cut : bytes ≡ done ++ (line ++ later)
   pub whole : IsWhole done
   pub emit : LinesEmit r scope 0 new_line (lines done) events sides
-  pub so_far : EventsSoFar r scope (lines (readable bytes)) events
+  pub so_far : EventsSoFar r scope (lines bytes) events
   pub long : (HasNoEnd line × (limit ≤ length line) × (0 < length later)) ⊎ (most < length bytes)
 
 -- ---- a chunk
 
 -- A fault while the last of these bytes are read. The bytes before them emitted the earlier events.
 abbrev pub FeedFaults : {S : Type 0} → Reading → Hears S → Fails S → Scope → (bytes : List ℕ) → (earlier : List At) → (old new : S) → TraceFault → Type 0
-FeedFaults r hears fails scope bytes earlier old new (Trace number what) = FaultsFrom r hears fails scope (lines (readable bytes)) earlier old new (Trace number what)
-FeedFaults r hears fails scope bytes earlier old new Memory = FaultsFrom r hears fails scope (lines (readable bytes)) earlier old new Memory
-FeedFaults r hears fails scope bytes earlier old new Write = FaultsFrom r hears fails scope (lines (readable bytes)) earlier old new Write
+FeedFaults r hears fails scope bytes earlier old new (Trace number what) = FaultsFrom r hears fails scope (lines bytes) earlier old new (Trace number what)
+FeedFaults r hears fails scope bytes earlier old new Memory = FaultsFrom r hears fails scope (lines bytes) earlier old new Memory
+FeedFaults r hears fails scope bytes earlier old new Write = FaultsFrom r hears fails scope (lines bytes) earlier old new Write
 FeedFaults r hears fails scope bytes earlier old new TooLong = (events : List At) × IsTooLong r scope bytes (earlier ++ events) × HearsAll hears old events new
 FeedFaults r hears fails scope bytes earlier old new Read = ⊥
 
 -- What reading whole lines answers, where the rest of the bytes comes after them.
-abbrev pub AnswersRead : {S : Type 0} → Reading → Hears S → Fails S → Scope → (bytes rest : List ℕ) → (earlier : List At) → Ended → (old new : S) → Result Unit TraceFault → Type 0
-AnswersRead r hears fails scope bytes rest earlier ended old new (Ok read) = (events : List At) × ReadTo r scope bytes rest (earlier ++ events) ended × HearsAll hears old events new
-AnswersRead r hears fails scope bytes rest earlier ended old new (Err fault) = FeedFaults r hears fails scope bytes earlier old new fault
+abbrev pub AnswersRead : {S : Type 0} → Reading → Hears S → Fails S → Scope → (bytes rest : List ℕ) → (earlier : List At) → Progress → (old new : S) → Result Unit TraceFault → Type 0
+AnswersRead r hears fails scope bytes rest earlier progress old new (Ok read) = (events : List At) × ReadTo r scope bytes rest (earlier ++ events) progress × HearsAll hears old events new
+AnswersRead r hears fails scope bytes rest earlier progress old new (Err fault) = FeedFaults r hears fails scope bytes earlier old new fault
 
 -- What feeding the last of these bytes answers.
 abbrev pub AnswersFeed : {S : Type 0} → Reading → Hears S → Fails S → Scope → (bytes : List ℕ) → (earlier : List At) → Walker → (old new : S) → Result Unit TraceFault → Type 0
@@ -160,11 +123,3 @@ AnswersFeed r hears fails scope bytes earlier walker old new (Err fault) = FeedF
 -- What a read of a chunk answers.
 abbrev pub ReadsChunk : (left rest : Option (List ℕ)) → Result ℕ TraceFault → (buffer : List ℕ) → Type 0
 ReadsChunk left rest result buffer = MatchResult result (λ n. (n ≤ length buffer) × Consumes left rest (take n buffer) × (n ≡ 0 → IsAtEnd rest)) (λ fault. (fault ≡ Read) × Keeps left rest)
-
--- whatever more bytes come, no more are read
-abbrev pub IsEnded : List ℕ → Type 0
-IsEnded bytes = (more : List ℕ) → readable (bytes ++ more) ≡ readable bytes
-
--- The last bytes came by one read, and before it no empty line of a journal had come: so nothing is read after that line.
-abbrev pub IsTaken : List ℕ → Type 0
-IsTaken taken = (before : List ℕ) × (last : List ℕ) × (taken ≡ before ++ last) × (readable before ≡ before)

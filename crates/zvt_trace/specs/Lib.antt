@@ -1,5 +1,4 @@
 pub mod Chunks
-pub mod Journal
 pub mod Lines
 pub mod Listening
 pub mod Meanings

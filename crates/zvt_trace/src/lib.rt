@@ -1,7 +1,7 @@
 //! Traces of the line between a till and its terminal.
 //!
-//! [`read_trace`] reads one whole. [`walk`] emits to a [`Listener`] all that it says, line by line. A journal ends at its
-//! first empty line ([`readable`]). A [`Walker`] is fed a trace chunk by chunk, as [`read_chunk`] brings it.
+//! [`read_trace`] reads one whole. [`walk`] emits to a [`Listener`] all that it says, line by line. A [`Walker`] is fed a
+//! trace chunk by chunk, as [`read_chunk`] brings it.
 #![tactic(auto)]
 
 mod chunks;
@@ -11,7 +11,6 @@ mod event;
 mod fault;
 mod feed;
 mod input;
-mod journal;
 mod line;
 mod lines;
 mod listener;
@@ -24,7 +23,6 @@ pub use direction::Direction;
 pub use event::{Refusal, TraceEvent};
 pub use fault::{Tally, TraceFault, TraceLineError};
 pub use input::{read_chunk, read_trace};
-pub use journal::readable;
 pub use lines::next_line;
 pub use listener::{Listener, ListenerError, Scope};
 pub use spelled::spelled_bytes;

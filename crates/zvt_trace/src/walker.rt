@@ -5,7 +5,6 @@ ghost use Rattle.zvt_grammar.specs.Reading.{Reading};
 ghost use Rattle.zvt_grammar.specs.Lengths.{reading_of};
 ghost use Rattle.zvt_trace.specs.Meanings.{GoesOn, Reads, SpellsBytes, bytes_in, meant_by, size_of};
 ghost use Rattle.zvt_trace.specs.Meanings as meaning;
-ghost use Rattle.zvt_trace.specs.Journal.{readable};
 ghost use Rattle.zvt_trace.specs.Trace.{Sides, new_line};
 ghost use Rattle.zvt_trace.specs.Emitting.{LineEnds};
 ghost use Rattle.zvt_trace.specs.TraceEvent.{At};
@@ -17,7 +16,6 @@ use crate::emit::{PieceAt, emit_truncation};
 use crate::event::TraceEvent;
 use crate::fault::{Tally, TraceFault, TraceLineError};
 use crate::feed::{Piece, feed_side};
-use crate::journal::readable;
 use crate::line::{CHUNK, TraceLine, first_line};
 use crate::listener::{Listener, ListenerError, Scope};
 use crate::side::SideReader;
@@ -25,7 +23,7 @@ use std::alloc::Global;
 use zvt_grammar::Lengths;
 
 /// Emits all that the trace says to the listener, line by line, and what is cut off at its end. Its streams take such
-/// lengths. Of a journal the lines before the first empty one are read.
+/// lengths.
 ///
 /// No event comes of a line that can't be read, and none of the lines after it. A stream that is refused or cut off counts
 /// as bad. Where the walk fails, the listener has heard all events of the lines before, and some first events of the line
@@ -39,10 +37,10 @@ pub fn walk<D, L: Listener<D>>(
     trace: &[u8],
 ) -> Result<Tally, TraceFault>
     requires { length trace.now ≤ limit }
-    ensures { AnswersWalk (reading_of lengths) L.hears L.fails scope (lines (readable trace.now)) (listener.old, device.old) (listener.new, device.new) result }
+    ensures { AnswersWalk (reading_of lengths) L.hears L.fails scope (lines trace.now) (listener.old, device.old) (listener.new, device.new) result }
 {
     let mut progress = Progress::new(alloc, scope, lengths);
-    progress.read_lines(listener, device, readable(trace))?;
+    progress.read_lines(listener, device, trace)?;
     progress.finish(listener, device)
 }
 

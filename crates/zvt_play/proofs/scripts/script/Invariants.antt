@@ -1,10 +1,9 @@
 use Rattle.std.proofs.Common.{length}
-use Rattle.zvt_trace.specs.Journal.{readable}
 use Rattle.zvt_play.proofs.ScriptLemmas.{HasRead}
 use Rattle.zvt_play.proofs.scripts.script.Given as goal
 
 abbrev pub invariant-lines : goal.invariant-lines
-invariant-lines l = HasRead l.own (readable l.trace) l.rest l.number l.steps.items
+invariant-lines l = HasRead l.own l.trace l.rest l.number l.steps.items
 
 abbrev pub decreases-lines : goal.decreases-lines
 decreases-lines l = length l.rest

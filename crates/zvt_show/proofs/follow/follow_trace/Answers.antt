@@ -1,18 +1,16 @@
-use Rattle.std.proofs.Common.{◌++◌, ◌<◌, ◌∙◌, [], arith, inl, inr, length, length-append, refl, take}
+use Rattle.std.proofs.Common.{◌++◌, ◌<◌, ◌∙◌, [], arith, length, length-append, refl, take}
 use Rattle.std.proofs.KnownBytes.{Consumes-kept, Consumes-nil, Consumes-trans}
 use Rattle.std.proofs.lemmas.List.{length-take}
 use Rattle.std.proofs.lemmas.Result.{err_from_is_err_and}
 use Rattle.zvt_grammar.specs.Lengths.{reading_of}
 use Rattle.zvt_trace.specs.Listening.{most}
-use Rattle.zvt_trace.proofs.WalkerLemmas.{still_read}
-use Rattle.zvt_show.proofs.TurnLemmas.{none_taken, end_no_read, follow_end, follow_endless, follow_failed, follow_unread, journal_ended, none_more, turn_no_read}
+use Rattle.zvt_show.proofs.TurnLemmas.{end_no_read, follow_end, follow_endless, follow_failed, follow_unread, none_more, turn_no_read}
 use Rattle.zvt_show.proofs.follow.follow_trace.Goals as goal
 
 pub loop-turn-init : goal.loop-turn-init
 loop-turn-init g c = record {
   so_far = ([], Consumes-nil (g.R.Source.remaining c.args.reader.now), omega arith, c.new-follower.ensures.written (g.W.Sink.written c.args.writer.now));
   following = c.new-follower.ensures.following;
-  reads_on = c.new-follower.ensures.reads_on;
   read = refl;
   write = omega arith;
 }
@@ -22,7 +20,7 @@ returns-in_err-taken-clause-follows g c =
     let p = err_from_is_err_and c.from_residual.result c.from_residual.ensures.1 in
     let so = c.loop-turn.invariant.so_far in
     let chunk = c.in_err-taken.ensures.chunk in
-    (so.0, Consumes-kept (g.R.Source.remaining c.args.reader.now) (g.R.Source.remaining c.loop-turn.reader) (g.R.Source.remaining c.read_chunk.new.reader) so.0 so.1 chunk.1, none_taken _ _ so.0 so.3.events c.loop-turn.follower.walker so.3.read c.loop-turn.invariant.reads_on, rw (p.1, p.2) (follow_unread (reading_of c.args.lengths) c.args.scope c.args.style so.0 (g.R.Source.remaining c.read_chunk.new.reader) (g.W.Sink.written c.args.writer.now) _ c.in_err-taken.field-0.0 c.loop-turn.follower so.3 chunk.0))
+    (so.0, Consumes-kept (g.R.Source.remaining c.args.reader.now) (g.R.Source.remaining c.loop-turn.reader) (g.R.Source.remaining c.read_chunk.new.reader) so.0 so.1 chunk.1, rw (p.1, p.2) (follow_unread (reading_of c.args.lengths) c.args.scope c.args.style so.0 (g.R.Source.remaining c.read_chunk.new.reader) (g.W.Sink.written c.args.writer.now) _ c.in_err-taken.field-0.0 c.loop-turn.follower so.3 chunk.0))
 
 pub returns-then-taken-eq0-clause-follows : goal.returns-then-taken-eq0-clause-follows
 returns-then-taken-eq0-clause-follows g c =
@@ -30,8 +28,7 @@ returns-then-taken-eq0-clause-follows g c =
     let chunk = c.in_ok-taken.ensures.chunk in (
       so.0,
       none_more (g.R.Source.remaining c.args.reader.now) (g.R.Source.remaining c.loop-turn.reader) (g.R.Source.remaining c.read_chunk.new.reader) so.0 c.read_chunk.new.buffer c.in_ok-taken.taken c.if-taken-eq0.true so.1 chunk.1,
-      none_taken _ _ so.0 so.3.events c.loop-turn.follower.walker so.3.read c.loop-turn.invariant.reads_on,
-      follow_end (reading_of c.args.lengths) c.args.scope c.args.style so.0 _ (g.W.Sink.written c.args.writer.now) _ c.finish.result (c.finish.ensures.writes (reading_of c.args.lengths) c.args.scope c.args.style so.0 (g.W.Sink.written c.args.writer.now) so.3) (inl (chunk.2 c.if-taken-eq0.true)),
+      follow_end (reading_of c.args.lengths) c.args.scope c.args.style so.0 _ (g.W.Sink.written c.args.writer.now) _ c.finish.result (c.finish.ensures.writes (reading_of c.args.lengths) c.args.scope c.args.style so.0 (g.W.Sink.written c.args.writer.now) so.3) (chunk.2 c.if-taken-eq0.true),
     )
 
 pub returns-then-taken-eq0-clause-read : goal.returns-then-taken-eq0-clause-read
@@ -51,7 +48,6 @@ returns-in_err-feed-clause-follows g c =
     let chunk = c.in_ok-taken.ensures.chunk in (
       so.0 ++ (take c.in_ok-taken.taken c.read_chunk.new.buffer),
       Consumes-trans (g.R.Source.remaining c.args.reader.now) (g.R.Source.remaining c.loop-turn.reader) (g.R.Source.remaining c.read_chunk.new.reader) so.0 _ so.1 chunk.1,
-      still_read _ _ so.0 (take c.in_ok-taken.taken c.read_chunk.new.buffer) so.3.events c.loop-turn.follower.walker so.3.read c.loop-turn.invariant.reads_on,
       rw (p.1, p.2) (follow_failed (reading_of c.args.lengths) c.args.scope c.args.style (so.0 ++ (take c.in_ok-taken.taken c.read_chunk.new.buffer)) (g.R.Source.remaining c.read_chunk.new.reader) (g.W.Sink.written c.args.writer.now) _ c.in_err-feed.field-0.0 (c.in_err-feed.ensures.writes (reading_of c.args.lengths) c.args.scope c.args.style so.0 (g.W.Sink.written c.args.writer.now) so.3)),
     )
 
@@ -67,30 +63,6 @@ returns-in_err-feed-clause-write g c = λ is.
     let so = c.loop-turn.invariant.so_far in
     omega (arith, (c.in_err-feed.ensures.counts (reading_of c.args.lengths) c.args.scope c.args.style so.0 (g.W.Sink.written c.args.writer.now) so.3).1 cc, c.loop-turn.invariant.write)
 
-pub returns-then-is_over-clause-follows : goal.returns-then-is_over-clause-follows
-returns-then-is_over-clause-follows g c =
-    let so = c.loop-turn.invariant.so_far in
-    let chunk = c.in_ok-taken.ensures.chunk in
-    let has = c.in_ok-feed.ensures.writes (reading_of c.args.lengths) c.args.scope c.args.style so.0 (g.W.Sink.written c.args.writer.now) so.3 in (
-      so.0 ++ (take c.in_ok-taken.taken c.read_chunk.new.buffer),
-      Consumes-trans (g.R.Source.remaining c.args.reader.now) (g.R.Source.remaining c.loop-turn.reader) (g.R.Source.remaining c.read_chunk.new.reader) so.0 _ so.1 chunk.1,
-      still_read _ _ so.0 (take c.in_ok-taken.taken c.read_chunk.new.buffer) so.3.events c.loop-turn.follower.walker so.3.read c.loop-turn.invariant.reads_on,
-      follow_end (reading_of c.args.lengths) c.args.scope c.args.style (so.0 ++ (take c.in_ok-taken.taken c.read_chunk.new.buffer)) _ (g.W.Sink.written c.args.writer.now) _ c.finish-then-is_over.result (c.finish-then-is_over.ensures.writes (reading_of c.args.lengths) c.args.scope c.args.style (so.0 ++ (take c.in_ok-taken.taken c.read_chunk.new.buffer)) (g.W.Sink.written c.args.writer.now) has)
-          (inr (journal_ended (reading_of c.args.lengths) c.args.scope c.args.style (so.0 ++ (take c.in_ok-taken.taken c.read_chunk.new.buffer)) (g.W.Sink.written c.args.writer.now) _ c.feed.new.self has (c.is_over.ensures.yes c.if-is_over.true))),
-    )
-
-pub returns-then-is_over-clause-read : goal.returns-then-is_over-clause-read
-returns-then-is_over-clause-read g c = λ is.
-    let so = c.loop-turn.invariant.so_far in
-    let has = c.in_ok-feed.ensures.writes (reading_of c.args.lengths) c.args.scope c.args.style so.0 (g.W.Sink.written c.args.writer.now) so.3 in
-    absurd (end_no_read (reading_of c.args.lengths) c.args.scope c.args.style (so.0 ++ (take c.in_ok-taken.taken c.read_chunk.new.buffer)) (g.W.Sink.written c.args.writer.now) _ c.finish-then-is_over.result (c.finish-then-is_over.ensures.writes (reading_of c.args.lengths) c.args.scope c.args.style (so.0 ++ (take c.in_ok-taken.taken c.read_chunk.new.buffer)) (g.W.Sink.written c.args.writer.now) has) is)
-
-pub returns-then-is_over-clause-write : goal.returns-then-is_over-clause-write
-returns-then-is_over-clause-write g c = λ is.
-    let so = c.loop-turn.invariant.so_far in
-    let has = c.in_ok-feed.ensures.writes (reading_of c.args.lengths) c.args.scope c.args.style so.0 (g.W.Sink.written c.args.writer.now) so.3 in
-    omega (arith, (c.finish-then-is_over.ensures.counts (reading_of c.args.lengths) c.args.scope c.args.style (so.0 ++ (take c.in_ok-taken.taken c.read_chunk.new.buffer)) (g.W.Sink.written c.args.writer.now) has).1 is, (c.in_ok-feed.ensures.counts (reading_of c.args.lengths) c.args.scope c.args.style so.0 (g.W.Sink.written c.args.writer.now) so.3).0, c.loop-turn.invariant.write)
-
 pub loop-turn-preserved : goal.loop-turn-preserved
 loop-turn-preserved g c =
     let so = c.loop-turn.invariant.so_far in
@@ -99,7 +71,6 @@ loop-turn-preserved g c =
     record {
       so_far = (so.0 ++ (take c.in_ok-taken.taken c.read_chunk.new.buffer), Consumes-trans (g.R.Source.remaining c.args.reader.now) (g.R.Source.remaining c.loop-turn.reader) (g.R.Source.remaining c.read_chunk.new.reader) so.0 _ so.1 chunk.1, omega (arith, so.2, chunk.0, length-append so.0 (take c.in_ok-taken.taken c.read_chunk.new.buffer), length-take c.in_ok-taken.taken c.read_chunk.new.buffer), has);
       following = c.in_ok-feed.ensures.following;
-      reads_on = c.is_over.ensures.no c.if-is_over.false;
       read = c.in_ok-taken.ensures.counted ∙ c.loop-turn.invariant.read;
       write = omega (arith, (c.in_ok-feed.ensures.counts (reading_of c.args.lengths) c.args.scope c.args.style so.0 (g.W.Sink.written c.args.writer.now) so.3).0, c.loop-turn.invariant.write);
     }
@@ -108,4 +79,4 @@ pub returns-clause-follows : goal.returns-clause-follows
 returns-clause-follows g c =
     let so = c.loop-turn.invariant.so_far in
     let many : most < length so.0 = omega (arith, so.2, c.loop-turn-test.false) in
-    (so.0, so.1, none_taken _ _ so.0 so.3.events c.loop-turn.follower.walker so.3.read c.loop-turn.invariant.reads_on, follow_endless (reading_of c.args.lengths) c.args.scope c.args.style so.0 (g.R.Source.remaining c.loop-turn.reader) (g.W.Sink.written c.args.writer.now) _ c.loop-turn.follower so.3 c.loop-turn.invariant.reads_on many)
+    (so.0, so.1, follow_endless (reading_of c.args.lengths) c.args.scope c.args.style so.0 (g.R.Source.remaining c.loop-turn.reader) (g.W.Sink.written c.args.writer.now) _ c.loop-turn.follower so.3 many)

@@ -1,7 +1,6 @@
 use Rattle.std.proofs.Common.{Err, Ok}
 use Rattle.std.proofs.lemmas.Result.{err_from_is_err_and}
 use Rattle.std.specs.Str.Lines.{lines}
-use Rattle.zvt_trace.specs.Journal.{readable}
 use Rattle.zvt_audit.proofs.AuditLemmas.{audited, none_written, walk_failed}
 use Rattle.zvt_audit.proofs.HearLemmas.{all_walked}
 use Rattle.zvt_audit.proofs.follow.Audit.finish.Goals as goal
@@ -19,4 +18,4 @@ returns-clause-writes g c = λ r bytes has.
 pub returns-in_err-tally-clause-write : goal.returns-in_err-tally-clause-write
 returns-in_err-tally-clause-write g c = λ is r bytes has.
     let p = err_from_is_err_and c.from_residual.result c.from_residual.ensures.1 in
-    absurd (none_written r (lines (readable bytes)) (has.start, tt) (c.finish.new.listener, tt) c.in_err-tally.field-0.0 (all_walked r bytes c.args.self c.finish.new.listener (Err c.in_err-tally.field-0.0) has c.in_err-tally.ensures) cc)
+    absurd (none_written r (lines bytes) (has.start, tt) (c.finish.new.listener, tt) c.in_err-tally.field-0.0 (all_walked r bytes c.args.self c.finish.new.listener (Err c.in_err-tally.field-0.0) has c.in_err-tally.ensures) cc)

@@ -2,21 +2,17 @@ use Rattle.std.proofs.Common.{◌≡◌, ◌<◌, ◌+◌, ◌++◌, ◌==◌, f
 use Rattle.std.proofs.lemmas.List.{nil_from_length}
 use Rattle.std.proofs.lemmas.List.Elements.{All-append}
 use Rattle.std.proofs.lemmas.Result.{err_from_is_err_and}
-use Rattle.zvt_trace.specs.Chunks.{HasRead, IsEnd, IsTooLong, walker_reading, walker_scope}
+use Rattle.zvt_trace.specs.Chunks.{IsEnd, IsTooLong, walker_reading, walker_scope}
 use Rattle.zvt_trace.specs.Listening.{most}
 use Rattle.zvt_trace.specs.TraceEvent.{At}
 use Rattle.zvt_trace.proofs.FeedLemmas.{chunk_begins, chunk_comes, fed_on, held_answer, split_is, too_many}
-use Rattle.zvt_trace.proofs.WalkerLemmas.{more_come, over_stays}
+use Rattle.zvt_trace.proofs.WalkerLemmas.{more_come}
 use Rattle.zvt_trace.proofs.chunks.Walker.feed.Goals as goal
-
-pub returns-then-is_over-clause-reads : goal.returns-then-is_over-clause-reads
-returns-then-is_over-clause-reads g c = λ bytes earlier has.
-    ([], subst (λ (es : List At). HasRead (walker_reading c.args.self.now) (walker_scope c.args.self.now) (bytes ++ c.args.chunk.now) es c.args.self.now) (sym (append-nil earlier)) (over_stays _ _ bytes c.args.chunk.now earlier c.args.self.now has (c.is_over.ensures.yes c.if-is_over.true)), refl)
 
 pub returns-then-size-gt-MOST-clause-reads : goal.returns-then-size-gt-MOST-clause-reads
 returns-then-size-gt-MOST-clause-reads g c = λ bytes earlier has.
-    let many : most < c.args.self.now.ended.progress.size + length c.args.self.now.begun.items + length c.args.chunk.now = omega (arith, c.if-size-gt-MOST.true, c.size.ensures) in
-    ([], subst (λ (es : List At). IsTooLong (walker_reading c.args.self.now) (walker_scope c.args.self.now) (bytes ++ c.args.chunk.now) es) (sym (append-nil earlier)) (too_many _ _ bytes c.args.chunk.now earlier c.args.self.now has (c.is_over.ensures.no c.if-is_over.false) many), refl)
+    let many : most < c.args.self.now.progress.size + length c.args.self.now.begun.items + length c.args.chunk.now = omega (arith, c.if-size-gt-MOST.true, c.size.ensures) in
+    ([], subst (λ (es : List At). IsTooLong (walker_reading c.args.self.now) (walker_scope c.args.self.now) (bytes ++ c.args.chunk.now) es) (sym (append-nil earlier)) (too_many _ _ bytes c.args.chunk.now earlier c.args.self.now has many), refl)
 
 pub returns-then-is_empty-clause-reads : goal.returns-then-is_empty-clause-reads
 returns-then-is_empty-clause-reads g c = λ bytes earlier has.
@@ -38,8 +34,8 @@ returns-in_ok-complete-in-Some-clause-reads g c = λ bytes earlier has.
 
 pub returns-in-None-clause-reads : goal.returns-in-None-clause-reads
 returns-in-None-clause-reads g c = λ bytes earlier has.
-    held_answer _ g.L.Listener.hears g.L.Listener.fails _ (bytes ++ c.args.chunk.now) (c.args.self.now.begun.items ++ c.args.chunk.now) c.args.chunk.now earlier c.args.self.now c.hold.new.self _ c.hold.result c.hold.ensures.ended c.hold.ensures.held c.hold.ensures.fault
-    (more_come _ _ bytes c.args.chunk.now earlier c.args.self.now has) refl (All-append (λ byte. (byte == 10) ≡ false) c.args.self.now.begun.items c.args.chunk.now has.unended c.in-None.ensures.ends) (λ over. absurd (c.is_over.ensures.no c.if-is_over.false over))
+    held_answer _ g.L.Listener.hears g.L.Listener.fails _ (bytes ++ c.args.chunk.now) (c.args.self.now.begun.items ++ c.args.chunk.now) c.args.chunk.now earlier c.args.self.now c.hold.new.self _ c.hold.result c.hold.ensures.progress c.hold.ensures.held c.hold.ensures.fault
+    (more_come _ _ bytes c.args.chunk.now earlier c.args.self.now has) refl (All-append (λ byte. (byte == 10) ≡ false) c.args.self.now.begun.items c.args.chunk.now has.unended c.in-None.ensures.ends)
 
 pub complete-requires-clause-line : goal.complete-requires-clause-line
 complete-requires-clause-line g c = subst IsEnd (sym c.split_at.ensures.front) c.in-Some.ensures.ends.1
