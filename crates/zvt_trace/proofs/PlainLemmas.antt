@@ -4,7 +4,7 @@ use Rattle.std.specs.Prelude.{IsSome}
 use Rattle.std.specs.List.{position, position_or_len}
 use Rattle.std.specs.Str.Lines.{lines, strip_carriage_return}
 use Rattle.std.proofs.lemmas.Bool.Decides.{nat_tests}
-use Rattle.std.proofs.lemmas.List.{length-take, length-take-le, take-append-drop, take-take, take_all}
+use Rattle.std.proofs.lemmas.List.{length-take-le, take-append-drop, take_all}
 use Rattle.std.proofs.Math.Seq.{take-append_seam, drop-append-add}
 use Rattle.hex.specs.Hex.{decode_of, hex_digit_value}
 use Rattle.zvt_trace.specs.Meanings.{Begins, IsSign, SpellsBytes, bytes_of, meaning_of, piece, without_spaces}
@@ -64,23 +64,22 @@ sign_means sign FromTill digits bytes is decoded = rw is ((λ e. cc e), rw decod
 sign_means sign FromTerminal digits bytes is decoded = rw is ((λ e. cc e), rw decoded refl)
 
 -- a piece in the plain form was read
-pub plain_begins : (sign : ℕ) (from : Direction) (text near buffer after : List ℕ) (count : ℕ) → IsSign sign from
-    → take (2 * count) near ≡ take (2 * count) text → drop (2 * count) text ≡ 10 ∷ after → AreHex (take (2 * count) near)
-    → ((undecoded : List ℕ) → after_bytes (take count buffer) (spells (without_spaces undecoded)) ≡ spells (without_spaces (take (2 * count) near ++ undecoded)))
+pub plain_begins : (sign : ℕ) (from : Direction) (text buffer after : List ℕ) (count : ℕ) → IsSign sign from
+    → drop (2 * count) text ≡ 10 ∷ after → AreHex (take (2 * count) text)
+    → ((undecoded : List ℕ) → after_bytes (take count buffer) (spells (without_spaces undecoded)) ≡ spells (without_spaces (take (2 * count) text ++ undecoded)))
     → 2 * count ≤ length text
     → Begins (sign ∷ 32 ∷ text) (λ line. (meaning_of line ≡ Ok (piece from (take count buffer))) × (count ≤ length line)) after
-plain_begins sign from text near buffer after count is same cut all so fits =
+plain_begins sign from text buffer after count is cut all so fits =
     let digits = take (2 * count) text in
     let bytes = take count buffer in
     let whole : digits ++ 10 ∷ after ≡ text = ap (λ (t : List ℕ). digits ++ t) (sym cut) ∙ take-append-drop (2 * count) text in
-    let hex : AreHex digits = subst (λ (t : List ℕ). AreHex t) same all in
     let read : after_bytes bytes (spells (without_spaces [])) ≡ spells (without_spaces digits) =
-    so [] ∙ ap (λ (t : List ℕ). spells (without_spaces t)) (append-nil (take (2 * count) near) ∙ same) in
+    so [] ∙ ap (λ (t : List ℕ). spells (without_spaces t)) (append-nil digits) in
     let means = sign_means sign from digits bytes is (reads_all bytes digits [] (omega arith) read) in
     let size : length digits ≡ 2 * count = length-take-le (2 * count) text fits in
     let left : length text ≡ length digits + suc (length after) = ap (λ (t : List ℕ). length t) (sym whole) ∙ length-append digits (10 ∷ after) in (
       sign ∷ 32 ∷ digits,
-      ap (λ (t : List ℕ). lines (sign ∷ 32 ∷ t)) (sym whole) ∙ first_is sign digits after means.0 hex,
+      ap (λ (t : List ℕ). lines (sign ∷ 32 ∷ t)) (sym whole) ∙ first_is sign digits after means.0 all,
       (means.1, omega (arith, size)),
       omega (arith, left),
       omega (arith, left),
@@ -89,29 +88,25 @@ plain_begins sign from text near buffer after count is same cut all so fits =
 after_is : (n : ℕ) (text : List ℕ) → after_first n text ≡ drop n text
 after_is n text = take_all _ _ (rw (length-drop n text) (omega arith))
 
-few_of_prefix : (n m : ℕ) (text : List ℕ) → n ≤ length (take m text) → (n ≤ m) × (n ≤ length text)
-few_of_prefix n m text few = let size = length-take m text in (omega (arith, size, few), omega (arith, size, few))
-
 feed_first : (text : List ℕ) → 1 ≤ length text → slice_index text 0 ≡ 10 → text ≡ 10 ∷ drop 1 text
 feed_first [] some is = absurd (omega arith)
 feed_first (x ∷ text) some is = ap (λ (k : ℕ). k ∷ text) is
 
-pub plain_read : (rest buffer : List ℕ) (m count : ℕ) (from : Direction) → 2 ≤ length rest → slice_index rest 1 ≡ 32
+pub plain_read : (rest buffer : List ℕ) (count : ℕ) (from : Direction) → 2 ≤ length rest → slice_index rest 1 ≡ 32
     → IsSign (slice_index rest 0) from
-    → 2 * count ≤ length (take m (after_first 2 rest)) → AreHex (take (2 * count) (take m (after_first 2 rest)))
-    → ((undecoded : List ℕ) → after_bytes (take count buffer) (spells (without_spaces undecoded)) ≡ spells (without_spaces (take (2 * count) (take m (after_first 2 rest)) ++ undecoded)))
+    → 2 * count ≤ length (after_first 2 rest) → AreHex (take (2 * count) (after_first 2 rest))
+    → ((undecoded : List ℕ) → after_bytes (take count buffer) (spells (without_spaces undecoded)) ≡ spells (without_spaces (take (2 * count) (after_first 2 rest) ++ undecoded)))
     → 1 ≤ length (after_first (2 * count) (after_first 2 rest)) → slice_index (after_first (2 * count) (after_first 2 rest)) 0 ≡ 10
     → Begins rest (λ line. (meaning_of line ≡ Ok (piece from (take count buffer))) × (count ≤ length line)) (after_first 1 (after_first (2 * count) (after_first 2 rest)))
-plain_read [] buffer m count from some space is fits all so more feed = absurd (omega arith)
-plain_read (sign ∷ []) buffer m count from some space is fits all so more feed = absurd (omega arith)
-plain_read (sign ∷ blank ∷ after) buffer m count from some space is fits all so more feed =
+plain_read [] buffer count from some space is fits all so more feed = absurd (omega arith)
+plain_read (sign ∷ []) buffer count from some space is fits all so more feed = absurd (omega arith)
+plain_read (sign ∷ blank ∷ after) buffer count from some space is fits all so more feed =
     let text = after_first 2 (sign ∷ blank ∷ after) in
     let whole : text ≡ after = after_is 2 (sign ∷ blank ∷ after) in
     let rest = after_first (2 * count) text in
-    let few = few_of_prefix (2 * count) m text fits in
     let cut : drop (2 * count) text ≡ 10 ∷ after_first 1 rest =
     sym (after_is (2 * count) text) ∙ feed_first rest more feed ∙ ap (λ (t : List ℕ). 10 ∷ t) (sym (after_is 1 rest)) in
-    let begins = plain_begins sign from text (take m text) buffer (after_first 1 rest) count is (take-take (2 * count) m text few.0) cut all so few.1 in
+    let begins = plain_begins sign from text buffer (after_first 1 rest) count is cut all so fits in
     let same : sign ∷ 32 ∷ text ≡ sign ∷ blank ∷ after = ap (λ (t : List ℕ). sign ∷ 32 ∷ t) whole ∙ ap (λ (k : ℕ). sign ∷ k ∷ after) (sym space) in
     subst (λ (t : List ℕ). Begins t (λ line. (meaning_of line ≡ Ok (piece from (take count buffer))) × (count ≤ length line)) (after_first 1 rest)) same begins
 

@@ -71,8 +71,7 @@ fn plain_piece<'t>(buffer: &mut [u8], rest: &'t [u8]) -> Option<Plain<'t>>
         return None;
     };
     let from = direction(*sign)?;
-    let near = &text[..text.len().min(2 * buffer.len())];
-    let count = spelled::read_pairs(near, buffer);
+    let count = spelled::read_pairs(text, buffer);
     match &text[2 * count..] {
         [b'\n', after @ ..] => Some(Plain { from, count, after }),
         _ => None,

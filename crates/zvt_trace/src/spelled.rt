@@ -17,8 +17,7 @@ pub(crate) fn read<'t>(text: &'t [u8], buffer: &mut [u8]) -> Option<(usize, &'t 
     ensures size { length buffer.new ≡ length buffer.old }
 {
     let prefix = skip_spaces(text);
-    let near = &prefix[..prefix.len().min(2 * buffer.len())];
-    let mut count = read_pairs(near, buffer);
+    let mut count = read_pairs(prefix, buffer);
     let mut rest = skip_spaces(&prefix[2 * count..]);
     'pairs: while count < buffer.len() {
         let [high, after @ ..] = rest else {
@@ -85,17 +84,17 @@ fn are_digits(text: &[u8]) -> bool
     all
 }
 
-/// Reads the first pairs of digits, up to a space. So a line without spaces is read with no test for them.
+/// Reads the first pairs of digits, up to a space or until the buffer is full. So a line without spaces is read with no test for them.
 #[inline(always)]
 pub(crate) fn read_pairs(text: &[u8], buffer: &mut [u8]) -> usize
-    requires { length text.now ≤ 2 * length buffer.old + 1 }
-    ensures few { 2 * result ≤ length text.now }
+    ensures few { (2 * result ≤ length text.now) × (result ≤ length buffer.new) }
     ensures read { ReadsPairs text.now result buffer.new }
-    ensures all { 2 * result + 1 < length text.now → EndsPairs text.now result }
+    ensures all { 2 * result + 1 < length text.now → result < length buffer.new → EndsPairs text.now result }
     ensures size { length buffer.new ≡ length buffer.old }
 {
+    let most = (text.len() / 2).min(buffer.len());
     let mut count = 0;
-    'pairs: while 2 * count + 1 < text.len() {
+    'pairs: while count < most {
         let byte = pair(text[2 * count], text[2 * count + 1]);
         if byte > 255 {
             return count;

@@ -15,10 +15,10 @@ pairs-preserved c =
     let so = c.pairs.invariant in record {
       few = omega (arith, c.pairs-test.true);
       size = length-set c.pairs.buffer c.pairs.count c.pair-byte.result ∙ so.size;
-      so_far = one_more c.args.text.now c.pairs.buffer c.pairs.count c.pair-byte.result (omega arith) c.pairs-test.true c.pair-byte.ensures (omega (arith, c.if-byte-gt255.false)) so.so_far;
+      so_far = one_more c.args.text.now c.pairs.buffer c.pairs.count c.pair-byte.result (omega arith) (omega (arith, c.pairs-test.true, c.min-most.ensures)) c.pair-byte.ensures (omega (arith, c.if-byte-gt255.false)) so.so_far;
     }
 
 pub returns-then-byte-gt255-clause-all : goal.returns-then-byte-gt255-clause-all
-returns-then-byte-gt255-clause-all c some =
+returns-then-byte-gt255-clause-all c some room =
     let text = c.args.text.now in
     no_byte (slice_index text (2 * c.pairs.count)) (slice_index text (2 * c.pairs.count + 1)) (omega (arith, c.pair-byte.ensures, c.if-byte-gt255.true))

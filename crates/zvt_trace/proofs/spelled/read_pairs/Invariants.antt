@@ -4,7 +4,7 @@ use Rattle.zvt_trace.proofs.spelled.read_pairs.Given as goal
 
 abbrev pub invariant-pairs : goal.invariant-pairs
 invariant-pairs l = record {
-  few : 2 * l.count ≤ length l.text;
+  few : l.count ≤ l.most;
   size : length l.buffer ≡ length l.initial.buffer;
   so_far : ReadsPairs l.text l.count l.buffer;
 }
