@@ -341,7 +341,7 @@ port=$(free_port)
 served=$!
 till "$port" --check register pay:1000
 check "a payment that is declined" "$status" "$text" 1 "register -> registered
-pay:1000 -> declined 6C abort by time-out or abort key
+pay:1000 -> aborted 6C abort by time-out or abort key
 total 0"
 wait "$served"
 # A reversal that completes without a status is unclear.

@@ -12,7 +12,7 @@ use Rattle.zvt_till.specs.declared.line.RunFault.TheVariants.{Order, Line}
 use Rattle.zvt_till.specs.declared.orders.OrderRefusal.{OrderRefusal}
 use Rattle.zvt_till.specs.declared.orders.OrderRefusal.TheVariants.{Memory as NoMemory}
 use Rattle.zvt_till.specs.declared.outcomes.Outcome.{Outcome}
-use Rattle.zvt_till.specs.declared.outcomes.Outcome.TheVariants.{Registered, Paid, Declined, Reversed, DayClosed}
+use Rattle.zvt_till.specs.declared.outcomes.Outcome.TheVariants.{Registered, Paid, Declined, Aborted, Reversed, DayClosed}
 use Rattle.zvt_session.specs.declared.fault.EndFault.{EndFault}
 use Rattle.zvt_session.specs.declared.fault.EndFault.TheVariants.{BadStep, Book, Line as LineBroke, Memory, Net, Silent, Trace, Unsuccessful, Write}
 use Rattle.zvt_session.specs.declared.plans.Planned.{Planned}
@@ -37,7 +37,7 @@ wants_memory (Ok outcome) = false
 wants_memory (Err (Order why)) = is_memory why
 wants_memory (Err (Line fault)) = false
 
--- a step succeeded: its order ended as it was meant to, and a payment that the terminal was to decline was declined so
+-- a step succeeded: its order ended as it was meant to; a payment that the terminal was to decline ended with that code
 abbrev pub succeeded : Step → Outcome → Bool
 succeeded Register Registered = true
 succeeded Register _ = false
@@ -48,6 +48,7 @@ succeeded (Reverse entry) _ = false
 succeeded CloseDay DayClosed = true
 succeeded CloseDay _ = false
 succeeded (Decline amount code) (Declined told) = told == code
+succeeded (Decline amount code) (Aborted told) = told == code
 succeeded (Decline amount code) _ = false
 
 -- a step did not succeed: its order was not sent, ended otherwise, or was cut off by its line

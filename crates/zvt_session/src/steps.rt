@@ -140,7 +140,7 @@ fn make_step<L: StepLine<K>, K: Keeper, W: Sink>(
 }
 
 /// Whether a step did not succeed: its order was not sent, ended otherwise than it was meant to, or was cut off by its line. A
-/// payment that the terminal is to decline succeeds where it is declined so.
+/// payment that the terminal is to decline succeeds where it ends with that code.
 fn fell_short(step: &Step, made: &Result<Outcome, RunFault>) -> bool
     ensures { result ≡ fell_short step.now made.now }
 {
@@ -159,7 +159,8 @@ fn succeeded(step: &Step, outcome: &Outcome) -> bool
         (Step::Pay(_), Outcome::Paid { .. }) => true,
         (Step::Reverse(_), Outcome::Reversed) => true,
         (Step::CloseDay, Outcome::DayClosed) => true,
-        (Step::Decline { code, .. }, Outcome::Declined(told)) => told == code,
+        (Step::Decline { code, .. }, Outcome::Declined(told) | Outcome::Aborted(told)) => told
+            == code,
         _ => false,
     }
 }
