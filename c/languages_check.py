@@ -3,12 +3,14 @@
 LIBRARY is the folder of libzvt.so.0, LAYOUTS the file that layouts.c writes, PROGRAM the program `zvt`. Each language has an example
 (Pay) and a program that says what its till does (TillCheck); both are built here, and what can't be built is said and left out.
 
-The example runs the steps of a day at the program's terminal, with a book in a file. It is killed while a payment runs, and goes
+The example runs the steps of a day at the program's terminal, with a book in a file, and passes each situation of conformance/till.
+It is killed while a payment runs, and goes
 on from its book. TillCheck says its structs' layouts, what wrong arguments and closed tills come to, and what callbacks that raise
 do. It plays tills, orders and pieces of bytes, random, hostile and cut anywhere: what it says is what zvt.py says. It makes tills
 over and over, and does not grow. tests/journal_calls.py reads off the example's system calls what a loss of power leaves of its
 book, where strace is there. And TillCheck is the till that kill_check.py kills. The status is 1 where anything does not hold.
 """
+import glob
 import os
 import random
 import shutil
@@ -114,6 +116,15 @@ LANGUAGES = [
     Language("Pascal", ["fpc"], ["zvt.pas"], pascal, lambda folder, program: [f"{folder}/{program.lower()}"],
              raised="ENoPaper", within=" or a line", why=" (the terminal is silent)", closes=False),
 ]
+
+
+def the_situations(language, folder, program):
+    """The example passes each situation of the conformance kit. Its words for outcomes are its own, so messages are compared."""
+    run, situations = f"{HERE}/../conformance/run.py", sorted(glob.glob(f"{HERE}/../conformance/till/*.trace"))
+    till = language.words(folder, "Pay", "127.0.0.1", "{port}", "{book}", "{steps}")
+    done = subprocess.run([sys.executable, run, "--kit", program, "--jobs", "8", "--messages-only", *situations, "--", *till],
+                          stdout=subprocess.PIPE, stderr=subprocess.STDOUT, text=True)
+    check(language, f"the situations: {done.stdout[-2000:]}", (0, len(situations)), (done.returncode, done.stdout.count("\nok ")))
 
 
 def check(language, what, wanted, found):
@@ -383,6 +394,7 @@ def main(library, layouts, program, *names):
             if other:
                 another_library_is_refused(language, folder, other)
             a_day_at_the_terminal(language, folder, program)
+            the_situations(language, folder, program)
             a_kill_in_the_middle(language, folder, program)
             a_book_that_another_has_open(language, folder, path)
             torn_books_go_on(language, folder, path)

@@ -1,10 +1,16 @@
-"""Pays at a terminal over TCP: till.py LIBRARY HOST PORT. Start `zvt terminal --port PORT` first."""
+"""Pays at a terminal over TCP: till.py LIBRARY HOST PORT [BOOK STEP...] Start `zvt terminal --port PORT` first.
+
+A step is register, pay:CENTS, reverse:PAYMENT (from 1) or close, and BOOK is the file of the till's book. Without them it
+shows what the class can do.
+"""
 import sys
 
 import zvt
 
 
 def main():
+    if len(sys.argv) > 4:
+        return run(sys.argv[4], sys.argv[5:])
     saves = []
     with zvt.Till(sys.argv[1], keep=saves.append, print_line=show) as till:
         till.connect(sys.argv[2], int(sys.argv[3]))
@@ -25,6 +31,26 @@ def main():
         with zvt.Till(sys.argv[1]) as till:
             till.load(saved)
             report(till)
+
+
+def run(book, steps):
+    """Runs the steps, and writes a line of each."""
+    with zvt.Till(sys.argv[1], print_line=show, book=book) as till:
+        till.connect(sys.argv[2], int(sys.argv[3]))
+        for step in steps:
+            print(f"{step} -> {outcome(till, *step.split(':'))}")
+        report(till)
+
+
+def outcome(till, name, number="0"):
+    """How a step ended."""
+    order = {"register": till.register, "pay": lambda: till.pay(int(number)), "reverse": lambda: till.reverse(int(number) - 1), "close": till.close_day}
+    try:
+        return order[name]()
+    except zvt.LineError as lost:
+        return f"{lost.outcome}, and the line is lost"
+    except zvt.Refused as refused:
+        return f"refused: {refused}"
 
 
 def show(line):

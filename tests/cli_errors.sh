@@ -39,6 +39,7 @@ refuses() { # NAME STATUS WORDS ARGUMENT..
 
 # a terminal that listens: its process and its port
 listening() { # ARGUMENT..
+    : > "$work/says"
     "$zvt" terminal --port 0 "$@" > /dev/null 2> "$work/says" &
     terminal=$!
     for attempt in $(seq 100); do

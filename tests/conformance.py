@@ -139,8 +139,34 @@ def differences(folder):
         run("till", "--port", kit.port, *steps.split())
         found += verdicts(kit, 1)
     check("another order: the verdicts", found, ["ok 1 - approval", "not ok 2 - decline", "ok 3 - approval-with-receipt"])
-    check("another order: the status", kit.ended()[0], 1)
+    status = kit.ended()[0]
     counts("another order", report, "3", "1", "0")
+    agree("another order", "TAP version 13\n1..3\n" + "\n".join(found) + "\n", report, status, 1, 0)
+
+
+def agree(name, written, report, status, failures, errors):
+    """TAP, JUnit and the exit status say the same of what is not passed, and xmllint and prove can read both."""
+    bad = len(re.findall("^not ok ", written, re.M))
+    check(f"{name}: TAP and JUnit", bad, failures + errors)
+    check(f"{name}: the status", status, 1 if bad else 0)
+    if shutil.which("xmllint"):
+        done = subprocess.run(["xmllint", "--noout", report], capture_output=True, text=True)
+        check(f"{name}: xmllint", (done.returncode, done.stderr), (0, ""))
+    if shutil.which("prove"):
+        lines = report.with_suffix(".tap")
+        lines.write_text(written)
+        done = subprocess.run(["prove", "-e", "cat", lines], capture_output=True, text=True)
+        check(f"{name}: prove", (done.returncode != 0, "Result: FAIL" in done.stdout), (bad > 0, bad > 0))
+
+
+def run_py_fails(folder):
+    """run.py tells another outcome as a failure, and a till that can't be started as an error."""
+    for name, command, failures, errors in [("fails", [PROGRAM, "till", "--port", "{port}", "register"], 1, 0), ("errs", [str(folder / "none")], 0, 1)]:
+        report = folder / f"run-{name}.xml"
+        words = ["--kit", PROGRAM, "--junit", str(report), str(KIT / "till" / "approval.trace"), "--", *command]
+        done = subprocess.run([sys.executable, str(KIT / "run.py"), *words], capture_output=True, text=True, timeout=SECONDS)
+        counts(f"run.py {name}", report, "1", str(failures), str(errors))
+        agree(f"run.py {name}", done.stdout, report, done.returncode, failures, errors)
 
 
 def counts(name, report, tests, failures, errors):
@@ -158,11 +184,13 @@ def broken_lines(folder):
         line.setsockopt(socket.SOL_SOCKET, socket.SO_LINGER, struct.pack("ii", 1, 0))
         line.sendall(bytes.fromhex("06000600 0000BE0978".replace(" ", "")))
         time.sleep(0.1)
-    check("a reset", verdicts(kit, 1), ["not ok 1 - resets"])
+    found = verdicts(kit, 1)
     run("till", "--port", kit.port, "register", "pay:1000")
-    check("after a reset", verdicts(kit, 1), ["ok 2 - approval"])
-    check("a reset: the status", kit.ended()[0], 1)
+    found += verdicts(kit, 1)
+    check("a reset", found, ["not ok 1 - resets", "ok 2 - approval"])
+    status = kit.ended()[0]
     counts("a reset", report, "2", "0", "1")
+    agree("a reset", "TAP version 13\n1..2\n" + "\n".join(found) + "\n", report, status, 0, 1)
     status, written, _ = run("check-terminal", "--port", 1, "--junit", report, KIT / "terminal" / "payment.trace", KIT / "terminal" / "decline.trace")
     check("nobody listens: the verdicts", (status, "Bail out!" in written, "ok 1" in written), (4, True, False))
     counts("nobody listens", report, "2", "0", "2")
@@ -195,6 +223,7 @@ def main():
         terminals(folder)
         differences(folder)
         broken_lines(folder)
+        run_py_fails(folder)
         wrong_words(folder)
     if not failed:
         print(f"ok: {len(situations('till'))} situations for tills, {len(situations('terminal'))} for terminals")
