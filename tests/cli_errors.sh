@@ -233,6 +233,9 @@ refuses "a trace in a book" 3 "zvt: '$work/day.book': this is a till's book, whi
 refuses "a book of another currency" 3 "zvt: '$work/day.book': the first line is not that of a book in the till's currency" till --port "$port" --currency 0840 --book "$work/day.book"
 refuses "a wrong step beside a book" 2 "'pay:0'" loop --book "$work/day.book" pay:0
 cmp -s "$work/day.book" "$work/copy.book" || { echo "NOT AS EXPECTED: a book that was to stay"; echo "a book" >> "$work/failed"; }
+refuses "a trace as a book" 3 "zvt: '$work/new.trace': this is no journal of a till: name the file of its '--book', or run 'zvt audit' on a trace" book "$work/new.trace"
+refuses "an amount in euros" 2 "where N is an amount in cents, as 'pay:1000' for 10.00" till --port 1 pay:10.00
+refuses "no steps" 4 "zvt: no steps are given, so the till registers and closes the day" till --port "$port"
 for command in "loop --book" "till --port 1 --book" book; do
     refuses "$command of a folder" 4 "zvt: '$work': this is a folder" $command "$work"
     refuses "$command of no regular file" 4 "zvt: '/dev/null': this is no regular file" $command /dev/null

@@ -19,6 +19,10 @@ use zvt_tool::{
 const OTHER_BOOK: &str =
     "the first line is not that of a book in the till's currency: give the book's currency, or name another file";
 
+/// What is reported of a file that is no book, where a book is to be read.
+const NO_BOOK: &str =
+    "this is no journal of a till: name the file of its '--book', or run 'zvt audit' on a trace";
+
 /// What is reported of a payment whose trace number the book has already.
 const USED_NUMBER: &str =
     "the book has its trace number: if the terminal was exchanged or counts from 1 again, begin a new book";
@@ -34,7 +38,7 @@ const OPENING: [u8; 26] = *b"# zvt journal 1, currency ";
 pub fn show(rt: &HostRuntime, path: &str, form: Form) -> io::Result<u8> {
     let text = match read_book(rt, rt.alloc(), path) {
         Ok(text) => text,
-        Err(error) => return unopened(rt, path, &error),
+        Err(error) => return unread(rt, path, &error),
     };
     let till = match till_of(rt, text.as_slice()) {
         Ok(till) => till,
@@ -171,6 +175,15 @@ pub fn report_displaced(rt: &HostRuntime, device: &FileDevice) -> io::Result<()>
         report(rt, DISPLACED)?;
     }
     Ok(())
+}
+
+/// Reports that a book is not read, and answers the exit status. A trace has another command.
+fn unread(rt: &HostRuntime, path: &str, error: &JournalFileError) -> io::Result<u8> {
+    match error {
+        JournalFileError::NotAJournal => report_on(rt, path, NO_BOOK)?,
+        _ => report_on(rt, path, error)?,
+    }
+    Ok(of_file_error(error))
 }
 
 /// Reports that the file of a book is not opened, and answers the exit status.
