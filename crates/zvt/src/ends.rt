@@ -16,6 +16,9 @@ use zvt_tool::{
     run_till, run_till_kept,
 };
 
+/// What is reported where a till is given no steps.
+const NO_STEPS: &str = "no steps are given, so the till registers and closes the day";
+
 /// Runs both ends in this process, and answers the exit status.
 pub fn both_ends(rt: &HostRuntime, options: &LoopOptions<'_>) -> io::Result<u8> {
     let plan = match planned(rt, Ends::Both, options.steps)? {
@@ -59,12 +62,6 @@ pub fn till(rt: &HostRuntime, options: &TillOptions<'_>) -> io::Result<u8> {
     if report_zero(rt, options)? {
         return Ok(WORDS);
     }
-    if options.steps.is_empty() {
-        report(
-            rt,
-            "no steps are given, so the till registers and closes the day",
-        )?;
-    }
     let plan = match planned(rt, Ends::Till, options.steps.as_slice())? {
         Ok(plan) => plan,
         Err(status) => return Ok(status),
@@ -95,6 +92,9 @@ pub fn till(rt: &HostRuntime, options: &TillOptions<'_>) -> io::Result<u8> {
             check: options.check,
         },
     };
+    if options.steps.is_empty() {
+        report(rt, NO_STEPS)?;
+    }
     match kept {
         None => till_alone(rt, &run),
         Some(kept) => till_with_book(rt, &run, kept),
