@@ -96,7 +96,12 @@ fn followed(alloc: Global, pieces: &[&[u8]]) -> (Option<TraceFault>, u64, Vec<u8
 
 #[test]
 fn a_journal_is_read_on_after_an_empty_line(rt: HostRuntime) {
-    let pieces: [&[u8]; 3] = [b"# zvt jour", b"nal 1\n> 06 B0", b" 00\n\n> 80 00 00\n"];
+    let pieces: [&[u8]; 4] = [
+        b"# zvt jour",
+        b"nal 1\n> 06 B0",
+        b" 00\n\n> 80 00 00\n",
+        b"",
+    ];
     let (fault, messages, text) = followed(rt.alloc(), &pieces);
     assert!(rt; fault.is_none());
     assert_equal(&rt, &messages, &2);
