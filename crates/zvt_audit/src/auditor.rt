@@ -5,8 +5,7 @@ use crate::happened::ordered;
 use crate::orders::Orders;
 use std::alloc::AllocError;
 use zvt_apdu::{ApduView, Kind};
-use zvt_till::Happening;
-use zvt_till::books::Bookkeeping;
+use zvt_till::{Bookkeeping, Happening};
 use zvt_trace::{Direction, Listener, ListenerError, TraceEvent};
 
 /// Judges the events of a trace as happenings of a till. It notices who sends orders, which currencies the till names, and

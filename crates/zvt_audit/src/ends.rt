@@ -4,7 +4,7 @@ ghost use Rattle.zvt_audit.specs.Ends.{can_end, lines_of, with_end, with_ends};
 
 use std::alloc::{AllocError, Global};
 use zvt_apdu::Kind;
-use zvt_till::books::Bookkeeping;
+use zvt_till::Bookkeeping;
 
 /// The lines at which payments ended, in the order of the books.
 #[derive(Drop)]

@@ -18,8 +18,7 @@ use zvt_grammar::Lengths;
 use zvt_io::Sink;
 use zvt_json::Form;
 use zvt_text::Text;
-use zvt_till::Happening;
-use zvt_till::books::Bookkeeping;
+use zvt_till::{Bookkeeping, Happening};
 use zvt_trace::{Scope, Tally, TraceFault, walk};
 
 /// What an audit found besides the books.

@@ -36,15 +36,15 @@ pub most_more : (a c : ℕ) → most (most a + c) ≡ most (a + c)
 most_more a c = elim (cases_lt largest a) [ inl many ↦ many_more a c many | inr few ↦ few_more a c few ]
 
 -- one thing is counted, or nothing is
-abbrev pub Counted : (old new count : ℕ) → Type 0
-Counted old new count = (new ≡ most (old + count)) ⊎ ((count ≡ 0) × (new ≡ old))
+abbrev pub Over : (old new count : ℕ) → Type 0
+Over old new count = (new ≡ most (old + count)) ⊎ ((count ≡ 0) × (new ≡ old))
 
-counts_more : (a old new count : ℕ) → old ≡ most a → Counted old new count → new ≡ most (a + count)
+counts_more : (a old new count : ℕ) → old ≡ most a → Over old new count → new ≡ most (a + count)
 counts_more a old new count start (inl more) = more ∙ ap (λ (n : ℕ). most (n + count)) start ∙ most_more a count
 counts_more a old new count start (inr (none, same)) = same ∙ start ∙ ap most (omega (arith, none))
 
 -- each thing that is heard is counted, up to the largest number
-pub totals : {S : Type 0} (hears : Hears S) (count : TraceEvent → ℕ) (of : S → ℕ) (events : List At) (a : ℕ) (old new : S) → ((x y : S) (event : At) → hears x event y → Counted (of x) (of y) (count event.trace_event))
+pub totals : {S : Type 0} (hears : Hears S) (count : TraceEvent → ℕ) (of : S → ℕ) (events : List At) (a : ℕ) (old new : S) → ((x y : S) (event : At) → hears x event y → Over (of x) (of y) (count event.trace_event))
     → of old ≡ most a → HearsAll hears old events new → of new ≡ most (a + sum_by (λ (event : At). count event.trace_event) events)
 totals hears count of [] a old new step start same = ap of same ∙ start ∙ ap most (omega arith)
 totals hears count of (event ∷ events) a old new step start some =

@@ -19,7 +19,7 @@ use Rattle.zvt_diagnostics.specs.Noting.{CountsAfter, Noted, counted_more, said_
 use Rattle.zvt_diagnostics.specs.Written.{AnswersNotes, EmitsAll}
 use Rattle.zvt_diagnostics.specs.declared.counts.Counts.{Counts}
 use Rattle.zvt_diagnostics.specs.declared.notes.Notes.{Notes}
-use Rattle.zvt_diagnostics.proofs.CountLemmas.{Counted, totals}
+use Rattle.zvt_diagnostics.proofs.CountLemmas.{Over, totals}
 
 -- ---- the text that is still to come, after what was emitted since the line was made
 
@@ -86,7 +86,7 @@ says view scope (event ∷ events) since old new is trailing some =
 
 -- ---- how much was emitted
 
-messages_step : (old : Counts) (event : TraceEvent) → Counted old.messages (counted_more old event).messages (message_count event)
+messages_step : (old : Counts) (event : TraceEvent) → Over old.messages (counted_more old event).messages (message_count event)
 messages_step old (trace_event.message from m) = inl refl
 messages_step old (trace_event.refused from head byte place why) = inr (refl, refl)
 messages_step old (trace_event.unread from) = inr (refl, refl)
@@ -94,10 +94,10 @@ messages_step old (trace_event.resumed from size) = inr (refl, refl)
 messages_step old (trace_event.cut_off from head have) = inr (refl, refl)
 messages_step old trace_event.lost = inr (refl, refl)
 
-messages_counted : (old new : Notes) (event : At) → Noted old new event → Counted old.counts.messages new.counts.messages (message_count event.trace_event)
-messages_counted old new event noted = subst (λ (c : Counts). Counted old.counts.messages c.messages (message_count event.trace_event)) (sym noted.counts) (messages_step old.counts event.trace_event)
+messages_counted : (old new : Notes) (event : At) → Noted old new event → Over old.counts.messages new.counts.messages (message_count event.trace_event)
+messages_counted old new event noted = subst (λ (c : Counts). Over old.counts.messages c.messages (message_count event.trace_event)) (sym noted.counts) (messages_step old.counts event.trace_event)
 
-refused_step : (old : Counts) (event : TraceEvent) → Counted old.refused (counted_more old event).refused (refused_count event)
+refused_step : (old : Counts) (event : TraceEvent) → Over old.refused (counted_more old event).refused (refused_count event)
 refused_step old (trace_event.message from m) = inr (refl, refl)
 refused_step old (trace_event.refused from head byte place why) = inl refl
 refused_step old (trace_event.unread from) = inr (refl, refl)
@@ -105,10 +105,10 @@ refused_step old (trace_event.resumed from size) = inr (refl, refl)
 refused_step old (trace_event.cut_off from head have) = inr (refl, refl)
 refused_step old trace_event.lost = inr (refl, refl)
 
-refused_counted : (old new : Notes) (event : At) → Noted old new event → Counted old.counts.refused new.counts.refused (refused_count event.trace_event)
-refused_counted old new event noted = subst (λ (c : Counts). Counted old.counts.refused c.refused (refused_count event.trace_event)) (sym noted.counts) (refused_step old.counts event.trace_event)
+refused_counted : (old new : Notes) (event : At) → Noted old new event → Over old.counts.refused new.counts.refused (refused_count event.trace_event)
+refused_counted old new event noted = subst (λ (c : Counts). Over old.counts.refused c.refused (refused_count event.trace_event)) (sym noted.counts) (refused_step old.counts event.trace_event)
 
-cut_off_step : (old : Counts) (event : TraceEvent) → Counted old.cut_off (counted_more old event).cut_off (cut_off_count event)
+cut_off_step : (old : Counts) (event : TraceEvent) → Over old.cut_off (counted_more old event).cut_off (cut_off_count event)
 cut_off_step old (trace_event.message from m) = inr (refl, refl)
 cut_off_step old (trace_event.refused from head byte place why) = inr (refl, refl)
 cut_off_step old (trace_event.unread from) = inr (refl, refl)
@@ -116,8 +116,8 @@ cut_off_step old (trace_event.resumed from size) = inr (refl, refl)
 cut_off_step old (trace_event.cut_off from head have) = inl refl
 cut_off_step old trace_event.lost = inr (refl, refl)
 
-cut_off_counted : (old new : Notes) (event : At) → Noted old new event → Counted old.counts.cut_off new.counts.cut_off (cut_off_count event.trace_event)
-cut_off_counted old new event noted = subst (λ (c : Counts). Counted old.counts.cut_off c.cut_off (cut_off_count event.trace_event)) (sym noted.counts) (cut_off_step old.counts event.trace_event)
+cut_off_counted : (old new : Notes) (event : At) → Noted old new event → Over old.counts.cut_off new.counts.cut_off (cut_off_count event.trace_event)
+cut_off_counted old new event noted = subst (λ (c : Counts). Over old.counts.cut_off c.cut_off (cut_off_count event.trace_event)) (sym noted.counts) (cut_off_step old.counts event.trace_event)
 
 -- nothing was emitted
 pub record AtStart (of : Scope) (notes : Notes) : Type 0 where

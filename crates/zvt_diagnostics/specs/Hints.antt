@@ -4,7 +4,7 @@ use Rattle.std.specs.Fmt.{decimal, digits, format_spec, padded_integral}
 use Rattle.std.specs.List.{starts_with}
 use Rattle.hex.specs.Hex.{hex_digit_value}
 use Rattle.zvt_diagnostics.specs.declared.hint.Hint.{Hint}
-use Rattle.zvt_diagnostics.specs.declared.hint.Hint.TheVariants.{Capture, Character, HalfByte, Mark}
+use Rattle.zvt_diagnostics.specs.declared.hint.Hint.TheVariants.{Capture, Character, HalfByte, Mark, Unfinished}
 use Rattle.zvt_diagnostics.specs.declared.hint.Reason.{Reason}
 use Rattle.zvt_diagnostics.specs.declared.hint.Reason.TheVariants.{Plain, Prefix, Separator, Tab}
 
@@ -21,6 +21,10 @@ is_capture trace =
 -- the byte order marks of UTF-8 and of UTF-16 in either order of bytes
 abbrev pub is_marked : List ℕ → Bool
 is_marked line = starts_with nat_eq line (0xEF ∷ 0xBB ∷ 0xBF ∷ []) || starts_with nat_eq line (0xFF ∷ 0xFE ∷ []) || starts_with nat_eq line (0xFE ∷ 0xFF ∷ [])
+
+-- a journal, and a line of it that begins with a space, as what a crash leaves of a record
+abbrev pub is_unfinished : (trace line : List ℕ) → Bool
+is_unfinished trace line = starts_with nat_eq trace (codes "# zvt journal 1") && starts_with nat_eq line (32 ∷ [])
 
 -- ---- one character
 
@@ -70,7 +74,7 @@ line_hint (first ∷ rest) =
 
 -- why the line of that trace can't be read, and nothing where it can
 abbrev pub hint_of : (trace line : List ℕ) → Option Hint
-hint_of trace line = if is_capture trace then Some Capture else if is_marked line then Some Mark else line_hint line
+hint_of trace line = if is_capture trace then Some Capture else if is_marked line then Some Mark else if is_unfinished trace line then Some Unfinished else line_hint line
 
 -- of the line after that many others
 abbrev pub hint_on : (trace : List ℕ) → ℕ → List (List ℕ) → Option Hint
@@ -95,5 +99,6 @@ reason_text Plain = []
 abbrev pub hint_text : Hint → List ℕ
 hint_text Capture = codes "the input is a capture, not a trace: see 'From a capture to a trace' in docs/FORMAT.md"
 hint_text Mark = codes "column 1 has a byte order mark: save the trace as plain text without one"
+hint_text Unfinished = codes "a crash left this of a record: 'zvt book --records FILE' writes the whole records of a journal as a trace"
 hint_text (Character column byte reason) = codes "column " ++ decimal column ++ codes " is " ++ character_text byte ++ reason_text reason
 hint_text (HalfByte column) = codes "column " ++ decimal column ++ codes " is the end of the line: the last byte has only one digit"

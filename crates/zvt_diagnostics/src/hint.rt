@@ -1,7 +1,7 @@
 //! Why a line of a trace can't be read.
 ghost use Rattle.std.specs.Prelude.{◌≡◌, ◌<◌, ◌-◌, count_by, length, position, IfSome};
 ghost use Rattle.std.specs.Str.Lines.{lines};
-ghost use Rattle.zvt_diagnostics.specs.Hints.{hint_at, hint_of, hint_on, is_capture, is_marked, is_no_space, is_strange, line_hint, piece_hint, reason_of};
+ghost use Rattle.zvt_diagnostics.specs.Hints.{hint_at, hint_of, hint_on, is_capture, is_marked, is_no_space, is_strange, is_unfinished, line_hint, piece_hint, reason_of};
 
 use std::fmt;
 use zvt_trace::next_line;
@@ -13,6 +13,8 @@ pub enum Hint {
     Capture,
     /// The line begins with a byte order mark.
     Mark,
+    /// The trace is a journal, and the line is what a crash left of a record.
+    Unfinished,
     /// The character can't be in that column, counted from 1.
     Character {
         column: usize,
@@ -66,6 +68,9 @@ fn hint_of(trace: &[u8], line: &[u8]) -> Option<Hint>
     if is_marked(line) {
         return Some(Hint::Mark);
     }
+    if is_unfinished(trace, line) {
+        return Some(Hint::Unfinished);
+    }
     line_hint(line)
 }
 
@@ -86,6 +91,13 @@ fn is_marked(line: &[u8]) -> bool
     line.starts_with(&[0xEF, 0xBB, 0xBF])
         || line.starts_with(&[0xFF, 0xFE])
         || line.starts_with(&[0xFE, 0xFF])
+}
+
+/// Whether the trace begins as a journal does, and the line with a space, as what a crash leaves of a record.
+fn is_unfinished(trace: &[u8], line: &[u8]) -> bool
+    ensures { result ≡ is_unfinished trace.now line.now }
+{
+    trace.starts_with(b"# zvt journal 1") && line.starts_with(b" ")
 }
 
 /// Why the line can't be read, by itself.
@@ -174,6 +186,11 @@ impl fmt::Display for Hint {
             Hint::Mark => {
                 f.write_str(
                     "column 1 has a byte order mark: save the trace as plain text without one",
+                )
+            }
+            Hint::Unfinished => {
+                f.write_str(
+                    "a crash left this of a record: 'zvt book --records FILE' writes the whole records of a journal as a trace",
                 )
             }
             Hint::Character {

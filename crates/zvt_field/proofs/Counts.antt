@@ -115,16 +115,16 @@ pub no_tree : (o : Option Shape) (k : ℕ) → count_digits o ≡ suc k → o �
 no_tree o k e is = absurd (omega (arith, sym e ∙ ap count_digits is))
 
 -- the digits of the first field's length
-pub record Counted (k : ℕ) (size : List ℕ) (room : ℕ) : Type 0 where
+pub record Over (k : ℕ) (size : List ℕ) (room : ℕ) : Type 0 where
   pub more : List ℕ
   pub n : ℕ
   pub is_count : IsCount (suc k) n (size ++ more)
   pub enough : suc (suc k) + n ≤ room
 
-pub alive_counted : (r : Reading) (bmp k : ℕ) (size : List ℕ) (room : ℕ) → count_digits (shape_of bmp) ≡ suc k → length size ≤ suc k → AliveIn r room (bmp ∷ size) → Counted k size room
+pub alive_counted : (r : Reading) (bmp k : ℕ) (size : List ℕ) (room : ℕ) → count_digits (shape_of bmp) ≡ suc k → length size ≤ suc k → AliveIn r room (bmp ∷ size) → Over k size room
 alive_counted r bmp k size room is short h = by_list h.value h.spelled.0
   where
-    by_list : (fs : List Field) → FieldList r fs ((bmp ∷ size) ++ h.rest) → Counted k size room
+    by_list : (fs : List Field) → FieldList r fs ((bmp ∷ size) ++ h.rest) → Over k size room
     by_list [] p = absurd (omega (arith, ap length p))
     by_list (tree bmp' objects ∷ fs) (one, after, whole, p, more) =
         let e : bmp ∷ (size ++ h.rest) ≡ bmp' ∷ (p.one ++ after) = whole ∙ ap (λ (s : List ℕ). s ++ after) p.whole in

@@ -1,5 +1,5 @@
 -- What the reader answers, in the terms of the grammar.
-use Rattle.std.specs.Prelude.{◌≡◌, ◌≢◌, ◌⊎◌, ℕ, ◌+◌, ◌*◌, ◌-◌, ◌<◌, ◌≤◌, Bool, Some, None, Result, Ok, Err, List, [], ◌∷◌, ◌++◌, length, take, suc}
+use Rattle.std.specs.Prelude.{◌≡◌, ◌≢◌, ◌⊎◌, ℕ, ◌+◌, ◌*◌, ◌-◌, ◌==◌, ◌<◌, ◌≤◌, Bool, true, false, cond, Some, None, Result, Ok, Err, List, [], ◌∷◌, ◌++◌, length, take, suc}
 use Rattle.zvt_grammar.specs.declared.why.Why.{Why}
 use Rattle.zvt_grammar.specs.declared.answer.Scan.{Scan}
 use Rattle.zvt_grammar.specs.declared.answer.Scan.TheVariants.{Whole, More, Refused}
@@ -8,7 +8,10 @@ use Rattle.zvt_grammar.specs.Beginnings.{Alive}
 use Rattle.zvt_tlv.specs.Sized.{SizedIn, SizedTakesMemory}
 use Rattle.zvt_field.specs.Grammar.{Field, FieldOf, FieldList, IsHead}
 use Rattle.zvt_field.specs.declared.shapes.Shape.{Shape}
-use Rattle.zvt_field.specs.declared.shapes.Shape.TheVariants.{Tree}
+use Rattle.zvt_field.specs.declared.shapes.Shape.TheVariants.{Fixed, Digits, Ll, Lll, Tree}
+use Rattle.zvt_field.specs.declared.judge.LlAt.{LlAt}
+use Rattle.zvt_field.specs.declared.judge.LlNext.{LlNext}
+use Rattle.zvt_field.specs.declared.judge.LlNext.TheVariants.{Done, More as Another}
 use Rattle.zvt_field.specs.declared.reader.Head.{Head}
 use Rattle.zvt_field.specs.Shapes.{shape_of}
 use Rattle.zvt_field.specs.Judging.{AliveIn, PlaceIn, WhyIn, name, digit, in_content, count_digits, fault}
@@ -64,15 +67,31 @@ pub record InContainer (r : Reading) (room : ℕ) (bytes : List ℕ) : Type 0 wh
   pub begun : Alive (SizedIn r level) []
 
 -- A byte's tests, and what they let through.
-abbrev pub JudgesName : Reading → (left byte : ℕ) → Result Shape Why → Type 0
-JudgesName r left byte (Ok shape) = (fault r name left byte ≡ None) × (shape_of byte ≡ Some shape)
-JudgesName r left byte (Err why) = fault r name left byte ≡ Some why
+abbrev pub JudgesBmp : Reading → (left byte : ℕ) → Result Shape Why → Type 0
+JudgesBmp r left byte (Ok shape) = (fault r name left byte ≡ None) × (shape_of byte ≡ Some shape)
+JudgesBmp r left byte (Err why) = fault r name left byte ≡ Some why
 
 -- A digit and a content of bytes have the same tests in both readings.
 
 abbrev pub JudgesDigit : (more before left byte : ℕ) → Result ℕ Why → Type 0
 JudgesDigit more before left byte (Ok number) = (fault shortest (digit more before) left byte ≡ None) × (number ≡ 10 * before + (byte - 0xF0))
 JudgesDigit more before left byte (Err why) = fault shortest (digit more before) left byte ≡ Some why
+
+-- The number with a digit after it: the length is whole after its last digit.
+abbrev pub after_digit : LlAt → (byte : ℕ) → LlNext
+after_digit at byte = cond (at.digits_left == 1) (Done (10 * at.so_far + (byte - 0xF0))) (Another (record { digits_left = at.digits_left - 1; so_far = 10 * at.so_far + (byte - 0xF0) }))
+
+abbrev pub JudgesLl : LlAt → (left byte : ℕ) → Result LlNext Why → Type 0
+JudgesLl at left byte (Ok next) = (fault shortest (digit (at.digits_left - 1) at.so_far) left byte ≡ None) × (next ≡ after_digit at byte)
+JudgesLl at left byte (Err why) = fault shortest (digit (at.digits_left - 1) at.so_far) left byte ≡ Some why
+
+-- Whether the content of a field of that shape is digits.
+abbrev pub has_digits : Shape → Bool
+has_digits (Fixed n) = false
+has_digits (Digits n) = true
+has_digits Ll = false
+has_digits Lll = false
+has_digits Tree = false
 
 abbrev pub JudgesContent : (digits : Bool) → (byte : ℕ) → Result Unit Why → Type 0
 JudgesContent digits byte (Ok _) = (left : ℕ) → fault shortest (in_content digits) left byte ≡ None

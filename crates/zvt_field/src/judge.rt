@@ -1,9 +1,9 @@
 //! Which bytes may follow: the tests of a BMP and of a digit of a length.
 
-ghost use Rattle.std.specs.Prelude.{◌≡◌, ◌≤◌, ◌<◌, ◌^◌};
+ghost use Rattle.std.specs.Prelude.{◌≡◌, ◌≤◌, ◌<◌, ◌-◌, ◌^◌};
 ghost use Rattle.zvt_grammar.specs.Tests.{fits};
 ghost use Rattle.zvt_grammar.specs.Lengths.{reading_of};
-ghost use Rattle.zvt_field.specs.Answers.{JudgesName, JudgesDigit, JudgesContent};
+ghost use Rattle.zvt_field.specs.Answers.{JudgesBmp, JudgesDigit, JudgesLl, JudgesContent, has_digits};
 
 use crate::Shape;
 use crate::table::shape;
@@ -21,8 +21,8 @@ fn fits(size: usize, left: usize) -> bool
 
 /// Judges a BMP. `left` counts the bytes of the fields after it.
 #[inline(always)]
-pub fn judge_name(left: usize, byte: u8, lengths: Lengths) -> Result<Shape, Why>
-    ensures { JudgesName (reading_of lengths) left byte result }
+pub fn judge_bmp(left: usize, byte: u8, lengths: Lengths) -> Result<Shape, Why>
+    ensures { JudgesBmp (reading_of lengths) left byte result }
 {
     let Some(shape) = shape(byte) else {
         return Err(Why::UnknownField);
@@ -67,9 +67,54 @@ pub fn judge_digit(more: usize, before: usize, left: usize, byte: u8) -> Result<
     }
 }
 
+/// Where a digit of a length is: how many digits are left, itself included, and the number before it.
+///
+/// Before the first digit two or three are left, and the number is 0.
+#[derive(Clone, Copy)]
+pub struct LlAt {
+    pub digits_left: u8,
+    pub so_far: u16,
+}
+
+/// What comes after a digit of a length.
+#[derive(Clone, Copy)]
+pub enum LlNext {
+    /// Another digit.
+    More(LlAt),
+    /// The length is whole: that many bytes of content follow.
+    Done(u16),
+}
+
+/// Judges a digit of a length by its place, as [`judge_digit`] does. `left` counts the bytes of the fields after it.
+#[inline(always)]
+pub fn judge_ll(at: LlAt, left: usize, byte: u8) -> Result<LlNext, Why>
+    requires some { 1 ≤ at.digits_left }
+    requires few { at.digits_left ≤ 3 }
+    requires so_far { at.so_far < 10 ^ (3 - at.digits_left) }
+    ensures { JudgesLl at left byte result }
+{
+    let more = at.digits_left - 1;
+    let number = judge_digit(usize::from(more), usize::from(at.so_far), left, byte)?;
+    if more == 0 {
+        return Ok(LlNext::Done(number as u16));
+    }
+    Ok(LlNext::More(LlAt {
+        digits_left: more,
+        so_far: number as u16,
+    }))
+}
+
+/// Judges a byte of the content of a field of that shape.
+#[inline(always)]
+pub fn judge_content(shape: Shape, byte: u8) -> Result<(), Why>
+    ensures { JudgesContent (has_digits shape) byte result }
+{
+    judge_content_byte(matches!(shape, Shape::Digits(_)), byte)
+}
+
 /// Judges a byte of a content, of digits or of any bytes.
 #[inline(always)]
-pub fn judge_content(digits: bool, byte: u8) -> Result<(), Why>
+pub fn judge_content_byte(digits: bool, byte: u8) -> Result<(), Why>
     ensures { JudgesContent digits byte result }
 {
     if digits && (byte / 16 > 9 || byte % 16 > 9) {

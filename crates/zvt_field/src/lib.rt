@@ -18,6 +18,7 @@ mod views;
 mod writer;
 
 pub use bodies::{BadField, Field, FieldBody};
+pub use judge::{LlAt, LlNext, judge_bmp, judge_content, judge_ll};
 pub use lists::{Fields, PushRefusal};
 pub use named::{amount, count, currency, only, original, receipt, result, trace};
 pub use names::name;

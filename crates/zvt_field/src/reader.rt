@@ -6,12 +6,12 @@ ghost use Rattle.zvt_bcd.specs.Digits.{is_digit_pair};
 ghost use Rattle.zvt_grammar.specs.Lengths.{reading_of};
 ghost use Rattle.zvt_field.specs.Answers.{Answers, AnswersOne, AnswersHead, InName, InContainer, HeadFound, HoldsSome, TakesMemory};
 
-use crate::judge::{judge_digit, judge_name};
+use crate::judge::{judge_bmp, judge_digit};
 use crate::sizes::list_size;
 use crate::{Field, FieldBody, Fields, Shape};
 use std::alloc::{AllocError, Global};
 use zvt_grammar::{Lengths, Scan, Why};
-use zvt_tlv::reader::scan_sized_forest;
+use zvt_tlv::scan_sized_forest;
 
 /// What comes before a content: how many bytes, how many follow, and whether these are digits.
 #[derive(Clone, Copy)]
@@ -166,7 +166,7 @@ fn scan_field(
     let Some(first) = bytes.first() else {
         return Ok(Scan::More);
     };
-    match judge_name(room - 1, *first, lengths) {
+    match judge_bmp(room - 1, *first, lengths) {
         Err(why) => Ok(Scan::Refused { place: 0, why }),
         Ok(Shape::Fixed(size)) => {
             scan_content(alloc, bytes, room, Head::fixed(size, false), lengths)

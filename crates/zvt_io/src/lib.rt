@@ -2,9 +2,9 @@
 #![tactic(auto)]
 
 mod count;
-mod counted;
 mod device;
+mod over;
 
 pub use count::GhostCount;
-pub use counted::Counted;
 pub use device::{Failed, Sink, Source};
+pub use over::Over;

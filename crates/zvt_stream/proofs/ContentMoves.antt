@@ -3,8 +3,8 @@ use Rattle.std.proofs.Common.{◌≡◌, ◌≢◌, ℕ, ◌-◌, ◌<◌, Ok, L
 use Rattle.zvt_grammar.specs.Reading.{Reading}
 use Rattle.zvt_tlv.specs.Grammar.{Objects, none, primitive, Spells}
 use Rattle.zvt_tlv.proofs.Alive.{bytes_joined}
-use Rattle.zvt_stream.specs.declared.transitions.At.TheVariants as stage
-use Rattle.zvt_stream.specs.declared.transitions.Transition.TheVariants.{Within, Ends}
+use Rattle.zvt_stream.specs.Parts as stage
+use Rattle.zvt_stream.specs.Parts.{Within, Ends}
 use Rattle.zvt_stream.specs.DecoderState.{depth_of, HoldsObjects, HasRoom, AtObject, ObjectContent, Between, IsEmpty}
 use Rattle.zvt_stream.specs.Moves.{Judges}
 use Rattle.zvt_stream.proofs.LevelLemmas.{object_more, object_done, bytes_object}

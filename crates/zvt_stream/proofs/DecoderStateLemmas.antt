@@ -17,9 +17,9 @@ use Rattle.zvt_apdu.specs.Grammar.{Spells}
 use Rattle.zvt_apdu.specs.Judging.{head_size, InData, Position, in_fields}
 use Rattle.zvt_apdu.proofs.Opened.{begun, goes, goes_alive, no_digits}
 use Rattle.zvt_apdu.proofs.OpeningMoves.{long, message_size}
-use Rattle.zvt_stream.specs.declared.transitions.At.{At}
+use Rattle.zvt_stream.specs.Parts.{At}
 use Rattle.zvt_stream.specs.Judge.{levels_of}
-use Rattle.zvt_stream.specs.declared.transitions.At.TheVariants as stage
+use Rattle.zvt_stream.specs.Parts as stage
 use Rattle.zvt_stream.specs.DecoderState.{Begun, layout_in, IsFull, Fields, depth_of, Level, AtField, AtObject, HoldsObjects, HasDigits, Where, role_of}
 
 -- a level of objects is in the fields

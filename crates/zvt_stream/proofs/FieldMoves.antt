@@ -18,8 +18,8 @@ use Rattle.zvt_field.specs.Grammar.{Field, plain, FieldOf, IsHead, IsContent}
 use Rattle.zvt_field.specs.Judging.{name, digit, in_content, count_digits, Begins, name_fault, count_fits, is_length_digit, fault}
 use Rattle.zvt_field.proofs.FieldLists.{sane, IsSane}
 use Rattle.zvt_field.proofs.Counts.{digits_joined, counted_joined, count_head, length_digit}
-use Rattle.zvt_stream.specs.declared.transitions.At.TheVariants as stage
-use Rattle.zvt_stream.specs.declared.transitions.Transition.TheVariants.{Within, Ends}
+use Rattle.zvt_stream.specs.Parts as stage
+use Rattle.zvt_stream.specs.Parts.{Within, Ends}
 use Rattle.zvt_stream.specs.DecoderState.{HasDigits, AtField, FieldContent, ContainerLength, Between, IsEmpty}
 use Rattle.zvt_stream.specs.Moves.{Judges}
 use Rattle.zvt_stream.proofs.LevelLemmas.{field_more, field_done}

@@ -11,9 +11,9 @@ use Rattle.zvt_apdu.specs.declared.frame.Layout.{Layout}
 use Rattle.zvt_apdu.specs.Grammar.{IsFrameLength}
 use Rattle.zvt_apdu.specs.Judging.{layout_of, head_size, can_fill, first_size, high_size, fault}
 use Rattle.zvt_apdu.proofs.Opened.{fills_out}
-use Rattle.zvt_stream.specs.declared.transitions.At.TheVariants as stage
-use Rattle.zvt_stream.specs.declared.transitions.Transition.{Transition}
-use Rattle.zvt_stream.specs.declared.transitions.Transition.TheVariants.{Within, Ends, Opens}
+use Rattle.zvt_stream.specs.Parts as stage
+use Rattle.zvt_stream.specs.Parts.{Move}
+use Rattle.zvt_stream.specs.Parts.{Within, Ends, Opens}
 use Rattle.zvt_stream.specs.DecoderState.{Begun, layout_in, Between, role_of}
 use Rattle.zvt_stream.specs.Moves.{Leads, Judges, BeginsData}
 use Rattle.zvt_stream.proofs.LevelLemmas.{begun_more}
@@ -83,10 +83,10 @@ pub size_long : (r : Reading) (high low left depth x : ℕ) → x ≡ 0xFF → J
 size_long r high low left depth x is outer b d (o, w, h, l) =
     (cond-true (x == 0xFF) None (check (can_fill (layout_of high low x) x) DoesNotFit None) (eq-eqb x 0xFF is), (o, ap (λ (s : List ℕ). s ++ x ∷ []) w ∙ ap (λ (y : ℕ). high ∷ low ∷ y ∷ []) is, h, l))
 
-leads_at : (r : Reading) (move : Transition) (outer b : List ℕ) → outer ≡ [] → Leads r move [] b → Leads r move outer b
+leads_at : (r : Reading) (move : Move) (outer b : List ℕ) → outer ≡ [] → Leads r move [] b → Leads r move outer b
 leads_at r move outer b e h = subst (λ (o : List ℕ). Leads r move o b) (sym e) h
 
-pub size_short : (r : Reading) (high low left depth x n : ℕ) (result : Result Transition Why) → n ≡ x → x < 256 → x ≢ 0xFF → BeginsData r high low n result → Judges r (stage.FirstSize high low) left depth x result
+pub size_short : (r : Reading) (high low left depth x n : ℕ) (result : Result Move Why) → n ≡ x → x < 256 → x ≢ 0xFF → BeginsData r high low n result → Judges r (stage.FirstSize high low) left depth x result
 size_short r high low left depth x n result is lt ne h = by_number (subst (λ (m : ℕ). BeginsData r high low m result) is h)
   where
     tests : fault r (first_size high low) x ≡ check (can_fill (layout_of high low x) x) DoesNotFit None
@@ -95,7 +95,7 @@ size_short r high low left depth x n result is lt ne h = by_number (subst (λ (m
     by_number : BeginsData r high low x result → Judges r (stage.FirstSize high low) left depth x result
     by_number h = by_result result h
       where
-        by_result : (result : Result Transition Why) → BeginsData r high low x result → Judges r (stage.FirstSize high low) left depth x result
+        by_result : (result : Result Move Why) → BeginsData r high low x result → Judges r (stage.FirstSize high low) left depth x result
         by_result (Ok move) (fills, f) outer b d (o, w, hs, ls) =
             (tests ∙ ap (λ (t : Bool). check t DoesNotFit None) fills, leads_at r move outer (b ++ x ∷ []) o (f (x ∷ []) (b ++ x ∷ []) (hs, ls) (omega (arith, lt, ne), refl) (ap (λ (s : List ℕ). s ++ x ∷ []) w)))
         by_result (Err why) (same, fails) outer b d p = tests ∙ ap (λ (t : Bool). check t DoesNotFit None) fails ∙ ap (λ (y : Why). Some y) (sym same)
@@ -104,7 +104,7 @@ pub size_padded : (r : Reading) (high low size_low left depth x : ℕ) → 256 *
 size_padded r high low s left depth x less outer b d p =
     ap (λ (t : Bool). check t NotShortest (check (can_fill (layout_of high low (256 * x + s)) (256 * x + s)) DoesNotFit None)) (lt-leb (least r 255) (256 * x + s) less)
 
-pub size_high : (r : Reading) (high low size_low left depth x n : ℕ) (result : Result Transition Why) → n ≡ 256 * x + size_low → x < 256 → least r 255 ≤ n → BeginsData r high low n result → Judges r (stage.HighSize high low size_low) left depth x result
+pub size_high : (r : Reading) (high low size_low left depth x n : ℕ) (result : Result Move Why) → n ≡ 256 * x + size_low → x < 256 → least r 255 ≤ n → BeginsData r high low n result → Judges r (stage.HighSize high low size_low) left depth x result
 size_high r high low s left depth x n result is lt le h = by_result result (subst (λ (m : ℕ). BeginsData r high low m result) is h)
   where
     long : least r 255 ≤ 256 * x + s
@@ -113,7 +113,7 @@ size_high r high low s left depth x n result is lt le h = by_result result (subs
     tests : fault r (high_size high low s) x ≡ check (can_fill (layout_of high low (256 * x + s)) (256 * x + s)) DoesNotFit None
     tests = ap (λ (t : Bool). check t NotShortest (check (can_fill (layout_of high low (256 * x + s)) (256 * x + s)) DoesNotFit None)) (le-leb (least r 255) (256 * x + s) long)
 
-    by_result : (result : Result Transition Why) → BeginsData r high low (256 * x + s) result → Judges r (stage.HighSize high low s) left depth x result
+    by_result : (result : Result Move Why) → BeginsData r high low (256 * x + s) result → Judges r (stage.HighSize high low s) left depth x result
     by_result (Ok move) (fills, f) outer b d (o, w, hs, ls, ss) =
         (tests ∙ ap (λ (t : Bool). check t DoesNotFit None) fills, leads_at r move outer (b ++ x ∷ []) o (f (0xFF ∷ s ∷ x ∷ []) (b ++ x ∷ []) (hs, ls) (refl, long, ss, lt, refl) (ap (λ (t : List ℕ). t ++ x ∷ []) w)))
     by_result (Err why) (same, fails) outer b d p = tests ∙ ap (λ (t : Bool). check t DoesNotFit None) fails ∙ ap (λ (y : Why). Some y) (sym same)

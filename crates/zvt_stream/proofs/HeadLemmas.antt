@@ -3,8 +3,8 @@ use Rattle.std.proofs.Common.{◌≡◌, ℕ, List, [], ◌∷◌, ◌++◌, ref
 use Rattle.zvt_grammar.specs.Reading.{Reading}
 use Rattle.zvt_stream.specs.Head.{head_of}
 use Rattle.zvt_stream.specs.DecoderState.{Fields, Level, Where}
-use Rattle.zvt_stream.specs.declared.transitions.At.{At}
-use Rattle.zvt_stream.specs.declared.transitions.At.TheVariants as stage
+use Rattle.zvt_stream.specs.Parts.{At}
+use Rattle.zvt_stream.specs.Parts as stage
 
 -- both control bytes have come
 abbrev pub HasBoth : List ℕ → Type 0
@@ -36,7 +36,7 @@ IsAfter (stage.Tag at) = Unit {0}
 IsAfter (stage.Length nests at) = Unit {0}
 IsAfter (stage.Object more) = Unit {0}
 
-has_both : (r : Reading) (at : At) (left : ℕ) (outer b : List ℕ) → IsAfter at → Where r at left outer b → HasBoth b
+pub has_both : (r : Reading) (at : At) (left : ℕ) (outer b : List ℕ) → IsAfter at → Where r at left outer b → HasBoth b
 has_both r stage.FirstControl left outer b p h = absurd p
 has_both r (stage.SecondControl high) left outer b p h = absurd p
 has_both r (stage.FirstSize high low) left outer b p h = (high, low, [], h.1)

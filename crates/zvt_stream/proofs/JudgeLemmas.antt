@@ -1,7 +1,7 @@
 -- The levels that a complete item leaves, and what a byte says of the bytes before it and of itself.
-use Rattle.std.proofs.Common.{◌≡◌, ◌≢◌, ℕ, ◌+◌, ◌-◌, ◌<◌, ◌≤◌, Some, None, Result, Ok, List, [], ◌∷◌, ◌++◌, length, reverse, take, get_or, slice_get, refl, sym, ◌∙◌, ap, subst, append_assoc, arith, length-append, ◌⊎◌, inl, inr, suc, zero}
+use Rattle.std.proofs.Common.{◌≡◌, ◌≢◌, ℕ, ◌+◌, ◌-◌, ◌<◌, ◌≤◌, Some, None, Result, Ok, Err, List, [], ◌∷◌, ◌++◌, length, reverse, take, get_or, slice_get, refl, sym, ◌∙◌, ap, subst, append_assoc, arith, length-append, ◌⊎◌, inl, inr, suc, zero}
 use Rattle.std.proofs.lemmas.Bool.{cases_lt}
-use Rattle.std.proofs.lemmas.List.{append-nil, reverse-append, length-take-le}
+use Rattle.std.proofs.lemmas.List.{append-nil, reverse-append, length-reverse, length-take-le}
 use Rattle.std.proofs.Math.Seq.{take-append_seam, take-suc}
 use Rattle.zvt_grammar.specs.declared.why.Why.{Why}
 use Rattle.zvt_grammar.specs.Reading.{Reading}
@@ -11,19 +11,26 @@ use Rattle.zvt_apdu.specs.Grammar.{Spells}
 use Rattle.zvt_apdu.specs.Judging.{Position, fault}
 use Rattle.zvt_apdu.proofs.Fit.{fit}
 use Rattle.zvt_stream.specs.Apdus.{AliveIn, NoneWholeIn, UnfinishedIn, IsRefusedIn}
-use Rattle.zvt_stream.specs.declared.transitions.At.{At}
-use Rattle.zvt_stream.specs.declared.transitions.At.TheVariants as stage
-use Rattle.zvt_stream.specs.declared.judge.Goes.{Goes}
+use Rattle.zvt_stream.specs.Parts.{At}
+use Rattle.zvt_stream.specs.Parts as stage
+use Rattle.arrayvec.specs.ArrayVec.{ArrayVec}
+use Rattle.zvt_stream.specs.declared.transitions.Goes.{Goes}
+use Rattle.zvt_stream.specs.declared.transitions.Levels.{Levels}
+use Rattle.zvt_stream.specs.declared.transitions.Part.{Part}
+use Rattle.zvt_stream.specs.declared.transitions.Part.TheVariants as part
+use Rattle.zvt_stream.specs.declared.transitions.Transition.{Transition}
+use Rattle.zvt_stream.specs.declared.judge.DecodeRun.{DecodeRun}
+use Rattle.zvt_stream.specs.declared.judge.DecodeRun.TheVariants as run
 use Rattle.zvt_stream.specs.declared.judge.Judged.{Judged}
 use Rattle.zvt_stream.specs.declared.judge.Judged.TheVariants.{Open, Ended}
 use Rattle.zvt_stream.specs.DecoderState.{IsFull, depth_of, Level, Between, Where, role_of}
-use Rattle.zvt_stream.specs.declared.transitions.Transition.{Transition}
-use Rattle.zvt_stream.specs.Moves.{IsReady, Moves}
+use Rattle.zvt_stream.specs.Moves.{IsReady, Judges, Keeps, Leads, at_in, at_part, leads_to, move_of, opens, outer_of}
 use Rattle.zvt_stream.specs.declared.head.Head.{Head}
-use Rattle.zvt_stream.specs.declared.head.Head.TheVariants.{One, Two}
+use Rattle.zvt_stream.specs.declared.head.Head.TheVariants.{Two}
 use Rattle.zvt_stream.specs.Head.{head_of}
-use Rattle.zvt_stream.specs.Judge.{unfilled, beginning, IsJudge, IsMessageIn, JudgeState, Settles, StandsFor, Stepped, HasLevelsIn}
+use Rattle.zvt_stream.specs.Judge.{unfilled, beginning, Advances, Follows, IsJudge, IsMessageIn, JudgeState, Ran, Settles, StandsFor, HasLevelsIn, head_at, start, state_of}
 use Rattle.zvt_stream.proofs.Beginnings.{nothing_in}
+use Rattle.zvt_stream.proofs.HeadLemmas.{HasBoth, IsAfter, has_both, head_stays}
 use Rattle.zvt_stream.proofs.LevelLemmas.{filled_level}
 use Rattle.zvt_stream.proofs.DecoderStateLemmas.{stood, position_none, full_message}
 
@@ -159,58 +166,132 @@ refuses r at left x outer b why lt u h e =
             let t = prefix_of prefix rest b (x ∷ []) (sym w) within in
             u.none_whole m prefix t.0 t.1 s
 
--- what a step makes of a judge
-pub start_stands : (r : Reading) (items : List ℕ) (goes : Goes) → items ≡ [] → goes ≡ beginning → StandsFor (record { reading = r; at = goes.at; left = goes.left; outer = reverse items; head = goes.head }) []
-start_stands r items goes e g =
-    let Stands : Goes → Type 0 = λ (k : Goes). StandsFor (record { reading = r; at = k.at; left = k.left; outer = reverse items; head = k.head }) [] in
-    subst Stands (sym g) (record { unfinished = nothing_in r; stands = (ap reverse e, refl); prefix = refl })
+-- a judge where nothing has begun
+pub begun_anew_stands : (r : Reading) → StandsFor (start r) []
+begun_anew_stands r = record { unfinished = nothing_in r; stands = (refl, refl); prefix = refl }
 
-pub stepped : (r : Reading) (at : At) (left x : ℕ) (outer b now : List ℕ) (head : Head) (old new : Goes) (judged : Judged) → x < 256 → StandsFor (record { reading = r; at = at; left = left; outer = outer; head = head }) b → fault r (role_of at left (depth_of outer)) x ≡ None
-    → Settles r old new now (b ++ x ∷ []) judged → old.head ≡ head_of (b ++ x ∷ []) → Stepped r b x (Ok judged) (record { reading = r; at = new.at; left = new.left; outer = now; head = new.head })
-stepped r at left x outer b now head old new Open lt s passed settles prefix =
-    (record { unfinished = unfinished r new.at new.left now (b ++ x ∷ []) (passes r at left x outer b lt s.unfinished.alive s.stands passed) settles.0; stands = settles.0; prefix = settles.1 ∙ prefix }, refl)
-stepped r at left x outer b now head old new Ended lt s passed settles prefix =
-    (whole r (b ++ x ∷ []) (passes r at left x outer b lt s.unfinished.alive s.stands passed) settles.0, rw (settles.1, settles.2) refl)
+pub begun_anew : (r : Reading) (goes : Goes) (levels : Levels) → goes ≡ beginning → outer_of levels ≡ [] → state_of r goes levels ≡ start r
+begun_anew r goes levels e f = rw (e, f) refl
+
+pub start_stands : (r : Reading) (goes : Goes) (levels : Levels) → goes ≡ beginning → outer_of levels ≡ [] → StandsFor (state_of r goes levels) []
+start_stands r goes levels e f = subst (λ (w : JudgeState). StandsFor w []) (sym (begun_anew r goes levels e f)) (begun_anew_stands r)
 
 -- a judge after an answer represents some bytes
-pub still_judge : (r : Reading) (b : List ℕ) (x : ℕ) (judged : Judged) (new : JudgeState) → Stepped r b x (Ok judged) new → IsJudge new
-still_judge r b x Open new s = (b ++ x ∷ [], s.0)
-still_judge r b x Ended new s = subst IsJudge (sym s.1) ([], start_stands r [] beginning refl refl)
+pub ran_judge : (r : Reading) (held more : List ℕ) (ran : DecodeRun) (new : JudgeState) → Ran r held more ran new → IsJudge new
+ran_judge r held more run.Open new (s, same) = (held ++ more, s)
+ran_judge r held more (run.Ended taken) new (some, few, message, is) = subst IsJudge (sym is) ([], begun_anew_stands r)
+ran_judge r held more (run.Refused at why) new (few, refused, is) = subst IsJudge (sym is) ([], begun_anew_stands r)
 
--- what was judged of a judge, by what it is
-pub moved_in : (v now : JudgeState) (x : ℕ) (b : List ℕ) (moved : Result Transition Why) → v ≡ now → Moves now.reading now.at now.left now.outer b x moved → Moves v.reading v.at v.left v.outer b x moved
-moved_in v now x b moved same m = subst (λ (w : JudgeState). Moves w.reading w.at w.left w.outer b x moved) (sym same) m
+-- the control bytes of a judge after both
+later_head : (goes : Goes) (levels : Levels) → IsAfter (at_in goes levels) → head_at goes.part levels ≡ Two levels.high levels.low
+later_head goes levels after = by_part goes.part after
+  where
+    by_part : (p : Part) → IsAfter (at_part p goes.more levels) → head_at p levels ≡ Two levels.high levels.low
+    by_part part.FirstControl after = absurd after
+    by_part part.SecondControl after = absurd after
+    by_part part.FirstSize after = refl
+    by_part part.LowSize after = refl
+    by_part part.HighSize after = refl
+    by_part part.Payload after = refl
+    by_part part.Head after = refl
+    by_part part.Name after = refl
+    by_part part.Digit after = refl
+    by_part part.Content after = refl
+    by_part part.Digits after = refl
+    by_part part.Container after = refl
+    by_part part.Tag after = refl
+    by_part part.Length after = refl
+    by_part part.Object after = refl
 
-pub followed : (v now : JudgeState) (x : ℕ) (b outer : List ℕ) (old new : Goes) (judged : Judged) → v ≡ now → x < 256 → StandsFor now b → fault v.reading (role_of v.at v.left (depth_of v.outer)) x ≡ None
-    → Settles v.reading old new outer (b ++ x ∷ []) judged → old.head ≡ head_of (b ++ x ∷ []) → Stepped now.reading b x (Ok judged) (record { reading = v.reading; at = new.at; left = new.left; outer = outer; head = new.head })
-followed v now x b outer old new judged same lt s passed settles prefix =
-    let there : StandsFor v b = subst (λ (w : JudgeState). StandsFor w b) (sym same) s in
-    let answer : JudgeState = record { reading = v.reading; at = new.at; left = new.left; outer = outer; head = new.head } in
-    subst (λ (w : JudgeState). Stepped w.reading b x (Ok judged) answer) same (stepped v.reading v.at v.left x v.outer b outer v.head old new judged lt there passed settles prefix)
+-- after both control bytes and one more byte
+goes_after : (r : Reading) (at : At) (left x : ℕ) (outer b : List ℕ) → HasBoth b → Where r at left outer (b ++ x ∷ []) → IsAfter at
+goes_after r stage.FirstControl left x outer b both h = absurd (longer both h.1)
+  where
+    longer : HasBoth b → b ++ x ∷ [] ≡ [] → ⊥
+    longer (high, low, rest, e) w = let n = ap length e in let m = ap length w in absurd (omega (arith, n, m, length-append b (x ∷ [])))
+goes_after r (stage.SecondControl k) left x outer b both h = absurd (longer both h.1)
+  where
+    longer : HasBoth b → b ++ x ∷ [] ≡ k ∷ [] → ⊥
+    longer (high, low, rest, e) w = let n = ap length e in let m = ap length w in absurd (omega (arith, n, m, length-append b (x ∷ [])))
+goes_after r (stage.FirstSize high low) left x outer b both h = tt
+goes_after r (stage.LowSize high low) left x outer b both h = tt
+goes_after r (stage.HighSize high low s) left x outer b both h = tt
+goes_after r stage.Payload left x outer b both h = tt
+goes_after r (stage.Head free digits) left x outer b both h = tt
+goes_after r stage.Name left x outer b both h = tt
+goes_after r (stage.Digit more before) left x outer b both h = tt
+goes_after r (stage.Content digits more) left x outer b both h = tt
+goes_after r (stage.Container at) left x outer b both h = tt
+goes_after r (stage.Tag at) left x outer b both h = tt
+goes_after r (stage.Length nests at) left x outer b both h = tt
+goes_after r (stage.Object more) left x outer b both h = tt
+
+-- what a judge of that part says of its next byte
+at_byte : (r : Reading) (at : At) (goes : Goes) (levels : Levels) (b : List ℕ) → at_in goes levels ≡ at → StandsFor (state_of r goes levels) b → Where r at goes.left (outer_of levels) b
+at_byte r at goes levels b is s = subst (λ (a : At). Where r a goes.left (outer_of levels) b) is s.stands
+
+-- there is room for one more level
+pub opens_room : (r : Reading) (at : At) (depth x : ℕ) (goes new : Goes) (levels after : Levels) (moved : Result Transition Why) → at_in goes levels ≡ at → depth ≡ depth_of (outer_of levels) → Judges r at goes.left depth x (leads_to moved new after) → Keeps levels after
+    → IsJudge (state_of r goes levels) → (trailing : ℕ) → moved ≡ Ok (opens trailing) → length after.outer.items < 7
+opens_room r at depth x goes new levels after moved is deep judges keeps s trailing opening =
+    let there = judges (outer_of levels) s.0 deep (at_byte r at goes levels s.0 is s.1) in
+    let opened = rw opening at there in
+    let few = between_depth r new.left (trailing ∷ outer_of levels) (s.0 ++ x ∷ []) opened.1 in
+    let same = ap (λ (o : ArrayVec ℕ). length o.items) keeps.2 in
+    omega (arith, few, same, length-reverse levels.outer.items)
+
+-- what a judge becomes by a byte after both control bytes
+pub advances : (r : Reading) (at : At) (depth x : ℕ) (goes new last : Goes) (levels after final : Levels) (moved : Result Transition Why) (result : Result Judged Why) (b : List ℕ) → x < 256 → at_in goes levels ≡ at → IsAfter at → depth ≡ depth_of (outer_of levels)
+    → Judges r at goes.left depth x (leads_to moved new after) → Keeps levels after → Follows r moved new after result last final (b ++ x ∷ []) → StandsFor (state_of r goes levels) b → Advances r b x result (state_of r last final)
+advances r at depth x goes new last levels after final (Ok moved) (Ok judged) b lt is later deep judges keeps follows s = by_answer judged settles
+  where
+    there : Where r at goes.left (outer_of levels) b
+    there = at_byte r at goes levels b is s
+
+    led : (fault r (role_of at goes.left (depth_of (outer_of levels))) x ≡ None) × Leads r (move_of moved new after) (outer_of levels) (b ++ x ∷ [])
+    led = judges (outer_of levels) b deep there
+
+    alive : AliveIn r (b ++ x ∷ [])
+    alive = passes r at goes.left x (outer_of levels) b lt s.unfinished.alive there led.0
+
+    same : outer_of after ≡ outer_of levels
+    same = ap (λ (o : ArrayVec ℕ). reverse o.items) keeps.2
+
+    settles : Settles r after last final (b ++ x ∷ []) judged
+    settles = follows (subst (λ (o : List ℕ). Leads r (move_of moved new after) o (b ++ x ∷ [])) (sym same) led.1)
+
+    by_answer : (j : Judged) → Settles r after last final (b ++ x ∷ []) j → Advances r b x (Ok j) (state_of r last final)
+    by_answer Open h =
+        let heads : head_at last.part final ≡ Two final.high final.low = later_head last final (goes_after r (at_in last final) last.left x (outer_of final) b (has_both r at goes.left (outer_of levels) b later there) h.0) in
+        let before : head_at goes.part levels ≡ Two levels.high levels.low = later_head goes levels (subst IsAfter (sym is) later) in
+        let bytes : Two final.high final.low ≡ Two levels.high levels.low = rw (h.1, h.2, keeps.0, keeps.1) refl in
+        record {
+          unfinished = unfinished r (at_in last final) last.left (outer_of final) (b ++ x ∷ []) alive h.0;
+          stands = h.0;
+          prefix = heads ∙ bytes ∙ sym before ∙ s.prefix ∙ head_stays r at goes.left x (outer_of levels) b later there;
+        }
+    by_answer Ended h = (whole r (b ++ x ∷ []) alive h.0, h.1)
+advances r at depth x goes new last levels after final (Ok moved) (Err why) b lt is later deep judges keeps follows s = absurd follows
+advances r at depth x goes new last levels after final (Err why) result b lt is later deep judges keeps follows s =
+    let there : Where r at goes.left (outer_of levels) b = at_byte r at goes levels b is s in
+    rw follows (refuses r at goes.left x (outer_of levels) b why lt s.unfinished there (judges (outer_of levels) b deep there))
 
 -- after the first control byte, and after the second
-pub first_control : (v now : JudgeState) (x : ℕ) (b : List ℕ) (goes : Goes) → v ≡ now → v.at ≡ stage.FirstControl → goes ≡ record { at = stage.SecondControl x; left = v.left; head = One x } → x < 256 → StandsFor now b
-    → Stepped now.reading b x (Ok Open) (record { reading = v.reading; at = goes.at; left = goes.left; outer = v.outer; head = goes.head })
-first_control v now x b goes same is gone lt s =
-    let there : StandsFor v b = subst (λ (w : JudgeState). StandsFor w b) (sym same) s in
-    let none = subst (λ (a : At). Where v.reading a v.left v.outer b) is there.stands in
-    let there_goes : Goes = record { at = stage.SecondControl x; left = v.left; head = One x } in
-    let Answers : Goes → Type 0 = λ (g : Goes). Stepped now.reading b x (Ok Open) (record { reading = v.reading; at = g.at; left = g.left; outer = v.outer; head = g.head }) in
-    subst Answers (sym gone) (followed v now x b v.outer there_goes there_goes Open same lt s (subst (λ (a : At). fault v.reading (role_of a v.left (depth_of v.outer)) x ≡ None) (sym is) refl)
-    ((none.0, ap (λ (t : List ℕ). t ++ x ∷ []) none.1, lt), refl) (ap (λ (t : List ℕ). head_of (t ++ x ∷ [])) (sym none.1)))
+pub first_control : (r : Reading) (x : ℕ) (goes : Goes) (levels new : Levels) (b : List ℕ) → goes.part ≡ part.FirstControl → new ≡ record { high = x; low = levels.low; number = levels.number; tag = levels.tag; length = levels.length; nests = levels.nests; outer = levels.outer } → x < 256 → StandsFor (state_of r goes levels) b
+    → StandsFor (state_of r (record { part = part.SecondControl; more = goes.more; left = goes.left }) new) (b ++ x ∷ [])
+first_control r x goes levels new b is now lt s =
+    let none : (outer_of levels ≡ []) × (b ≡ []) = subst (λ (p : Part). Where r (at_part p goes.more levels) goes.left (outer_of levels) b) is s.stands in
+    let alive = passes r stage.FirstControl goes.left x (outer_of levels) b lt s.unfinished.alive none refl in
+    let stands : Where r (stage.SecondControl x) goes.left (outer_of levels) (b ++ x ∷ []) = (none.0, ap (λ (t : List ℕ). t ++ x ∷ []) none.1, lt) in
+    rw now (record { unfinished = unfinished r (stage.SecondControl x) goes.left (outer_of levels) (b ++ x ∷ []) alive stands; stands = stands; prefix = ap (λ (t : List ℕ). head_of (t ++ x ∷ [])) (sym none.1) })
 
-pub second_control : (v now : JudgeState) (high x : ℕ) (b : List ℕ) (goes : Goes) → v ≡ now → v.at ≡ stage.SecondControl high → goes ≡ record { at = stage.FirstSize high x; left = v.left; head = Two high x } → x < 256 → StandsFor now b
-    → Stepped now.reading b x (Ok Open) (record { reading = v.reading; at = goes.at; left = goes.left; outer = v.outer; head = goes.head })
-second_control v now high x b goes same is gone lt s =
-    let there : StandsFor v b = subst (λ (w : JudgeState). StandsFor w b) (sym same) s in
-    let one = subst (λ (a : At). Where v.reading a v.left v.outer b) is there.stands in
-    let there_goes : Goes = record { at = stage.FirstSize high x; left = v.left; head = Two high x } in
-    let Answers : Goes → Type 0 = λ (g : Goes). Stepped now.reading b x (Ok Open) (record { reading = v.reading; at = g.at; left = g.left; outer = v.outer; head = g.head }) in
-    subst Answers (sym gone) (followed v now x b v.outer there_goes there_goes Open same lt s (subst (λ (a : At). fault v.reading (role_of a v.left (depth_of v.outer)) x ≡ None) (sym is) refl)
-    ((one.0, ap (λ (t : List ℕ). t ++ x ∷ []) one.1, one.2, lt), refl) (ap (λ (t : List ℕ). head_of (t ++ x ∷ [])) (sym one.1)))
-
-pub stepped_refused : (r : Reading) (at : At) (left x : ℕ) (outer b : List ℕ) (why : Why) (head : Head) → x < 256 → StandsFor (record { reading = r; at = at; left = left; outer = outer; head = head }) b → fault r (role_of at left (depth_of outer)) x ≡ Some why → IsRefusedIn r (b ++ x ∷ []) (length b) why
-stepped_refused r at left x outer b why head lt s failed = refuses r at left x outer b why lt s.unfinished s.stands failed
+pub second_control : (r : Reading) (x : ℕ) (goes : Goes) (levels new : Levels) (b : List ℕ) → goes.part ≡ part.SecondControl → new ≡ record { high = levels.high; low = x; number = levels.number; tag = levels.tag; length = levels.length; nests = levels.nests; outer = levels.outer } → x < 256 → StandsFor (state_of r goes levels) b
+    → StandsFor (state_of r (record { part = part.FirstSize; more = goes.more; left = goes.left }) new) (b ++ x ∷ [])
+second_control r x goes levels new b is now lt s =
+    let one : (outer_of levels ≡ []) × (b ≡ levels.high ∷ []) × (levels.high < 256) = subst (λ (p : Part). Where r (at_part p goes.more levels) goes.left (outer_of levels) b) is s.stands in
+    let alive = passes r (stage.SecondControl levels.high) goes.left x (outer_of levels) b lt s.unfinished.alive one refl in
+    let stands : Where r (stage.FirstSize levels.high x) goes.left (outer_of levels) (b ++ x ∷ []) = (one.0, ap (λ (t : List ℕ). t ++ x ∷ []) one.1, one.2, lt) in
+    rw now (record { unfinished = unfinished r (stage.FirstSize levels.high x) goes.left (outer_of levels) (b ++ x ∷ []) alive stands; stands = stands; prefix = ap (λ (t : List ℕ). head_of (t ++ x ∷ [])) (sym one.1) })
 
 -- a byte of a piece that is refused
 pub ran_refused : (r : Reading) (held bytes : List ℕ) (taken : ℕ) (why : Why) → taken < length bytes → IsRefusedIn r ((held ++ take taken bytes) ++ get_or bytes taken 0 ∷ []) (length (held ++ take taken bytes)) why → IsRefusedIn r (held ++ take (suc taken) bytes) (length held + taken) why

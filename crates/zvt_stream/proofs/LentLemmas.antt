@@ -1,6 +1,7 @@
 -- What is borrowed is what the bytes spell.
-use Rattle.std.proofs.Common.{◌≡◌, ℕ, ◌+◌, ◌≤◌, min, Bool, true, false, Option, Some, None, IfSome, List, [], ◌++◌, length, take, sym, ◌∙◌, ap, subst, refl, arith}
+use Rattle.std.proofs.Common.{◌≡◌, ℕ, ◌+◌, Bool, true, false, Option, Some, None, IfSome, List, [], ◌++◌, length, take, append-nil, sym, ◌∙◌, ap, subst, refl}
 use Rattle.std.proofs.Math.Logic.{∥∥₁_elim}
+use Rattle.std.proofs.Math.Seq.{take-length}
 use Rattle.std.specs.Coded.{Coded-set}
 use Rattle.zvt_grammar.specs.Reading.{Reading, shortest, padded}
 use Rattle.zvt_apdu.specs.Message.{Message}
@@ -132,6 +133,12 @@ feeds_shown old new piece taken shown apdu has_message is found = subst (λ (m :
     some_is : {a b : Message} → Some a ≡ Some b → a ≡ b
     some_is e = cc (e)
 
--- the room that was made is enough for what begins a message, or is one
-pub room_for : (before more room n : ℕ) → min (before + more) 65540 ≤ room → n ≤ more → before + n ≤ 65540 → before + n ≤ room
-room_for before more room n made few all = omega (arith, made, few, all)
+-- what is held after bytes of a piece were kept: all, its first ones, or none
+pub kept_all : (bytes piece old new : List ℕ) → new ≡ old ++ take (length piece) piece → old ≡ bytes → new ≡ bytes ++ piece
+kept_all bytes piece old new is same = is ∙ ap (λ (b : List ℕ). b ++ take (length piece) piece) same ∙ ap (λ (p : List ℕ). bytes ++ p) (take-length piece)
+
+pub kept_first : (bytes piece old new : List ℕ) (taken : ℕ) → new ≡ old ++ take taken piece → old ≡ bytes → new ≡ bytes ++ take taken piece
+kept_first bytes piece old new taken is same = is ∙ ap (λ (b : List ℕ). b ++ take taken piece) same
+
+pub kept_none : (bytes piece old new : List ℕ) → new ≡ old ++ take 0 piece → old ≡ bytes → new ≡ bytes
+kept_none bytes piece old new is same = is ∙ append-nil old ∙ same

@@ -14,8 +14,8 @@ use Rattle.zvt_tlv.specs.declared.judge.LengthAt.TheVariants as length_at
 use Rattle.zvt_tlv.proofs.Spelling.{tag_prefix}
 use Rattle.zvt_field.specs.declared.shapes.Shape.TheVariants.{Tree}
 use Rattle.zvt_field.specs.Shapes.{shape_of}
-use Rattle.zvt_stream.specs.declared.transitions.At.TheVariants as stage
-use Rattle.zvt_stream.specs.declared.transitions.Transition.TheVariants.{Within, Ends, Opens}
+use Rattle.zvt_stream.specs.Parts as stage
+use Rattle.zvt_stream.specs.Parts.{Within, Ends, Opens}
 use Rattle.zvt_stream.specs.DecoderState.{depth_of, HoldsObjects, AtField, AtObject, ContainerLength, ObjectContent, Between}
 use Rattle.zvt_stream.specs.Moves.{Judges}
 use Rattle.zvt_stream.proofs.LevelLemmas.{field_more, object_more, object_done, bytes_object}

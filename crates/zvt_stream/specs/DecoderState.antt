@@ -16,8 +16,8 @@ use Rattle.zvt_apdu.specs.Grammar.{IsFrameLength}
 use Rattle.zvt_apdu.specs.declared.frame.Layout.{Layout}
 use Rattle.zvt_apdu.specs.Judging.{layout_of, head_size, can_fill}
 use Rattle.zvt_apdu.specs.Judging as message
-use Rattle.zvt_stream.specs.declared.transitions.At.{At}
-use Rattle.zvt_stream.specs.declared.transitions.At.TheVariants as at
+use Rattle.zvt_stream.specs.Parts.{At}
+use Rattle.zvt_stream.specs.Parts as at
 
 -- The length of a message stands, and these bytes of its data.
 pub record Begun (r : Reading) (n : ℕ) (inside bytes : List ℕ) : Type 0 where

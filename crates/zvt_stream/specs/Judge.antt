@@ -1,5 +1,5 @@
 -- The judge as its callers see it, and what it answers.
-use Rattle.std.specs.Prelude.{◌≡◌, ℕ, ◌+◌, ◌<◌, ◌≤◌, suc, zero, Option, Some, None, Result, Ok, Err, List, [], ◌∷◌, ◌++◌, length, take}
+use Rattle.std.specs.Prelude.{◌≡◌, ℕ, ◌+◌, ◌<◌, ◌≤◌, suc, zero, Option, Some, None, Result, Ok, Err, List, [], ◌∷◌, ◌++◌, length, min, take}
 use Rattle.zvt_grammar.specs.declared.why.Why.{Why}
 use Rattle.zvt_grammar.specs.Reading.{Reading, shortest}
 use Rattle.zvt_apdu.specs.Message.{Message}
@@ -8,16 +8,21 @@ use Rattle.zvt_tlv.specs.Judging.{Opener}
 use Rattle.zvt_apdu.specs.Judging.{Role, first_control, second_control, first_size, low_size, high_size, free, digit, in_fields, Position}
 use Rattle.zvt_stream.specs.Apdus.{UnfinishedIn, IsRefusedIn}
 use Rattle.zvt_stream.specs.DecoderState.{Where, IsFull, depth_of, role_of}
-use Rattle.zvt_stream.specs.declared.transitions.At.{At}
-use Rattle.zvt_stream.specs.declared.transitions.At.TheVariants as at
+use Rattle.zvt_stream.specs.Parts.{At}
+use Rattle.zvt_stream.specs.Parts as at
+use Rattle.zvt_stream.specs.Moves.{Leads, at_in, move_of, outer_of}
+use Rattle.zvt_stream.specs.declared.transitions.Goes.{Goes}
+use Rattle.zvt_stream.specs.declared.transitions.Levels.{Levels}
+use Rattle.zvt_stream.specs.declared.transitions.Part.{Part}
+use Rattle.zvt_stream.specs.declared.transitions.Part.TheVariants as part
+use Rattle.zvt_stream.specs.declared.transitions.Transition.{Transition}
 use Rattle.zvt_stream.specs.declared.judge.Judged.{Judged}
 use Rattle.zvt_stream.specs.declared.judge.Judged.TheVariants.{Open, Ended}
 use Rattle.zvt_stream.specs.declared.judge.DecodeRun.{DecodeRun}
 use Rattle.zvt_stream.specs.declared.judge.DecodeRun.TheVariants as run
-use Rattle.zvt_stream.specs.declared.judge.Goes.{Goes}
 use Rattle.zvt_stream.specs.declared.judge.Steps.{Steps}
 use Rattle.zvt_stream.specs.declared.head.Head.{Head}
-use Rattle.zvt_stream.specs.declared.head.Head.TheVariants.{Empty}
+use Rattle.zvt_stream.specs.declared.head.Head.TheVariants.{Empty, One, Two}
 use Rattle.zvt_stream.specs.Head.{head_of}
 
 -- The reading of lengths, the part of the next byte, the bytes to come of the innermost level, and those to come after
@@ -28,6 +33,28 @@ pub record JudgeState : Type 0 where
   pub left : ℕ
   pub outer : List ℕ
   pub head : Head
+
+-- the control bytes, as far as they have come
+abbrev pub head_at : Part → Levels → Head
+head_at part.FirstControl levels = Empty
+head_at part.SecondControl levels = One levels.high
+head_at part.FirstSize levels = Two levels.high levels.low
+head_at part.LowSize levels = Two levels.high levels.low
+head_at part.HighSize levels = Two levels.high levels.low
+head_at part.Payload levels = Two levels.high levels.low
+head_at part.Head levels = Two levels.high levels.low
+head_at part.Name levels = Two levels.high levels.low
+head_at part.Digit levels = Two levels.high levels.low
+head_at part.Content levels = Two levels.high levels.low
+head_at part.Digits levels = Two levels.high levels.low
+head_at part.Container levels = Two levels.high levels.low
+head_at part.Tag levels = Two levels.high levels.low
+head_at part.Length levels = Two levels.high levels.low
+head_at part.Object levels = Two levels.high levels.low
+
+-- what the code keeps represents this
+abbrev pub state_of : Reading → Goes → Levels → JudgeState
+state_of r goes levels = record { reading = r; at = at_in goes levels; left = goes.left; outer = outer_of levels; head = head_at goes.part levels }
 
 abbrev pub start : Reading → JudgeState
 start r = record { reading = r; at = at.FirstControl; left = 1; outer = []; head = Empty }
@@ -54,6 +81,12 @@ Stepped r bytes byte (Ok Open) new = StandsFor new (bytes ++ byte ∷ []) × (ne
 Stepped r bytes byte (Ok Ended) new = IsMessageIn r (bytes ++ byte ∷ []) × (new ≡ start r)
 Stepped r bytes byte (Err why) new = IsRefusedIn r (bytes ++ byte ∷ []) (length bytes) why × (new ≡ start r)
 
+-- The same where nothing has begun anew yet.
+abbrev pub Advances : Reading → (bytes : List ℕ) → (byte : ℕ) → Result Judged Why → (new : JudgeState) → Type 0
+Advances r bytes byte (Ok Open) new = StandsFor new (bytes ++ byte ∷ [])
+Advances r bytes byte (Ok Ended) new = IsMessageIn r (bytes ++ byte ∷ []) × (new.outer ≡ [])
+Advances r bytes byte (Err why) new = IsRefusedIn r (bytes ++ byte ∷ []) (length bytes) why
+
 -- After these bytes more bytes give this answer.
 abbrev pub Ran : Reading → (bytes more : List ℕ) → DecodeRun → (new : JudgeState) → Type 0
 Ran r bytes more run.Open new = StandsFor new (bytes ++ more) × (new.reading ≡ r)
@@ -69,6 +102,16 @@ abbrev pub taken_by : (more : List ℕ) → DecodeRun → ℕ
 taken_by more run.Open = length more
 taken_by more (run.Ended taken) = taken
 taken_by more (run.Refused at why) = suc at
+
+-- How many of them are kept of a message.
+abbrev pub kept_by : (more : List ℕ) → DecodeRun → ℕ
+kept_by more run.Open = length more
+kept_by more (run.Ended taken) = taken
+kept_by more (run.Refused at why) = 0
+
+-- There is room for what so many bytes may add to a message that stands for the judge.
+abbrev pub HasRoomFor : JudgeState → (more room : ℕ) → Type 0
+HasRoomFor judge more room = (held : List ℕ) × StandsFor judge held × (min (length held + more) 65540 ≤ length held + room)
 
 -- How many levels are open: the frame, the fields, and those that the openers lead into.
 abbrev pub levels_of : Role → List Opener → ℕ
@@ -99,12 +142,19 @@ Closes left old new (Some n) = unfilled left old ≡ Some (n, new)
 
 -- Where a message begins.
 abbrev pub beginning : Goes
-beginning = record { at = at.FirstControl; left = 1; head = Empty }
+beginning = record { part = part.FirstControl; more = 0; left = 1 }
 
 -- After a complete item: the next one, or the end of the message.
-abbrev pub Settles : Reading → (old new : Goes) → (outer : List ℕ) → (bytes : List ℕ) → Judged → Type 0
-Settles r old new outer bytes Open = Where r new.at new.left outer bytes × (new.head ≡ old.head)
-Settles r old new outer bytes Ended = IsFull r bytes × (outer ≡ []) × (new ≡ beginning)
+abbrev pub Settles : Reading → (old : Levels) → (goes : Goes) → (new : Levels) → (bytes : List ℕ) → Judged → Type 0
+Settles r old goes new bytes Open = Where r (at_in goes new) goes.left (outer_of new) bytes × (new.high ≡ old.high) × (new.low ≡ old.low)
+Settles r old goes new bytes Ended = IsFull r bytes × (outer_of new ≡ [])
+
+-- Where a byte leads that passed its tests, and no byte that failed one does.
+abbrev pub Follows : Reading → Result Transition Why → (goes : Goes) → (levels : Levels) → Result Judged Why → (new_goes : Goes) → (new_levels : Levels) → (bytes : List ℕ) → Type 0
+Follows r (Ok moved) goes levels (Ok judged) new_goes new_levels bytes =
+    Leads r (move_of moved goes levels) (outer_of levels) bytes → Settles r levels new_goes new_levels bytes judged
+Follows r (Ok moved) goes levels (Err why) new_goes new_levels bytes = ⊥
+Follows r (Err why) goes levels result new_goes new_levels bytes = result ≡ Err why
 
 -- A judge stands where the bytes that it represents do by the grammar: at the part that their next byte plays, within as
 -- many levels as it counts.

@@ -10,5 +10,6 @@ pub mod LineRun
 pub mod Turns
 pub mod DecoderState
 pub mod Moves
+pub mod Parts
 pub mod Head
 pub mod Judge

@@ -1,33 +1,84 @@
 -- What a judged byte leads to.
-use Rattle.std.specs.Prelude.{◌≡◌, ℕ, ◌+◌, ◌<◌, ◌≤◌, true, false, Some, None, Result, Ok, Err, List, [], ◌∷◌, ◌++◌}
+use Rattle.std.specs.Prelude.{◌≡◌, ℕ, ◌+◌, ◌<◌, ◌≤◌, true, false, Some, None, Result, Ok, Err, List, [], ◌∷◌, ◌++◌, reverse}
 use Rattle.zvt_grammar.specs.declared.why.Why.{Why}
 use Rattle.zvt_grammar.specs.declared.why.Why.TheVariants.{DoesNotFit}
 use Rattle.zvt_grammar.specs.Reading.{Reading}
 use Rattle.zvt_apdu.specs.Grammar.{IsFrameLength}
 use Rattle.zvt_apdu.specs.Judging.{fault, layout_of, can_fill}
-use Rattle.zvt_stream.specs.declared.transitions.At.{At}
-use Rattle.zvt_stream.specs.declared.transitions.At.TheVariants as at
+use Rattle.zvt_stream.specs.Parts.{At}
+use Rattle.zvt_stream.specs.Parts as at
+use Rattle.zvt_stream.specs.Parts.{Move}
+use Rattle.zvt_stream.specs.Parts.{Within, Ends, Opens}
+use Rattle.zvt_stream.specs.declared.transitions.Goes.{Goes}
+use Rattle.zvt_stream.specs.declared.transitions.Levels.{Levels}
+use Rattle.zvt_stream.specs.declared.transitions.Part.{Part}
+use Rattle.zvt_stream.specs.declared.transitions.Part.TheVariants as part
 use Rattle.zvt_stream.specs.declared.transitions.Transition.{Transition}
-use Rattle.zvt_stream.specs.declared.transitions.Transition.TheVariants.{Within, Ends, Opens}
+use Rattle.zvt_stream.specs.declared.transitions.Transition.TheVariants as code
 use Rattle.zvt_stream.specs.DecoderState.{Where, Between, HasDigits, depth_of, role_of}
 
+-- ---- what the code keeps
+
+abbrev pub at_part : Part → (more : ℕ) → Levels → At
+at_part part.FirstControl more levels = at.FirstControl
+at_part part.SecondControl more levels = at.SecondControl levels.high
+at_part part.FirstSize more levels = at.FirstSize levels.high levels.low
+at_part part.LowSize more levels = at.LowSize levels.high levels.low
+at_part part.HighSize more levels = at.HighSize levels.high levels.low levels.number
+at_part part.Payload more levels = at.Payload
+at_part part.Head more levels = at.Head more levels.number
+at_part part.Name more levels = at.Name
+at_part part.Digit more levels = at.Digit more levels.number
+at_part part.Content more levels = at.Content false more
+at_part part.Digits more levels = at.Content true more
+at_part part.Container more levels = at.Container levels.length
+at_part part.Tag more levels = at.Tag levels.tag
+at_part part.Length more levels = at.Length levels.nests levels.length
+at_part part.Object more levels = at.Object more
+
+-- the part of the next byte, with what its tests need to know
+abbrev pub at_in : Goes → Levels → At
+at_in goes levels = at_part goes.part goes.more levels
+
+-- of the levels around the innermost one, the innermost comes first
+abbrev pub outer_of : Levels → List ℕ
+outer_of levels = reverse levels.outer.items
+
+abbrev pub move_of : Transition → Goes → Levels → Move
+move_of code.Within goes levels = Within (at_in goes levels) goes.left
+move_of code.Ends goes levels = Ends goes.left
+move_of (code.Opens trailing) goes levels = Opens trailing goes.left
+
+abbrev pub leads_to : Result Transition Why → Goes → Levels → Result Move Why
+leads_to (Ok moved) goes levels = Ok (move_of moved goes levels)
+leads_to (Err why) goes levels = Err why
+
+abbrev pub opens : ℕ → Transition
+opens trailing = code.Opens trailing
+
+-- the control bytes and the levels around the innermost one stay
+abbrev pub Keeps : (old new : Levels) → Type 0
+Keeps old new = (new.high ≡ old.high) × (new.low ≡ old.low) × (new.outer ≡ old.outer)
+
+-- ---- what a byte leads to
+
 -- What is known after the byte.
-abbrev pub Leads : Reading → Transition → (outer : List ℕ) → (bytes : List ℕ) → Type 0
+abbrev pub Leads : Reading → Move → (outer : List ℕ) → (bytes : List ℕ) → Type 0
 Leads r (Within at left) outer bytes = Where r at left outer bytes
 Leads r (Ends left) outer bytes = Between r left outer bytes
 Leads r (Opens trailing left) outer bytes = Between r left (trailing ∷ outer) bytes
 
 -- A byte after these bytes: what it leads to where its tests pass, else the reason of the first that fails.
-abbrev pub Moves : Reading → At → (left : ℕ) → (outer : List ℕ) → (bytes : List ℕ) → (byte : ℕ) → Result Transition Why → Type 0
+abbrev pub Moves : Reading → At → (left : ℕ) → (outer : List ℕ) → (bytes : List ℕ) → (byte : ℕ) → Result Move Why → Type 0
 Moves r at left outer bytes byte (Ok move) = (fault r (role_of at left (depth_of outer)) byte ≡ None) × Leads r move outer (bytes ++ byte ∷ [])
 Moves r at left outer bytes byte (Err why) = fault r (role_of at left (depth_of outer)) byte ≡ Some why
 
 -- The same after all bytes that lead to this part.
-abbrev pub Judges : Reading → At → (left depth : ℕ) → (byte : ℕ) → Result Transition Why → Type 0
+abbrev pub Judges : Reading → At → (left depth : ℕ) → (byte : ℕ) → Result Move Why → Type 0
 Judges r at left depth byte result = (outer bytes : List ℕ) → depth ≡ depth_of outer → Where r at left outer bytes → Moves r at left outer bytes byte result
 
 -- Data of n bytes begins after these control bytes and this length.
-abbrev pub BeginsData : Reading → (high low n : ℕ) → Result Transition Why → Type 0
+abbrev pub BeginsData : Reading → (high low n : ℕ) → Result Move Why → Type 0
 BeginsData r high low n (Ok move) =
     (can_fill (layout_of high low n) n ≡ true)
     × ((size bytes : List ℕ) → (high < 256) × (low < 256) → IsFrameLength r n size → bytes ≡ high ∷ low ∷ (size ++ []) → Leads r move [] bytes)

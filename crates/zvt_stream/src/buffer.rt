@@ -5,7 +5,9 @@
 
 ghost use Rattle.std.specs.Prelude.{◌≡◌, ◌+◌, ◌<◌, ◌≤◌, [], ◌∷◌, ◌++◌, length, min, take, IfOk, IsOk, OnErr, OnOk};
 ghost use Rattle.zvt_apdu.specs.Views.{MessageBytes};
+ghost use Rattle.zvt_stream.specs.Judge.{StandsFor, Ran, kept_by, taken_by, judged_of};
 
+use crate::judge::{DecodeRun, Judge, Steps};
 use std::alloc::{AllocError, Global};
 use std::marker::Model;
 
@@ -97,6 +99,26 @@ impl Held {
         }
         self.put(bytes);
         Ok(())
+    }
+
+    /// Judges bytes that follow those that are held, and keeps them: all, or up to the end of a message, or none.
+    #[inline(always)]
+    pub fn judge(&mut self, judge: &mut Judge, steps: &mut Steps, piece: &[u8]) -> DecodeRun
+        requires stands { StandsFor judge.old self.old.bytes }
+        requires room { min (length self.old.bytes + length piece.now) 65540 ≤ self.old.room }
+        ensures judged { Ran judge.old.reading self.old.bytes piece.now result judge.new }
+        ensures count { judged_of steps.new ≡ judged_of steps.old + taken_by piece.now result }
+        ensures bytes { self.new.bytes ≡ self.old.bytes ++ take (kept_by piece.now result) piece.now }
+        ensures room { self.new.room ≡ self.old.room }
+    {
+        let at = self.size;
+        let ran = judge.run(steps, piece, &mut self.room[at..]);
+        match ran {
+            DecodeRun::Open => self.size = at + piece.len(),
+            DecodeRun::Ended { taken } => self.size = at + taken,
+            DecodeRun::Refused { .. } => {}
+        }
+        ran
     }
 
     /// Appends bytes for which there is capacity.

@@ -12,7 +12,6 @@ ghost use Rattle.zvt_stream.specs.LineRun.{Course, Breaks, Pumped, Broken, Repor
 ghost use Rattle.zvt_stream.specs.Turns.{Arrives, Ends, Falters, line_state, line_ends};
 ghost use Rattle.zvt_stream.specs.Replies.{Replies, Unanswered};
 
-use crate::endpoint::Endpoint;
 use crate::line::{LineFault, Machine, Until};
 use crate::stream::{FedView, FeedError, Stream};
 use std::alloc::Global;
@@ -100,70 +99,68 @@ fn hear_piece<W: Sink, M: Machine>(
 // Reads once, and feeds what was read. Returns whether any message was written.
 fn turn<R: Source, W: Sink, M: Machine>(
     alloc: Global,
-    end: &mut Endpoint<R, W>,
+    reader: &mut R,
+    writer: &mut W,
+    stream: &mut Stream,
     machine: &mut M,
 ) -> Result<bool, LineFault>
-    ensures ok { IfOk result (λ sent. (pumped : Pumped M.hears end.old.stream end.new.stream machine.old machine.new
-        (R.remaining end.old.reader) (R.remaining end.new.reader) (W.written end.old.writer) (W.written end.new.writer) sent)
+    ensures ok { IfOk result (λ sent. (pumped : Pumped M.hears stream.old stream.new machine.old machine.new
+        (R.remaining reader.old) (R.remaining reader.new) (W.written writer.old) (W.written writer.new) sent)
         × (length pumped.read ≤ 1024) × (0 < length pumped.read)) }
-    ensures err { IfErr result (λ fault. Broken M.hears fault end.old.stream end.new.stream machine.old machine.new
-        (R.remaining end.old.reader) (R.remaining end.new.reader) (W.written end.old.writer) (W.written end.new.writer)) }
+    ensures err { IfErr result (λ fault. Broken M.hears fault stream.old stream.new machine.old machine.new
+        (R.remaining reader.old) (R.remaining reader.new) (W.written writer.old) (W.written writer.new)) }
     ensures kinds { IfErr result (λ fault. fault ≢ LineFault.Turns) }
-    ensures reads { R.reads end.new.reader ≡ R.reads end.old.reader + 1 }
-    ensures reader_failures { MatchResult result (λ _. R.failures end.new.reader ≡ R.failures end.old.reader) (λ fault. R.failures end.new.reader ≡ R.failures end.old.reader + failed_reads fault) }
-    ensures writer_failures { MatchResult result (λ _. W.failures end.new.writer ≡ W.failures end.old.writer) (λ fault. W.failures end.new.writer ≡ W.failures end.old.writer + failed_writes fault) }
-    ensures room { end.old.stream.room ≤ end.new.stream.room }
-    ensures frugal { M.wants_memory ≡ false → IsReserved end.old.stream → IsErrOf result LineFault.Memory → ⊥ }
+    ensures reads { R.reads reader.new ≡ R.reads reader.old + 1 }
+    ensures reader_failures { MatchResult result (λ _. R.failures reader.new ≡ R.failures reader.old) (λ fault. R.failures reader.new ≡ R.failures reader.old + failed_reads fault) }
+    ensures writer_failures { MatchResult result (λ _. W.failures writer.new ≡ W.failures writer.old) (λ fault. W.failures writer.new ≡ W.failures writer.old + failed_writes fault) }
+    ensures room { stream.old.room ≤ stream.new.room }
+    ensures frugal { M.wants_memory ≡ false → IsReserved stream.old → IsErrOf result LineFault.Memory → ⊥ }
 {
-    let have = end.stream.held();
+    let have = stream.held();
     let mut buffer = [0; 1024];
-    let Ok(count) = end.reader.read(&mut buffer) else {
+    let Ok(count) = reader.read(&mut buffer) else {
         return Err(LineFault::Read);
     };
     if count == 0 {
         return Err(LineFault::Ended { have });
     }
-    hear_piece(
-        alloc,
-        &mut end.writer,
-        &mut end.stream,
-        machine,
-        &buffer[..count],
-    )
+    hear_piece(alloc, writer, stream, machine, &buffer[..count])
 }
 
 // Makes turns until the line has come to where it is to go. No fault is reported to the machine.
 fn run_turns<R: Source, W: Sink, M: Machine>(
     alloc: Global,
-    end: &mut Endpoint<R, W>,
+    reader: &mut R,
+    writer: &mut W,
+    stream: &mut Stream,
     machine: &mut M,
     until: Until,
     turns: u64,
 ) -> Result<(), LineFault>
-    ensures ok { OnOk result ((sent : Bool) × Pumped M.hears end.old.stream end.new.stream machine.old machine.new
-        (R.remaining end.old.reader) (R.remaining end.new.reader) (W.written end.old.writer) (W.written end.new.writer) sent
+    ensures ok { OnOk result ((sent : Bool) × Pumped M.hears stream.old stream.new machine.old machine.new
+        (R.remaining reader.old) (R.remaining reader.new) (W.written writer.old) (W.written writer.new) sent
         × (reached until (M.is_resting machine.new) sent ≡ true)) }
-    ensures err { IfErr result (λ fault. Broken M.hears fault end.old.stream end.new.stream machine.old machine.new
-        (R.remaining end.old.reader) (R.remaining end.new.reader) (W.written end.old.writer) (W.written end.new.writer)) }
-    ensures reads { R.reads end.new.reader ≤ R.reads end.old.reader + turns }
+    ensures err { IfErr result (λ fault. Broken M.hears fault stream.old stream.new machine.old machine.new
+        (R.remaining reader.old) (R.remaining reader.new) (W.written writer.old) (W.written writer.new)) }
+    ensures reads { R.reads reader.new ≤ R.reads reader.old + turns }
     // The line ends at the first turn after which it has come to where it was to go.
-    ensures first { OnOk result (Arrives M.hears M.is_resting until turns (R.reads end.old.reader) (R.reads end.new.reader)
-        (line_state end.old.stream machine.old (R.remaining end.old.reader) (W.written end.old.writer))
-        (line_ends end.new.stream machine.new (R.remaining end.new.reader) (W.written end.new.writer))) }
+    ensures first { OnOk result (Arrives M.hears M.is_resting until turns (R.reads reader.old) (R.reads reader.new)
+        (line_state stream.old machine.old (R.remaining reader.old) (W.written writer.old))
+        (line_ends stream.new machine.new (R.remaining reader.new) (W.written writer.new))) }
     // No turn after which it had comes before a fault.
-    ensures falters { IfErr result (λ fault. Falters M.hears M.is_resting until fault turns (R.reads end.old.reader) (R.reads end.new.reader)
-        (line_state end.old.stream machine.old (R.remaining end.old.reader) (W.written end.old.writer))
-        (line_ends end.new.stream machine.new (R.remaining end.new.reader) (W.written end.new.writer))) }
-    ensures reader_failures { MatchResult result (λ _. R.failures end.new.reader ≡ R.failures end.old.reader) (λ fault. R.failures end.new.reader ≡ R.failures end.old.reader + failed_reads fault) }
-    ensures writer_failures { MatchResult result (λ _. W.failures end.new.writer ≡ W.failures end.old.writer) (λ fault. W.failures end.new.writer ≡ W.failures end.old.writer + failed_writes fault) }
-    ensures room { end.old.stream.room ≤ end.new.stream.room }
-    ensures frugal { M.wants_memory ≡ false → IsReserved end.old.stream → IsErrOf result LineFault.Memory → ⊥ }
+    ensures falters { IfErr result (λ fault. Falters M.hears M.is_resting until fault turns (R.reads reader.old) (R.reads reader.new)
+        (line_state stream.old machine.old (R.remaining reader.old) (W.written writer.old))
+        (line_ends stream.new machine.new (R.remaining reader.new) (W.written writer.new))) }
+    ensures reader_failures { MatchResult result (λ _. R.failures reader.new ≡ R.failures reader.old) (λ fault. R.failures reader.new ≡ R.failures reader.old + failed_reads fault) }
+    ensures writer_failures { MatchResult result (λ _. W.failures writer.new ≡ W.failures writer.old) (λ fault. W.failures writer.new ≡ W.failures writer.old + failed_writes fault) }
+    ensures room { stream.old.room ≤ stream.new.room }
+    ensures frugal { M.wants_memory ≡ false → IsReserved stream.old → IsErrOf result LineFault.Memory → ⊥ }
 {
     // What is held begins a message: nothing of it is still to be heard.
-    let _ = end.stream.held();
+    let _ = stream.held();
     let mut sent = false;
     'turns: for made in 0..turns {
-        sent |= turn(alloc, end, machine)?;
+        sent |= turn(alloc, reader, writer, stream, machine)?;
         if until.is_reached(machine.resting(), sent) {
             return Ok(());
         }
@@ -182,37 +179,39 @@ fn run_turns<R: Source, W: Sink, M: Machine>(
 /// `Stream::reserved`.
 pub fn pump<R: Source, W: Sink, M: Machine>(
     alloc: Global,
-    end: &mut Endpoint<R, W>,
+    reader: &mut R,
+    writer: &mut W,
+    stream: &mut Stream,
     machine: &mut M,
     until: Until,
     turns: u64,
 ) -> Result<(), LineFault>
-    ensures ok { OnOk result ((sent : Bool) × Pumped M.hears end.old.stream end.new.stream machine.old machine.new
-        (R.remaining end.old.reader) (R.remaining end.new.reader) (W.written end.old.writer) (W.written end.new.writer) sent
+    ensures ok { OnOk result ((sent : Bool) × Pumped M.hears stream.old stream.new machine.old machine.new
+        (R.remaining reader.old) (R.remaining reader.new) (W.written writer.old) (W.written writer.new) sent
         × (reached until (M.is_resting machine.new) sent ≡ true)) }
-    ensures err { IfErr result (λ fault. (middle : M) × Broken M.hears fault end.old.stream end.new.stream machine.old middle
-        (R.remaining end.old.reader) (R.remaining end.new.reader) (W.written end.old.writer) (W.written end.new.writer)
-        × Falters M.hears M.is_resting until fault turns (R.reads end.old.reader) (R.reads end.new.reader)
-        (line_state end.old.stream machine.old (R.remaining end.old.reader) (W.written end.old.writer))
-        (line_ends end.new.stream middle (R.remaining end.new.reader) (W.written end.new.writer))
+    ensures err { IfErr result (λ fault. (middle : M) × Broken M.hears fault stream.old stream.new machine.old middle
+        (R.remaining reader.old) (R.remaining reader.new) (W.written writer.old) (W.written writer.new)
+        × Falters M.hears M.is_resting until fault turns (R.reads reader.old) (R.reads reader.new)
+        (line_state stream.old machine.old (R.remaining reader.old) (W.written writer.old))
+        (line_ends stream.new middle (R.remaining reader.new) (W.written writer.new))
         × Reported M.loses M.malforms fault middle machine.new) }
-    ensures at_once { there_at_once until (M.is_resting machine.old) ≡ true → IsOk result × (R.reads end.new.reader ≡ R.reads end.old.reader) }
-    ensures reads { R.reads end.new.reader ≤ R.reads end.old.reader + turns }
+    ensures at_once { there_at_once until (M.is_resting machine.old) ≡ true → IsOk result × (R.reads reader.new ≡ R.reads reader.old) }
+    ensures reads { R.reads reader.new ≤ R.reads reader.old + turns }
     // The line ends at the first turn after which it has come to where it was to go.
-    ensures first { OnOk result (Ends M.hears M.is_resting until turns (R.reads end.old.reader) (R.reads end.new.reader)
-        (line_state end.old.stream machine.old (R.remaining end.old.reader) (W.written end.old.writer))
-        (line_ends end.new.stream machine.new (R.remaining end.new.reader) (W.written end.new.writer))) }
-    ensures reader_failures { MatchResult result (λ _. R.failures end.new.reader ≡ R.failures end.old.reader) (λ fault. R.failures end.new.reader ≡ R.failures end.old.reader + failed_reads fault) }
-    ensures writer_failures { MatchResult result (λ _. W.failures end.new.writer ≡ W.failures end.old.writer) (λ fault. W.failures end.new.writer ≡ W.failures end.old.writer + failed_writes fault) }
-    ensures room { end.old.stream.room ≤ end.new.stream.room }
-    ensures frugal { M.wants_memory ≡ false → IsReserved end.old.stream → IsErrOf result LineFault.Memory → ⊥ }
+    ensures first { OnOk result (Ends M.hears M.is_resting until turns (R.reads reader.old) (R.reads reader.new)
+        (line_state stream.old machine.old (R.remaining reader.old) (W.written writer.old))
+        (line_ends stream.new machine.new (R.remaining reader.new) (W.written writer.new))) }
+    ensures reader_failures { MatchResult result (λ _. R.failures reader.new ≡ R.failures reader.old) (λ fault. R.failures reader.new ≡ R.failures reader.old + failed_reads fault) }
+    ensures writer_failures { MatchResult result (λ _. W.failures writer.new ≡ W.failures writer.old) (λ fault. W.failures writer.new ≡ W.failures writer.old + failed_writes fault) }
+    ensures room { stream.old.room ≤ stream.new.room }
+    ensures frugal { M.wants_memory ≡ false → IsReserved stream.old → IsErrOf result LineFault.Memory → ⊥ }
 {
     // What is held begins a message: nothing of it is still to be heard.
-    let _ = end.stream.held();
+    let _ = stream.held();
     if until.is_there(machine.resting()) {
         return Ok(());
     }
-    let Err(fault) = run_turns(alloc, end, machine, until, turns) else {
+    let Err(fault) = run_turns(alloc, reader, writer, stream, machine, until, turns) else {
         return Ok(());
     };
     report(machine, fault);

@@ -3,25 +3,25 @@
 //! The functions of a run and of a step are `#[inline(always)]`: no byte costs a call. `bench/throughput` counts the
 //! instructions for a byte.
 
-ghost use Rattle.std.specs.Prelude.{◌≡◌, ℕ, ◌+◌, ◌≤◌, List, [], ◌∷◌, ◌++◌, reverse};
+ghost use Rattle.std.specs.Prelude.{◌≡◌, ℕ, ◌+◌, ◌<◌, ◌≤◌, List, [], ◌++◌, Ok, length, reverse, take};
 ghost use Rattle.zvt_grammar.specs.Reading.{Reading, padded, shortest};
 ghost use Rattle.zvt_grammar.specs.Lengths.{reading_of};
 ghost use Rattle.zvt_stream.specs.DecoderState.{Between};
-ghost use Rattle.zvt_stream.specs.Moves.{Moves};
 ghost use Rattle.zvt_stream.specs.Head.{head_of};
-ghost use Rattle.zvt_stream.specs.Judge.{start, beginning, StandsFor, HasLevelsIn, Stepped, Ran, taken_by, judged_of, Closes, Settles};
+ghost use Rattle.zvt_stream.specs.Moves.{outer_of, opens};
+ghost use Rattle.zvt_stream.specs.Judge.{start, beginning, Advances, IsJudge, StandsFor, HasLevelsIn, Stepped, Ran, HasRoomFor, kept_by, taken_by, judged_of, state_of, Closes, Follows, Settles};
 
-use crate::head::Head::{self, One, Two};
+use crate::head::Head;
 use crate::transitions::{
-    At, Transition, judge_container, judge_count, judge_field, judge_field_content,
-    judge_first_size, judge_head, judge_high_size, judge_low_size, judge_object_content,
-    judge_object_length, judge_object_tag, judge_payload,
+    Goes, Levels, Part, Transition, judge_container, judge_count, judge_digits, judge_field,
+    judge_first_size, judge_free, judge_head, judge_high_size, judge_low_size,
+    judge_object_content, judge_object_length, judge_object_tag, judge_payload,
 };
 use arrayvec::ArrayVec;
 use std::marker::Model;
 use zvt_grammar::{Lengths, Why};
 use zvt_io::GhostCount;
-use zvt_tlv::TagAt;
+use zvt_tlv::{LengthAt, TagAt};
 
 /// How many bytes were judged. Contracts alone see it: it takes no memory and no time.
 #[derive(Drop)]
@@ -60,41 +60,6 @@ pub enum DecodeRun {
     Refused { at: usize, why: Why },
 }
 
-/// Where a message goes on.
-#[derive(Clone, Copy)]
-pub(crate) struct Goes {
-    /// The part that the next byte plays.
-    at: At,
-    /// The bytes of the innermost level that are to come.
-    left: usize,
-    /// The control bytes that were judged.
-    head: Head,
-}
-
-impl Goes {
-    /// Where a message begins.
-    fn start() -> Goes
-        ensures { result ≡ beginning }
-    {
-        Goes {
-            at: At::FirstControl,
-            left: 1,
-            head: Head::Empty,
-        }
-    }
-
-    /// Goes on at that part, with these control bytes.
-    #[inline(always)]
-    fn pass(&mut self, at: At, head: Head) -> Result<Judged, Why>
-        ensures goes { self.new ≡ record { at = at; left = self.old.left; head = head } }
-        ensures open { result ≡ Ok Judged.Open }
-    {
-        self.at = at;
-        self.head = head;
-        Ok(Judged::Open)
-    }
-}
-
 /// The state of a message that is being read: the part that the next byte plays, and the open levels. Levels are the frame,
 /// the fields, a container, and objects in one another. Of each the judge counts how many of its bytes are to come.
 #[derive(Drop)]
@@ -102,20 +67,18 @@ pub struct Judge {
     /// The forms of length that it takes.
     lengths: Lengths,
     goes: Goes,
-    /// For each level around the innermost one, the bytes that are to come after the level in it. The frame is the first.
-    outer: ArrayVec<usize, 7>,
+    levels: Levels,
 }
 
 impl Model for Judge {
-    ghost use Rattle.std.specs.Prelude.{reverse};
     ghost use Rattle.zvt_grammar.specs.Lengths.{reading_of};
-    ghost use Rattle.zvt_stream.specs.Judge.{JudgeState, IsJudge};
+    ghost use Rattle.zvt_stream.specs.Judge.{JudgeState, IsJudge, state_of};
 
     ghost Value = { JudgeState };
 
-    ghost view = { λ j. record { reading = reading_of j.lengths; at = j.goes.at; left = j.goes.left; outer = reverse j.outer.items; head = j.goes.head } };
+    ghost view = { λ j. state_of (reading_of j.lengths) j.goes j.levels };
 
-    ghost invariant = { λ j. IsJudge (record { reading = reading_of j.lengths; at = j.goes.at; left = j.goes.left; outer = reverse j.outer.items; head = j.goes.head }) };
+    ghost invariant = { λ j. IsJudge (state_of (reading_of j.lengths) j.goes j.levels) };
 }
 
 impl Judge {
@@ -142,8 +105,16 @@ impl Judge {
     {
         Judge {
             lengths,
-            goes: Goes::start(),
-            outer: ArrayVec::new(),
+            goes: beginning(),
+            levels: Levels {
+                high: 0,
+                low: 0,
+                number: 0,
+                tag: TagAt::First,
+                length: LengthAt::First,
+                nests: false,
+                outer: ArrayVec::new(),
+            },
         }
     }
 
@@ -159,11 +130,20 @@ impl Judge {
         ensures { result ≡ self.now }
     {
         let mut outer = ArrayVec::new();
-        let _ = outer.try_extend_from_slice(self.outer.as_slice());
+        let levels = &self.levels;
+        let _ = outer.try_extend_from_slice(levels.outer.as_slice());
         Judge {
             lengths: self.lengths,
             goes: self.goes,
-            outer,
+            levels: Levels {
+                high: levels.high,
+                low: levels.low,
+                number: levels.number,
+                tag: levels.tag,
+                length: levels.length,
+                nests: levels.nests,
+                outer,
+            },
         }
     }
 
@@ -172,7 +152,7 @@ impl Judge {
         ensures levels { (bytes : List ℕ) → StandsFor self.now bytes → HasLevelsIn self.now.reading bytes result }
         ensures most { result ≤ 8 }
     {
-        1 + self.outer.len()
+        1 + self.levels.outer.len()
     }
 
     /// The control bytes of the message that was begun, as far as they were judged.
@@ -180,115 +160,223 @@ impl Judge {
     pub fn head(&self) -> Head
         ensures { (bytes : List ℕ) → StandsFor self.now bytes → result ≡ head_of bytes }
     {
-        self.goes.head
+        match self.goes.part {
+            Part::FirstControl => Head::Empty,
+            Part::SecondControl => Head::One(self.levels.high),
+            _ => Head::Two(self.levels.high, self.levels.low),
+        }
     }
 
     /// Judges the next byte. After the end of a message, and after a refusal, the judge is a new one of the same lengths.
-    // Each arm goes by its own move, so that it writes only what this part of a message changes.
-    #[inline(always)]
     pub fn step(&mut self, steps: &mut Steps, byte: u8) -> Result<Judged, Why>
         ensures judged { (bytes : List ℕ) → StandsFor self.old bytes → Stepped self.old.reading bytes byte result self.new }
         ensures count { judged_of steps.new ≡ judged_of steps.old + 1 }
     {
-        steps.judged = steps.judged.next();
-        let left = self.goes.left;
-        let lengths = self.lengths;
-        match self.goes.at {
-            At::FirstControl => self.goes.pass(At::SecondControl { high: byte }, One(byte)),
-            At::SecondControl { high } => {
-                self.goes
-                    .pass(At::FirstSize { high, low: byte }, Two(high, byte))
-            }
-            At::FirstSize { high, low } => {
-                self.go(byte, judge_first_size(high, low, left, byte))
-            }
-            At::LowSize { high, low } => self.go(byte, judge_low_size(high, low, left, byte)),
-            At::HighSize {
-                high,
-                low,
-                size_low,
-            } => self.go(byte, judge_high_size(high, low, size_low, byte, lengths)),
-            At::Payload => self.go(byte, judge_payload(left)),
-            At::Head { free, digits } => self.go(byte, judge_head(free, digits, left, byte)),
-            At::Name => self.go(byte, judge_field(left, byte, lengths)),
-            At::Digit { more, before } => { self.go(byte, judge_count(more, before, left, byte)) }
-            At::Content { digits, more } => {
-                self.go(byte, judge_field_content(digits, more, left, byte))
-            }
-            At::Container(at) => self.go(byte, judge_container(at, left, byte, lengths)),
-            At::Tag(at) => {
-                let depth = self.outer.len().saturating_sub(1);
-                self.go(byte, judge_object_tag(at, left, depth, byte, lengths))
-            }
-            At::Length { nests, at } => {
-                self.go(byte, judge_object_length(nests, at, left, byte, lengths))
-            }
-            At::Object { more } => self.go(byte, judge_object_content(more, left)),
-        }
-    }
-
-    // Goes where a byte after the control bytes leads, or begins anew where it is refused.
-    #[inline(always)]
-    fn go(&mut self, byte: u8, moved: Result<Transition, Why>) -> Result<Judged, Why>
-        requires { (bytes : List ℕ) × StandsFor self.old bytes × Moves self.old.reading self.old.at self.old.left self.old.outer bytes byte moved × (self.old.head ≡ head_of (bytes ++ byte ∷ [])) }
-        ensures { (bytes : List ℕ) → StandsFor self.old bytes → Moves self.old.reading self.old.at self.old.left self.old.outer bytes byte moved → self.old.head ≡ head_of (bytes ++ byte ∷ []) → Stepped self.old.reading bytes byte result self.new }
-    {
-        match moved {
-            Ok(Transition::Within { at, left }) => {
-                self.goes.at = at;
-                self.goes.left = left;
-                Ok(Judged::Open)
-            }
-            Ok(Transition::Ends { left }) => Ok(settle(left, &mut self.outer, &mut self.goes)),
-            Ok(Transition::Opens { trailing, left }) => {
-                self.outer.push(trailing);
-                Ok(settle(left, &mut self.outer, &mut self.goes))
+        match step(self.lengths, &mut self.goes, &mut self.levels, steps, byte) {
+            Ok(Judged::Open) => Ok(Judged::Open),
+            Ok(Judged::Ended) => {
+                self.goes = beginning();
+                Ok(Judged::Ended)
             }
             Err(why) => {
-                *self = Judge::of(self.lengths);
+                self.goes = beginning();
+                self.levels.outer.clear();
                 Err(why)
             }
         }
     }
 
-    /// Judges bytes one after another, up to the end of a message.
+    /// Judges bytes one after another, up to the end of a message, and writes each to the room.
     #[inline(always)]
-    pub fn run(&mut self, steps: &mut Steps, bytes: &[u8]) -> DecodeRun
+    pub fn run(&mut self, steps: &mut Steps, bytes: &[u8], room: &mut [u8]) -> DecodeRun
+        requires { HasRoomFor self.old (length bytes.now) (length room.old) }
+        ensures written { take (kept_by bytes.now result) room.new ≡ take (kept_by bytes.now result) bytes.now }
+        ensures size { length room.new ≡ length room.old }
         ensures judged { (held : List ℕ) → StandsFor self.old held → Ran self.old.reading held bytes.now result self.new }
         ensures count { judged_of steps.new ≡ judged_of steps.old + taken_by bytes.now result }
     {
-        let mut taken = 0;
-        'bytes: while taken < bytes.len() {
-            match self.step(steps, bytes[taken]) {
-                Ok(Judged::Open) => {}
-                Ok(Judged::Ended) => return DecodeRun::Ended { taken: taken + 1 },
-                Err(why) => return DecodeRun::Refused { at: taken, why },
-            }
-            taken += 1;
-        }
-        DecodeRun::Open
+        run(
+            self.lengths,
+            &mut self.goes,
+            &mut self.levels,
+            steps,
+            bytes,
+            room,
+        )
     }
 }
 
-/// Goes on in the innermost level that has bytes to come, or begins anew after the end of the message.
+/// Where a message begins.
 #[inline(always)]
-fn settle(left: usize, outer: &mut ArrayVec<usize, 7>, goes: &mut Goes) -> Judged
-    ensures { (r : Reading) (bytes : List ℕ) → Between r left (reverse outer.old.items) bytes → Settles r goes.old goes.new (reverse outer.new.items) bytes result }
+fn beginning() -> Goes
+    ensures { result ≡ beginning }
 {
-    match close(left, outer) {
+    Goes {
+        part: Part::FirstControl,
+        more: 0,
+        left: 1,
+    }
+}
+
+/// Judges bytes one after another, up to the end of a message, and writes each to the room. Where it goes on is kept in a
+/// copy, which takes no memory.
+#[inline(always)]
+fn run(
+    lengths: Lengths,
+    goes: &mut Goes,
+    levels: &mut Levels,
+    steps: &mut Steps,
+    bytes: &[u8],
+    room: &mut [u8],
+) -> DecodeRun
+    requires { HasRoomFor (state_of (reading_of lengths) goes.old levels.old) (length bytes.now) (length room.old) }
+    ensures written { take (kept_by bytes.now result) room.new ≡ take (kept_by bytes.now result) bytes.now }
+    ensures size { length room.new ≡ length room.old }
+    ensures judged { (held : List ℕ) → StandsFor (state_of (reading_of lengths) goes.old levels.old) held → Ran (reading_of lengths) held bytes.now result (state_of (reading_of lengths) goes.new levels.new) }
+    ensures count { judged_of steps.new ≡ judged_of steps.old + taken_by bytes.now result }
+{
+    let mut now = *goes;
+    let mut taken = 0;
+    'bytes: while taken < bytes.len() {
+        let byte = bytes[taken];
+        room[taken] = byte;
+        match step(lengths, &mut now, levels, steps, byte) {
+            Ok(Judged::Open) => {}
+            Ok(Judged::Ended) => {
+                *goes = beginning();
+                return DecodeRun::Ended { taken: taken + 1 };
+            }
+            Err(why) => {
+                *goes = beginning();
+                levels.outer.clear();
+                return DecodeRun::Refused { at: taken, why };
+            }
+        }
+        taken += 1;
+    }
+    *goes = now;
+    DecodeRun::Open
+}
+
+/// Judges the next byte, and counts it.
+#[inline(always)]
+fn step(
+    lengths: Lengths,
+    goes: &mut Goes,
+    levels: &mut Levels,
+    steps: &mut Steps,
+    byte: u8,
+) -> Result<Judged, Why>
+    requires { IsJudge (state_of (reading_of lengths) goes.old levels.old) }
+    ensures judged { (bytes : List ℕ) → StandsFor (state_of (reading_of lengths) goes.old levels.old) bytes → Advances (reading_of lengths) bytes byte result (state_of (reading_of lengths) goes.new levels.new) }
+    ensures count { judged_of steps.new ≡ judged_of steps.old + 1 }
+{
+    steps.judged = steps.judged.next();
+    match goes.part {
+        Part::Digits => {
+            let moved = judge_digits(goes, byte);
+            follow(goes, levels, moved)
+        }
+        Part::Content => {
+            let moved = judge_free(goes);
+            follow(goes, levels, moved)
+        }
+        Part::Object => {
+            let moved = judge_object_content(goes);
+            follow(goes, levels, moved)
+        }
+        Part::Payload => {
+            let moved = judge_payload(goes);
+            follow(goes, levels, moved)
+        }
+        Part::Name => {
+            let moved = judge_field(goes, levels, byte, lengths);
+            follow(goes, levels, moved)
+        }
+        Part::FirstControl => {
+            levels.high = byte;
+            goes.part = Part::SecondControl;
+            Ok(Judged::Open)
+        }
+        Part::SecondControl => {
+            levels.low = byte;
+            goes.part = Part::FirstSize;
+            Ok(Judged::Open)
+        }
+        Part::FirstSize => {
+            let moved = judge_first_size(goes, levels, byte);
+            follow(goes, levels, moved)
+        }
+        Part::LowSize => {
+            let moved = judge_low_size(goes, levels, byte);
+            follow(goes, levels, moved)
+        }
+        Part::HighSize => {
+            let moved = judge_high_size(goes, levels, byte, lengths);
+            follow(goes, levels, moved)
+        }
+        Part::Head => {
+            let moved = judge_head(goes, levels, byte);
+            follow(goes, levels, moved)
+        }
+        Part::Digit => {
+            let moved = judge_count(goes, levels, byte);
+            follow(goes, levels, moved)
+        }
+        Part::Container => {
+            let moved = judge_container(goes, levels, byte, lengths);
+            follow(goes, levels, moved)
+        }
+        Part::Tag => {
+            let depth = levels.outer.len().saturating_sub(1);
+            let moved = judge_object_tag(goes, levels, depth, byte, lengths);
+            follow(goes, levels, moved)
+        }
+        Part::Length => {
+            let moved = judge_object_length(goes, levels, byte, lengths);
+            follow(goes, levels, moved)
+        }
+    }
+}
+
+/// Goes where a byte after the control bytes leads.
+#[inline(always)]
+fn follow(
+    goes: &mut Goes,
+    levels: &mut Levels,
+    moved: Result<Transition, Why>,
+) -> Result<Judged, Why>
+    requires { (trailing : ℕ) → moved ≡ Ok (opens trailing) → length levels.old.outer.items < 7 }
+    ensures { (r : Reading) (bytes : List ℕ) → Follows r moved goes.old levels.old result goes.new levels.new bytes }
+{
+    match moved {
+        Ok(Transition::Within) => Ok(Judged::Open),
+        Ok(Transition::Ends) => Ok(settle(goes, levels)),
+        Ok(Transition::Opens { trailing }) => {
+            levels.outer.push(trailing);
+            Ok(settle(goes, levels))
+        }
+        Err(why) => Err(why),
+    }
+}
+
+/// Goes on in the innermost level that has bytes to come, or answers that the message has ended.
+#[inline(always)]
+fn settle(goes: &mut Goes, levels: &mut Levels) -> Judged
+    ensures { (r : Reading) (bytes : List ℕ) → Between r goes.old.left (outer_of levels.old) bytes → Settles r levels.old goes.new levels.new bytes result }
+{
+    match close(goes.left, &mut levels.outer) {
         Some(left) => {
             goes.left = left;
-            if outer.len() == 1 {
-                goes.at = At::Name;
+            if levels.outer.len() == 1 {
+                goes.part = Part::Name;
                 return Judged::Open;
             }
-            goes.at = At::Tag(TagAt::First);
+            goes.part = Part::Tag;
+            levels.tag = TagAt::First;
             Judged::Open
         }
-        None => {
-            *goes = Goes::start();
-            Judged::Ended
-        }
+        None => Judged::Ended,
     }
 }
 

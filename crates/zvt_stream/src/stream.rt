@@ -207,15 +207,16 @@ impl Stream {
             return Err(FeedError::Stopped);
         }
         let lengths = self.judge.lengths();
+        self.held.reserve_for(piece.len())?;
+        let before = self.held.len();
         let mut judge = self.judge.again();
-        match judge.run(&mut self.steps, piece) {
+        match self.held.judge(&mut judge, &mut self.steps, piece) {
             DecodeRun::Open => {
-                self.held.add_all(piece)?;
                 self.judge = judge;
                 Ok(Fed::More)
             }
             DecodeRun::Ended { taken } => {
-                let apdu = message(alloc, &mut self.held, &piece[..taken], lengths)?;
+                let apdu = message(alloc, &mut self.held, before, lengths)?;
                 self.judge = judge;
                 Ok(Fed::Message { apdu, taken })
             }
@@ -246,13 +247,9 @@ impl Stream {
             return Err(FeedError::Stopped);
         }
         self.held.reserve_for(piece.len())?;
-        match self.judge.run(&mut self.steps, piece) {
-            DecodeRun::Open => {
-                self.held.put(piece);
-                Ok(FedView::More)
-            }
+        match self.held.judge(&mut self.judge, &mut self.steps, piece) {
+            DecodeRun::Open => Ok(FedView::More),
             DecodeRun::Ended { taken } => {
-                self.held.put(&piece[..taken]);
                 self.has_message = true;
                 Ok(FedView::Message { taken })
             }
@@ -309,20 +306,19 @@ impl Stream {
     }
 }
 
-/// The message that what is held and these bytes after it are: nothing is held then. Where memory is refused nothing changes.
+/// The message that what is held is: nothing is held then. Where memory is refused the first bytes are, so many.
 fn message(
     alloc: Global,
     held: &mut Held,
-    last: &[u8],
+    before: usize,
     lengths: Lengths,
 ) -> Result<Apdu, AllocError>
-    requires { IsMessageIn (reading_of lengths) (held.old.bytes ++ last.now) }
-    ensures ok { IfOk result (λ apdu. Spells (reading_of lengths) apdu (held.old.bytes ++ last.now) × (held.new.bytes ≡ [])) }
-    ensures err { OnErr result (held.new.bytes ≡ held.old.bytes) }
+    requires whole { IsMessageIn (reading_of lengths) held.old.bytes }
+    requires before { before ≤ length held.old.bytes }
+    ensures ok { IfOk result (λ apdu. Spells (reading_of lengths) apdu held.old.bytes × (held.new.bytes ≡ [])) }
+    ensures err { OnErr result (held.new.bytes ≡ take before held.old.bytes) }
     ensures room { held.old.room ≤ held.new.room }
 {
-    let before = held.len();
-    held.add_all(last)?;
     match whole(alloc, held.spelled(), lengths) {
         Ok(apdu) => {
             held.cut(0);

@@ -1,365 +1,393 @@
 //! What one byte leads to.
 //!
-//! Each transition is `#[inline(always)]`: `Judge::step` becomes one function, and no byte costs a call.
+//! Each transition is `#[inline(always)]`: a step becomes one function, and no byte costs a call.
 
-ghost use Rattle.std.specs.Prelude.{◌≡◌, ℕ, ◌+◌, ◌<◌, ◌≤◌, ◌^◌, Bool, List, Ok, Err};
+ghost use Rattle.std.specs.Prelude.{◌≡◌, ℕ, ◌+◌, ◌<◌, ◌≤◌, ◌^◌, false, true};
 ghost use Rattle.zvt_grammar.specs.Reading.{Reading};
 ghost use Rattle.zvt_grammar.specs.Lengths.{reading_of};
-ghost use Rattle.zvt_stream.specs.Moves.{BeginsData, IsReady, Judges};
+ghost use Rattle.zvt_stream.specs.Parts as at;
+ghost use Rattle.zvt_stream.specs.Moves.{BeginsData, IsReady, Judges, Keeps, leads_to};
 ghost use Rattle.zvt_stream.specs.DecoderState.{HasDigits};
 
+use arrayvec::ArrayVec;
 use zvt_apdu::judge_size;
 use zvt_field::Shape;
-use zvt_field::judge::{judge_content, judge_digit, judge_name};
+use zvt_field::judge::{judge_bmp, judge_content_byte, judge_digit};
 use zvt_grammar::{Lengths, Why};
 use zvt_tlv::{LengthAt, LengthNext, TagAt, TagNext, judge_length, judge_tag};
 
-/// What part the next byte plays, and what its tests need to know of the bytes before it.
+/// What part the next byte plays.
 #[derive(Clone, Copy)]
-pub(crate) enum At {
+pub(crate) enum Part {
     FirstControl,
-    SecondControl { high: u8 },
-    FirstSize { high: u8, low: u8 },
-    LowSize { high: u8, low: u8 },
-    HighSize { high: u8, low: u8, size_low: u8 },
+    SecondControl,
+    FirstSize,
+    LowSize,
+    HighSize,
     /// A byte of data in which no fields stand.
     Payload,
-    /// A byte before the fields: that many bytes of any value and then that many of digits are to come.
-    Head { free: usize, digits: usize },
+    /// A byte before the fields.
+    Head,
     /// The name of a field.
     Name,
-    /// A digit of a field's length, with that many digits after it and that number before it.
-    Digit { more: usize, before: usize },
-    /// A byte of a field's content, of which that many are to come.
-    Content { digits: bool, more: usize },
+    /// A digit of a field's length.
+    Digit,
+    /// A byte of a field's content, of any value.
+    Content,
+    /// A byte of a field's content, of two digits.
+    Digits,
     /// A byte of a container's length.
-    Container(LengthAt),
+    Container,
     /// A byte of an object's tag.
-    Tag(TagAt),
+    Tag,
     /// A byte of an object's length.
-    Length { nests: bool, at: LengthAt },
-    /// A byte of an object's content, of which that many are to come.
-    Object { more: usize },
+    Length,
+    /// A byte of an object's content.
+    Object,
 }
 
-/// What a byte leads to. `left` counts the bytes of the innermost level that are to come.
+/// Where a message goes on: what nearly each byte changes.
+#[derive(Clone, Copy)]
+pub(crate) struct Goes {
+    /// The part that the next byte plays.
+    pub(crate) part: Part,
+    /// How many bytes of a content are to come, how many bytes of any value before the fields, or how many digits of a
+    /// length after the next one.
+    pub(crate) more: usize,
+    /// The bytes of the innermost level that are to come.
+    pub(crate) left: usize,
+}
+
+/// What few bytes change: the open levels, and what the tests of the next byte need to know of the bytes before it.
+#[derive(Drop)]
+pub(crate) struct Levels {
+    /// The control bytes that were judged.
+    pub(crate) high: u8,
+    pub(crate) low: u8,
+    /// What the digits or the bytes of a length say so far, or how many bytes of digits are to come before the fields.
+    pub(crate) number: usize,
+    pub(crate) tag: TagAt,
+    pub(crate) length: LengthAt,
+    /// Whether the object holds objects.
+    pub(crate) nests: bool,
+    /// For each level around the innermost one, the bytes that are to come after the level in it. The frame is the first.
+    pub(crate) outer: ArrayVec<usize, 7>,
+}
+
+/// What a byte leads to.
 #[derive(Clone, Copy)]
 pub(crate) enum Transition {
     /// Another byte of the same item.
-    Within { at: At, left: usize },
+    Within,
     /// The end of an item.
-    Ends { left: usize },
+    Ends,
     /// A level inside of the item, and that many bytes of the item's own level after it.
-    Opens { trailing: usize, left: usize },
+    Opens { trailing: usize },
 }
 
-// Each function judges a byte that plays one part. `left` counts the bytes of the innermost level from this byte on.
+// Each function judges a byte that plays one part.
 
 #[inline(always)]
-pub(crate) fn judge_first_size(high: u8, low: u8, left: usize, byte: u8) -> Result<Transition, Why>
-    ensures { (r : Reading) (depth : ℕ) → Judges r (At.FirstSize high low) left depth byte result }
+pub(crate) fn judge_first_size(
+    goes: &mut Goes,
+    levels: &mut Levels,
+    byte: u8,
+) -> Result<Transition, Why>
+    ensures judges { (r : Reading) (depth : ℕ) → Judges r (at.FirstSize levels.old.high levels.old.low) goes.old.left depth byte (leads_to result goes.new levels.new) }
+    ensures keeps { Keeps levels.old levels.new }
 {
     if byte == 0xFF {
-        return Ok(Transition::Within {
-            at: At::LowSize { high, low },
-            left,
-        });
+        goes.part = Part::LowSize;
+        return Ok(Transition::Within);
     }
-    begin_data(high, low, usize::from(byte))
+    begin_data(goes, levels, usize::from(byte))
 }
 
 #[inline(always)]
-pub(crate) fn judge_low_size(high: u8, low: u8, left: usize, byte: u8) -> Result<Transition, Why>
-    ensures { (r : Reading) (depth : ℕ) → Judges r (At.LowSize high low) left depth byte result }
+pub(crate) fn judge_low_size(
+    goes: &mut Goes,
+    levels: &mut Levels,
+    byte: u8,
+) -> Result<Transition, Why>
+    ensures judges { (r : Reading) (depth : ℕ) → Judges r (at.LowSize levels.old.high levels.old.low) goes.old.left depth byte (leads_to result goes.new levels.new) }
+    ensures keeps { Keeps levels.old levels.new }
 {
-    Ok(Transition::Within {
-        at: At::HighSize {
-            high,
-            low,
-            size_low: byte,
-        },
-        left,
-    })
+    goes.part = Part::HighSize;
+    levels.number = usize::from(byte);
+    Ok(Transition::Within)
 }
 
 #[inline(always)]
 pub(crate) fn judge_high_size(
-    high: u8,
-    low: u8,
-    size_low: u8,
+    goes: &mut Goes,
+    levels: &mut Levels,
     byte: u8,
     lengths: Lengths,
 ) -> Result<Transition, Why>
-    ensures { (left depth : ℕ) → Judges (reading_of lengths) (At.HighSize high low size_low) left depth byte result }
+    requires { levels.old.number < 256 }
+    ensures judges { (left depth : ℕ) → Judges (reading_of lengths) (at.HighSize levels.old.high levels.old.low levels.old.number) left depth byte (leads_to result goes.new levels.new) }
+    ensures keeps { Keeps levels.old levels.new }
 {
-    let size = 256 * usize::from(byte) + usize::from(size_low);
+    let size = 256 * usize::from(byte) + levels.number;
     if size < lengths.least(255) {
         return Err(Why::NotShortest);
     }
-    begin_data(high, low, size)
+    begin_data(goes, levels, size)
 }
 
 /// Data of that size begins.
 #[inline(always)]
-fn begin_data(high: u8, low: u8, size: usize) -> Result<Transition, Why>
-    ensures { (r : Reading) → BeginsData r high low size result }
+fn begin_data(goes: &mut Goes, levels: &mut Levels, size: usize) -> Result<Transition, Why>
+    ensures begins { (r : Reading) → BeginsData r levels.old.high levels.old.low size (leads_to result goes.new levels.new) }
+    ensures keeps { Keeps levels.old levels.new }
 {
-    let layout = judge_size(high, low, size)?;
+    let layout = judge_size(levels.high, levels.low, size)?;
     if size == 0 {
-        return Ok(Transition::Ends { left: 0 });
+        goes.left = 0;
+        return Ok(Transition::Ends);
     }
+    goes.left = size;
     if !layout.fields {
-        return Ok(Transition::Within {
-            at: At::Payload,
-            left: size,
-        });
+        goes.part = Part::Payload;
+        return Ok(Transition::Within);
     }
     if layout.free + layout.digits == 0 {
-        return Ok(Transition::Opens {
-            trailing: 0,
-            left: size,
-        });
+        return Ok(Transition::Opens { trailing: 0 });
     }
-    Ok(Transition::Within {
-        at: At::Head {
-            free: layout.free,
-            digits: layout.digits,
-        },
-        left: size,
-    })
+    goes.part = Part::Head;
+    goes.more = layout.free;
+    levels.number = layout.digits;
+    Ok(Transition::Within)
 }
 
 #[inline(always)]
-pub(crate) fn judge_payload(left: usize) -> Result<Transition, Why>
-    requires { 0 < left }
-    ensures { (r : Reading) (depth byte : ℕ) → byte < 256 → Judges r At.Payload left depth byte result }
+pub(crate) fn judge_payload(goes: &mut Goes) -> Result<Transition, Why>
+    requires { 0 < goes.old.left }
+    ensures { (levels : Levels) (r : Reading) (depth byte : ℕ) → byte < 256 → Judges r at.Payload goes.old.left depth byte (leads_to result goes.new levels) }
 {
-    if left == 1 {
-        return Ok(Transition::Ends { left: 0 });
+    if goes.left == 1 {
+        goes.left = 0;
+        return Ok(Transition::Ends);
     }
-    Ok(Transition::Within {
-        at: At::Payload,
-        left: left - 1,
-    })
+    goes.part = Part::Payload;
+    goes.left -= 1;
+    Ok(Transition::Within)
 }
 
 #[inline(always)]
-pub(crate) fn judge_head(
-    free: usize,
-    digits: usize,
-    left: usize,
-    byte: u8,
-) -> Result<Transition, Why>
-    requires { IsReady (At.Head free digits) left }
-    ensures { (r : Reading) (depth : ℕ) → Judges r (At.Head free digits) left depth byte result }
+pub(crate) fn judge_head(goes: &mut Goes, levels: &mut Levels, byte: u8) -> Result<Transition, Why>
+    requires { IsReady (at.Head goes.old.more levels.old.number) goes.old.left }
+    ensures judges { (r : Reading) (depth : ℕ) → Judges r (at.Head goes.old.more levels.old.number) goes.old.left depth byte (leads_to result goes.new levels.new) }
+    ensures keeps { Keeps levels.old levels.new }
 {
-    judge_content(free == 0, byte)?;
-    if free + digits == 1 {
-        return Ok(Transition::Opens {
-            trailing: 0,
-            left: left - 1,
-        });
+    judge_content_byte(goes.more == 0, byte)?;
+    goes.part = Part::Head;
+    goes.left -= 1;
+    if goes.more + levels.number == 1 {
+        return Ok(Transition::Opens { trailing: 0 });
     }
-    if free > 0 {
-        Ok(Transition::Within {
-            at: At::Head {
-                free: free - 1,
-                digits,
-            },
-            left: left - 1,
-        })
-    } else {
-        Ok(Transition::Within {
-            at: At::Head {
-                free: 0,
-                digits: digits - 1,
-            },
-            left: left - 1,
-        })
+    if goes.more > 0 {
+        goes.more -= 1;
+        return Ok(Transition::Within);
     }
+    levels.number -= 1;
+    Ok(Transition::Within)
 }
 
 #[inline(always)]
-pub(crate) fn judge_field(left: usize, byte: u8, lengths: Lengths) -> Result<Transition, Why>
-    requires { 2 ≤ left }
-    ensures { (depth : ℕ) → Judges (reading_of lengths) At.Name left depth byte result }
-{
-    let shape = judge_name(left - 1, byte, lengths)?;
-    let left = left - 1;
-    match shape {
-        Shape::Fixed(more) => Ok(Transition::Within {
-            at: At::Content {
-                digits: false,
-                more,
-            },
-            left,
-        }),
-        Shape::Digits(more) => Ok(Transition::Within {
-            at: At::Content { digits: true, more },
-            left,
-        }),
-        Shape::Ll => Ok(Transition::Within {
-            at: At::Digit { more: 1, before: 0 },
-            left,
-        }),
-        Shape::Lll => Ok(Transition::Within {
-            at: At::Digit { more: 2, before: 0 },
-            left,
-        }),
-        Shape::Tree => Ok(Transition::Within {
-            at: At::Container(LengthAt::First),
-            left,
-        }),
-    }
-}
-
-#[inline(always)]
-pub(crate) fn judge_count(
-    more: usize,
-    before: usize,
-    left: usize,
-    byte: u8,
-) -> Result<Transition, Why>
-    requires { HasDigits more before left }
-    ensures { (r : Reading) (depth : ℕ) → Judges r (At.Digit more before) left depth byte result }
-{
-    let number = judge_digit(more, before, left - 1, byte)?;
-    if more > 0 {
-        return Ok(Transition::Within {
-            at: At::Digit {
-                more: more - 1,
-                before: number,
-            },
-            left: left - 1,
-        });
-    }
-    if number == 0 {
-        return Ok(Transition::Ends { left: left - 1 });
-    }
-    Ok(Transition::Within {
-        at: At::Content {
-            digits: false,
-            more: number,
-        },
-        left: left - 1,
-    })
-}
-
-#[inline(always)]
-pub(crate) fn judge_field_content(
-    digits: bool,
-    more: usize,
-    left: usize,
-    byte: u8,
-) -> Result<Transition, Why>
-    requires { IsReady (At.Content digits more) left }
-    ensures { (r : Reading) (depth : ℕ) → Judges r (At.Content digits more) left depth byte result }
-{
-    judge_content(digits, byte)?;
-    if more == 1 {
-        return Ok(Transition::Ends { left: left - 1 });
-    }
-    Ok(Transition::Within {
-        at: At::Content {
-            digits,
-            more: more - 1,
-        },
-        left: left - 1,
-    })
-}
-
-#[inline(always)]
-pub(crate) fn judge_container(
-    at: LengthAt,
-    left: usize,
+pub(crate) fn judge_field(
+    goes: &mut Goes,
+    levels: &mut Levels,
     byte: u8,
     lengths: Lengths,
 ) -> Result<Transition, Why>
-    requires { 1 ≤ left }
-    ensures { (depth : ℕ) → Judges (reading_of lengths) (At.Container at) left depth byte result }
+    requires { 2 ≤ goes.old.left }
+    ensures judges { (depth : ℕ) → Judges (reading_of lengths) at.Name goes.old.left depth byte (leads_to result goes.new levels.new) }
+    ensures keeps { Keeps levels.old levels.new }
 {
-    match judge_length(at, left - 1, true, byte, lengths)? {
-        LengthNext::More(at) => Ok(Transition::Within {
-            at: At::Container(at),
-            left: left - 1,
-        }),
-        LengthNext::Done(size) => Ok(Transition::Opens {
-            trailing: left - 1 - size,
-            left: size,
-        }),
-    }
-}
-
-#[inline(always)]
-pub(crate) fn judge_object_tag(
-    at: TagAt,
-    left: usize,
-    depth: usize,
-    byte: u8,
-    lengths: Lengths,
-) -> Result<Transition, Why>
-    requires { 2 ≤ left }
-    ensures { Judges (reading_of lengths) (At.Tag at) left depth byte result }
-{
-    match judge_tag(at, left - 1, depth, byte, lengths)? {
-        TagNext::More(at) => Ok(Transition::Within {
-            at: At::Tag(at),
-            left: left - 1,
-        }),
-        TagNext::Done { constructed } => Ok(Transition::Within {
-            at: At::Length {
-                nests: constructed,
-                at: LengthAt::First,
-            },
-            left: left - 1,
-        }),
-    }
-}
-
-#[inline(always)]
-pub(crate) fn judge_object_length(
-    nests: bool,
-    at: LengthAt,
-    left: usize,
-    byte: u8,
-    lengths: Lengths,
-) -> Result<Transition, Why>
-    requires { 1 ≤ left }
-    ensures { (depth : ℕ) → Judges (reading_of lengths) (At.Length nests at) left depth byte result }
-{
-    match judge_length(at, left - 1, nests, byte, lengths)? {
-        LengthNext::More(at) => Ok(Transition::Within {
-            at: At::Length { nests, at },
-            left: left - 1,
-        }),
-        LengthNext::Done(size) => {
-            if nests {
-                return Ok(Transition::Opens {
-                    trailing: left - 1 - size,
-                    left: size,
-                });
-            }
-            if size == 0 {
-                return Ok(Transition::Ends { left: left - 1 });
-            }
-            Ok(Transition::Within {
-                at: At::Object { more: size },
-                left: left - 1,
-            })
+    goes.left -= 1;
+    match judge_bmp(goes.left, byte, lengths)? {
+        Shape::Fixed(more) => {
+            goes.part = Part::Content;
+            goes.more = more;
+            Ok(Transition::Within)
+        }
+        Shape::Digits(more) => {
+            goes.part = Part::Digits;
+            goes.more = more;
+            Ok(Transition::Within)
+        }
+        Shape::Ll => {
+            goes.part = Part::Digit;
+            goes.more = 1;
+            levels.number = 0;
+            Ok(Transition::Within)
+        }
+        Shape::Lll => {
+            goes.part = Part::Digit;
+            goes.more = 2;
+            levels.number = 0;
+            Ok(Transition::Within)
+        }
+        Shape::Tree => {
+            goes.part = Part::Container;
+            levels.length = LengthAt::First;
+            Ok(Transition::Within)
         }
     }
 }
 
 #[inline(always)]
-pub(crate) fn judge_object_content(more: usize, left: usize) -> Result<Transition, Why>
-    requires { IsReady (At.Object more) left }
-    ensures { (r : Reading) (depth byte : ℕ) → byte < 256 → Judges r (At.Object more) left depth byte result }
+pub(crate) fn judge_count(goes: &mut Goes, levels: &mut Levels, byte: u8) -> Result<Transition, Why>
+    requires { HasDigits goes.old.more levels.old.number goes.old.left }
+    ensures judges { (r : Reading) (depth : ℕ) → Judges r (at.Digit goes.old.more levels.old.number) goes.old.left depth byte (leads_to result goes.new levels.new) }
+    ensures keeps { Keeps levels.old levels.new }
 {
-    if more == 1 {
-        return Ok(Transition::Ends { left: left - 1 });
+    goes.left -= 1;
+    let number = judge_digit(goes.more, levels.number, goes.left, byte)?;
+    if goes.more > 0 {
+        goes.part = Part::Digit;
+        goes.more -= 1;
+        levels.number = number;
+        return Ok(Transition::Within);
     }
-    Ok(Transition::Within {
-        at: At::Object { more: more - 1 },
-        left: left - 1,
-    })
+    if number == 0 {
+        return Ok(Transition::Ends);
+    }
+    goes.part = Part::Content;
+    goes.more = number;
+    Ok(Transition::Within)
+}
+
+/// A byte of a field's content of any value.
+#[inline(always)]
+pub(crate) fn judge_free(goes: &mut Goes) -> Result<Transition, Why>
+    requires { IsReady (at.Content false goes.old.more) goes.old.left }
+    ensures { (levels : Levels) (r : Reading) (depth byte : ℕ) → byte < 256 → Judges r (at.Content false goes.old.more) goes.old.left depth byte (leads_to result goes.new levels) }
+{
+    goes.part = Part::Content;
+    goes.left -= 1;
+    goes.more -= 1;
+    if goes.more == 0 {
+        return Ok(Transition::Ends);
+    }
+    Ok(Transition::Within)
+}
+
+/// A byte of a field's content of digits.
+#[inline(always)]
+pub(crate) fn judge_digits(goes: &mut Goes, byte: u8) -> Result<Transition, Why>
+    requires { IsReady (at.Content true goes.old.more) goes.old.left }
+    ensures { (levels : Levels) (r : Reading) (depth : ℕ) → Judges r (at.Content true goes.old.more) goes.old.left depth byte (leads_to result goes.new levels) }
+{
+    judge_content_byte(true, byte)?;
+    goes.part = Part::Digits;
+    goes.left -= 1;
+    goes.more -= 1;
+    if goes.more == 0 {
+        return Ok(Transition::Ends);
+    }
+    Ok(Transition::Within)
+}
+
+#[inline(always)]
+pub(crate) fn judge_container(
+    goes: &mut Goes,
+    levels: &mut Levels,
+    byte: u8,
+    lengths: Lengths,
+) -> Result<Transition, Why>
+    requires { 1 ≤ goes.old.left }
+    ensures judges { (depth : ℕ) → Judges (reading_of lengths) (at.Container levels.old.length) goes.old.left depth byte (leads_to result goes.new levels.new) }
+    ensures keeps { Keeps levels.old levels.new }
+{
+    goes.part = Part::Container;
+    goes.left -= 1;
+    match judge_length(levels.length, goes.left, true, byte, lengths)? {
+        LengthNext::More(at) => {
+            levels.length = at;
+            Ok(Transition::Within)
+        }
+        LengthNext::Done(size) => {
+            let trailing = goes.left - size;
+            goes.left = size;
+            Ok(Transition::Opens { trailing })
+        }
+    }
+}
+
+#[inline(always)]
+pub(crate) fn judge_object_tag(
+    goes: &mut Goes,
+    levels: &mut Levels,
+    depth: usize,
+    byte: u8,
+    lengths: Lengths,
+) -> Result<Transition, Why>
+    requires { 2 ≤ goes.old.left }
+    ensures judges { Judges (reading_of lengths) (at.Tag levels.old.tag) goes.old.left depth byte (leads_to result goes.new levels.new) }
+    ensures keeps { Keeps levels.old levels.new }
+{
+    goes.left -= 1;
+    match judge_tag(levels.tag, goes.left, depth, byte, lengths)? {
+        TagNext::More(at) => {
+            goes.part = Part::Tag;
+            levels.tag = at;
+            Ok(Transition::Within)
+        }
+        TagNext::Done { constructed } => {
+            goes.part = Part::Length;
+            levels.nests = constructed;
+            levels.length = LengthAt::First;
+            Ok(Transition::Within)
+        }
+    }
+}
+
+#[inline(always)]
+pub(crate) fn judge_object_length(
+    goes: &mut Goes,
+    levels: &mut Levels,
+    byte: u8,
+    lengths: Lengths,
+) -> Result<Transition, Why>
+    requires { 1 ≤ goes.old.left }
+    ensures judges { (depth : ℕ) → Judges (reading_of lengths) (at.Length levels.old.nests levels.old.length) goes.old.left depth byte (leads_to result goes.new levels.new) }
+    ensures keeps { Keeps levels.old levels.new }
+{
+    goes.left -= 1;
+    match judge_length(levels.length, goes.left, levels.nests, byte, lengths)? {
+        LengthNext::More(at) => {
+            goes.part = Part::Length;
+            levels.length = at;
+            Ok(Transition::Within)
+        }
+        LengthNext::Done(size) => {
+            if levels.nests {
+                let trailing = goes.left - size;
+                goes.left = size;
+                return Ok(Transition::Opens { trailing });
+            }
+            if size == 0 {
+                return Ok(Transition::Ends);
+            }
+            goes.part = Part::Object;
+            goes.more = size;
+            Ok(Transition::Within)
+        }
+    }
+}
+
+#[inline(always)]
+pub(crate) fn judge_object_content(goes: &mut Goes) -> Result<Transition, Why>
+    requires { IsReady (at.Object goes.old.more) goes.old.left }
+    ensures { (levels : Levels) (r : Reading) (depth byte : ℕ) → byte < 256 → Judges r (at.Object goes.old.more) goes.old.left depth byte (leads_to result goes.new levels) }
+{
+    goes.part = Part::Object;
+    goes.left -= 1;
+    goes.more -= 1;
+    if goes.more == 0 {
+        return Ok(Transition::Ends);
+    }
+    Ok(Transition::Within)
 }

@@ -1,7 +1,5 @@
 //! Objects of tag, length and content (PA00P015, chapter on TLV containers): their tree, its one spelling, and a reader
 //! that says for each byte whether it can be where it stands.
-//!
-//! The readers stay in their module, since `scan` can't be beside `Scan`.
 #![tactic(auto)]
 
 mod checks;
@@ -9,7 +7,7 @@ mod heads;
 mod judge;
 pub mod laws;
 mod owned_forest;
-pub mod reader;
+mod reader;
 mod sizes;
 mod tags;
 mod trees;
@@ -18,6 +16,7 @@ mod writer;
 
 pub use judge::{LengthAt, LengthNext, TagAt, TagNext, judge_length, judge_tag};
 pub use owned_forest::owned;
+pub use reader::{scan, scan_loose, scan_sized, scan_sized_forest, scan_sized_loose};
 pub use sizes::{length_size, size};
 pub use tags::Tag;
 pub use trees::{BadForest, Body, Forest, Tlv};

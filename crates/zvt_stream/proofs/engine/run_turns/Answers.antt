@@ -29,7 +29,7 @@ turns-preserved g c =
     record {
       pumped = pumped_more before.pumped told.ok.0;
       reads = omega (arith, told.reads, before.reads);
-      waited = waited_more g.M.Machine.hears g.M.Machine.is_resting c.args.until c.turns.made (line_state c.args.end.now.stream c.args.machine.now (g.R.Source.remaining c.args.end.now.reader) (g.W.Sink.written c.args.end.now.writer)) (line_ends c.turns.end.stream c.turns.machine (g.R.Source.remaining c.turns.end.reader) (g.W.Sink.written c.turns.end.writer) c.turns.sent) (line_ends c.turn.new.end.stream c.turn.new.machine (g.R.Source.remaining c.turn.new.end.reader) (g.W.Sink.written c.turn.new.end.writer) sent) before.waited (record { sent = c.in_ok-sent.field-0; pumped = told.ok.0; one_read = told.ok.1; some_read = told.ok.2; sending = refl }) not_there;
+      waited = waited_more g.M.Machine.hears g.M.Machine.is_resting c.args.until c.turns.made (line_state c.args.stream.now c.args.machine.now (g.R.Source.remaining c.args.reader.now) (g.W.Sink.written c.args.writer.now)) (line_ends c.turns.stream c.turns.machine (g.R.Source.remaining c.turns.reader) (g.W.Sink.written c.turns.writer) c.turns.sent) (line_ends c.turn.new.stream c.turn.new.machine (g.R.Source.remaining c.turn.new.reader) (g.W.Sink.written c.turn.new.writer) sent) before.waited (record { sent = c.in_ok-sent.field-0; pumped = told.ok.0; one_read = told.ok.1; some_read = told.ok.2; sending = refl }) not_there;
       room = omega (arith, told.room, before.room);
       reader_failures = told.reader_failures ∙ before.reader_failures;
       writer_failures = told.writer_failures ∙ before.writer_failures;
@@ -46,7 +46,7 @@ returns-then-is_reached-clause-first g c =
       omega (arith, told.reads, before.reads),
       record {
         before = c.turns.made;
-        middle = line_ends c.turns.end.stream c.turns.machine (g.R.Source.remaining c.turns.end.reader) (g.W.Sink.written c.turns.end.writer) c.turns.sent;
+        middle = line_ends c.turns.stream c.turns.machine (g.R.Source.remaining c.turns.reader) (g.W.Sink.written c.turns.writer) c.turns.sent;
         fewer = omega arith;
         each_reads = refl;
         waited = before.waited;
@@ -60,14 +60,14 @@ returns-in_err-sent-clause-falters g c =
     let p = err_from_is_err_and c.from_residual.result c.from_residual.ensures.1 in
     let told = c.in_err-sent.ensures in
     let before = c.turns.invariant in
-    rw (p.1, p.2) (falters _ _ _ _ _ c.turns.made _ _ _ (line_ends c.turns.end.stream c.turns.machine (g.R.Source.remaining c.turns.end.reader) (g.W.Sink.written c.turns.end.writer) c.turns.sent) _ told.kinds before.waited (omega (arith, c.turns-test.true), omega (arith, told.reads, before.reads), told.err))
+    rw (p.1, p.2) (falters _ _ _ _ _ c.turns.made _ _ _ (line_ends c.turns.stream c.turns.machine (g.R.Source.remaining c.turns.reader) (g.W.Sink.written c.turns.writer) c.turns.sent) _ told.kinds before.waited (omega (arith, c.turns-test.true), omega (arith, told.reads, before.reads), told.err))
 
 pub returns-clause-falters : goal.returns-clause-falters
 returns-clause-falters g c =
     let before = c.turns.invariant in
     record {
       before = c.turns.made;
-      middle = line_ends c.turns.end.stream c.turns.machine (g.R.Source.remaining c.turns.end.reader) (g.W.Sink.written c.turns.end.writer) c.turns.sent;
+      middle = line_ends c.turns.stream c.turns.machine (g.R.Source.remaining c.turns.reader) (g.W.Sink.written c.turns.writer) c.turns.sent;
       waited = before.waited;
       last = (omega (arith, c.turns-test.false, c.turns.auto.made-end), omega (arith, before.reads, c.turns-test.false, c.turns.auto.made-end), refl);
     }

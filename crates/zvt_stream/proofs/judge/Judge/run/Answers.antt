@@ -1,30 +1,19 @@
-use Rattle.std.proofs.Common.{suc, ◌+◌, ◌++◌, length, take, ◌∙◌, ap, subst, arith}
-use Rattle.zvt_grammar.specs.Reading.{Reading}
-use Rattle.zvt_stream.specs.Apdus.{IsRefusedIn}
-use Rattle.zvt_stream.specs.Judge.{start}
-use Rattle.zvt_stream.proofs.JudgeLemmas.{ran_refused}
-use Rattle.zvt_stream.proofs.RunLemmas.{stands_after}
+use Rattle.std.proofs.Common.{length, sym, subst}
+use Rattle.zvt_grammar.specs.Lengths.{reading_of}
+use Rattle.zvt_stream.specs.Judge.{HasRoomFor, JudgeState, Ran, StandsFor, state_of}
+use Rattle.zvt_stream.proofs.JudgeLemmas.{ran_judge}
 use Rattle.zvt_stream.proofs.judge.Judge.run.Goals as goal
 
-pub returns-in-Err-clause-judged : goal.returns-in-Err-clause-judged
-returns-in-Err-clause-judged c held h =
-    let bytes = c.args.bytes.now in
-    let k = c.bytes.taken in
-    let lt = c.bytes-test.true in
-    let before = c.bytes.invariant.stands held h in
-    let q = c.in-Err.ensures.judged (held ++ take k bytes) before.0 in
-    (lt, subst (λ (r : Reading). IsRefusedIn r (held ++ take (suc k) bytes) (length held + k) c.in-Err.why) before.1 (ran_refused _ held bytes k c.in-Err.why lt q.0), q.1 ∙ ap start before.1)
+pub run-requires : goal.run-requires
+run-requires c = subst (λ (v : JudgeState). HasRoomFor v (length c.args.bytes.now) (length c.args.room.now)) (sym c.self.view_is) c.requires
 
-pub bytes-preserved : goal.bytes-preserved
-bytes-preserved c =
-    let bytes = c.args.bytes.now in
-    let k = c.bytes.taken in
-    let lt = c.bytes-test.true in
-    record {
-      stands = λ held h.
-          let before = c.bytes.invariant.stands held h in
-          let q = rw c.in-Ok-Open.field-0-is at (c.in-Ok-Open.ensures.judged (held ++ take k bytes) before.0) in
-          (stands_after _ held bytes k lt q.0, q.1 ∙ before.1);
-      few = omega (arith, lt);
-      count = omega (arith, c.bytes.invariant.count, c.step.ensures.count);
-    }
+pub invariant_of-self : goal.invariant_of-self
+invariant_of-self c =
+    let is = c.self.invariant in
+    ran_judge (reading_of c.self.inside.lengths) is.0 c.args.bytes.now c.run.result _ (c.run.ensures.judged is.0 is.1)
+
+pub returns-clause-judged : goal.returns-clause-judged
+returns-clause-judged c held h =
+    let s = subst (λ (v : JudgeState). StandsFor v held) (sym c.self.view_is) h in
+    let new = state_of (reading_of c.self.inside.lengths) c.run.new.goes c.run.new.levels in
+    subst (λ (v : JudgeState). Ran v.reading held c.args.bytes.now c.run.result new) c.self.view_is (c.run.ensures.judged held s)

@@ -9,20 +9,20 @@ use std::io::{Read, Write};
 
 /// A reader or a writer of std, with its counts. A call that the system interrupted counts as failed.
 #[derive(Drop)]
-pub struct Counted<T> {
+pub struct Over<T> {
     pub inner: T,
     calls: GhostCount,
     failed: GhostCount,
 }
 
-impl<T> Counted<T> {
+impl<T> Over<T> {
     /// A device over this reader or writer. It has counted nothing yet.
-    pub fn new(inner: T) -> Counted<T>
+    pub fn new(inner: T) -> Over<T>
         ensures inner { result.inner ≡ inner }
         ensures reads { reads_of result ≡ 0 }
         ensures failures { failures_of result ≡ 0 }
     {
-        Counted {
+        Over {
             inner,
             calls: GhostCount::zero(),
             failed: GhostCount::zero(),
@@ -30,7 +30,7 @@ impl<T> Counted<T> {
     }
 }
 
-impl<R: Read> Source for Counted<R> {
+impl<R: Read> Source for Over<R> {
     ghost remaining = { λ over. R.remaining over.inner };
 
     ghost failures = { λ over. failures_of over };
@@ -49,7 +49,7 @@ impl<R: Read> Source for Counted<R> {
     }
 }
 
-impl<W: Write> Sink for Counted<W> {
+impl<W: Write> Sink for Over<W> {
     ghost written = { λ over. W.contents over.inner };
 
     ghost failures = { λ over. failures_of over };
