@@ -120,6 +120,22 @@ def terminals(folder):
         terminal.process.communicate()
 
 
+def terminals_in_use():
+    """A terminal that was paid at fifty times passes all situations, one after another. It counts on, and declines where it is to."""
+    declines = [it for it in situations("terminal") if "--decline" in head(it).get("Needs", "")]
+    others = [it for it in situations("terminal") if it not in declines]
+    check("some situations want a decline", len(declines) >= 1, True)
+    for words, files, last in ([], others, "pay:1 -> paid trace 000050 receipt 0050"), (["--decline", "6C"], declines, "pay:1 -> aborted 6C"):
+        terminal = Listener("terminal", "--port", 0, "--connections", 0, *words)
+        status, written, told = run("till", "--port", terminal.port, "register", *50 * ["pay:1"])
+        check("fifty payments", (status, told, written.count("pay:1 -> "), written.splitlines()[50][:len(last)]), (0, "", 50, last))
+        status, written, told = run("check-terminal", "--port", terminal.port, *files)
+        check(f"after fifty payments: check-terminal {' '.join(words)}", (status, told), (0, ""))
+        is_tap(f"after fifty payments {' '.join(words)}", written, files)
+        terminal.process.kill()
+        terminal.process.communicate()
+
+
 def verdicts(kit, count):
     """The next verdicts of the kit."""
     found = []
@@ -221,6 +237,7 @@ def main():
         folder = pathlib.Path(name)
         tills(folder)
         terminals(folder)
+        terminals_in_use()
         differences(folder)
         broken_lines(folder)
         run_py_fails(folder)

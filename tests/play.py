@@ -9,6 +9,7 @@ with status 0, and the other program with what it came to in the recording. So i
 the other side is changed, and the difference is told at its line. Lost lines, waits, silence, what comes besides, and wrong words and files
 follow. The status is 1 where anything is not as expected.
 """
+import concurrent.futures
 import os
 import pathlib
 import random
@@ -25,6 +26,9 @@ DIALOGUES = int(sys.argv[2]) if len(sys.argv) > 2 else 30
 SECONDS = 20
 REGISTRATION, REGISTERED = "06 00 06 00 00 00 BE 09 78", "80 00 00 06 0F 08 29 12 34 56 78 49 09 78"
 AUTHORISATION = "06 01 07 04 00 00 00 00 10 00"
+STATUS, REVERSAL = "04 0F 09 27 00 0B {} 87 {}", "06 30 06 00 00 00 87 {}"
+A_MARK = "expected a mark, e.g. '#~ silent', '#~ 1500', '#~ listen 2000', '#~ bind 87 n1', '#~ same 37 n1' or '#~ use 87 n1'"
+NO_FIELD = "no own line that ends with this field comes next: give one, of 258 bytes at most, e.g. '> 06 30 06 00 00 00 87 00 01'"
 failed, plays = [], 0
 
 
@@ -284,6 +288,55 @@ def lost_lines(folder):
     check("a terminal that lost lines", other.ended()[0], 0)
 
 
+# ---- numbers that were heard
+
+
+def serve(door, lines):
+    """Plays a terminal: hears each `>` and sends each `<`, over one connection after another at each `!`. Answers what came."""
+    line, heard = door.accept()[0], []
+    for each in lines:
+        if each == "!":
+            line.close()
+            line = door.accept()[0]
+        elif each[0] == "<":
+            send(line, each[1:])
+        else:
+            line.settimeout(SECONDS)
+            heard.append(line.recv(1024).hex(" ").upper())
+    time.sleep(0.1)
+    line.close()
+    return heard
+
+
+def as_till(name, folder, trace, lines, wanted, sent):
+    """What `play --till` says and sends, where a terminal sends the lines with `<`."""
+    global plays
+    plays += 1
+    with socket.create_server(("127.0.0.1", 0)) as door, concurrent.futures.ThreadPoolExecutor(1) as pool:
+        door.settimeout(SECONDS)
+        served = pool.submit(serve, door, lines)
+        status, said, _ = run("play", "--till", str(written(folder, trace)), "--port", str(door.getsockname()[1]))
+        check(name, (status, said), wanted)
+        check(f"{name}: what was sent", served.result(), sent)
+
+
+def numbers(folder):
+    """A number that was heard is sent, and awaited, in place of the one in the trace. It outlives a lost line."""
+    ask, ours = f"> {AUTHORISATION}\n<\n", REVERSAL.format("00 01")
+    paid, bound = f"< {STATUS.format('00 00 51', '00 52')}", "#~ bind 0B n1\n#~ bind 87 n2\n"
+    back = "< 04 0F 0A 27 00 0B 00 00 53 37 {}"
+    asked, reversed_52 = AUTHORISATION, REVERSAL.format("00 52")
+    take = f"#~ use 87 n2\n> {ours}\n"
+    as_till("a receipt that was heard is sent", folder, ask + bound + take + f"<\n> {ours}\n", [">", paid, ">", "< 80 00 00", ">"], (0, ""), [asked, reversed_52, ours])
+    as_till("and after a lost line", folder, f"{ask}{bound}!\n{take}", [">", paid, "!", ">"], (0, ""), [asked, reversed_52])
+    as_till("the payment is named", folder, ask + bound + take + "<\n#~ bind 0B n3\n#~ same 37 n1\n", [">", paid, ">", back.format("00 00 51")], (0, ""), [asked, reversed_52])
+    came = "but another message came\n< Status\n  27 result 00 success\n  0B trace 000053\n  37 original-trace 000050\n"
+    as_till("another payment is named", folder, ask + bound + take + "<\n#~ same 37 n1\n", [">", paid, ">", back.format("00 00 50")], (1, "line 8 awaits\n< a message whose field 37 has the number n1 (000051)\n" + came), [asked, reversed_52])
+    came = "but another message came\n< Status\n  27 result 00 success\n  0B trace 000051\n  87 receipt 0053\n"
+    as_till("a number is given twice", folder, ask + bound + ask + "#~ bind 0B n3\n", [">", paid, ">", f"< {STATUS.format('00 00 51', '00 53')}"], (1, "line 7 awaits\n< a message whose field 0B has a number that has no name yet\n" + came), [asked, asked])
+    as_till("no number", folder, ask + "#~ bind 87 n1\n", [">", "< 80 00 00"], (1, "line 3 awaits\n< a message whose field 87 has a number that has no name yet\nbut another message came\n< Ack\n"), [asked])
+
+
 # ---- wrong words and files
 
 
@@ -299,8 +352,20 @@ def wrong(folder):
         ("This is no trace\n", "line 1 of the trace: expected '>' or '<'"),
         ("# one\n< 0\n", "line 2 of the trace: expected two hexadecimal digits"),
         ("> 0600\n\n< 80 00 00 06 0F 02 FF 00\n", "line 3 of the trace: no message begins with these bytes, up to the one at 6 (UnknownField)"),
-        ("#~ soon\n", "line 1 of the trace: expected '#~ silent', or milliseconds, e.g. '#~ 1500' or '#~ listen 2000'"),
-        ("#~ 12345678\n", "line 1 of the trace: expected '#~ silent', or milliseconds, e.g. '#~ 1500' or '#~ listen 2000'"),
+        ("#~ soon\n", f"line 1 of the trace: {A_MARK}"),
+        ("#~ 12345678\n", f"line 1 of the trace: {A_MARK}"),
+        ("<\n#~ bind 04 n1\n", f"line 2 of the trace: {A_MARK}"),
+        ("<\n#~ bind 87 n100\n", f"line 2 of the trace: {A_MARK}"),
+        ("<\n#~ bind 87\n", f"line 2 of the trace: {A_MARK}"),
+        ("#~ bind 87 n1\n<\n", "line 1 of the trace: there is no message to look at: put this mark right after a line of the other side"),
+        ("<\n> 80 00 00\n#~ bind 87 n1\n", "line 3 of the trace: there is no message to look at: put this mark right after a line of the other side"),
+        ("<\n# one\n#~ bind 87 n1\n<\n#~ bind 0B n1\n", "line 5 of the trace: the name is bound before: take another, of n0 to n99"),
+        ("#~ use 87 n1\n> 87 00 01\n<\n#~ bind 87 n1\n", "line 1 of the trace: the name is not bound before: write e.g. '#~ bind 87 n1' after the line whose message has the number"),
+        ("<\n#~ same 37 n1\n", "line 2 of the trace: the name is not bound before: write e.g. '#~ bind 87 n1' after the line whose message has the number"),
+        ("<\n#~ bind 87 n1\n#~ same 37 n1\n", "line 3 of the trace: the name has a number of another size: those of 0B and 37 have three bytes, and that of 87 has two"),
+        ("<\n#~ bind 87 n1\n#~ use 87 n1\n> 06 30 06 00 00 00 37 00 01\n", f"line 3 of the trace: {NO_FIELD}"),
+        ("<\n#~ bind 87 n1\n#~ use 87 n1\n<\n", f"line 3 of the trace: {NO_FIELD}"),
+        ("<\n#~ bind 87 n1\n#~ use 87 n1\n", f"line 3 of the trace: {NO_FIELD}"),
     ):
         # Nothing listens at port 1: the file is read before a connection is made.
         status, said, errors = run("play", "--till", str(written(folder, text)), "--port", "1")
@@ -319,6 +384,7 @@ with tempfile.TemporaryDirectory() as name:
     lines(folder)
     waits(folder)
     lost_lines(folder)
+    numbers(folder)
     wrong(folder)
 print(f"{len(failed)} not as expected" if failed else f"ok: {plays} plays, {2 * DIALOGUES} traces on either side")
 sys.exit(1 if failed else 0)

@@ -3,11 +3,14 @@ import socket
 import time
 
 ACK = b"\x80\x00\x00"
-SIZES = {0x04: 6, 0x49: 2}
+SIZES = {0x04: 6, 0x49: 2, 0x87: 2}
 
 
 class Terminal:
     refused = {"no amount": "84FF00", "two amounts": "84FF00", "currency": "846F00", "unregistered": "848300", "unknown": "848300"}
+
+    # The amounts and trace numbers of the payments by their receipts, of all lines, and the last trace number and receipt.
+    payments, last_trace, last_receipt = {}, 40, 7
 
     def __init__(self, line):
         self.line, self.is_registered = line, False
@@ -41,7 +44,7 @@ class Terminal:
 
     def amounts(self, data):
         """The amounts and currencies, or nothing where a field is unknown."""
-        found, at = {0x04: [], 0x49: []}, 0
+        found, at = {it: [] for it in SIZES}, 0
         while at < len(data):
             if data[at] not in SIZES:
                 return None
@@ -75,8 +78,39 @@ class Terminal:
     def malformed(self):
         raise EOFError
 
+    def count(self):
+        """The next trace number."""
+        Terminal.last_trace += 1
+        return f"{Terminal.last_trace:06}"
+
     def approve(self, amount):
-        self.tell(f"040F10270004{amount}0B00000187 0001".replace(" ", ""))
+        trace = self.count()
+        Terminal.last_receipt += 1
+        receipt = f"{Terminal.last_receipt:04}"
+        self.payments[receipt] = amount, trace
+        self.finish(f"270004{amount}0B{trace}87{receipt}490978")
+
+    def reverse(self, data):
+        self.acknowledge()
+        receipts = self.amounts(data[3:])[0x87]
+        if not receipts or receipts[0] not in self.payments:
+            return self.unknown_receipt()
+        amount, trace = self.take_back(receipts[0])
+        if not amount:
+            return self.tell("061E01B4")
+        self.finish(f"270004{amount}0B{self.count()}37{trace}87{receipts[0]}490978")
+
+    def take_back(self, receipt):
+        """The amount of a payment, which is none the second time, and its trace number."""
+        amount, trace = self.payments[receipt]
+        self.payments[receipt] = None, trace
+        return amount, trace
+
+    def unknown_receipt(self):
+        self.tell("061E01B5")
+
+    def finish(self, digits):
+        self.tell(f"040F{len(digits) // 2:02X}{digits}")
         self.tell("06D1020041")
         self.complete()
 
@@ -90,6 +124,8 @@ class Terminal:
                 self.register()
             elif kind == "0601":
                 self.pay(data)
+            elif kind == "0630":
+                self.reverse(data)
             elif kind == "06b0":
                 self.acknowledge()
             else:

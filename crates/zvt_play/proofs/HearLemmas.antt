@@ -50,12 +50,13 @@ hears_more demanded unheard coming rest between wanted after left stream more pa
 }
 
 pub hears_all : (demanded unheard : List ℕ) (coming : Option (List ℕ)) (rest : List ℕ) (between : Option (List ℕ)) (wanted after : List ℕ) (left : Option (List ℕ)) (stream : StreamState)
-    → HearsPart demanded unheard coming rest between wanted → (next : NextMessage rest between after left stream) → IsPrefix wanted next.bytes → Hears demanded unheard coming after left
+    → HearsPart demanded unheard coming rest between wanted → (next : NextMessage rest between after left stream) → IsPrefix wanted next.bytes → Hears demanded unheard coming after left stream.lent
 hears_all demanded unheard coming rest between wanted after left stream part next p = record {
   messages = part.messages ++ next.bytes ∷ [];
   read = part.read ++ next.read;
   each = All-append IsMessage part.messages (next.bytes ∷ []) part.each (All-cons IsMessage next.bytes [] (next.message, next.spells) (All-nil IsMessage));
   meets = meets_last demanded part.messages wanted next.bytes part.agrees p;
+  last = record { before = part.messages; bytes = next.bytes; message = next.message; cut = refl; spells = next.spells; lends = next.lent };
   consumed = consumes_more coming between left part.read next.read part.consumed next.consumed;
   cut = cut_more unheard part.read next.read part.messages rest next.bytes after part.cut next.cut;
 }

@@ -7,3 +7,4 @@ pub mod CheckLemmas
 mod TextLemmas
 pub mod UnheardLemmas
 pub mod ListeningLemmas
+pub mod NamingLemmas

@@ -3,7 +3,6 @@ use Rattle.std.proofs.Common.{◌≡◌, ◌⊎◌, inl, inr, ℕ, ◌+◌, ◌-
 use Rattle.std.specs.Io.KnownBytes.{Consumes, IsAtEnd}
 use Rattle.zvt_stream.proofs.HearingLemmas.{consumes_more, consumes_none}
 use Rattle.zvt_play.specs.Playing.{FallsSilent, MayFollow, NoneCame, SaysMore, may_come}
-use Rattle.zvt_play.specs.declared.difference.Difference.{Difference}
 use Rattle.zvt_play.specs.declared.difference.Difference.TheVariants.{Surplus}
 
 -- the first bytes of those that may come, and the rest of these

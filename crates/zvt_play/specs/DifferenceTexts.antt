@@ -11,10 +11,14 @@ use Rattle.zvt_trace.specs.Emitting.{other}
 use Rattle.zvt_trace.specs.Lines.{direction_text}
 use Rattle.zvt_trace.specs.declared.direction.Direction.{Direction}
 use Rattle.zvt_stream.specs.Apdus.{IsRefused, Spells, Unfinished}
+use Rattle.zvt_play.specs.Numbers.{bmp_of, bytes_in, named}
+use Rattle.zvt_play.specs.declared.numbers.Names.{Names}
+use Rattle.zvt_play.specs.declared.numbers.Number.{Number}
+use Rattle.zvt_play.specs.declared.numbers.NumberField.{NumberField}
 use Rattle.zvt_play.specs.declared.difference.Difference.{Difference}
 use Rattle.zvt_play.specs.declared.difference.Difference.TheVariants.{Closed, Malformed, Other, Read, Surplus, Write}
 use Rattle.zvt_play.specs.declared.step.Action.{Action}
-use Rattle.zvt_play.specs.declared.step.Action.TheVariants.{Await, Break, Listen, Send, Silence, Wait}
+use Rattle.zvt_play.specs.declared.step.Action.TheVariants.{Await, Bind, Break, Listen, Same, Send, Silence, Use, Wait}
 use Rattle.zvt_play.specs.declared.step.ScriptStep.{ScriptStep}
 
 -- where in the trace a step is
@@ -58,17 +62,35 @@ heard_before Write = 0
 abbrev pub nothing_text : List ℕ
 nothing_text = codes "nothing\n"
 
-abbrev pub SaysAction : Action → Difference → (text : List ℕ) → Type 0
-SaysAction (Await bytes) why text = SaysWanted (drop (min (heard_before why) (length bytes.items)) bytes.items) text
-SaysAction (Send bytes) why text = text ≡ nothing_text
-SaysAction Break why text = text ≡ nothing_text
-SaysAction (Wait milliseconds) why text = text ≡ nothing_text
-SaysAction Silence why text = text ≡ nothing_text
-SaysAction (Listen milliseconds) why text = text ≡ nothing_text
+-- a field, by its BMP
+abbrev pub field_text : NumberField → List ℕ
+field_text field = codes "a message whose field " ++ encode_upper (bmp_of field ∷ []) ++ codes " has "
 
-abbrev pub SaysAwaited : Option (Bor ScriptStep) → Difference → (text : List ℕ) → Type 0
-SaysAwaited None why text = text ≡ nothing_text
-SaysAwaited (Some step) why text = SaysAction step.now.action why text
+-- a name, and its number
+abbrev pub name_text : (name : ℕ) → Option Number → List ℕ
+name_text name None = codes "n" ++ decimal name
+name_text name (Some number) = codes "n" ++ decimal name ++ codes " (" ++ encode_upper (bytes_in number) ++ codes ")"
+
+abbrev pub new_text : NumberField → List ℕ
+new_text field = field_text field ++ codes "a number that has no name yet\n"
+
+abbrev pub same_text : NumberField → (name : ℕ) → Option Number → List ℕ
+same_text field name number = field_text field ++ codes "the number " ++ name_text name number ++ 10 ∷ []
+
+abbrev pub SaysAction : Action → Names → Difference → (text : List ℕ) → Type 0
+SaysAction (Await bytes) names why text = SaysWanted (drop (min (heard_before why) (length bytes.items)) bytes.items) text
+SaysAction (Send bytes) names why text = text ≡ nothing_text
+SaysAction Break names why text = text ≡ nothing_text
+SaysAction (Wait milliseconds) names why text = text ≡ nothing_text
+SaysAction Silence names why text = text ≡ nothing_text
+SaysAction (Listen milliseconds) names why text = text ≡ nothing_text
+SaysAction (Bind field name) names why text = text ≡ new_text field
+SaysAction (Same field name) names why text = text ≡ same_text field name (named names name)
+SaysAction (Use field name) names why text = text ≡ nothing_text
+
+abbrev pub SaysAwaited : Option (Bor ScriptStep) → Names → Difference → (text : List ℕ) → Type 0
+SaysAwaited None names why text = text ≡ nothing_text
+SaysAwaited (Some step) names why text = SaysAction step.now.action names why text
 
 -- ---- what came
 
@@ -87,16 +109,16 @@ cause_text from Write came = []
 
 -- ---- all of it
 
-abbrev pub SaysOther : Direction → Option (Bor ScriptStep) → Difference → Option (Bor Message) → (text : List ℕ) → Type 0
-SaysOther own step why came text =
-    (awaited : List ℕ) × SaysAwaited step why awaited
+abbrev pub SaysOther : Direction → Option (Bor ScriptStep) → Names → Difference → Option (Bor Message) → (text : List ℕ) → Type 0
+SaysOther own step names why came text =
+    (awaited : List ℕ) × SaysAwaited step names why awaited
     × (text ≡ place_text step ++ codes " awaits\n" ++ direction_text (other own) ++ codes " " ++ awaited ++ cause_text (other own) why came)
 
 -- what is said of a step that could not be played, or of the end
-abbrev pub SaysDifference : Direction → Option (Bor ScriptStep) → Difference → Option (Bor Message) → (text : List ℕ) → Type 0
-SaysDifference own step (Surplus count) came text = text ≡ surplus step count
-SaysDifference own step (Other at) came text = SaysOther own step (Other at) came text
-SaysDifference own step (Closed have) came text = SaysOther own step (Closed have) came text
-SaysDifference own step (Malformed place why) came text = SaysOther own step (Malformed place why) came text
-SaysDifference own step Read came text = SaysOther own step Read came text
-SaysDifference own step Write came text = SaysOther own step Write came text
+abbrev pub SaysDifference : Direction → Option (Bor ScriptStep) → Names → Difference → Option (Bor Message) → (text : List ℕ) → Type 0
+SaysDifference own step names (Surplus count) came text = text ≡ surplus step count
+SaysDifference own step names (Other at) came text = SaysOther own step names (Other at) came text
+SaysDifference own step names (Closed have) came text = SaysOther own step names (Closed have) came text
+SaysDifference own step names (Malformed place why) came text = SaysOther own step names (Malformed place why) came text
+SaysDifference own step names Read came text = SaysOther own step names Read came text
+SaysDifference own step names Write came text = SaysOther own step names Write came text

@@ -7,7 +7,10 @@ use Rattle.zvt_grammar.specs.Reading.{shortest}
 use Rattle.zvt_apdu.specs.Message.{Message}
 use Rattle.zvt_stream.specs.Apdus.{IsRefused, Spells, Unfinished}
 use Rattle.zvt_stream.specs.StreamState.{IsReserved, StreamState}
-use Rattle.zvt_play.specs.Script.{Act, act_of, await, break, listen, send, silence, wait}
+use Rattle.zvt_play.specs.Numbers.{Binds, HasNoNew, IsNumbered, bound, prepared, sent_as, used}
+use Rattle.zvt_play.specs.Script.{Act, act_of, await, bind, break, listen, prepare, same, send, silence, wait}
+use Rattle.zvt_play.specs.declared.numbers.Names.{Names}
+use Rattle.zvt_play.specs.declared.numbers.Number.{Number}
 use Rattle.zvt_play.specs.declared.difference.Difference.{Difference}
 use Rattle.zvt_play.specs.declared.difference.Difference.TheVariants.{Closed, Malformed, Other, Read, Surplus, Write}
 use Rattle.zvt_play.specs.declared.difference.Unplayed.{Unplayed}
@@ -45,14 +48,20 @@ pub record IsReady (s : StreamState) : Type 0 where
   pub reading : s.reading ≡ shortest
   pub reserved : IsReserved s
 
--- what was read and not heard, what is to come, and what was written
+-- what was read and not heard, what is to come, what was written, the message that came last, and the numbers that have names
 pub record LineState : Type 0 where
   pub unheard : List ℕ
   pub coming : Option (List ℕ)
   pub written : Option (List ℕ)
+  pub lent : Option Message
+  pub names : Names
 
-abbrev pub line_state : List ℕ → (coming written : Option (List ℕ)) → LineState
-line_state unheard coming written = record { unheard = unheard; coming = coming; written = written }
+abbrev pub line_state : List ℕ → (coming written : Option (List ℕ)) → (lent : Option Message) → Names → LineState
+line_state unheard coming written lent names = record { unheard = unheard; coming = coming; written = written; lent = lent; names = names }
+
+-- the same with these names
+abbrev pub with_names : LineState → Names → LineState
+with_names state names = line_state state.unheard state.coming state.written state.lent names
 
 -- One message came whole, and the stream lends it. It is the first of what was unheard and what was then read, and the rest
 -- of that is unheard.
@@ -101,12 +110,22 @@ NoMore Write have unheard coming left = ⊥
 
 -- ---- one step
 
--- Messages came that are what a line demands.
-pub record Hears (demanded unheard : List ℕ) (coming : Option (List ℕ)) (rest : List ℕ) (left : Option (List ℕ)) : Type 0 where
+-- the last of these messages, which the stream lends
+pub record IsLast (messages : List (List ℕ)) (lent : Option Message) : Type 0 where
+  pub before : List (List ℕ)
+  pub bytes : List ℕ
+  pub message : Message
+  pub cut : messages ≡ before ++ bytes ∷ []
+  pub spells : Spells message bytes
+  pub lends : lent ≡ Some message
+
+-- Messages came that are what a line demands, and the stream lends the last of them.
+pub record Hears (demanded unheard : List ℕ) (coming : Option (List ℕ)) (rest : List ℕ) (left : Option (List ℕ)) (lent : Option Message) : Type 0 where
   pub messages : List (List ℕ)
   pub read : List ℕ
   pub each : All IsMessage messages
   pub meets : Meets demanded messages
+  pub last : IsLast messages lent
   pub consumed : Consumes coming left read
   pub cut : unheard ++ read ≡ concat messages ++ rest
 
@@ -137,14 +156,28 @@ pub record Differs (why : Difference) (demanded unheard : List ℕ) (coming left
   pub part : HearsPart demanded unheard coming rest between wanted
   pub last : ComesOtherwise why demanded wanted rest between left stream
 
+-- An own line was sent: its bytes, or with the number of the name that was prepared.
+pub record Sent (bytes : List ℕ) (old new : LineState) : Type 0 where
+  pub heard : old.unheard ≡ []
+  pub sent : Appends old.written new.written (sent_as old.names.next bytes)
+  pub is : new ≡ line_state [] old.coming new.written old.lent (used old.names)
+
+-- The messages of a line came.
+pub record Heard (bytes : List ℕ) (old new : LineState) : Type 0 where
+  pub hears : Hears bytes old.unheard old.coming new.unheard new.coming new.lent
+  pub is : new ≡ line_state new.unheard new.coming old.written new.lent old.names
+
 -- A step was played. Before an own line all that was read was heard.
 abbrev pub Played : Act → (old new : LineState) → Type 0
-Played (send bytes) old new = (old.unheard ≡ []) × (new.unheard ≡ []) × (new.coming ≡ old.coming) × Appends old.written new.written bytes
-Played (await bytes) old new = Hears bytes old.unheard old.coming new.unheard new.coming × (new.written ≡ old.written)
+Played (send bytes) old new = Sent bytes old new
+Played (await bytes) old new = Heard bytes old new
 Played break old new = ⊥
 Played (wait milliseconds) old new = new ≡ old
 Played silence old new = ⊥
 Played (listen milliseconds) old new = ⊥
+Played (bind field name) old new = Binds field name old.lent old.names new.names × (new ≡ with_names old new.names)
+Played (same field name) old new = IsNumbered field name old.lent old.names × (new ≡ old)
+Played (prepare field name) old new = new ≡ with_names old (prepared name old.names)
 
 -- A step ends what is played over one connection. Before it is broken, or listened to, all that was read was heard.
 abbrev pub EndsLine : Act → LineState → Type 0
@@ -154,6 +187,9 @@ EndsLine break state = state.unheard ≡ []
 EndsLine (wait milliseconds) state = ⊥
 EndsLine silence state = ⊤
 EndsLine (listen milliseconds) state = state.unheard ≡ []
+EndsLine (bind field name) state = ⊥
+EndsLine (same field name) state = ⊥
+EndsLine (prepare field name) state = ⊥
 
 -- more was read than was awaited
 abbrev pub IsSurplus : (count : ℕ) → (old new : LineState) → Type 0
@@ -161,11 +197,13 @@ IsSurplus count old new = (count ≡ length old.unheard) × (0 < count) × (new 
 
 -- A step could not be played.
 abbrev pub Stops : Difference → Act → (old new : LineState) → StreamState → Type 0
-Stops why (await bytes) old new stream = Differs why bytes old.unheard old.coming new.coming stream × (new.written ≡ old.written)
+Stops why (await bytes) old new stream = Differs why bytes old.unheard old.coming new.coming stream × (new.written ≡ old.written) × (new.names ≡ old.names)
 Stops (Surplus count) (send bytes) old new stream = IsSurplus count old new
 Stops (Surplus count) break old new stream = IsSurplus count old new
 Stops (Surplus count) (listen milliseconds) old new stream = IsSurplus count old new
-Stops Write (send bytes) old new stream = (old.unheard ≡ []) × (new.coming ≡ old.coming) × (part : List ℕ) × IsPrefix part bytes × Appends old.written new.written part
+Stops Write (send bytes) old new stream = (old.unheard ≡ []) × (new.coming ≡ old.coming) × (part : List ℕ) × IsPrefix part (sent_as old.names.next bytes) × Appends old.written new.written part
+Stops (Other at) (bind field name) old new stream = (at ≡ 0) × HasNoNew field old.lent old.names × (new ≡ old)
+Stops (Other at) (same field name) old new stream = (at ≡ 0) × (IsNumbered field name old.lent old.names → ⊥) × (new ≡ old)
 Stops why act old new stream = ⊥
 
 -- what one step answers: that it was played, or that it ends what is played over the connection
@@ -228,29 +266,38 @@ StopsAt Read [] old new stream = ⊥
 StopsAt Write [] old new stream = ⊥
 
 -- That many of the steps were played, and what is played over the connection ends there.
-pub record PlaysTo (steps : List ScriptStep) (count : ℕ) (old : LineState) (left written : Option (List ℕ)) : Type 0 where
+pub record PlaysTo (steps : List ScriptStep) (count : ℕ) (old : LineState) (left written : Option (List ℕ)) (lent : Option Message) (names : Names) : Type 0 where
   pub unheard : List ℕ
   pub few : count ≤ length steps
-  pub plays : Plays (take count (acts_of steps)) old (line_state unheard left written)
-  pub ends : EndsBefore (drop count (acts_of steps)) (line_state unheard left written)
+  pub plays : Plays (take count (acts_of steps)) old (line_state unheard left written lent names)
+  pub ends : EndsBefore (drop count (acts_of steps)) (line_state unheard left written lent names)
 
 -- The steps before that one were played, and it could not be.
-pub record StopsPlay (steps : List ScriptStep) (unplayed : Unplayed) (old : LineState) (left written : Option (List ℕ)) (stream : StreamState) : Type 0 where
+pub record StopsPlay (steps : List ScriptStep) (unplayed : Unplayed) (old : LineState) (left written : Option (List ℕ)) (stream : StreamState) (names : Names) : Type 0 where
   pub middle : LineState
   pub unheard : List ℕ
   pub few : unplayed.step ≤ length steps
   pub plays : Plays (take unplayed.step (acts_of steps)) old middle
-  pub stops : StopsAt unplayed.why (drop unplayed.step (acts_of steps)) middle (line_state unheard left written) stream
+  pub stops : StopsAt unplayed.why (drop unplayed.step (acts_of steps)) middle (line_state unheard left written stream.lent names) stream
 
--- all bytes that the steps send, in order
-abbrev pub sent_by : Act → List ℕ
-sent_by (send bytes) = bytes
-sent_by (await bytes) = []
-sent_by break = []
-sent_by (wait milliseconds) = []
-sent_by silence = []
-sent_by (listen milliseconds) = []
+-- What a step sends: the bytes of an own line, or with the number of the name that was prepared. A name has the number that
+-- came at its mark from then on.
+abbrev pub Sends : Act → (old new : Names) → (sent : List ℕ) → Type 0
+Sends (send bytes) old new sent = (new ≡ used old) × (sent ≡ sent_as old.next bytes)
+Sends (bind field name) old new sent = ((number : Number) × (new ≡ bound name number old)) × (sent ≡ [])
+Sends (prepare field name) old new sent = (new ≡ prepared name old) × (sent ≡ [])
+Sends (same field name) old new sent = (new ≡ old) × (sent ≡ [])
+Sends (await bytes) old new sent = (new ≡ old) × (sent ≡ [])
+Sends break old new sent = (new ≡ old) × (sent ≡ [])
+Sends (wait milliseconds) old new sent = (new ≡ old) × (sent ≡ [])
+Sends silence old new sent = (new ≡ old) × (sent ≡ [])
+Sends (listen milliseconds) old new sent = (new ≡ old) × (sent ≡ [])
 
-abbrev pub all_sent : List Act → List ℕ
-all_sent [] = []
-all_sent (act ∷ acts) = sent_by act ++ all_sent acts
+-- what the steps send, one after another
+abbrev pub SendAll : List Act → (old new : Names) → (sent : List ℕ) → Type 0
+SendAll [] old new sent = (new ≡ old) × (sent ≡ [])
+SendAll (act ∷ acts) old new sent = (middle : Names) × (first : List ℕ) × (rest : List ℕ) × Sends act old middle first × SendAll acts middle new rest × (sent ≡ first ++ rest)
+
+-- What the steps send was written.
+abbrev pub WritesAll : List Act → (old new : Names) → (written written_now : Option (List ℕ)) → Type 0
+WritesAll acts old new written written_now = (sent : List ℕ) × SendAll acts old new sent × Appends written written_now sent

@@ -11,6 +11,8 @@ use Rattle.zvt_trace.specs.Meanings.{Meaning, comment, lost, meaning_of, piece}
 use Rattle.zvt_trace.specs.declared.direction.Direction.{Direction}
 use Rattle.zvt_trace.specs.declared.direction.Direction.TheVariants.{FromTill, FromTerminal}
 use Rattle.zvt_trace.specs.declared.fault.TraceLineError.{TraceLineError}
+use Rattle.zvt_play.specs.declared.numbers.NumberField.{NumberField}
+use Rattle.zvt_play.specs.declared.numbers.NumberField.TheVariants.{Original, Receipt, Trace}
 use Rattle.zvt_play.specs.declared.line.ScriptLineError.{ScriptLineError}
 use Rattle.zvt_play.specs.declared.line.ScriptLineError.TheVariants as error
 use Rattle.zvt_play.specs.declared.scripts.ScriptFault.{ScriptFault}
@@ -28,6 +30,9 @@ pub data Act : Type 0 where
   wait : (milliseconds : ℕ) → Act
   silence : Act
   listen : (milliseconds : ℕ) → Act
+  bind : (field : NumberField) → (name : ℕ) → Act
+  same : (field : NumberField) → (name : ℕ) → Act
+  prepare : (field : NumberField) → (name : ℕ) → Act
 
 -- the act that an action of the code represents
 abbrev pub act_of : Action → Act
@@ -37,17 +42,58 @@ act_of code.Break = break
 act_of (code.Wait milliseconds) = wait milliseconds
 act_of code.Silence = silence
 act_of (code.Listen milliseconds) = listen milliseconds
+act_of (code.Bind field name) = bind field name
+act_of (code.Same field name) = same field name
+act_of (code.Use field name) = prepare field name
 
 -- ---- one line
 
--- '#~ ' and a number of milliseconds, or '#~ listen ' and one
-abbrev pub timed_mark : (listened : Option (List ℕ)) → (words : List ℕ) → Option Act
-timed_mark None words = option_map wait (option_and_then (number_in 7) (trailing (codes " ") words))
-timed_mark (Some digits) words = option_map listen (number_in 7 digits)
+-- '87 n1': a field, and the number of a name
+abbrev pub name_by : NumberField → (digits : List ℕ) → Option (NumberField × ℕ)
+name_by field digits = option_map (λ name. (field, name)) (number_in 2 digits)
 
--- A mark is '#~ silent', or has a number of milliseconds. These words come after '#~'.
+abbrev pub receipt_named : (digits : Option (List ℕ)) → Option (NumberField × ℕ)
+receipt_named digits = option_and_then (name_by Receipt) digits
+
+abbrev pub original_named : (digits : Option (List ℕ)) → (words : List ℕ) → Option (NumberField × ℕ)
+original_named None words = receipt_named (trailing (codes "87 n") words)
+original_named (Some digits) words = name_by Original digits
+
+abbrev pub trace_named : (digits : Option (List ℕ)) → (words : List ℕ) → Option (NumberField × ℕ)
+trace_named None words = original_named (trailing (codes "37 n") words) words
+trace_named (Some digits) words = name_by Trace digits
+
+abbrev pub named_in : List ℕ → Option (NumberField × ℕ)
+named_in words = trace_named (trailing (codes "0B n") words) words
+
+abbrev pub name_mark : (act : NumberField → ℕ → Act) → (words : List ℕ) → Option Act
+name_mark act words = option_map (λ named. act named.0 named.1) (named_in words)
+
+-- '#~ ' and a number of milliseconds
+abbrev pub wait_mark : (words : List ℕ) → Option Act
+wait_mark words = option_map wait (option_and_then (number_in 7) (trailing (codes " ") words))
+
+-- '#~ use ', '#~ same ' or '#~ bind ', a field and a name
+abbrev pub use_mark : (named : Option (List ℕ)) → (words : List ℕ) → Option Act
+use_mark None words = wait_mark words
+use_mark (Some named) words = name_mark prepare named
+
+abbrev pub same_mark : (named : Option (List ℕ)) → (words : List ℕ) → Option Act
+same_mark None words = use_mark (trailing (codes " use ") words) words
+same_mark (Some named) words = name_mark same named
+
+abbrev pub bind_mark : (named : Option (List ℕ)) → (words : List ℕ) → Option Act
+bind_mark None words = same_mark (trailing (codes " same ") words) words
+bind_mark (Some named) words = name_mark bind named
+
+-- '#~ listen ' and a number of milliseconds
+abbrev pub listen_mark : (listened : Option (List ℕ)) → (words : List ℕ) → Option Act
+listen_mark None words = bind_mark (trailing (codes " bind ") words) words
+listen_mark (Some digits) words = option_map listen (number_in 7 digits)
+
+-- A mark is '#~ silent', has a number of milliseconds, or has a field and a name. These words come after '#~'.
 abbrev pub mark_of : List ℕ → Option Act
-mark_of words = cond (bytes_eq words (codes " silent")) (Some silence) (timed_mark (trailing (codes " listen ") words) words)
+mark_of words = cond (bytes_eq words (codes " silent")) (Some silence) (listen_mark (trailing (codes " listen ") words) words)
 
 abbrev pub mark_or_error : Option Act → Result (Option Act) ScriptLineError
 mark_or_error None = Err error.Mark
@@ -136,8 +182,8 @@ pub record IsFirstWrong (own : Direction) (lines : List (List ℕ)) (number : �
   pub wrong : LineSays own line (Err why)
   pub is_number : number ≡ length done + 1
 
--- what reading a script of the trace answers
-abbrev pub ReadsScript : (own : Direction) → (trace : List ℕ) → Result (Vec ScriptStep Global) ScriptFault → Type 0
-ReadsScript own trace (Ok steps) = LinesSay own 0 (lines trace) (steps_at steps.items)
-ReadsScript own trace (Err (fault.Line number why)) = IsFirstWrong own (lines trace) number why
-ReadsScript own trace (Err fault.Memory) = Unit {0}
+-- what reading the lines of a trace answers
+abbrev pub ReadsLines : (own : Direction) → (trace : List ℕ) → Result (Vec ScriptStep Global) ScriptFault → Type 0
+ReadsLines own trace (Ok steps) = LinesSay own 0 (lines trace) (steps_at steps.items)
+ReadsLines own trace (Err (fault.Line number why)) = IsFirstWrong own (lines trace) number why
+ReadsLines own trace (Err fault.Memory) = Unit {0}

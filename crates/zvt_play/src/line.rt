@@ -7,6 +7,7 @@ ghost use Rattle.zvt_play.specs.declared.line.ScriptLineError.{ScriptLineError};
 ghost use Rattle.zvt_play.specs.declared.line.BadLine.TheVariants.{Memory};
 
 use crate::marks::read_comment;
+use crate::naming::NameFault;
 use crate::step::Action;
 use std::alloc::{AllocError, Global};
 use thiserror::Error;
@@ -21,8 +22,11 @@ pub enum ScriptLineError {
     #[error("{0}")]
     Trace(TraceLineError),
     /// It begins as a mark and is none.
-    #[error("expected '#~ silent', or milliseconds, e.g. '#~ 1500' or '#~ listen 2000'")]
+    #[error("expected a mark, e.g. '#~ silent', '#~ 1500', '#~ listen 2000', '#~ bind 87 n1', '#~ same 37 n1' or '#~ use 87 n1'")]
     Mark,
+    /// It is a mark with a name, and can't be played where it stands.
+    #[error("{0}")]
+    Name(NameFault),
     /// It is a line of the other side, and no message begins with its bytes up to and with the one at `at`, which is
     /// counted from 0.
     #[error("no message begins with these bytes, up to the one at {at} ({why}): give bytes that the other side can send, or the sign alone for any message")]

@@ -1,14 +1,18 @@
 //! Comments that are marks for the player.
 ghost use Rattle.std.specs.Prelude.{◌≡◌, Ok, Err, MatchResult, option_map};
 ghost use Rattle.zvt_text.specs.Words.{number_in};
-ghost use Rattle.zvt_play.specs.Script.{act_of, comment_says, mark_of};
+ghost use Rattle.zvt_play.specs.Script.{act_of, comment_says, mark_of, named_in};
 
 use crate::line::ScriptLineError;
+use crate::numbers::NumberField;
 use crate::step::Action;
 use zvt_text::words::{decimal_number, trailing};
 
 /// The most digits of a number.
 const MAX_DIGITS: usize = 7;
+
+/// The most digits of a name.
+const NAME_DIGITS: usize = 2;
 
 /// Reads a comment: nothing, or a mark, which begins with `#~`.
 pub(crate) fn read_comment(line: &[u8]) -> Result<Option<Action>, ScriptLineError>
@@ -33,7 +37,40 @@ fn mark(words: &[u8]) -> Option<Action>
     if let Some(digits) = trailing(b" listen ", words) {
         return Some(Action::Listen(number(digits)?));
     }
+    if let Some(words) = trailing(b" bind ", words) {
+        let (field, name) = named(words)?;
+        return Some(Action::Bind { field, name });
+    }
+    if let Some(words) = trailing(b" same ", words) {
+        let (field, name) = named(words)?;
+        return Some(Action::Same { field, name });
+    }
+    if let Some(words) = trailing(b" use ", words) {
+        let (field, name) = named(words)?;
+        return Some(Action::Use { field, name });
+    }
     Some(Action::Wait(number(trailing(b" ", words)?)?))
+}
+
+/// A field, and the number of a name: `87 n1`.
+fn named(words: &[u8]) -> Option<(NumberField, u8)>
+    ensures { result ≡ named_in words.now }
+{
+    if let Some(digits) = trailing(b"0B n", words) {
+        return Some((NumberField::Trace, name(digits)?));
+    }
+    if let Some(digits) = trailing(b"37 n", words) {
+        return Some((NumberField::Original, name(digits)?));
+    }
+    Some((NumberField::Receipt, name(trailing(b"87 n", words)?)?))
+}
+
+/// The number of a name: one digit, or two.
+fn name(digits: &[u8]) -> Option<u8>
+    ensures { result ≡ number_in 2 digits.now }
+{
+    let number = decimal_number(digits, NAME_DIGITS)?;
+    Some(number as u8)
 }
 
 /// The number of one to seven decimal digits.

@@ -16,7 +16,7 @@ pub(crate) fn hear<R: Source>(
     demanded: &[u8],
 ) -> Result<(), Difference>
     requires { IsReady stream.old }
-    ensures ok { OnOk result (Hears demanded.now (unheard_in unheard.old) (R.remaining reader.old) (unheard_in unheard.new) (R.remaining reader.new)) }
+    ensures ok { OnOk result (Hears demanded.now (unheard_in unheard.old) (R.remaining reader.old) (unheard_in unheard.new) (R.remaining reader.new) stream.new.lent) }
     ensures ready { OnOk result (IsReady stream.new) }
     ensures err { IfErr result (λ why. Differs why demanded.now (unheard_in unheard.old) (R.remaining reader.old) (R.remaining reader.new) stream.new) }
 {

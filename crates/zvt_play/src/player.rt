@@ -1,13 +1,17 @@
 //! A script is played over one connection.
-ghost use Rattle.std.specs.Prelude.{◌≡◌, ◌≢◌, ◌<◌, [], ℕ, List, IfErr, IfOk, OnOk, length, take};
+ghost use Rattle.std.specs.Prelude.{◌≡◌, ◌≢◌, ◌<◌, ◌≤◌, [], ℕ, List, Option, IfErr, IfOk, OnOk, length, take};
 ghost use Rattle.std.specs.Io.KnownBytes.{Appends};
 ghost use Rattle.zvt_io.specs.Devices.{IsPrefix};
-ghost use Rattle.zvt_play.specs.Playing.{IsReady, PlaysStep, PlaysTo, Stops, StopsPlay, acts_of, all_sent, line_state};
-ghost use Rattle.zvt_play.specs.Script.{act_of};
+ghost use Rattle.zvt_apdu.specs.Message.{Message};
+ghost use Rattle.zvt_stream.specs.StreamState.{StreamState};
+ghost use Rattle.zvt_play.specs.Numbers.{longest_line, sent_as, used, with_end};
+ghost use Rattle.zvt_play.specs.Playing.{IsReady, PlaysStep, PlaysTo, Stops, StopsPlay, WritesAll, acts_of, line_state};
+ghost use Rattle.zvt_play.specs.Script.{act_of, send};
 ghost use Rattle.zvt_play.specs.Unheard.{unheard_in};
 
 use crate::difference::{Difference, Unplayed};
 use crate::messages::hear;
+use crate::numbers::{Names, Number};
 use crate::step::{Action, ScriptStep};
 use crate::unheard::Unheard;
 use std::rt::Clock;
@@ -16,24 +20,29 @@ use std::time::Duration;
 use zvt_io::{Sink, Source};
 use zvt_stream::Endpoint;
 
+/// The longest own line that can have a name's number: a message whose length is one byte.
+pub(crate) const LONGEST_LINE: usize = 258;
+
 /// Plays the steps over a new connection, up to the first that breaks it or is silent, or to the end. Answers how many steps
 /// were played.
 ///
 /// What was read must have been awaited before an own line is sent, before the connection is broken, and at the end.
+/// Where a name was prepared, the next own line is sent with its number as the last bytes. Names outlive the connection.
 pub fn play<C: Clock, R: Source, W: Sink>(
     clock: &C,
     end: &mut Endpoint<R, W>,
+    names: &mut Names,
     steps: &[ScriptStep],
 ) -> Result<usize, Unplayed>
     requires { IsReady end.old.stream }
-    ensures sent { IfOk result (λ count. Appends (W.written end.old.writer) (W.written end.new.writer) (all_sent (take count (acts_of steps.now)))) }
-    ensures sent_before { IfErr result (λ unplayed. unplayed.why ≢ Difference.Write → Appends (W.written end.old.writer) (W.written end.new.writer) (all_sent (take unplayed.step (acts_of steps.now)))) }
-    ensures ok { IfOk result (λ count. PlaysTo steps.now count (line_state [] (R.remaining end.old.reader) (W.written end.old.writer)) (R.remaining end.new.reader) (W.written end.new.writer)) }
-    ensures err { IfErr result (λ unplayed. StopsPlay steps.now unplayed (line_state [] (R.remaining end.old.reader) (W.written end.old.writer)) (R.remaining end.new.reader) (W.written end.new.writer) end.new.stream) }
+    ensures sent { IfOk result (λ count. WritesAll (take count (acts_of steps.now)) names.old names.new (W.written end.old.writer) (W.written end.new.writer)) }
+    ensures sent_before { IfErr result (λ unplayed. unplayed.why ≢ Difference.Write → WritesAll (take unplayed.step (acts_of steps.now)) names.old names.new (W.written end.old.writer) (W.written end.new.writer)) }
+    ensures ok { IfOk result (λ count. PlaysTo steps.now count (line_state [] (R.remaining end.old.reader) (W.written end.old.writer) end.old.stream.lent names.old) (R.remaining end.new.reader) (W.written end.new.writer) end.new.stream.lent names.new) }
+    ensures err { IfErr result (λ unplayed. StopsPlay steps.now unplayed (line_state [] (R.remaining end.old.reader) (W.written end.old.writer) end.old.stream.lent names.old) (R.remaining end.new.reader) (W.written end.new.writer) end.new.stream names.new) }
 {
     let mut unheard = Unheard::new();
     for (at, step) in steps.iter().enumerate() {
-        match take_step(clock, end, &mut unheard, &step.action) {
+        match take_step(clock, end, &mut unheard, names, &step.action) {
             Ok(true) => {}
             Ok(false) => return Ok(at),
             Err(why) => return Err(Unplayed { step: at, why }),
@@ -51,38 +60,80 @@ fn take_step<C: Clock, R: Source, W: Sink>(
     clock: &C,
     end: &mut Endpoint<R, W>,
     unheard: &mut Unheard,
+    names: &mut Names,
     action: &Action,
 ) -> Result<bool, Difference>
     requires { IsReady end.old.stream }
-    ensures ok { IfOk result (λ goes_on. PlaysStep (act_of action.now) goes_on (line_state (unheard_in unheard.old) (R.remaining end.old.reader) (W.written end.old.writer)) (line_state (unheard_in unheard.new) (R.remaining end.new.reader) (W.written end.new.writer))) }
+    ensures ok { IfOk result (λ goes_on. PlaysStep (act_of action.now) goes_on (line_state (unheard_in unheard.old) (R.remaining end.old.reader) (W.written end.old.writer) end.old.stream.lent names.old) (line_state (unheard_in unheard.new) (R.remaining end.new.reader) (W.written end.new.writer) end.new.stream.lent names.new)) }
     ensures ready { OnOk result (IsReady end.new.stream) }
-    ensures err { IfErr result (λ why. Stops why (act_of action.now) (line_state (unheard_in unheard.old) (R.remaining end.old.reader) (W.written end.old.writer)) (line_state (unheard_in unheard.new) (R.remaining end.new.reader) (W.written end.new.writer)) end.new.stream) }
+    ensures err { IfErr result (λ why. Stops why (act_of action.now) (line_state (unheard_in unheard.old) (R.remaining end.old.reader) (W.written end.old.writer) end.old.stream.lent names.old) (line_state (unheard_in unheard.new) (R.remaining end.new.reader) (W.written end.new.writer) end.new.stream.lent names.new) end.new.stream) }
 {
     match action {
-        Action::Send(bytes) => {
-            all_heard(unheard)?;
-            send(&mut end.writer, bytes.as_slice())?;
-            Ok(true)
-        }
+        Action::Send(bytes) => send_step(&mut end.writer, unheard, names, bytes.as_slice())?,
         Action::Await(demanded) => {
-            hear(
-                &mut end.reader,
-                &mut end.stream,
-                unheard,
-                demanded.as_slice(),
-            )?;
-            Ok(true)
+            let demanded = demanded.as_slice();
+            hear(&mut end.reader, &mut end.stream, unheard, demanded)?;
         }
         Action::Break | Action::Listen(_) => {
             all_heard(unheard)?;
-            Ok(false)
+            return Ok(false);
         }
         Action::Wait(milliseconds) => {
             thread::sleep(clock, Duration::from_millis(u64::from(*milliseconds)));
-            Ok(true)
         }
-        Action::Silence => Ok(false),
+        Action::Silence => return Ok(false),
+        Action::Bind { field, name } => names.bind(end.stream.lent(), *field, *name)?,
+        Action::Same { field, name } => names.check(end.stream.lent(), *field, *name)?,
+        Action::Use { name, .. } => names.prepare(*name),
     }
+    Ok(true)
+}
+
+/// Sends an own line, where all that was read was heard: with the number of the name that was prepared, if one was.
+fn send_step<W: Sink>(
+    writer: &mut W,
+    unheard: &Unheard,
+    names: &mut Names,
+    bytes: &[u8],
+) -> Result<(), Difference>
+    ensures ok { OnOk result ((unheard_in unheard.now ≡ []) × (names.new ≡ used names.old) × Appends (W.written writer.old) (W.written writer.new) (sent_as names.old.next bytes.now)) }
+    ensures err { IfErr result (λ why. (coming : Option (List ℕ)) → (lent : Option Message) → (stream : StreamState) → Stops why (send bytes.now) (line_state (unheard_in unheard.now) coming (W.written writer.old) lent names.old) (line_state (unheard_in unheard.now) coming (W.written writer.new) lent names.new) stream) }
+{
+    all_heard(unheard)?;
+    let number = names.take();
+    send_line(writer, number, bytes)
+}
+
+/// Writes the bytes of an own line, with this number as the last, where there is one.
+fn send_line<W: Sink>(
+    writer: &mut W,
+    number: Option<Number>,
+    bytes: &[u8],
+) -> Result<(), Difference>
+    ensures ok { OnOk result (Appends (W.written writer.old) (W.written writer.new) (sent_as number bytes.now)) }
+    ensures err { IfErr result (λ why. (why ≡ Difference.Write) × (part : List ℕ) × IsPrefix part (sent_as number bytes.now) × Appends (W.written writer.old) (W.written writer.new) part) }
+{
+    let Some(number) = number else {
+        return send(writer, bytes);
+    };
+    let last = number.bytes();
+    if bytes.len() > LONGEST_LINE || last.len() > bytes.len() {
+        return send(writer, bytes);
+    }
+    let mut line = [0; LONGEST_LINE];
+    put_line(&mut line, bytes, last);
+    send(writer, &line[..bytes.len()])
+}
+
+/// Puts these bytes into a line, with others as the last.
+fn put_line(line: &mut [u8; LONGEST_LINE], bytes: &[u8], last: &[u8])
+    requires short { length bytes.now ≤ longest_line }
+    requires within { length last.now ≤ length bytes.now }
+    ensures { take (length bytes.now) line.new ≡ with_end bytes.now last.now }
+{
+    let start = bytes.len() - last.len();
+    line[..start].copy_from_slice(&bytes[..start]);
+    line[start..bytes.len()].copy_from_slice(last);
 }
 
 /// Writes all the bytes.

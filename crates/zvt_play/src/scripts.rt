@@ -1,9 +1,11 @@
 //! The script of a trace.
 ghost use Rattle.std.specs.Prelude.{◌≡◌, ◌∷◌, [], ◌++◌, OnOk};
-ghost use Rattle.zvt_play.specs.Script.{ReadsScript};
+ghost use Rattle.zvt_play.specs.Naming.{ReadsScript};
+ghost use Rattle.zvt_play.specs.Script.{ReadsLines};
 ghost use Rattle.zvt_play.specs.declared.scripts.ScriptFault.TheVariants.{Memory};
 
 use crate::line::{BadLine, ScriptLineError, read_line};
+use crate::naming::first_fault;
 use crate::step::ScriptStep;
 use std::alloc::{AllocError, Global};
 use thiserror::Error;
@@ -30,8 +32,23 @@ impl From<AllocError> for ScriptFault {
 /// The steps of the trace for the player of that side: one for each line of bytes, each `!` and each mark, in order.
 ///
 /// An own line may have any bytes. A line of the other side has messages, and perhaps the beginning of one, or no bytes.
+/// A mark with a name stands where it can be played: each name is bound once, and before it is used.
 pub fn script(alloc: Global, own: Direction, trace: &[u8]) -> Result<Vec<ScriptStep>, ScriptFault>
     ensures { ReadsScript own trace.now result }
+{
+    let steps = read_lines(alloc, own, trace)?;
+    match first_fault(steps.as_slice()) {
+        None => Ok(steps),
+        Some((at, why)) => Err(ScriptFault::Line {
+            line: steps[at].line,
+            why: ScriptLineError::Name(why),
+        }),
+    }
+}
+
+/// The steps of the lines, each as it is read alone.
+fn read_lines(alloc: Global, own: Direction, trace: &[u8]) -> Result<Vec<ScriptStep>, ScriptFault>
+    ensures { ReadsLines own trace.now result }
 {
     let mut steps = Vec::new(alloc);
     let mut rest = trace;

@@ -1,5 +1,7 @@
 //! The steps of a script.
 
+use crate::numbers::NumberField;
+
 /// What the player does for a line of a trace.
 #[derive(Drop)]
 pub enum Action {
@@ -15,6 +17,12 @@ pub enum Action {
     Silence,
     /// Ends the connection once nothing came for so many milliseconds.
     Listen(u32),
+    /// Gives a name to the number in this field of the message that came last. No name may have that number.
+    Bind { field: NumberField, name: u8 },
+    /// Compares the number in this field of the message that came last with the one of a name.
+    Same { field: NumberField, name: u8 },
+    /// Has the next line that is sent end with the number of a name, in place of its own in this field.
+    Use { field: NumberField, name: u8 },
 }
 
 /// A step of a script.

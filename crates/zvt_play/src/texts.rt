@@ -2,9 +2,10 @@
 ghost use Rattle.std.specs.Prelude.{◌≡◌, ◌++◌, ℕ, List, codes, IfOk, OnOk};
 ghost use Rattle.zvt_trace.specs.Emitting.{other};
 ghost use Rattle.zvt_trace.specs.Lines.{direction_text};
-ghost use Rattle.zvt_play.specs.DifferenceTexts.{SaysAwaited, SaysDifference, SaysWanted, beginning_text, came_text, cause_text, heard_before, place_text, surplus};
+ghost use Rattle.zvt_play.specs.DifferenceTexts.{SaysAwaited, SaysDifference, SaysWanted, beginning_text, came_text, cause_text, field_text, heard_before, name_text, place_text, surplus};
 
 use crate::difference::Difference;
+use crate::numbers::{Names, Number, NumberField};
 use crate::step::{Action, ScriptStep};
 use std::alloc::{AllocError, Global};
 use zvt_apdu::ApduView;
@@ -13,22 +14,23 @@ use zvt_text::{Text, hexadecimal, message};
 use zvt_trace::Direction;
 
 /// What is said of a step that could not be played, or of the end: the message that is awaited, and the one that came, if
-/// one did. Of a surplus it is what [`surplus_text`] answers.
+/// one did. A name that is awaited has its number beside it. Of a surplus it is what [`surplus_text`] answers.
 pub fn difference_text(
     alloc: Global,
     own: Direction,
     step: Option<&ScriptStep>,
+    names: &Names,
     why: Difference,
     came: Option<&ApduView<'_>>,
 ) -> Result<Text, AllocError>
-    ensures { IfOk result (SaysDifference own step.entry why came.entry) }
+    ensures { IfOk result (SaysDifference own step.entry names.now why came.entry) }
 {
     if let Difference::Surplus { count } = why {
         return surplus_text(alloc, step, count);
     }
     let mut text = Text::new(alloc);
     add_place(&mut text, step)?;
-    add_other(&mut text, alloc, other_side(own), step, why, came)?;
+    add_other(&mut text, alloc, other_side(own), step, names, why, came)?;
     Ok(text)
 }
 
@@ -77,14 +79,15 @@ fn add_other(
     alloc: Global,
     from: Direction,
     step: Option<&ScriptStep>,
+    names: &Names,
     why: Difference,
     came: Option<&ApduView<'_>>,
 ) -> Result<(), AllocError>
-    ensures { OnOk result ((awaited : List ℕ) × SaysAwaited step.entry why awaited × (text.new ≡ text.old ++ codes " awaits\n" ++ direction_text from ++ codes " " ++ awaited ++ cause_text from why came.entry)) }
+    ensures { OnOk result ((awaited : List ℕ) × SaysAwaited step.entry names.now why awaited × (text.new ≡ text.old ++ codes " awaits\n" ++ direction_text from ++ codes " " ++ awaited ++ cause_text from why came.entry)) }
 {
     text.word(b" awaits\n")?;
     add_sign(text, from)?;
-    add_awaited(text, alloc, step, why)?;
+    add_awaited(text, alloc, step, names, why)?;
     add_cause(text, from, why, came)
 }
 
@@ -101,9 +104,10 @@ fn add_awaited(
     text: &mut Text,
     alloc: Global,
     step: Option<&ScriptStep>,
+    names: &Names,
     why: Difference,
 ) -> Result<(), AllocError>
-    ensures { OnOk result ((awaited : List ℕ) × SaysAwaited step.entry why awaited × (text.new ≡ text.old ++ awaited)) }
+    ensures { OnOk result ((awaited : List ℕ) × SaysAwaited step.entry names.now why awaited × (text.new ≡ text.old ++ awaited)) }
 {
     match step {
         Some(
@@ -115,8 +119,51 @@ fn add_awaited(
             let before = heard_before(why).min(bytes.len());
             add_wanted(text, alloc, &bytes[before..])
         }
+        Some(
+            ScriptStep {
+                action: Action::Bind { field, .. },
+                ..
+            },
+        ) => {
+            add_field(text, *field)?;
+            text.word(b"a number that has no name yet\n")
+        }
+        Some(
+            ScriptStep {
+                action: Action::Same { field, name },
+                ..
+            },
+        ) => {
+            add_field(text, *field)?;
+            text.word(b"the number ")?;
+            add_name(text, *name, names.named(*name))?;
+            text.push(b'\n')
+        }
         _ => text.word(b"nothing\n"),
     }
+}
+
+/// Adds what has a field, by its BMP.
+fn add_field(text: &mut Text, field: NumberField) -> Result<(), AllocError>
+    ensures { OnOk result (text.new ≡ text.old ++ field_text field) }
+{
+    text.word(b"a message whose field ")?;
+    hexadecimal(text, &[field.bmp()])?;
+    text.word(b" has ")
+}
+
+/// Adds a name, and its number, if it has one.
+fn add_name(text: &mut Text, name: u8, number: Option<Number>) -> Result<(), AllocError>
+    ensures { OnOk result (text.new ≡ text.old ++ name_text name number) }
+{
+    text.word(b"n")?;
+    text.number(usize::from(name))?;
+    if let Some(number) = number {
+        text.word(b" (")?;
+        hexadecimal(text, number.bytes())?;
+        text.word(b")")?;
+    }
+    Ok(())
 }
 
 /// How many bytes of a step came before a difference.

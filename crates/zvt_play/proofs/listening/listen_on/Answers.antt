@@ -1,4 +1,4 @@
-use Rattle.std.proofs.Common.{List, ℕ, ap, arith, length, subst, sym, ◌+◌, ◌-◌, ◌≡◌, ◌∙◌, ◌++◌}
+use Rattle.std.proofs.Common.{List, ℕ, ap, arith, length, sym, ◌+◌, ◌-◌, ◌≡◌, ◌∙◌, ◌++◌}
 use Rattle.std.proofs.lemmas.Bool.Decides.{Decides-eqb}
 use Rattle.std.proofs.lemmas.Slice.Eq.{strip_prefix_is}
 use Rattle.zvt_play.specs.Unheard.{unheard_in}

@@ -1,7 +1,7 @@
 use Rattle.std.proofs.Common.{◌+◌, refl}
 use Rattle.zvt_play.specs.declared.step.ScriptStep.{ScriptStep}
 use Rattle.zvt_play.proofs.ScriptLemmas.{read_nothing, read_one}
-use Rattle.zvt_play.proofs.scripts.script.Goals as goal
+use Rattle.zvt_play.proofs.scripts.read_lines.Goals as goal
 
 pub lines-preserved-in-Ok-None : goal.lines-preserved-in-Ok-None
 lines-preserved-in-Ok-None c =

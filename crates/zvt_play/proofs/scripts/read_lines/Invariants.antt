@@ -1,6 +1,6 @@
 use Rattle.std.proofs.Common.{length}
 use Rattle.zvt_play.proofs.ScriptLemmas.{HasRead}
-use Rattle.zvt_play.proofs.scripts.script.Given as goal
+use Rattle.zvt_play.proofs.scripts.read_lines.Given as goal
 
 abbrev pub invariant-lines : goal.invariant-lines
 invariant-lines l = HasRead l.own l.trace l.rest l.number l.steps.items

@@ -1,0 +1,142 @@
+-- Where a script can use a name, and what reading a script answers.
+use Rattle.std.specs.Prelude.{◌≡◌, ◌<◌, ℕ, ◌-◌, ◌⊎◌, ◌==◌, Bool, true, false, cond, nat_le, List, [], ◌∷◌, length, take, drop, slice_get, slice_index, slice_index_or, Option, Some, None, Result, Ok, Err, Vec}
+use Rattle.std.specs.Option.{option_or}
+use Rattle.std.specs.Global.{Global}
+use Rattle.std.specs.Str.Lines.{lines}
+use Rattle.zvt_trace.specs.declared.direction.Direction.{Direction}
+use Rattle.zvt_play.specs.Numbers.{bmp_of, longest_line, size_of}
+use Rattle.zvt_play.specs.Playing.{acts_of}
+use Rattle.zvt_play.specs.Script.{Act, IsFirstWrong, LinesSay, await, bind, break, listen, prepare, same, send, silence, steps_at, wait}
+use Rattle.zvt_play.specs.declared.line.ScriptLineError.{ScriptLineError}
+use Rattle.zvt_play.specs.declared.line.ScriptLineError.TheVariants.{Name}
+use Rattle.zvt_play.specs.declared.naming.NameFault.{NameFault}
+use Rattle.zvt_play.specs.declared.naming.NameFault.TheVariants.{Bound, NoField, NoMessage, Size, Unbound}
+use Rattle.zvt_play.specs.declared.numbers.NumberField.{NumberField}
+use Rattle.zvt_play.specs.declared.scripts.ScriptFault.{ScriptFault}
+use Rattle.zvt_play.specs.declared.scripts.ScriptFault.TheVariants as fault
+use Rattle.zvt_play.specs.declared.step.ScriptStep.{ScriptStep}
+
+-- ---- one mark
+
+-- the step hears a message, or looks at the one that was heard
+abbrev pub is_heard : Act → Bool
+is_heard (await bytes) = true
+is_heard (bind field name) = true
+is_heard (same field name) = true
+is_heard (send bytes) = false
+is_heard break = false
+is_heard (wait milliseconds) = false
+is_heard silence = false
+is_heard (listen milliseconds) = false
+is_heard (prepare field name) = false
+
+abbrev pub is_some_heard : Option Act → Bool
+is_some_heard None = false
+is_some_heard (Some act) = is_heard act
+
+-- the last of these steps does
+abbrev pub hears_last : List Act → Bool
+hears_last acts = is_some_heard (slice_get acts (length acts - 1))
+
+-- the field whose number the step gives to that name
+abbrev pub bound_here : (name : ℕ) → Act → Option NumberField
+bound_here name (bind field bound) = cond (bound == name) (Some field) None
+bound_here name (send bytes) = None
+bound_here name (await bytes) = None
+bound_here name break = None
+bound_here name (wait milliseconds) = None
+bound_here name silence = None
+bound_here name (listen milliseconds) = None
+bound_here name (same field used) = None
+bound_here name (prepare field used) = None
+
+-- the field whose number the steps give to that name first
+abbrev pub bound_field : (name : ℕ) → List Act → Option NumberField
+bound_field name [] = None
+bound_field name (act ∷ acts) = option_or (bound_here name act) (bound_field name acts)
+
+-- the line ends with that field, and is short enough to have a name's number there
+abbrev pub has_end : NumberField → (bytes : List ℕ) → Bool
+has_end field bytes =
+    cond (nat_le (length bytes) (size_of field)) false (cond (nat_le (length bytes) longest_line) (slice_index bytes (length bytes - size_of field - 1) == bmp_of field) false)
+
+abbrev pub is_end : NumberField → Act → Bool
+is_end field (send bytes) = has_end field bytes
+is_end field (await bytes) = false
+is_end field break = false
+is_end field (wait milliseconds) = false
+is_end field silence = false
+is_end field (listen milliseconds) = false
+is_end field (bind bound name) = false
+is_end field (same bound name) = false
+is_end field (prepare bound name) = false
+
+-- the first of these steps sends such a line
+abbrev pub ends_with : NumberField → List Act → Bool
+ends_with field [] = false
+ends_with field (act ∷ acts) = is_end field act
+
+abbrev pub unless : Bool → NameFault → Option NameFault
+unless holds why = cond holds None (Some why)
+
+-- a name whose number came in that field, if it has one, can't stand in this one
+abbrev pub size_fault : (field : NumberField) → (bound : Option NumberField) → Option NameFault
+size_fault field None = Some Unbound
+size_fault field (Some found) = unless (size_of found == size_of field) Size
+
+abbrev pub bound_fault : (bound : Option NumberField) → Option NameFault
+bound_fault None = None
+bound_fault (Some found) = Some Bound
+
+-- why the mark can't be played between these steps
+abbrev pub fault_of : (before : List Act) → Act → (after : List Act) → Option NameFault
+fault_of before (bind field name) after = option_or (unless (hears_last before) NoMessage) (bound_fault (bound_field name before))
+fault_of before (same field name) after = option_or (unless (hears_last before) NoMessage) (size_fault field (bound_field name before))
+fault_of before (prepare field name) after = option_or (size_fault field (bound_field name before)) (unless (ends_with field after) NoField)
+fault_of before (send bytes) after = None
+fault_of before (await bytes) after = None
+fault_of before break after = None
+fault_of before (wait milliseconds) after = None
+fault_of before silence after = None
+fault_of before (listen milliseconds) after = None
+
+-- ---- all of them
+
+abbrev pub fault_by : (before : List Act) → (rest : List Act) → Option NameFault
+fault_by before [] = None
+fault_by before (act ∷ after) = fault_of before act after
+
+-- why the step at that place can't be played there
+abbrev pub fault_at : List Act → (place : ℕ) → Option NameFault
+fault_at acts place = fault_by (take place acts) (drop place acts)
+
+abbrev pub AreNamedTo : List Act → (place : ℕ) → Type 0
+AreNamedTo acts place = (earlier : ℕ) → earlier < place → fault_at acts earlier ≡ None
+
+-- each mark can be played where it stands
+abbrev pub AreNamed : List Act → Type 0
+AreNamed acts = AreNamedTo acts (length acts)
+
+-- the step at that place is the first that can't be
+abbrev pub IsFirstFault : List Act → (place : ℕ) → NameFault → Type 0
+IsFirstFault acts place why = (place < length acts) × (fault_at acts place ≡ Some why) × AreNamedTo acts place
+
+-- ---- a script
+
+-- Each line can be played, but the mark in the line of that number is the first that can't be where it stands.
+pub record IsMisnamed (own : Direction) (lines : List (List ℕ)) (number : ℕ) (why : ScriptLineError) : Type 0 where
+  pub steps : List ScriptStep
+  pub place : ℕ
+  pub fault : NameFault
+  pub read : LinesSay own 0 lines (steps_at steps)
+  pub first : IsFirstFault (acts_of steps) place fault
+  pub step : ScriptStep
+  pub is_step : step ≡ slice_index_or steps place step
+  pub is_number : number ≡ step.line
+  pub is_why : why ≡ Name fault
+
+-- what reading a script of the trace answers
+abbrev pub ReadsScript : (own : Direction) → (trace : List ℕ) → Result (Vec ScriptStep Global) ScriptFault → Type 0
+ReadsScript own trace (Ok steps) = LinesSay own 0 (lines trace) (steps_at steps.items) × AreNamed (acts_of steps.items)
+ReadsScript own trace (Err (fault.Line number why)) = IsFirstWrong own (lines trace) number why ⊎ IsMisnamed own (lines trace) number why
+ReadsScript own trace (Err fault.Memory) = Unit {0}
