@@ -8,7 +8,7 @@ use std::io::{self, Read};
 use std::test::Fail;
 use zvt_apdu::ApduView;
 use zvt_grammar::Why;
-use zvt_io::{Counted, Failed, GhostCount, Sink, Source};
+use zvt_io::{Failed, GhostCount, Over, Sink, Source};
 use zvt_stream::{Answers, Endpoint, LineFault, Machine, Stream, Until, pump, send};
 
 const ACK: [u8; 3] = [0x80, 0x00, 0x00];
@@ -81,7 +81,15 @@ fn run<R: Source, W: Sink>(
         lost: 0,
         malformed: 0,
     };
-    let ended = pump(alloc, end, &mut machine, until, turns);
+    let ended = pump(
+        alloc,
+        &mut end.reader,
+        &mut end.writer,
+        &mut end.stream,
+        &mut machine,
+        until,
+        turns,
+    );
     (ended, [machine.left, machine.lost, machine.malformed])
 }
 
@@ -112,8 +120,8 @@ fn lines_go_as_far_as_they_are_to(rt: HostRuntime) -> Result<(), Fail> {
                 stream = Stream::reserved(rt.alloc())?;
             }
             let mut end = Endpoint {
-                reader: Counted::new(coming),
-                writer: Counted::new(Vec::new(rt.alloc())),
+                reader: Over::new(coming),
+                writer: Over::new(Vec::new(rt.alloc())),
                 stream,
             };
             let found = run(rt.alloc(), &mut end, course);
@@ -132,13 +140,13 @@ fn a_refused_line_stays_stopped(rt: HostRuntime) {
     };
     let refused = [0x06, 0x01, 0x02, 0xD0, 0x80, 0x00, 0x00];
     let mut end = Endpoint {
-        reader: Counted::new(refused.as_slice()),
-        writer: Counted::new(Vec::new(rt.alloc())),
+        reader: Over::new(refused.as_slice()),
+        writer: Over::new(Vec::new(rt.alloc())),
         stream: Stream::new(rt.alloc()),
     };
     let rows: [(&[u8], LineFault); 2] = [(&refused, malformed), (&ACK, LineFault::Stopped)];
     for (coming, fault) in rows {
-        end.reader = Counted::new(coming);
+        end.reader = Over::new(coming);
         let found = run(rt.alloc(), &mut end, REST);
         assert_equal(&rt, &found, &(Err(fault), [2, 0, 1]));
     }
@@ -147,7 +155,7 @@ fn a_refused_line_stays_stopped(rt: HostRuntime) {
 
 #[test]
 fn bytes_are_sent(rt: HostRuntime) {
-    let mut writer = Counted::new(Vec::new(rt.alloc()));
+    let mut writer = Over::new(Vec::new(rt.alloc()));
     assert_equal(&rt, &send(&mut writer, &ACK), &Ok(()));
     assert_equal(&rt, &writer.inner.as_slice(), &ACK.as_slice());
 }
@@ -165,8 +173,8 @@ impl Read for Broken {
 #[test]
 fn read_fails(rt: HostRuntime) {
     let mut end = Endpoint {
-        reader: Counted::new(Broken),
-        writer: Counted::new(Vec::new(rt.alloc())),
+        reader: Over::new(Broken),
+        writer: Over::new(Vec::new(rt.alloc())),
         stream: Stream::new(rt.alloc()),
     };
     let found = run(rt.alloc(), &mut end, REST);
@@ -176,7 +184,7 @@ fn read_fails(rt: HostRuntime) {
 /// A writer that takes some writes whole, and fails from then on.
 #[derive(Drop)]
 struct Failing {
-    taken: Counted<Vec<u8>>,
+    taken: Over<Vec<u8>>,
     left: u8,
     failed: GhostCount,
 }
@@ -201,9 +209,9 @@ impl Sink for Failing {
 #[test]
 fn second_write_fails(rt: HostRuntime) {
     let mut end = Endpoint {
-        reader: Counted::new([ACK, ACK, ACK].as_flattened()),
+        reader: Over::new([ACK, ACK, ACK].as_flattened()),
         writer: Failing {
-            taken: Counted::new(Vec::new(rt.alloc())),
+            taken: Over::new(Vec::new(rt.alloc())),
             left: 1,
             failed: GhostCount::zero(),
         },

@@ -6,7 +6,7 @@ use std::alloc::{AllocError, Global};
 use std::process::Abort;
 use std::test::Fail;
 use zvt_grammar::Scan;
-use zvt_tlv::{Body, Forest, Tag, Tlv, length_size, put_sized, reader, size, write_into};
+use zvt_tlv::{Body, Forest, Tag, Tlv, length_size, put_sized, size, write_into};
 
 fn tag(rt: &impl Abort, bytes: &[u8]) -> Tag {
     Tag::checked(bytes).expect(rt, "a tag")
@@ -68,7 +68,7 @@ fn nested(rt: &impl Abort, alloc: Global, count: usize) -> Result<Forest, AllocE
 
 /// The objects after the length that comes first, and the size of both.
 fn read_back(rt: &impl Abort, alloc: Global, bytes: &[u8]) -> Result<(Forest, usize), AllocError> {
-    let Scan::Whole(found) = reader::scan_sized(alloc, bytes, 40_000)? else {
+    let Scan::Whole(found) = zvt_tlv::scan_sized(alloc, bytes, 40_000)? else {
         panic!(rt; "a length and its objects stand first");
     };
     Ok(found)
@@ -111,7 +111,7 @@ fn largest(alloc: Global) -> Result<Vec<u8>, AllocError> {
 #[test]
 fn the_largest_forest_is_read_and_written(rt: HostRuntime) -> Result<(), Fail> {
     let bytes = largest(rt.alloc())?;
-    let Scan::Whole(forest) = reader::scan(rt.alloc(), &bytes, 65_535, 1)? else {
+    let Scan::Whole(forest) = zvt_tlv::scan(rt.alloc(), &bytes, 65_535, 1)? else {
         panic!(rt; "objects fill the room");
     };
     let out = written(rt.alloc(), &forest);

@@ -6,6 +6,8 @@
 #[cfg(test)]
 mod assertions;
 #[cfg(test)]
+mod briefs;
+#[cfg(test)]
 mod digits;
 #[cfg(test)]
 mod engine;
@@ -29,5 +31,3 @@ mod padded;
 mod pieces;
 #[cfg(test)]
 mod rescan;
-#[cfg(test)]
-mod till_messages;

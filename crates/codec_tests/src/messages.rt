@@ -4,7 +4,7 @@ use crate::assertions::assert_equal;
 use std::alloc::{AllocError, Global};
 use std::process::Abort;
 use std::test::Fail;
-use zvt_apdu::{Apdu, BadValue, Message, NoRoom, encode, encode_into, scan, size};
+use zvt_apdu::{Apdu, BadValue, Message, NoRoom, checked, encode, encode_into, scan, size};
 use zvt_field::Fields;
 use zvt_grammar::Scan;
 
@@ -106,7 +106,7 @@ fn a_short_buffer_is_left_alone(rt: HostRuntime) -> Result<(), Fail> {
 
 /// Why a message has no spelling.
 fn fault(message: Message) -> Option<BadValue> {
-    match Apdu::checked(message) {
+    match checked(message) {
         Ok(_) => None,
         Err((_, bad)) => Some(bad),
     }

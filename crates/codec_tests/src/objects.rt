@@ -5,7 +5,7 @@ use std::alloc::{AllocError, Global};
 use std::process::Abort;
 use std::test::Fail;
 use zvt_grammar::{Lengths, Scan};
-use zvt_tlv::{Body, Forest, Tlv, reader};
+use zvt_tlv::{Body, Forest, Tlv};
 
 /// Writes each object as its tag and its content, a constructed one's in parentheses.
 #[cycle(show)]
@@ -84,8 +84,8 @@ fn scanned(
     let &(bytes, room, depth, _) = row;
     assert!(rt; room < 65_536 && room != 1 && depth >= 1 && depth <= 6);
     match lengths {
-        Lengths::Shortest => reader::scan(alloc, bytes, room, depth),
-        Lengths::Padded => reader::scan_loose(alloc, bytes, room, depth),
+        Lengths::Shortest => zvt_tlv::scan(alloc, bytes, room, depth),
+        Lengths::Padded => zvt_tlv::scan_loose(alloc, bytes, room, depth),
     }
 }
 
@@ -114,9 +114,9 @@ fn scanned_sized(
     match lengths {
         Lengths::Shortest => {
             assert!(rt; room != 2);
-            reader::scan_sized(alloc, bytes, room)
+            zvt_tlv::scan_sized(alloc, bytes, room)
         }
-        Lengths::Padded => reader::scan_sized_loose(alloc, bytes, room),
+        Lengths::Padded => zvt_tlv::scan_sized_loose(alloc, bytes, room),
     }
 }
 

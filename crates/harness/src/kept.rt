@@ -4,7 +4,7 @@ ghost use Rattle.std.specs.Prelude.{◌≤◌};
 use crate::timed::{APPROVED, REGISTERED, approved, price};
 use std::alloc::Global;
 use std::io::{self, Cursor};
-use zvt_io::Counted;
+use zvt_io::Over;
 use zvt_journal::{FileDevice, open_file};
 use zvt_kept::{KeptTill, run_order_kept};
 use zvt_stream::{Endpoint, Stream};
@@ -45,18 +45,18 @@ fn ordered(alloc: Global, kept: &mut KeptTill<FileDevice>, payments: u32) -> Opt
     requires { payments ≤ 10000 }
 {
     let mut end = Endpoint {
-        reader: Counted::new(REGISTERED.as_slice()),
-        writer: Counted::new(Vec::new(alloc)),
+        reader: Over::new(REGISTERED.as_slice()),
+        writer: Over::new(Vec::new(alloc)),
         stream: Stream::new(alloc),
     };
     run_order_kept(alloc, &mut end, kept, Order::Register, 1).ok()?;
     let mut end = Endpoint {
-        reader: Counted::new(Cursor::new(APPROVED)),
+        reader: Over::new(Cursor::new(APPROVED)),
         writer: end.writer,
         stream: end.stream,
     };
     for number in 0..payments {
-        end.reader = Counted::new(Cursor::new(approved(number)));
+        end.reader = Over::new(Cursor::new(approved(number)));
         run_order_kept(alloc, &mut end, kept, Order::Pay(price()), 1).ok()?;
     }
     Some(())

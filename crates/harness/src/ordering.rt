@@ -6,7 +6,7 @@ use std::alloc::{AllocError, Global};
 use zvt_apdu::scan;
 use zvt_bcd::{Amount, Trace};
 use zvt_grammar::Scan;
-use zvt_io::Counted;
+use zvt_io::{Over, Sink, Source};
 use zvt_stream::{Endpoint, LineFault, Stream};
 use zvt_term::{Input, Terminal, Verdict};
 use zvt_till::{
@@ -156,11 +156,30 @@ pub fn orders(alloc: Global) -> &'static str {
 fn pays(alloc: Global, till: &mut Till, price: Amount) -> Result<Outcome, RunFault> {
     let mut written = [0; 64];
     let mut end = Endpoint {
-        reader: Counted::new(APPROVED.as_slice()),
-        writer: Counted::new(written.as_mut_slice()),
+        reader: Over::new(APPROVED.as_slice()),
+        writer: Over::new(written.as_mut_slice()),
         stream: Stream::new(alloc),
     };
-    run_order(alloc, &mut end, till, Order::Pay(price), 10)
+    order_at(alloc, &mut end, till, Order::Pay(price), 10)
+}
+
+/// Gives the till an order at this end of a line, and hears it out.
+pub(crate) fn order_at<R: Source, W: Sink>(
+    alloc: Global,
+    end: &mut Endpoint<R, W>,
+    till: &mut Till,
+    order: Order,
+    turns: u64,
+) -> Result<Outcome, RunFault> {
+    run_order(
+        alloc,
+        &mut end.reader,
+        &mut end.writer,
+        &mut end.stream,
+        till,
+        order,
+        turns,
+    )
 }
 
 /// Whether the payment is unclear for the loss of its line, and the next is refused.

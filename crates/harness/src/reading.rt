@@ -1,11 +1,11 @@
 //! Messages read, fed and built.
 
 use std::alloc::{AllocError, Global};
-use zvt_apdu::{Apdu, Message, NoRoom, encode_into, scan};
+use zvt_apdu::{Apdu, Message, NoRoom, checked, encode_into, scan};
 use zvt_field::{Field, FieldBody, Fields, PushRefusal};
 use zvt_grammar::Scan;
 use zvt_stream::{Fed, FedView, FeedError, Stream};
-use zvt_tlv::{Forest, reader};
+use zvt_tlv::Forest;
 
 /// A completion with objects in six levels.
 const SIX_LEVELS: [u8; 17] = [
@@ -69,9 +69,9 @@ fn scans_fields(alloc: Global) -> bool {
 
 fn scans_objects(alloc: Global) -> bool {
     let bytes = &SIX_LEVELS[5..];
-    let answer = match reader::scan(alloc, bytes, 12, 1) {
+    let answer = match zvt_tlv::scan(alloc, bytes, 12, 1) {
         Ok(answer) => answer,
-        Err(AllocError) => match reader::scan(alloc, bytes, 12, 1) {
+        Err(AllocError) => match zvt_tlv::scan(alloc, bytes, 12, 1) {
             Ok(answer) => answer,
             Err(AllocError) => return false,
         },
@@ -182,7 +182,7 @@ pub fn pushes(alloc: Global) -> Result<bool, AllocError> {
             return Ok(false);
         }
     }
-    Ok(match Apdu::checked(Message::Status(fields)) {
+    Ok(match checked(Message::Status(fields)) {
         Ok(apdu) => spells(&apdu, &APPROVAL),
         Err(_) => false,
     })

@@ -2,14 +2,15 @@
 
 ghost use Rattle.std.specs.Prelude.{◌≤◌};
 
+use crate::ordering::order_at;
 use std::alloc::{AllocError, Global};
 use std::io::{self, Cursor};
 use zvt_apdu::scan;
 use zvt_bcd::{Amount, put};
 use zvt_grammar::Scan;
-use zvt_io::Counted;
+use zvt_io::Over;
 use zvt_stream::{Endpoint, Stream};
-use zvt_till::{Event, Order, RunFault, Till, replay, run_order};
+use zvt_till::{Event, Order, RunFault, Till, replay};
 
 /// The most payments that a till's book holds.
 const MOST: u32 = 10_000;
@@ -122,19 +123,19 @@ fn ordered(alloc: Global, payments: u32) -> Result<(usize, u64), RunFault>
     let mut till = Till::with_defaults(alloc);
     till.connected();
     let mut end = Endpoint {
-        reader: Counted::new(REGISTERED.as_slice()),
-        writer: Counted::new(Vec::new(alloc)),
+        reader: Over::new(REGISTERED.as_slice()),
+        writer: Over::new(Vec::new(alloc)),
         stream: Stream::new(alloc),
     };
-    run_order(alloc, &mut end, &mut till, Order::Register, 1)?;
+    order_at(alloc, &mut end, &mut till, Order::Register, 1)?;
     let mut end = Endpoint {
-        reader: Counted::new(Cursor::new(APPROVED)),
+        reader: Over::new(Cursor::new(APPROVED)),
         writer: end.writer,
         stream: end.stream,
     };
     for number in 0..payments {
-        end.reader = Counted::new(Cursor::new(approved(number)));
-        run_order(alloc, &mut end, &mut till, Order::Pay(price), 1)?;
+        end.reader = Over::new(Cursor::new(approved(number)));
+        order_at(alloc, &mut end, &mut till, Order::Pay(price), 1)?;
     }
     Ok((till.book().len(), till.total()))
 }

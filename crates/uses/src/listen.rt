@@ -2,7 +2,7 @@
 
 use std::io;
 use zvt_grammar::Lengths;
-use zvt_io::Counted;
+use zvt_io::Over;
 use zvt_trace::{Direction, Listener, ListenerError, Scope, TraceEvent, read_trace, walk};
 
 /// A trace: the till asks for 12.34, and the terminal acknowledges the order.
@@ -42,7 +42,7 @@ impl Listener<()> for Counts {
 
 /// Prints how many messages each side of the trace sent, or why the trace can't be read.
 pub fn print_counts(rt: &HostRuntime, text: &[u8]) -> io::Result<()> {
-    let trace = match read_trace(rt.alloc(), &mut Counted::new(text)) {
+    let trace = match read_trace(rt.alloc(), &mut Over::new(text)) {
         Ok(trace) => trace,
         Err(fault) => return println!(rt; "listen: {fault}"),
     };

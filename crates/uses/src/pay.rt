@@ -3,7 +3,7 @@
 use std::io;
 use std::net::TcpStream;
 use zvt_bcd::Amount;
-use zvt_io::{Counted, Sink, Source};
+use zvt_io::{Over, Sink, Source};
 use zvt_stream::{Endpoint, Stream};
 use zvt_till::{Order, Outcome, RunFault, Till, run_order};
 
@@ -23,15 +23,15 @@ const TURNS: u64 = 1_000;
 pub fn pay_in_memory(rt: &HostRuntime) -> io::Result<()> {
     let mut written = [0; 64];
     let mut line = Endpoint {
-        reader: Counted::new(REGISTERED.as_slice()),
-        writer: Counted::new(written.as_mut_slice()),
+        reader: Over::new(REGISTERED.as_slice()),
+        writer: Over::new(written.as_mut_slice()),
         stream: Stream::new(rt.alloc()),
     };
     let mut till = Till::with_defaults(rt.alloc());
     till.connected();
     print_order(rt, &mut line, &mut till, Order::Register)?;
     // A line in memory brings at once all that it has: each order gets the answers to itself.
-    line.reader = Counted::new(APPROVED.as_slice());
+    line.reader = Over::new(APPROVED.as_slice());
     print_payment(rt, &mut line, &mut till)
 }
 
@@ -40,8 +40,8 @@ pub fn pay_at(rt: &HostRuntime, host: &str, port: u16) -> io::Result<()> {
     let socket = TcpStream::connect(rt, (host, port))?;
     socket.set_nodelay(true)?;
     let mut line = Endpoint {
-        reader: Counted::new(&socket),
-        writer: Counted::new(&socket),
+        reader: Over::new(&socket),
+        writer: Over::new(&socket),
         stream: Stream::new(rt.alloc()),
     };
     let mut till = Till::with_defaults(rt.alloc());
@@ -74,7 +74,15 @@ fn print_order<R: Source, W: Sink>(
     till: &mut Till,
     order: Order,
 ) -> io::Result<()> {
-    match run_order(rt.alloc(), line, till, order, TURNS) {
+    match run_order(
+        rt.alloc(),
+        &mut line.reader,
+        &mut line.writer,
+        &mut line.stream,
+        till,
+        order,
+        TURNS,
+    ) {
         Ok(Outcome::Registered) => println!(rt; "pay: registered"),
         Ok(Outcome::Paid { .. }) => println!(rt; "pay: paid"),
         Ok(_) => println!(rt; "pay: the terminal did not do it"),

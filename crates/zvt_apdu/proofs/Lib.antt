@@ -16,7 +16,7 @@ pub mod Writing
 pub mod LawLemmas
 pub mod Fit
 pub mod Positions
-pub mod TillMessageLemmas
+pub mod BriefLemmas
 pub mod Exists
 pub mod OneAnswer
 pub mod Staying

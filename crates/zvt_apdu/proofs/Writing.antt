@@ -10,10 +10,9 @@ use Rattle.zvt_tlv.proofs.Spelling.{from}
 use Rattle.zvt_tlv.proofs.Writing.{puts_after}
 use Rattle.zvt_field.specs.Grammar.{Field, FieldList}
 use Rattle.zvt_apdu.proofs.OneSpelling.{one_list_spelling}
-use Rattle.zvt_apdu.specs.declared.messages.Rest.{Rest}
 use Rattle.zvt_apdu.specs.Message.{Message, ack, nack, registration, authorisation, reversal, end_of_day, abort_order, status, intermediate, print_line, text_block, completion, abort, other}
 use Rattle.zvt_apdu.specs.Grammar.{IsControl, Listed, Registered, Data, IsFrameLength, Spells}
-use Rattle.zvt_apdu.specs.Messages.{rest_of, Fitting, HasData, HasSpelling, length_bytes, TakesControl}
+use Rattle.zvt_apdu.specs.Messages.{Fitting, HasData, HasSpelling, length_bytes, TakesControl}
 use Rattle.zvt_apdu.proofs.OneSpelling.{two_digits, one_data, one_control, length_spelled}
 
 -- the fields fit after what comes first
@@ -53,16 +52,16 @@ two_bytes (a ∷ []) e = absurd (omega arith)
 two_bytes (a ∷ b ∷ []) e = refl
 two_bytes (a ∷ b ∷ c ∷ s) e = absurd (omega arith)
 
-pub rest_fits : (password : List ℕ) (config : ℕ) (r : Option Rest) (rest : Rest) (room : ℕ) → r ≡ Some rest → Fitting (registration password config (rest_of r)) room → (listed : List ℕ) → FieldList shortest rest.fields listed → 6 + length listed ≤ room
+pub rest_fits : (password : List ℕ) (config : ℕ) (r : Option (ℕ × List Field)) (rest : ℕ × List Field) (room : ℕ) → r ≡ Some rest → Fitting (registration password config r) room → (listed : List ℕ) → FieldList shortest rest.1 listed → 6 + length listed ≤ room
 rest_fits password config r rest room is h listed q =
-    registered_fits room rest.currency (password ++ config ∷ []) [] rest.fields h.bytes listed (subst (λ (r : Option Rest). Data shortest (registration password config (rest_of r)) h.bytes) is h.is_data) h.fits q
+    registered_fits room rest.0 (password ++ config ∷ []) [] rest.1 h.bytes listed (subst (λ (r : Option (ℕ × List Field)). Data shortest (registration password config r) h.bytes) is h.is_data) h.fits q
 
-pub rest_written : (password digits old new : List ℕ) (config count : ℕ) (r : Option Rest) (rest : Rest) → r ≡ Some rest → length password ≡ 3 → length digits ≡ 2 → AreDigits digits → number_of digits ≡ rest.currency →
-    ((listed : List ℕ) → FieldList shortest rest.fields listed → Puts ((get_or password 0 0 ∷ get_or password 1 0 ∷ get_or password 2 0 ∷ config ∷ get_or digits 0 0 ∷ get_or digits 1 0 ∷ []) ++ listed) old new count) →
-    (bytes : List ℕ) → Data shortest (registration password config (rest_of r)) bytes → Puts bytes old new count
+pub rest_written : (password digits old new : List ℕ) (config count : ℕ) (r : Option (ℕ × List Field)) (rest : ℕ × List Field) → r ≡ Some rest → length password ≡ 3 → length digits ≡ 2 → AreDigits digits → number_of digits ≡ rest.0 →
+    ((listed : List ℕ) → FieldList shortest rest.1 listed → Puts ((get_or password 0 0 ∷ get_or password 1 0 ∷ get_or password 2 0 ∷ config ∷ get_or digits 0 0 ∷ get_or digits 1 0 ∷ []) ++ listed) old new count) →
+    (bytes : List ℕ) → Data shortest (registration password config r) bytes → Puts bytes old new count
 rest_written password digits old new config count r rest is three two are number puts bytes p =
-    let d : Registered shortest (password ++ config ∷ []) rest.currency rest.fields bytes = subst (λ (r : Option Rest). Data shortest (registration password config (rest_of r)) bytes) is p in
-    subst (λ (s : List ℕ). Puts s old new count) (registered_is password digits d.listed bytes config (get_or digits 0 0) (get_or digits 1 0) rest.currency rest.fields three (two_bytes digits two) are number d) (puts d.listed d.spelled)
+    let d : Registered shortest (password ++ config ∷ []) rest.0 rest.1 bytes = subst (λ (r : Option (ℕ × List Field)). Data shortest (registration password config r) bytes) is p in
+    subst (λ (s : List ℕ). Puts s old new count) (registered_is password digits d.listed bytes config (get_or digits 0 0) (get_or digits 1 0) rest.0 rest.1 three (two_bytes digits two) are number d) (puts d.listed d.spelled)
 
 -- a message with a spelling takes no other's control bytes
 pub not_taken : (r : Reading) (m : Message) (b : List ℕ) → Spells r m b → TakesControl m → ⊥

@@ -5,7 +5,7 @@ pub mod Grammar
 pub mod Judging
 pub mod Normal
 pub mod Laws
-pub mod TillMessages
+pub mod Briefs
 pub mod Kinds
 pub mod UniqueDecoding
 pub mod Views

@@ -4,21 +4,16 @@ use Rattle.zvt_grammar.specs.Reading.{Reading, shortest}
 use Rattle.zvt_field.specs.Grammar.{Field, FieldList}
 use Rattle.zvt_apdu.specs.declared.messages.Message as declared
 use Rattle.zvt_apdu.specs.declared.messages.Message.TheVariants as code
-use Rattle.zvt_apdu.specs.declared.messages.Rest.{Rest}
 use Rattle.zvt_apdu.specs.declared.messages.BadValue.{BadValue}
 use Rattle.zvt_apdu.specs.declared.messages.BadValue.TheVariants.{TooLarge, NamedControl}
 use Rattle.zvt_apdu.specs.declared.writer.NoRoom.{NoRoom}
 use Rattle.zvt_apdu.specs.Message.{Message, ack, nack, registration, authorisation, reversal, end_of_day, abort_order, status, intermediate, print_line, text_block, completion, abort, other}
 use Rattle.zvt_apdu.specs.Grammar.{form_of, IsControl, Data, Spells}
 
-abbrev pub rest_of : Option Rest → Option (ℕ × List Field)
-rest_of None = None
-rest_of (Some rest) = Some (rest.currency, rest.fields)
-
 abbrev pub message_of : declared.Message → Message
 message_of (code.Ack payload) = ack payload.items
 message_of (code.Nack c payload) = nack c payload.items
-message_of (code.Registration password config rest) = registration password config (rest_of rest)
+message_of (code.Registration password config rest) = registration password config rest
 message_of (code.Authorisation fields) = authorisation fields
 message_of (code.Reversal password fields) = reversal password fields
 message_of (code.EndOfDay password fields) = end_of_day password fields

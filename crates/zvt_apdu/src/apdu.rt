@@ -29,21 +29,6 @@ impl Model for Apdu {
 }
 
 impl Apdu {
-    /// The message as one that has a spelling. It is handed back with the first of these that holds:
-    /// `TooLarge`, then `NamedControl`.
-    pub fn checked(message: Message) -> Result<Apdu, (Message, BadValue)>
-        ensures ok { IfOk result (λ apdu. (apdu ≡ message_of message) × HasSpelling (message_of message)) }
-        ensures err { IfErr result (λ e. (e.0 ≡ message) × HasFault (message_of message) e.1 × (HasSpelling (message_of message) → ⊥)) }
-    {
-        if data_size(&message) > 65_535 {
-            return Err((message, BadValue::TooLarge));
-        }
-        let Some(_) = control(&message) else {
-            return Err((message, BadValue::NamedControl));
-        };
-        Ok(Apdu { message })
-    }
-
     /// Its message.
     pub fn message(&self) -> &Message
         ensures value { message_of result.now ≡ self.now }
@@ -51,4 +36,19 @@ impl Apdu {
     {
         &self.message
     }
+}
+
+/// The message as one that has a spelling. It is handed back with the first of these that holds:
+/// `TooLarge`, then `NamedControl`.
+pub fn checked(message: Message) -> Result<Apdu, (Message, BadValue)>
+    ensures ok { IfOk result (λ apdu. (apdu ≡ message_of message) × HasSpelling (message_of message)) }
+    ensures err { IfErr result (λ e. (e.0 ≡ message) × HasFault (message_of message) e.1 × (HasSpelling (message_of message) → ⊥)) }
+{
+    if data_size(&message) > 65_535 {
+        return Err((message, BadValue::TooLarge));
+    }
+    let Some(_) = control(&message) else {
+        return Err((message, BadValue::NamedControl));
+    };
+    Ok(Apdu { message })
 }

@@ -11,7 +11,7 @@ ghost use Rattle.zvt_apdu.specs.Messages.{message_of, IsMessage};
 
 use crate::control_bytes;
 use crate::frame::{Form, form_of};
-use crate::messages::{Message, Rest};
+use crate::messages::Message;
 use zvt_bcd::{Currency, number};
 use zvt_field::Fields;
 
@@ -127,7 +127,7 @@ pub(crate) fn fields_message(high: u8, low: u8, first: &[u8], fields: Fields) ->
     Message::Registration {
         password: [first[0], first[1], first[2]],
         config: first[3],
-        rest: Some(Rest { currency, fields }),
+        rest: Some((currency, fields)),
     }
 }
 

@@ -2,6 +2,7 @@
 #![tactic(auto)]
 
 mod apdu;
+mod brief;
 mod control_bytes;
 mod frame;
 mod kinds;
@@ -10,17 +11,16 @@ mod messages;
 mod normal_form;
 mod owned_message;
 mod reader;
-mod till_message;
 mod views;
 mod writer;
 
-pub use apdu::Apdu;
+pub use apdu::{Apdu, checked};
+pub use brief::{Brief, MAX_BRIEF_LEN, brief_message, put_brief};
 pub use frame::{Layout, judge_size};
 pub use kinds::{Kind, kind_at};
-pub use messages::{BadValue, Message, Rest};
+pub use messages::{BadValue, Message};
 pub use normal_form::normalise;
 pub use owned_message::owned;
 pub use reader::{scan, scan_loose, scan_message};
-pub use till_message::{MAX_TILL_MESSAGE_LEN, TillMessage, put_till_message, till_message_apdu};
 pub use views::{ApduView, view};
 pub use writer::{NoRoom, encode, encode_into, size};

@@ -3,13 +3,6 @@
 use zvt_bcd::Currency;
 use zvt_field::Fields;
 
-/// A registration's currency, and the fields after it.
-#[derive(Drop)]
-pub struct Rest {
-    pub currency: Currency,
-    pub fields: Fields,
-}
-
 /// A message between a till and its terminal. Its control bytes are given in hexadecimal.
 #[derive(Drop)]
 pub enum Message {
@@ -22,11 +15,11 @@ pub enum Message {
         code: u8,
         payload: Vec<u8>,
     },
-    /// 06 00: the till registers.
+    /// 06 00: the till registers. After the configuration byte there is nothing, or a currency and fields.
     Registration {
         password: [u8; 3],
         config: u8,
-        rest: Option<Rest>,
+        rest: Option<(Currency, Fields)>,
     },
     /// 06 01: a payment.
     Authorisation(Fields),

@@ -4,9 +4,9 @@ ghost use Rattle.std.specs.Prelude.{◌≡◌, ◌≢◌, [], Some, None, MatchR
 ghost use Rattle.zvt_apdu.specs.Messages.{message_of, HasSpelling};
 ghost use Rattle.zvt_apdu.specs.Views.{fields_in, payload_in};
 
-use crate::apdu::Apdu;
+use crate::apdu::{Apdu, checked};
 use crate::kinds::Kind;
-use crate::messages::{Message, Rest};
+use crate::messages::Message;
 use crate::views::ApduView;
 use std::alloc::{AllocError, Global};
 use zvt_field::Fields;
@@ -18,7 +18,7 @@ pub fn owned(alloc: Global, apdu: &ApduView<'_>) -> Result<Apdu, AllocError>
 {
     note_spelling(apdu);
     let message = owned_message(alloc, apdu)?;
-    let Ok(made) = Apdu::checked(message) else {
+    let Ok(made) = checked(message) else {
         unreachable!()
     };
     Ok(made)
@@ -68,7 +68,7 @@ fn with_fields(apdu: &ApduView<'_>, fields: Fields) -> Message
     Message::Registration {
         password,
         config,
-        rest: Some(Rest { currency, fields }),
+        rest: Some((currency, fields)),
     }
 }
 

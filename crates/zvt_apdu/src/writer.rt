@@ -7,12 +7,12 @@ ghost use Rattle.zvt_tlv.specs.Sizes.{Puts};
 ghost use Rattle.zvt_field.specs.Grammar.{FieldList};
 ghost use Rattle.zvt_apdu.specs.Grammar.{Data, Spells};
 ghost use Rattle.zvt_apdu.specs.Message.{registration};
-ghost use Rattle.zvt_apdu.specs.Messages.{message_of, rest_of, ControlOf, Encodes, FreeControl, Fitting, HasData, HasSpelling, ListedIn, length_bytes};
+ghost use Rattle.zvt_apdu.specs.Messages.{message_of, ControlOf, Encodes, FreeControl, Fitting, HasData, HasSpelling, ListedIn, length_bytes};
 
 use crate::apdu::Apdu;
 use crate::control_bytes;
 use crate::frame::form_of;
-use crate::messages::{Message, Rest};
+use crate::messages::Message;
 use std::alloc::{AllocError, Global};
 use zvt_bcd::{Currency, put};
 use zvt_field::{Fields, write_into};
@@ -126,13 +126,13 @@ pub(crate) fn data_size(message: &Message) -> usize
 }
 
 /// The size of a registration's data.
-fn registration_size(password: &[u8; 3], config: u8, rest: &Option<Rest>) -> usize
-    ensures { HasData (registration password.now config (rest_of rest.now)) result }
+fn registration_size(password: &[u8; 3], config: u8, rest: &Option<(Currency, Fields)>) -> usize
+    ensures { HasData (registration password.now config rest.now) result }
 {
     let first = password_size(password) + 1;
     match rest {
         None => first,
-        Some(rest) => { first + currency_digits(rest.currency).len() + fields_size(&rest.fields) }
+        Some(rest) => { first + currency_digits(rest.0).len() + fields_size(&rest.1) }
     }
 }
 
@@ -193,16 +193,21 @@ fn write_data(message: &Message, out: &mut [u8]) -> usize
 }
 
 /// Writes the data of a registration at the start, and says how many bytes.
-fn write_registration(password: &[u8; 3], config: u8, rest: &Option<Rest>, out: &mut [u8]) -> usize
-    requires { Fitting (registration password.now config (rest_of rest.now)) (length out.old) }
-    ensures { (bytes : List ℕ) → Data shortest (registration password.now config (rest_of rest.now)) bytes → Puts bytes out.old out.new result }
+fn write_registration(
+    password: &[u8; 3],
+    config: u8,
+    rest: &Option<(Currency, Fields)>,
+    out: &mut [u8],
+) -> usize
+    requires { Fitting (registration password.now config rest.now) (length out.old) }
+    ensures { (bytes : List ℕ) → Data shortest (registration password.now config rest.now) bytes → Puts bytes out.old out.new result }
 {
     match rest {
         None => put_after(password, &[config], out),
         Some(rest) => {
-            let [high, low] = currency_digits(rest.currency);
+            let [high, low] = currency_digits(rest.0);
             let head = [password[0], password[1], password[2], config, high, low];
-            put_listed(&head, &rest.fields, out)
+            put_listed(&head, &rest.1, out)
         }
     }
 }

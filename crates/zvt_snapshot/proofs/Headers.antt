@@ -14,7 +14,7 @@ use Rattle.zvt_snapshot.specs.declared.layouts.Layout.{Layout}
 use Rattle.zvt_snapshot.specs.declared.layouts.Layout.TheVariants.{First, Second}
 use Rattle.zvt_snapshot.specs.Reading.{HasDoubtOf, HasRowOf, IsOfLayout}
 use Rattle.zvt_snapshot.specs.Encoded.{body_bytes, entry_bytes, entry_size, outcome_bytes, saved_in, settings_bytes, summed, unclear_bytes, IsEntry, IsKept, IsOutcome, IsSavedAs}
-use Rattle.zvt_apdu.specs.TillMessages.{digits}
+use Rattle.zvt_apdu.specs.Briefs.{digits}
 use Rattle.zvt_snapshot.specs.Sums.{sums_of}
 use Rattle.zvt_snapshot.proofs.Rows.{entry-long, receipt-long}
 

@@ -4,7 +4,7 @@ use Rattle.std.proofs.lemmas.Bool.{false≢true}
 use Rattle.std.proofs.Math.Nat.{pow-suc, mod-lt, div-lt_iff_lt-mul, div-add-mod, mul_comm}
 use Rattle.std.proofs.lemmas.List.Elements.{All-cons, All-nil}
 use Rattle.zvt_bcd.specs.Digits.{AreDigits, IsDigitPair, pair_number, number_of}
-use Rattle.zvt_apdu.specs.TillMessages.{digits}
+use Rattle.zvt_apdu.specs.Briefs.{digits}
 
 pub digits-long : (k n : ℕ) → length (digits k n) ≡ k
 digits-long zero n = refl

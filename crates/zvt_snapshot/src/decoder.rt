@@ -7,7 +7,7 @@ ghost use Rattle.zvt_till.specs.declared.outcomes.Outcome.{Outcome};
 ghost use Rattle.zvt_till.specs.Restoring.{CanStand};
 ghost use Rattle.zvt_till.specs.Sending.{Settings};
 ghost use Rattle.zvt_till.specs.Till.{TillState, step};
-ghost use Rattle.zvt_apdu.specs.TillMessages.{digits};
+ghost use Rattle.zvt_apdu.specs.Briefs.{digits};
 ghost use Rattle.zvt_snapshot.specs.Decoding.{IsMade, IsLoaded, LeadsTo, OfLayout, RestsOn};
 ghost use Rattle.zvt_snapshot.specs.Reading.{HasDoubtOf, HasRowOf, IsOfLayout};
 ghost use Rattle.zvt_snapshot.specs.Encoded.{body_bytes, entry_bytes, saved, saved_first, saved_in, settings_bytes, unclear_bytes, HasNoDoubts, IsKept, IsOutcome, IsSavedAs, IsUnclear};

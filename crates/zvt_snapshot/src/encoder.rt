@@ -1,7 +1,7 @@
 //! What a till is saved in.
 ghost use Rattle.std.specs.Prelude.{◌≡◌, ◌++◌, ◌^◌, ◌<◌, ◌≤◌, length, Some, IfOk, OnOk, flat_map};
 ghost use Rattle.std.specs.List.{All};
-ghost use Rattle.zvt_apdu.specs.TillMessages.{digits};
+ghost use Rattle.zvt_apdu.specs.Briefs.{digits};
 ghost use Rattle.zvt_snapshot.specs.Encoded.{cause_code, receipt_bytes, doubt_bytes, doubt_code, entry_bytes, unclear_bytes, outcome_row, outcome_bytes, body_bytes, counts_bytes, left_book, open_rows, saved, saved_in, settings_bytes, summed, IsEntry, IsKept, IsOutcome, IsReceipt, IsUnclear};
 ghost use Rattle.zvt_till.specs.Till.{step};
 

@@ -1,7 +1,7 @@
 //! What saved bytes say. Each reader finds the value whose bytes are there; what it makes of other bytes is not said,
 //! since what was loaded is saved again and compared.
 ghost use Rattle.std.specs.Prelude.{◌≡◌, ℕ, ◌^◌, ◌<◌, ◌≤◌, List, Option, Some, IfSome, length};
-ghost use Rattle.zvt_apdu.specs.TillMessages.{digits};
+ghost use Rattle.zvt_apdu.specs.Briefs.{digits};
 ghost use Rattle.zvt_till.specs.declared.entries.Doubt.{Doubt};
 ghost use Rattle.zvt_till.specs.declared.entries.Entry.{Entry};
 ghost use Rattle.zvt_till.specs.declared.outcomes.Cause.{Cause};

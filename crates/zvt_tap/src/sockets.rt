@@ -13,7 +13,7 @@ use std::io::{self, ErrorKind, Read, Write};
 use std::net::{Net, Shutdown, TcpListener, TcpStream};
 use std::os::fd::{AsRawFd, RawFd};
 use std::time::Duration;
-use zvt_io::{Counted, GhostCount, Sink};
+use zvt_io::{GhostCount, Over, Sink};
 use zvt_trace::Direction;
 
 /// For that many seconds a side may leave so much unread that no more can be sent to it.
@@ -52,10 +52,10 @@ where
         failures: GhostCount::zero(),
     };
     let mut ends = Ends {
-        till: Counted::new(Half::of(till)),
-        terminal: Counted::new(Half::of(terminal)),
-        to_terminal: Counted::new(Half::of(terminal)),
-        to_till: Counted::new(Half::of(till)),
+        till: Over::new(Half::of(till)),
+        terminal: Over::new(Half::of(terminal)),
+        to_terminal: Over::new(Half::of(terminal)),
+        to_till: Over::new(Half::of(till)),
     };
     let tapped = tap_line(alloc, &mut line, &mut ends, log);
     let error = match tapped.ended {

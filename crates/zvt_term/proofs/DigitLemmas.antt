@@ -5,8 +5,8 @@ use Rattle.std.proofs.lemmas.Nat.{div-add-mod'}
 use Rattle.std.proofs.lemmas.List.Elements.{All-nil, All-cons, All-head, All-tail}
 use Rattle.zvt_bcd.specs.Digits.{AreDigits, IsDigitPair, pair_number, number_of}
 use Rattle.zvt_grammar.specs.Reading.{AreBytes}
-use Rattle.zvt_apdu.specs.TillMessages.{digits}
-use Rattle.zvt_apdu.proofs.TillMessageLemmas.{digits_are}
+use Rattle.zvt_apdu.specs.Briefs.{digits}
+use Rattle.zvt_apdu.proofs.BriefLemmas.{digits_are}
 
 -- digits of that count are those of their number
 pub digits_as : (count number : ℕ) (s : List ℕ) → length s ≡ count → AreDigits s → number_of s ≡ number → s ≡ digits count number

@@ -1,8 +1,8 @@
 -- Both ends by what they mean to each other, apart from how messages are spelled.
 use Rattle.std.specs.Prelude.{ℕ, ◌==◌, Bool, cond, List, [], ◌++◌, Option, Some, None, map, slice_get, option_to_list}
-use Rattle.zvt_apdu.specs.TillMessages.{digits}
-use Rattle.zvt_apdu.specs.declared.till_message.TillMessage.{TillMessage}
-use Rattle.zvt_apdu.specs.declared.till_message.TillMessage.TheVariants.{Ack as AckTillMessage, Nack as NackTillMessage, Register, Pay, Reverse, CloseDay, AbortOrder as AbortTillMessage}
+use Rattle.zvt_apdu.specs.Briefs.{digits}
+use Rattle.zvt_apdu.specs.declared.brief.Brief.{Brief}
+use Rattle.zvt_apdu.specs.declared.brief.Brief.TheVariants.{Ack as AckBrief, Nack as NackBrief, Register, Pay, Reverse, CloseDay, AbortOrder as AbortBrief}
 use Rattle.zvt_till.specs.declared.happenings.Happening.TheVariants.{Connected, Heard as HeardIn, Lost}
 use Rattle.zvt_till.specs.declared.messages.Heard.{Heard}
 use Rattle.zvt_till.specs.declared.messages.Heard.TheVariants.{Positive, Negative, Status, Passing, Completion, Abort}
@@ -54,17 +54,17 @@ heard_of Done = Completion
 heard_of (Aborted code) = Abort code
 
 -- what a message of the till is to the terminal
-abbrev pub asked_of : TillMessage → Asked
-asked_of AckTillMessage = Answer
-asked_of (NackTillMessage code) = Answer
+abbrev pub asked_of : Brief → Asked
+asked_of AckBrief = Answer
+asked_of (NackBrief code) = Answer
 asked_of (Register password config currency) = Registration (Some currency)
 asked_of (Pay amount currency) = Authorisation (Some amount) (OneCurrency currency)
 asked_of (Reverse password receipt) = Reversal (Some receipt)
 asked_of (CloseDay password) = EndOfDay
-asked_of AbortTillMessage = AbortOrder
+asked_of AbortBrief = AbortOrder
 
 abbrev pub asked_out : Option Outgoing → List Asked
-asked_out outgoing = map (λ o. asked_of o.till_message) (option_to_list outgoing)
+asked_out outgoing = map (λ o. asked_of o.brief) (option_to_list outgoing)
 
 pub record Facts : Type 0 where
   pub till : TillState

@@ -1,6 +1,6 @@
 -- What the terminal says, now or later, is true of its ledger, and so is what the till books.
 use Rattle.std.proofs.Common.{◌≡◌, ℕ, zero, suc, ◌≤◌, Bool, true, false, cond, ◌&&◌, List, [], ◌∷◌, ◌++◌, Option, Some, None, fold, map, refl, sym, ap, subst, ◌∙◌, slice_get, option_map, option_to_list}
-use Rattle.zvt_apdu.specs.declared.till_message.TillMessage.TheVariants.{Reverse as ReverseTillMessage}
+use Rattle.zvt_apdu.specs.declared.brief.Brief.TheVariants.{Reverse as ReverseBrief}
 use Rattle.zvt_till.specs.declared.happenings.Happening.TheVariants.{Heard as HeardIn, Lost}
 use Rattle.zvt_till.specs.declared.entries.Entry.{Entry}
 use Rattle.zvt_till.specs.declared.messages.CurrencyFact.{CurrencyFact}
@@ -121,7 +121,7 @@ order-named s book Register e = (ap (λ (k : Settings). Some k.currency) e, tt)
 order-named s book (Pay amount) e = (tt, tt)
 order-named s book (Reverse place) e = by_receipt (receipt_at (slice_get book place))
   where
-    by_receipt : (receipt : Option (List ℕ)) → AllNamed (asked_out (option_map (λ r. outgoing (ReverseTillMessage s.password r)) receipt))
+    by_receipt : (receipt : Option (List ℕ)) → AllNamed (asked_out (option_map (λ r. outgoing (ReverseBrief s.password r)) receipt))
     by_receipt None = tt
     by_receipt (Some r) = (tt, tt)
 order-named s book CloseDay e = (tt, tt)

@@ -1,6 +1,6 @@
 -- What the terminal says of its rows is true of its ledger.
 use Rattle.std.proofs.Common.{◌≡◌, ℕ, ◌≤◌, Bool, true, false, cond, ◌&&◌, ◌==◌, List, [], ◌∷◌, ◌++◌, length, Option, Some, None, refl, sym, ap, subst, ◌∙◌, eqb-true, arith}
-use Rattle.zvt_apdu.specs.TillMessages.{digits}
+use Rattle.zvt_apdu.specs.Briefs.{digits}
 use Rattle.zvt_bcd.specs.Digits.{is_digit_pair, number_of}
 use Rattle.std.specs.List.{list_all}
 use Rattle.zvt_till.specs.declared.outcomes.Cause.TheVariants.{AmountDiffers, NoTrace, WrongCurrency}

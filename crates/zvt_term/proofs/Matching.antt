@@ -1,6 +1,6 @@
 -- Whatever comes, comes again, comes late or never: the till's entries are approvals of the terminal's ledger.
 use Rattle.std.proofs.Common.{◌≡◌, ℕ, zero, suc, Bool, true, false, cond, List, [], ◌∷◌, ◌++◌, length, Option, Some, None, refl, subst, slice_get, slice_set, option_map}
-use Rattle.zvt_apdu.specs.TillMessages.{digits}
+use Rattle.zvt_apdu.specs.Briefs.{digits}
 use Rattle.zvt_till.specs.declared.happenings.Happening.{Happening}
 use Rattle.zvt_till.specs.declared.happenings.Happening.TheVariants.{Connected, Sent as SentOut, Heard as HeardIn, Malformed, Lost}
 use Rattle.zvt_till.specs.declared.messages.Heard.{Heard}

@@ -3,9 +3,9 @@ use Rattle.std.proofs.Common.{◌≡◌, ℕ, zero, suc, ◌≤◌, ◌==◌, Bo
 use Rattle.std.specs.List.{find}
 use Rattle.zvt_bcd.specs.Digits.{number_of}
 use Rattle.zvt_field.specs.Named.{positive}
-use Rattle.zvt_apdu.specs.TillMessages.{digits, message_of_till_message}
-use Rattle.zvt_apdu.specs.declared.till_message.TillMessage.{TillMessage}
-use Rattle.zvt_apdu.specs.declared.till_message.TillMessage.TheVariants.{Ack as AckTillMessage, Nack as NackTillMessage, Register, Pay, Reverse, CloseDay, AbortOrder as AbortTillMessage}
+use Rattle.zvt_apdu.specs.Briefs.{digits, message_of_brief}
+use Rattle.zvt_apdu.specs.declared.brief.Brief.{Brief}
+use Rattle.zvt_apdu.specs.declared.brief.Brief.TheVariants.{Ack as AckBrief, Nack as NackBrief, Register, Pay, Reverse, CloseDay, AbortOrder as AbortBrief}
 use Rattle.zvt_till.specs.declared.messages.Heard.{Heard}
 use Rattle.zvt_till.specs.declared.messages.Heard.TheVariants.{Positive, Negative, Status, Passing, Completion, Abort, Strange}
 use Rattle.zvt_till.specs.declared.messages.Original.{Original}
@@ -154,44 +154,44 @@ pub heard-reports : (reports : List Report) → AreWritable reports → FitRepor
 heard-reports [] w f = refl
 heard-reports (report ∷ reports) w f = ap₂ (λ x xs. x ∷ xs) (heard-report report w.0 f.0) (heard-reports reports w.1 f.1)
 
-abbrev FitTillMessage : TillMessage → Type 0
-FitTillMessage AckTillMessage = Unit {0}
-FitTillMessage (NackTillMessage code) = Unit {0}
-FitTillMessage (Register password config currency) = currency ≤ 9999
-FitTillMessage (Pay amount currency) = IsAmount amount × (currency ≤ 9999)
-FitTillMessage (Reverse password receipt) = Unit {0}
-FitTillMessage (CloseDay password) = Unit {0}
-FitTillMessage AbortTillMessage = Unit {0}
+abbrev FitBrief : Brief → Type 0
+FitBrief AckBrief = Unit {0}
+FitBrief (NackBrief code) = Unit {0}
+FitBrief (Register password config currency) = currency ≤ 9999
+FitBrief (Pay amount currency) = IsAmount amount × (currency ≤ 9999)
+FitBrief (Reverse password receipt) = Unit {0}
+FitBrief (CloseDay password) = Unit {0}
+FitBrief AbortBrief = Unit {0}
 
 abbrev pub FitOut : Option Outgoing → Type 0
 FitOut None = Unit {0}
-FitOut (Some out) = FitTillMessage out.till_message
+FitOut (Some out) = FitBrief out.brief
 
-asked-till_message : (till_message : TillMessage) → FitTillMessage till_message → asked_as (message_of_till_message till_message) ≡ asked_of till_message
-asked-till_message AckTillMessage f = refl
-asked-till_message (NackTillMessage code) f = refl
-asked-till_message (Register password config currency) f = refl
-asked-till_message (Pay amount currency) f = ap₂ (λ (a : Option ℕ) (c : ℕ). Authorisation a (OneCurrency c)) (amount-read amount f.0) (currency-read currency f.1)
-asked-till_message (Reverse password receipt) f = refl
-asked-till_message (CloseDay password) f = refl
-asked-till_message AbortTillMessage f = refl
+asked-brief : (brief : Brief) → FitBrief brief → asked_as (message_of_brief brief) ≡ asked_of brief
+asked-brief AckBrief f = refl
+asked-brief (NackBrief code) f = refl
+asked-brief (Register password config currency) f = refl
+asked-brief (Pay amount currency) f = ap₂ (λ (a : Option ℕ) (c : ℕ). Authorisation a (OneCurrency c)) (amount-read amount f.0) (currency-read currency f.1)
+asked-brief (Reverse password receipt) f = refl
+asked-brief (CloseDay password) f = refl
+asked-brief AbortBrief f = refl
 
 pub asked-out : (out : Option Outgoing) → FitOut out → map asked_as (sent_out out) ≡ asked_out out
 asked-out None f = refl
-asked-out (Some out) f = ap (λ m. m ∷ []) (asked-till_message out.till_message f)
+asked-out (Some out) f = ap (λ m. m ∷ []) (asked-brief out.brief f)
 
-asked-fit : (till_message : TillMessage) → FitTillMessage till_message → FitAsked (asked_of till_message)
-asked-fit AckTillMessage f = tt
-asked-fit (NackTillMessage code) f = tt
+asked-fit : (brief : Brief) → FitBrief brief → FitAsked (asked_of brief)
+asked-fit AckBrief f = tt
+asked-fit (NackBrief code) f = tt
 asked-fit (Register password config currency) f = f
 asked-fit (Pay amount currency) f = f.0
 asked-fit (Reverse password receipt) f = tt
 asked-fit (CloseDay password) f = tt
-asked-fit AbortTillMessage f = tt
+asked-fit AbortBrief f = tt
 
 pub out-fit : (out : Option Outgoing) → FitOut out → AllAsked (asked_out out)
 out-fit None f = tt
-out-fit (Some out) f = (asked-fit out.till_message f, tt)
+out-fit (Some out) f = (asked-fit out.brief f, tt)
 
 pub order-fit : (s : Settings) (book : List Entry) (o : Order) → s.currency ≤ 9999 → FitOrder o → FitOut (message_of s book o)
 order-fit s book RegisterOrder c f = c

@@ -1,7 +1,7 @@
 -- What the till hears, loses and orders leaves each payment that was taken back known to it, or its reversal runs.
 use Rattle.std.proofs.Common.{◌≡◌, ℕ, zero, suc, ◌⊎◌, inl, inr, Bool, true, false, not, cond, ◌||◌, ◌==◌, List, [], ◌∷◌, ◌++◌, Option, Some, None, IsTrue, refl, sym, ap, subst, ◌∙◌, append-nil, slice_get, slice_set, option_map}
-use Rattle.zvt_apdu.specs.TillMessages.{digits}
-use Rattle.zvt_apdu.specs.declared.till_message.TillMessage.TheVariants.{Reverse}
+use Rattle.zvt_apdu.specs.Briefs.{digits}
+use Rattle.zvt_apdu.specs.declared.brief.Brief.TheVariants.{Reverse}
 use Rattle.zvt_till.specs.declared.happenings.Happening.{Happening}
 use Rattle.zvt_till.specs.declared.happenings.Happening.TheVariants.{Connected, Heard as HeardIn, Lost}
 use Rattle.zvt_till.specs.declared.messages.Heard.{Heard}

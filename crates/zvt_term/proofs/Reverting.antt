@@ -1,7 +1,7 @@
 -- What the terminal takes back the till will be told of.
 use Rattle.std.proofs.Common.{◌≡◌, ℕ, zero, suc, ◌≤◌, ◌⊎◌, inl, inr, Bool, true, false, cond, ◌==◌, List, [], ◌∷◌, ◌++◌, Option, Some, None, refl, sym, subst, ◌∙◌, append-nil, slice_get, eqb-true, option_to_list, arith}
 use Rattle.std.specs.List.{find, list_all}
-use Rattle.zvt_apdu.specs.TillMessages.{digits}
+use Rattle.zvt_apdu.specs.Briefs.{digits}
 use Rattle.zvt_bcd.specs.Digits.{is_digit_pair, number_of}
 use Rattle.zvt_till.specs.declared.entries.Entry.{Entry}
 use Rattle.zvt_till.specs.declared.messages.CurrencyFact.{CurrencyFact}

@@ -8,7 +8,7 @@ use Rattle.zvt_field.specs.declared.shapes.Shape.{Shape}
 use Rattle.zvt_field.specs.declared.shapes.Shape.TheVariants.{Fixed, Digits}
 use Rattle.zvt_apdu.specs.Message.{Message, status, completion, print_line}
 use Rattle.zvt_apdu.specs.Grammar.{IsControl, Data}
-use Rattle.zvt_apdu.specs.TillMessages.{digits, PutsMessage}
+use Rattle.zvt_apdu.specs.Briefs.{digits, PutsMessage}
 use Rattle.zvt_term.specs.declared.messages.Report.TheVariants.{Registered, Approved, TakenBack}
 use Rattle.zvt_term.specs.Reports.{currency_field, message_of_report}
 use Rattle.zvt_term.proofs.DigitLemmas.{length-digits, are-digits, three-digits, bytes_of}

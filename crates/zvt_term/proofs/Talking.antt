@@ -15,7 +15,7 @@ use Rattle.zvt_till.specs.declared.outcomes.Cause.{Cause}
 use Rattle.zvt_till.specs.declared.orders.Order.{Order}
 use Rattle.zvt_till.specs.declared.orders.Order.TheVariants.{Register as RegisterOrder, Pay as PayOrder, Reverse as ReverseOrder, CloseDay as CloseDayOrder, Cancel as CancelOrder}
 use Rattle.zvt_till.specs.declared.orders.OrderRefusal.TheVariants.{AlreadyReversed, NoReceipt}
-use Rattle.zvt_apdu.specs.declared.till_message.TillMessage.TheVariants.{Reverse}
+use Rattle.zvt_apdu.specs.declared.brief.Brief.TheVariants.{Reverse}
 use Rattle.zvt_till.specs.declared.outcomes.Outcome.{Outcome}
 use Rattle.zvt_till.specs.Segments.{ends}
 use Rattle.zvt_till.specs.Outcomes.{charged, demand_of, note, outcome_by, listened}

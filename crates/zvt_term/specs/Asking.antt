@@ -2,15 +2,14 @@
 use Rattle.std.specs.Prelude.{ℕ, Option, Some, None, List}
 use Rattle.zvt_field.specs.Grammar.{Field}
 use Rattle.zvt_field.specs.Named.{amount_of, receipt_of}
-use Rattle.zvt_apdu.specs.declared.messages.Rest.{Rest}
 use Rattle.zvt_apdu.specs.Message.{Message, ack, nack, registration, authorisation, reversal, end_of_day, abort_order, status, intermediate, print_line, text_block, completion, abort, other}
 use Rattle.zvt_till.specs.Hearing.{currency_in as currency_fact}
 use Rattle.zvt_term.specs.declared.messages.Asked.{Asked}
 use Rattle.zvt_term.specs.declared.messages.Asked.TheVariants.{Registration, Authorisation, Reversal, EndOfDay, AbortOrder, Answer, Unknown}
 
-abbrev pub currency_in : Option Rest → Option ℕ
+abbrev pub currency_in : Option (ℕ × List Field) → Option ℕ
 currency_in None = None
-currency_in (Some rest) = Some rest.currency
+currency_in (Some rest) = Some rest.0
 
 -- the same of a registration's value
 abbrev pub currency_named : Option (ℕ × List Field) → Option ℕ

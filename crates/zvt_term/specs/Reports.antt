@@ -2,7 +2,7 @@
 use Rattle.std.specs.Prelude.{ℕ, ◌≤◌, Option, Some, None, List, [], ◌∷◌, ◌++◌, codes}
 use Rattle.std.specs.Fmt.{decimal}
 use Rattle.zvt_field.specs.Grammar.{Field, plain}
-use Rattle.zvt_apdu.specs.TillMessages.{digits}
+use Rattle.zvt_apdu.specs.Briefs.{digits}
 use Rattle.zvt_apdu.specs.Message.{Message, ack, nack, status, print_line, completion, abort}
 use Rattle.zvt_term.specs.declared.messages.Line as printed
 use Rattle.zvt_term.specs.declared.messages.Line.TheVariants.{Approved as ApprovedLine, Reversed as ReversedLine, DayClosed}

@@ -2,7 +2,7 @@
 use Rattle.std.specs.Prelude.{◌≡◌, ℕ, ◌≤◌, true, cond, nat_eq, List, [], ◌∷◌, ◌++◌, Option, Some, None, fold, map, slice_get, option_to_list}
 use Rattle.std.specs.List.{IsDistinct}
 use Rattle.zvt_apdu.specs.Message.{Message}
-use Rattle.zvt_apdu.specs.TillMessages.{digits, message_of_till_message}
+use Rattle.zvt_apdu.specs.Briefs.{digits, message_of_brief}
 use Rattle.zvt_till.specs.declared.entries.Entry.{Entry}
 use Rattle.zvt_till.specs.declared.happenings.Happening.TheVariants.{Connected, Heard as HeardIn, Lost}
 use Rattle.zvt_till.specs.declared.orders.Order.{Order}
@@ -35,7 +35,7 @@ new_ends = record { till = new_till run_settings; terminal = new_terminal 123456
 
 -- what the till sends, if anything
 abbrev pub sent_out : Option Outgoing → List Message
-sent_out outgoing = map (λ o. message_of_till_message o.till_message) (option_to_list outgoing)
+sent_out outgoing = map (λ o. message_of_brief o.brief) (option_to_list outgoing)
 
 -- a refused order does nothing
 abbrev pub orders : Ends → Order → Option OrderRefusal → Ends

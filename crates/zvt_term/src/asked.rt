@@ -3,18 +3,17 @@ ghost use Rattle.std.specs.Prelude.{◌≡◌};
 ghost use Rattle.zvt_term.specs.Asking.{asked_as, authorised, currency_in};
 
 use crate::messages::Asked;
-use zvt_apdu::{Apdu, ApduView, Kind, Message, Rest};
+use zvt_apdu::{Apdu, ApduView, Kind, Message};
 use zvt_bcd::Currency;
 use zvt_field::{Fields, FieldsView};
-use zvt_till::heard;
 
 /// The currency of a registration.
-fn currency_in(rest: &Option<Rest>) -> Option<Currency>
+fn currency_in(rest: &Option<(Currency, Fields)>) -> Option<Currency>
     ensures { result ≡ currency_in rest.now }
 {
     match rest {
         None => None,
-        Some(rest) => Some(rest.currency),
+        Some(rest) => Some(rest.0),
     }
 }
 
@@ -22,14 +21,14 @@ fn currency_in(rest: &Option<Rest>) -> Option<Currency>
 fn authorised(fields: &Fields) -> Asked
     ensures { result ≡ authorised fields.now }
 {
-    Asked::Authorisation(zvt_field::amount(fields), heard::currency_in(fields))
+    Asked::Authorisation(zvt_field::amount(fields), zvt_till::currency_in(fields))
 }
 
 /// The authorisation that the fields of a view ask for.
 fn authorised_view(fields: &FieldsView<'_>) -> Asked
     ensures { result ≡ authorised fields.now }
 {
-    Asked::Authorisation(fields.amount(), heard::currency_shown(fields))
+    Asked::Authorisation(fields.amount(), zvt_till::currency_shown(fields))
 }
 
 /// What the message asks.

@@ -17,8 +17,7 @@ use crate::turns::Verdict;
 use crate::writer::report_message;
 use std::alloc::{AllocError, Global};
 use zvt_apdu::Apdu;
-use zvt_till::heard::heard;
-use zvt_till::{Order, OrderRefusal, Outgoing, Till};
+use zvt_till::{Order, OrderRefusal, Outgoing, Till, heard};
 
 /// What happens to the two ends. A delivery names a message by its number among all that the other end ever sent,
 /// counted from 0: it may come late, again, or never.

@@ -4,7 +4,7 @@ ghost use Rattle.std.specs.Fmt.{decimal};
 ghost use Rattle.zvt_grammar.specs.Reading.{AreBytes};
 ghost use Rattle.zvt_tlv.specs.Sizes.{Puts};
 ghost use Rattle.zvt_apdu.specs.Message.{print_line};
-ghost use Rattle.zvt_apdu.specs.TillMessages.{digits, PutsMessage};
+ghost use Rattle.zvt_apdu.specs.Briefs.{digits, PutsMessage};
 ghost use Rattle.zvt_term.specs.Reports.{IsWritable, currency_field, message_of_report, text_of};
 
 use crate::messages::{Line, Report};

@@ -13,7 +13,7 @@ use Rattle.zvt_json.specs.declared.form.Form.TheVariants as form
 use Rattle.zvt_trace.specs.declared.listener.Scope.{Scope}
 use Rattle.zvt_trace.specs.declared.listener.Scope.TheVariants.{OneMessage, OneSide}
 use Rattle.zvt_tool.specs.declared.command.Command.{Command}
-use Rattle.zvt_tool.specs.declared.command.Command.TheVariants.{OnTraces, Book, CheckTerminal, CheckTill, Loop, Play, Tap, Till, Terminal}
+use Rattle.zvt_tool.specs.declared.command.Command.TheVariants.{OnTraces, Book, Records, CheckTerminal, CheckTill, Loop, Play, Tap, Till, Terminal}
 use Rattle.zvt_tool.specs.declared.command.TraceCommand.{TraceCommand}
 use Rattle.zvt_tool.specs.declared.command.TraceWork.{TraceWork}
 use Rattle.zvt_tool.specs.declared.command.TraceWork.TheVariants.{Render, Audit, Vectors}
@@ -62,7 +62,7 @@ chosen_on_trace (choice.Normalise options) = working (Render Join) Padded option
 chosen_on_trace (choice.Audit options) = working (Audit (form_by options.json)) (lengths_by options.loose) options
 chosen_on_trace (choice.Receipts options) = working (Render (style_by Receipts JsonReceipts options.json)) (lengths_by options.loose) options
 chosen_on_trace (choice.Vectors options) = working (Vectors (form_by options.json)) Shortest options
-chosen_on_trace (choice.Book file objects) = None
+chosen_on_trace (choice.Book file objects records) = None
 chosen_on_trace (choice.Loop trace book check objects steps) = None
 chosen_on_trace (choice.Till options) = None
 chosen_on_trace (choice.Terminal options) = None
@@ -74,6 +74,7 @@ chosen_on_trace (choice.CheckTerminal options) = None
 abbrev pub on_trace : Command → Option TraceCommand
 on_trace (OnTraces command files) = Some command
 on_trace (Book file written) = None
+on_trace (Records file) = None
 on_trace (Loop options) = None
 on_trace (Till options) = None
 on_trace (Terminal options) = None
@@ -86,6 +87,7 @@ on_trace (CheckTerminal options) = None
 abbrev pub HasTerminalNumber : Command → Type 0
 HasTerminalNumber (OnTraces command files) = Unit {0}
 HasTerminalNumber (Book file written) = Unit {0}
+HasTerminalNumber (Records file) = Unit {0}
 HasTerminalNumber (Loop options) = Unit {0}
 HasTerminalNumber (Till options) = Unit {0}
 HasTerminalNumber (Terminal options) = options.now.tid ≤ 99999999

@@ -3,3 +3,4 @@ pub mod Commands
 pub mod OnTrace
 pub mod Labels
 pub mod Verdicts
+pub mod Faults

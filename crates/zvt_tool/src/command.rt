@@ -77,6 +77,8 @@ pub enum Command<'a> {
     OnTraces(TraceCommand, &'a [&'a str]),
     /// What a book has, by its file, in this form.
     Book(&'a str, Form),
+    /// The records of a book, by its file.
+    Records(&'a str),
     Loop(LoopOptions<'a>),
     Till(&'a TillOptions<'a>),
     Terminal(&'a TerminalOptions<'a>),
@@ -162,7 +164,12 @@ pub fn command_of<'a>(chosen: &'a Choice<'a>) -> Command<'a>
             let work = TraceWork::Vectors(form_by(options.json));
             working(work, Lengths::Shortest, options)
         }
-        Choice::Book { file, json } => Command::Book(file, form_by(*json)),
+        Choice::Book {
+            file,
+            records: true,
+            ..
+        } => Command::Records(file),
+        Choice::Book { file, json, .. } => Command::Book(file, form_by(*json)),
         Choice::Loop {
             trace,
             book,

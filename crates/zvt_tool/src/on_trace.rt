@@ -6,7 +6,7 @@ ghost use Rattle.zvt_tool.specs.OnTrace.{AnswersOnTrace, FollowsTrace, tally_of}
 use crate::command::{TraceCommand, TraceWork};
 use std::alloc::Global;
 use zvt_audit::{AuditSummary, audit_trace, follow_audit};
-use zvt_io::{Counted, Sink, Source};
+use zvt_io::{Over, Sink, Source};
 use zvt_show::{follow_trace, render_trace};
 use zvt_trace::{Tally, TraceFault};
 use zvt_vectors::vectors;
@@ -29,7 +29,7 @@ pub fn work_on_trace<W: Sink>(
             found(render_trace(alloc, style, scope, lengths, trace, writer))
         }
         TraceWork::Audit(form) => audit_trace(alloc, form, lengths, trace, writer),
-        TraceWork::Vectors(form) => found(vectors(alloc, form, &mut Counted::new(trace), writer)),
+        TraceWork::Vectors(form) => found(vectors(alloc, form, &mut Over::new(trace), writer)),
     }
 }
 

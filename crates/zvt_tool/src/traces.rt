@@ -1,11 +1,15 @@
 //! The commands on the trace that a reader brings.
-ghost use Rattle.std.specs.Prelude.{◌≡◌, ◌<◌, Err, IfSome};
+ghost use Rattle.std.specs.Prelude.{◌≡◌, ◌+◌, ◌<◌, ◌≤◌, ℕ, List, length, Err, IfSome};
+ghost use Rattle.std.specs.Io.KnownBytes.{Consumes};
 ghost use Rattle.zvt_grammar.specs.Lengths.{reading_of};
-ghost use Rattle.zvt_grammar.specs.Reading.{padded};
-ghost use Rattle.zvt_audit.specs.Audited.{AnswersAudit, AnswersAuditBy};
-ghost use Rattle.zvt_show.specs.Written.{AnswersTrace, AnswersTraceBy};
+ghost use Rattle.zvt_grammar.specs.Reading.{padded, shortest};
+ghost use Rattle.zvt_audit.specs.Audited.{AnswersAuditBy};
+ghost use Rattle.zvt_show.specs.Written.{AnswersTraceBy};
+ghost use Rattle.zvt_tool.specs.Faults.{Audits, Checks, Renders};
+ghost use Rattle.zvt_trace.specs.Written.{limit};
 ghost use Rattle.zvt_show.specs.declared.render.Style.TheVariants.{Join, Receipts, Show};
 
+use crate::fault::{ToolFault, in_trace};
 use std::alloc::Global;
 use zvt_audit::audit_trace;
 use zvt_grammar::Lengths;
@@ -20,10 +24,11 @@ pub fn show<R: Source, W: Sink>(
     alloc: Global,
     reader: &mut R,
     writer: &mut W,
-) -> Result<Tally, TraceFault>
-    ensures writes { IfSome (R.remaining reader.old) (λ trace. AnswersTrace Show trace (W.written writer.old) (W.written writer.new) result) }
-    ensures read { result ≡ Err TraceFault.Read → R.failures reader.old < R.failures reader.new }
-    ensures write { result ≡ Err TraceFault.Write → W.failures writer.old < W.failures writer.new }
+) -> Result<Tally, ToolFault>
+    ensures taken { (taken : List ℕ) × (length taken ≤ limit + 1) × Consumes (R.remaining reader.old) (R.remaining reader.new) taken }
+    ensures writes { IfSome (R.remaining reader.old) (λ trace. Renders shortest Show trace (W.written writer.old) (W.written writer.new) result) }
+    ensures read { result ≡ Err ToolFault.Read → R.failures reader.old < R.failures reader.new }
+    ensures write { result ≡ Err ToolFault.Write → W.failures writer.old < W.failures writer.new }
 {
     read_and_render(alloc, Style::Show, Lengths::Shortest, reader, writer)
 }
@@ -33,10 +38,11 @@ pub fn join<R: Source, W: Sink>(
     alloc: Global,
     reader: &mut R,
     writer: &mut W,
-) -> Result<Tally, TraceFault>
-    ensures writes { IfSome (R.remaining reader.old) (λ trace. AnswersTrace Join trace (W.written writer.old) (W.written writer.new) result) }
-    ensures read { result ≡ Err TraceFault.Read → R.failures reader.old < R.failures reader.new }
-    ensures write { result ≡ Err TraceFault.Write → W.failures writer.old < W.failures writer.new }
+) -> Result<Tally, ToolFault>
+    ensures taken { (taken : List ℕ) × (length taken ≤ limit + 1) × Consumes (R.remaining reader.old) (R.remaining reader.new) taken }
+    ensures writes { IfSome (R.remaining reader.old) (λ trace. Renders shortest Join trace (W.written writer.old) (W.written writer.new) result) }
+    ensures read { result ≡ Err ToolFault.Read → R.failures reader.old < R.failures reader.new }
+    ensures write { result ≡ Err ToolFault.Write → W.failures writer.old < W.failures writer.new }
 {
     read_and_render(alloc, Style::Join, Lengths::Shortest, reader, writer)
 }
@@ -47,10 +53,11 @@ pub fn receipts<R: Source, W: Sink>(
     alloc: Global,
     reader: &mut R,
     writer: &mut W,
-) -> Result<Tally, TraceFault>
-    ensures writes { IfSome (R.remaining reader.old) (λ trace. AnswersTrace Receipts trace (W.written writer.old) (W.written writer.new) result) }
-    ensures read { result ≡ Err TraceFault.Read → R.failures reader.old < R.failures reader.new }
-    ensures write { result ≡ Err TraceFault.Write → W.failures writer.old < W.failures writer.new }
+) -> Result<Tally, ToolFault>
+    ensures taken { (taken : List ℕ) × (length taken ≤ limit + 1) × Consumes (R.remaining reader.old) (R.remaining reader.new) taken }
+    ensures writes { IfSome (R.remaining reader.old) (λ trace. Renders shortest Receipts trace (W.written writer.old) (W.written writer.new) result) }
+    ensures read { result ≡ Err ToolFault.Read → R.failures reader.old < R.failures reader.new }
+    ensures write { result ≡ Err ToolFault.Write → W.failures writer.old < W.failures writer.new }
 {
     read_and_render(alloc, Style::Receipts, Lengths::Shortest, reader, writer)
 }
@@ -60,10 +67,11 @@ pub fn show_loose<R: Source, W: Sink>(
     alloc: Global,
     reader: &mut R,
     writer: &mut W,
-) -> Result<Tally, TraceFault>
-    ensures writes { IfSome (R.remaining reader.old) (λ trace. AnswersTraceBy padded Show trace (W.written writer.old) (W.written writer.new) result) }
-    ensures read { result ≡ Err TraceFault.Read → R.failures reader.old < R.failures reader.new }
-    ensures write { result ≡ Err TraceFault.Write → W.failures writer.old < W.failures writer.new }
+) -> Result<Tally, ToolFault>
+    ensures taken { (taken : List ℕ) × (length taken ≤ limit + 1) × Consumes (R.remaining reader.old) (R.remaining reader.new) taken }
+    ensures writes { IfSome (R.remaining reader.old) (λ trace. Renders padded Show trace (W.written writer.old) (W.written writer.new) result) }
+    ensures read { result ≡ Err ToolFault.Read → R.failures reader.old < R.failures reader.new }
+    ensures write { result ≡ Err ToolFault.Write → W.failures writer.old < W.failures writer.new }
 {
     read_and_render(alloc, Style::Show, Lengths::Padded, reader, writer)
 }
@@ -74,10 +82,11 @@ pub fn normalise_trace<R: Source, W: Sink>(
     alloc: Global,
     reader: &mut R,
     writer: &mut W,
-) -> Result<Tally, TraceFault>
-    ensures writes { IfSome (R.remaining reader.old) (λ trace. AnswersTraceBy padded Join trace (W.written writer.old) (W.written writer.new) result) }
-    ensures read { result ≡ Err TraceFault.Read → R.failures reader.old < R.failures reader.new }
-    ensures write { result ≡ Err TraceFault.Write → W.failures writer.old < W.failures writer.new }
+) -> Result<Tally, ToolFault>
+    ensures taken { (taken : List ℕ) × (length taken ≤ limit + 1) × Consumes (R.remaining reader.old) (R.remaining reader.new) taken }
+    ensures writes { IfSome (R.remaining reader.old) (λ trace. Renders padded Join trace (W.written writer.old) (W.written writer.new) result) }
+    ensures read { result ≡ Err ToolFault.Read → R.failures reader.old < R.failures reader.new }
+    ensures write { result ≡ Err ToolFault.Write → W.failures writer.old < W.failures writer.new }
 {
     read_and_render(alloc, Style::Join, Lengths::Padded, reader, writer)
 }
@@ -87,10 +96,11 @@ pub fn receipts_loose<R: Source, W: Sink>(
     alloc: Global,
     reader: &mut R,
     writer: &mut W,
-) -> Result<Tally, TraceFault>
-    ensures writes { IfSome (R.remaining reader.old) (λ trace. AnswersTraceBy padded Receipts trace (W.written writer.old) (W.written writer.new) result) }
-    ensures read { result ≡ Err TraceFault.Read → R.failures reader.old < R.failures reader.new }
-    ensures write { result ≡ Err TraceFault.Write → W.failures writer.old < W.failures writer.new }
+) -> Result<Tally, ToolFault>
+    ensures taken { (taken : List ℕ) × (length taken ≤ limit + 1) × Consumes (R.remaining reader.old) (R.remaining reader.new) taken }
+    ensures writes { IfSome (R.remaining reader.old) (λ trace. Renders padded Receipts trace (W.written writer.old) (W.written writer.new) result) }
+    ensures read { result ≡ Err ToolFault.Read → R.failures reader.old < R.failures reader.new }
+    ensures write { result ≡ Err ToolFault.Write → W.failures writer.old < W.failures writer.new }
 {
     read_and_render(alloc, Style::Receipts, Lengths::Padded, reader, writer)
 }
@@ -100,10 +110,11 @@ pub fn audit<R: Source, W: Sink>(
     alloc: Global,
     reader: &mut R,
     writer: &mut W,
-) -> Result<Tally, TraceFault>
-    ensures writes { IfSome (R.remaining reader.old) (λ trace. AnswersAudit trace (W.written writer.old) (W.written writer.new) result) }
-    ensures read { result ≡ Err TraceFault.Read → R.failures reader.old < R.failures reader.new }
-    ensures write { result ≡ Err TraceFault.Write → W.failures writer.old < W.failures writer.new }
+) -> Result<Tally, ToolFault>
+    ensures taken { (taken : List ℕ) × (length taken ≤ limit + 1) × Consumes (R.remaining reader.old) (R.remaining reader.new) taken }
+    ensures writes { IfSome (R.remaining reader.old) (λ trace. Audits shortest trace (W.written writer.old) (W.written writer.new) result) }
+    ensures read { result ≡ Err ToolFault.Read → R.failures reader.old < R.failures reader.new }
+    ensures write { result ≡ Err ToolFault.Write → W.failures writer.old < W.failures writer.new }
 {
     read_and_audit(alloc, Lengths::Shortest, reader, writer)
 }
@@ -113,12 +124,28 @@ pub fn audit_loose<R: Source, W: Sink>(
     alloc: Global,
     reader: &mut R,
     writer: &mut W,
-) -> Result<Tally, TraceFault>
-    ensures writes { IfSome (R.remaining reader.old) (λ trace. AnswersAuditBy padded trace (W.written writer.old) (W.written writer.new) result) }
-    ensures read { result ≡ Err TraceFault.Read → R.failures reader.old < R.failures reader.new }
-    ensures write { result ≡ Err TraceFault.Write → W.failures writer.old < W.failures writer.new }
+) -> Result<Tally, ToolFault>
+    ensures taken { (taken : List ℕ) × (length taken ≤ limit + 1) × Consumes (R.remaining reader.old) (R.remaining reader.new) taken }
+    ensures writes { IfSome (R.remaining reader.old) (λ trace. Audits padded trace (W.written writer.old) (W.written writer.new) result) }
+    ensures read { result ≡ Err ToolFault.Read → R.failures reader.old < R.failures reader.new }
+    ensures write { result ≡ Err ToolFault.Write → W.failures writer.old < W.failures writer.new }
 {
     read_and_audit(alloc, Lengths::Padded, reader, writer)
+}
+
+/// Checks the vectors that the reader brings, as [`zvt_vectors::vectors`] does, and writes a line of text for each that the
+/// reader of messages answers otherwise. `messages` of the tally counts the vectors.
+pub fn vectors<R: Source, W: Sink>(
+    alloc: Global,
+    reader: &mut R,
+    writer: &mut W,
+) -> Result<Tally, ToolFault>
+    ensures taken { (taken : List ℕ) × (length taken ≤ limit + 1) × Consumes (R.remaining reader.old) (R.remaining reader.new) taken }
+    ensures writes { IfSome (R.remaining reader.old) (λ text. Checks text (W.written writer.old) (W.written writer.new) result) }
+    ensures read { result ≡ Err ToolFault.Read → R.failures reader.old < R.failures reader.new }
+    ensures write { result ≡ Err ToolFault.Write → W.failures writer.old < W.failures writer.new }
+{
+    in_trace(zvt_vectors::vectors(alloc, Form::Text, reader, writer))
 }
 
 /// Reads a trace, and writes its text in this style.
@@ -128,7 +155,39 @@ fn read_and_render<R: Source, W: Sink>(
     lengths: Lengths,
     reader: &mut R,
     writer: &mut W,
+) -> Result<Tally, ToolFault>
+    ensures taken { (taken : List ℕ) × (length taken ≤ limit + 1) × Consumes (R.remaining reader.old) (R.remaining reader.new) taken }
+    ensures writes { IfSome (R.remaining reader.old) (λ trace. Renders (reading_of lengths) style trace (W.written writer.old) (W.written writer.new) result) }
+    ensures read { result ≡ Err ToolFault.Read → R.failures reader.old < R.failures reader.new }
+    ensures write { result ≡ Err ToolFault.Write → W.failures writer.old < W.failures writer.new }
+{
+    in_trace(render_read(alloc, style, lengths, reader, writer))
+}
+
+/// Reads a trace, and writes its books.
+fn read_and_audit<R: Source, W: Sink>(
+    alloc: Global,
+    lengths: Lengths,
+    reader: &mut R,
+    writer: &mut W,
+) -> Result<Tally, ToolFault>
+    ensures taken { (taken : List ℕ) × (length taken ≤ limit + 1) × Consumes (R.remaining reader.old) (R.remaining reader.new) taken }
+    ensures writes { IfSome (R.remaining reader.old) (λ trace. Audits (reading_of lengths) trace (W.written writer.old) (W.written writer.new) result) }
+    ensures read { result ≡ Err ToolFault.Read → R.failures reader.old < R.failures reader.new }
+    ensures write { result ≡ Err ToolFault.Write → W.failures writer.old < W.failures writer.new }
+{
+    in_trace(audit_read(alloc, lengths, reader, writer))
+}
+
+/// Reads a trace, and writes its text in this style.
+fn render_read<R: Source, W: Sink>(
+    alloc: Global,
+    style: Style,
+    lengths: Lengths,
+    reader: &mut R,
+    writer: &mut W,
 ) -> Result<Tally, TraceFault>
+    ensures taken { (taken : List ℕ) × (length taken ≤ limit + 1) × Consumes (R.remaining reader.old) (R.remaining reader.new) taken }
     ensures writes { IfSome (R.remaining reader.old) (λ trace. AnswersTraceBy (reading_of lengths) style trace (W.written writer.old) (W.written writer.new) result) }
     ensures read { result ≡ Err TraceFault.Read → R.failures reader.old < R.failures reader.new }
     ensures write { result ≡ Err TraceFault.Write → W.failures writer.old < W.failures writer.new }
@@ -145,12 +204,13 @@ fn read_and_render<R: Source, W: Sink>(
 }
 
 /// Reads a trace, and writes its books.
-fn read_and_audit<R: Source, W: Sink>(
+fn audit_read<R: Source, W: Sink>(
     alloc: Global,
     lengths: Lengths,
     reader: &mut R,
     writer: &mut W,
 ) -> Result<Tally, TraceFault>
+    ensures taken { (taken : List ℕ) × (length taken ≤ limit + 1) × Consumes (R.remaining reader.old) (R.remaining reader.new) taken }
     ensures writes { IfSome (R.remaining reader.old) (λ trace. AnswersAuditBy (reading_of lengths) trace (W.written writer.old) (W.written writer.new) result) }
     ensures read { result ≡ Err TraceFault.Read → R.failures reader.old < R.failures reader.new }
     ensures write { result ≡ Err TraceFault.Write → W.failures writer.old < W.failures writer.new }

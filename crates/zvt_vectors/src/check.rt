@@ -1,5 +1,6 @@
 //! A whole file of vectors.
-ghost use Rattle.std.specs.Prelude.{◌≡◌, ◌<◌, ◌≤◌, length, Err, IfOk, IfSome};
+ghost use Rattle.std.specs.Prelude.{◌≡◌, ◌+◌, ◌<◌, ◌≤◌, ℕ, List, length, Err, IfOk, IfSome};
+ghost use Rattle.std.specs.Io.KnownBytes.{Consumes};
 ghost use Rattle.std.specs.Str.Lines.{lines};
 ghost use Rattle.zvt_trace.specs.Written.{limit};
 ghost use Rattle.zvt_vectors.specs.Checked.{AnswersLines, AnswersVectors, ChecksLine, ChecksVector};
@@ -24,6 +25,7 @@ pub fn vectors<R: Source, W: Sink>(
     reader: &mut R,
     writer: &mut W,
 ) -> Result<Tally, TraceFault>
+    ensures taken { (taken : List ℕ) × (length taken ≤ limit + 1) × Consumes (R.remaining reader.old) (R.remaining reader.new) taken }
     ensures writes { IfSome (R.remaining reader.old) (λ text. AnswersVectors form text (W.written writer.old) (W.written writer.new) result) }
     ensures read { result ≡ Err TraceFault.Read → R.failures reader.old < R.failures reader.new }
     ensures write { result ≡ Err TraceFault.Write → W.failures writer.old < W.failures writer.new }

@@ -1,5 +1,5 @@
 use Rattle.std.proofs.Common.{ℕ, ◌<◌, ◌^◌, sym, ap, length, ◌∙◌, arith}
-use Rattle.zvt_apdu.specs.TillMessages.{digits}
+use Rattle.zvt_apdu.specs.Briefs.{digits}
 use Rattle.zvt_snapshot.proofs.Numbers.{none-some, some-same}
 use Rattle.zvt_snapshot.proofs.decoder.booked_of.Goals as goal
 

@@ -1,6 +1,6 @@
 use Rattle.std.proofs.Common.{◌≡◌, ℕ, ◌∙◌, ap₂, length, rules}
-use Rattle.zvt_apdu.specs.TillMessages.{digits}
-use Rattle.zvt_apdu.proofs.TillMessageLemmas.{digits_are}
+use Rattle.zvt_apdu.specs.Briefs.{digits}
+use Rattle.zvt_apdu.proofs.BriefLemmas.{digits_are}
 use Rattle.zvt_snapshot.proofs.encoder.put_number.Goals as goal
 
 pub returns : goal.returns

@@ -1,7 +1,7 @@
 use Rattle.std.proofs.Common.{sym, subst}
 use Rattle.zvt_term.specs.declared.messages.Line as printed
 use Rattle.zvt_apdu.specs.Message.{print_line}
-use Rattle.zvt_apdu.specs.TillMessages.{PutsMessage}
+use Rattle.zvt_apdu.specs.Briefs.{PutsMessage}
 use Rattle.zvt_term.specs.Reports.{text_of}
 use Rattle.zvt_term.proofs.writer.put_line.Goals as goal
 

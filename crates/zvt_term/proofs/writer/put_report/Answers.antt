@@ -1,5 +1,5 @@
 use Rattle.std.proofs.Common.{arith, refl, sym, subst, [], ◌∷◌}
-use Rattle.zvt_apdu.specs.TillMessages.{PutsMessage}
+use Rattle.zvt_apdu.specs.Briefs.{PutsMessage}
 use Rattle.zvt_term.specs.declared.messages.Report.{Report}
 use Rattle.zvt_term.specs.Reports.{message_of_report}
 use Rattle.zvt_term.proofs.SpellingLemmas.{put_spelled, status_data, completion_data, result_fields, nothing_listed}

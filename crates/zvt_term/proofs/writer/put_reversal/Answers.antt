@@ -1,6 +1,6 @@
 use Rattle.std.proofs.Common.{ℕ, Option, arith, refl, sym, subst}
 use Rattle.std.specs.Prelude.{None, Some}
-use Rattle.zvt_apdu.specs.TillMessages.{PutsMessage}
+use Rattle.zvt_apdu.specs.Briefs.{PutsMessage}
 use Rattle.zvt_term.specs.declared.messages.Report.TheVariants.{TakenBack}
 use Rattle.zvt_term.specs.Reports.{message_of_report}
 use Rattle.zvt_term.proofs.SpellingLemmas.{put_spelled, nothing_listed, reversal_listed, currency_listed}

@@ -4,7 +4,7 @@ ghost use Rattle.std.specs.Prelude.{◌≡◌, ◌+◌, ◌++◌, [], ◌∷◌,
 ghost use Rattle.zvt_grammar.specs.Reading.{AreBytes};
 ghost use Rattle.zvt_tlv.specs.Sizes.{Puts};
 ghost use Rattle.zvt_bcd.specs.Digits.{AreDigits, number_of};
-ghost use Rattle.zvt_apdu.specs.TillMessages.{message_of_till_message, PutsMessage};
+ghost use Rattle.zvt_apdu.specs.Briefs.{message_of_brief, PutsMessage};
 
 use crate::apdu::Apdu;
 use crate::reader::scan;
@@ -15,11 +15,11 @@ use zvt_bcd::{Amount, Currency, put};
 use zvt_grammar::Scan;
 
 /// The size of a buffer that each till message fits in.
-pub const MAX_TILL_MESSAGE_LEN: usize = 32;
+pub const MAX_BRIEF_LEN: usize = 32;
 
 /// A message that a till sends, by the few values that it is made of. Its control bytes are given in hexadecimal.
 #[derive(Clone, Copy, PartialEq, Eq)]
-pub enum TillMessage {
+pub enum Brief {
     /// 80 00: the terminal's message was taken.
     Ack,
     /// 84 and the code: it was refused.
@@ -46,21 +46,21 @@ pub enum TillMessage {
 }
 
 /// Writes the name of its kind alone, since some hold a password.
-impl fmt::Debug for TillMessage {
+impl fmt::Debug for Brief {
     ghost use Rattle.std.specs.Prelude.{Some};
-    ghost use Rattle.zvt_apdu.specs.TillMessages.{till_message_name};
+    ghost use Rattle.zvt_apdu.specs.Briefs.{brief_name};
 
-    ghost debug_output = { λ till_message. Some (till_message_name till_message) };
+    ghost debug_output = { λ brief. Some (brief_name brief) };
 
     fn fmt<W: fmt::Write>(&self, f: &mut fmt::Formatter<W>) -> fmt::Result {
         f.write_str(match self {
-            TillMessage::Ack => "Ack",
-            TillMessage::Nack(_) => "Nack",
-            TillMessage::Register { .. } => "Register",
-            TillMessage::Pay(..) => "Pay",
-            TillMessage::Reverse { .. } => "Reverse",
-            TillMessage::CloseDay { .. } => "CloseDay",
-            TillMessage::AbortOrder => "AbortOrder",
+            Brief::Ack => "Ack",
+            Brief::Nack(_) => "Nack",
+            Brief::Register { .. } => "Register",
+            Brief::Pay(..) => "Pay",
+            Brief::Reverse { .. } => "Reverse",
+            Brief::CloseDay { .. } => "CloseDay",
+            Brief::AbortOrder => "AbortOrder",
         })
     }
 }
@@ -77,7 +77,7 @@ fn amount_digits(amount: Amount) -> [u8; 6]
 }
 
 /// Puts a message without data at the start, and says its size.
-fn put_bare(high: u8, low: u8, out: &mut [u8; MAX_TILL_MESSAGE_LEN]) -> usize
+fn put_bare(high: u8, low: u8, out: &mut [u8; MAX_BRIEF_LEN]) -> usize
     ensures written { Puts (high ∷ low ∷ 0 ∷ []) out.old out.new result }
     ensures fits { result ≤ 32 }
     ensures byte { low < 256 }
@@ -90,7 +90,7 @@ fn put_with_password(
     low: u8,
     password: [u8; 3],
     more: &[u8],
-    out: &mut [u8; MAX_TILL_MESSAGE_LEN],
+    out: &mut [u8; MAX_BRIEF_LEN],
 ) -> usize
     requires { length more.now ≤ 3 }
     ensures written { Puts (0x06 ∷ low ∷ (3 + length more.now) ∷ (password ++ more.now)) out.old out.new result }
@@ -107,7 +107,7 @@ fn put_with_password(
 /// Puts a payment at the start, and says its size.
 fn put_payment(amount: Amount, currency: Currency, out: &mut [u8]) -> usize
     requires { 13 ≤ length out.old }
-    ensures written { PutsMessage (message_of_till_message (TillMessage.Pay amount currency)) out.old out.new result }
+    ensures written { PutsMessage (message_of_brief (Brief.Pay amount currency)) out.old out.new result }
     ensures fits { result ≤ 32 }
 {
     let at = put_after(&[0x06, 0x01, 0x0A, 0x04], &amount_digits(amount), out);
@@ -115,8 +115,8 @@ fn put_payment(amount: Amount, currency: Currency, out: &mut [u8]) -> usize
 }
 
 /// Puts a reversal at the start, and says its size.
-fn put_reversal(password: [u8; 3], receipt: &[u8; 2], out: &mut [u8; MAX_TILL_MESSAGE_LEN]) -> usize
-    ensures written { PutsMessage (message_of_till_message (TillMessage.Reverse password receipt.now)) out.old out.new result }
+fn put_reversal(password: [u8; 3], receipt: &[u8; 2], out: &mut [u8; MAX_BRIEF_LEN]) -> usize
+    ensures written { PutsMessage (message_of_brief (Brief.Reverse password receipt.now)) out.old out.new result }
     ensures fits { result ≤ 32 }
 {
     let [high, low] = *receipt;
@@ -125,17 +125,14 @@ fn put_reversal(password: [u8; 3], receipt: &[u8; 2], out: &mut [u8; MAX_TILL_ME
 
 /// Writes the message's spelling at the start of the buffer, and says its size. It always fits, and what comes after
 /// it stays.
-pub fn put_till_message(
-    till_message: &TillMessage,
-    buffer: &mut [u8; MAX_TILL_MESSAGE_LEN],
-) -> usize
-    ensures written { PutsMessage (message_of_till_message till_message.now) buffer.old buffer.new result }
+pub fn put_brief(brief: &Brief, buffer: &mut [u8; MAX_BRIEF_LEN]) -> usize
+    ensures written { PutsMessage (message_of_brief brief.now) buffer.old buffer.new result }
     ensures fits { result ≤ 32 }
 {
-    match *till_message {
-        TillMessage::Ack => put_bare(0x80, 0x00, buffer),
-        TillMessage::Nack(code) => put_bare(0x84, code, buffer),
-        TillMessage::Register {
+    match *brief {
+        Brief::Ack => put_bare(0x80, 0x00, buffer),
+        Brief::Nack(code) => put_bare(0x84, code, buffer),
+        Brief::Register {
             password,
             config,
             currency,
@@ -143,19 +140,19 @@ pub fn put_till_message(
             let [high, low] = currency_digits(currency);
             put_with_password(0x00, password, &[config, high, low], buffer)
         }
-        TillMessage::Pay(amount, currency) => put_payment(amount, currency, buffer),
-        TillMessage::Reverse { password, receipt } => put_reversal(password, &receipt, buffer),
-        TillMessage::CloseDay { password } => put_with_password(0x50, password, &[], buffer),
-        TillMessage::AbortOrder => put_bare(0x06, 0xB0, buffer),
+        Brief::Pay(amount, currency) => put_payment(amount, currency, buffer),
+        Brief::Reverse { password, receipt } => put_reversal(password, &receipt, buffer),
+        Brief::CloseDay { password } => put_with_password(0x50, password, &[], buffer),
+        Brief::AbortOrder => put_bare(0x06, 0xB0, buffer),
     }
 }
 
 /// The message that the till message represents.
-pub fn till_message_apdu(alloc: Global, till_message: &TillMessage) -> Result<Apdu, AllocError>
-    ensures { IfOk result (λ apdu. apdu ≡ message_of_till_message till_message.now) }
+pub fn brief_message(alloc: Global, brief: &Brief) -> Result<Apdu, AllocError>
+    ensures { IfOk result (λ apdu. apdu ≡ message_of_brief brief.now) }
 {
-    let mut buffer = [0; MAX_TILL_MESSAGE_LEN];
-    let size = put_till_message(till_message, &mut buffer);
+    let mut buffer = [0; MAX_BRIEF_LEN];
+    let size = put_brief(brief, &mut buffer);
     let Scan::Whole((apdu, _)) = scan(alloc, &buffer[..size])? else {
         unreachable!()
     };

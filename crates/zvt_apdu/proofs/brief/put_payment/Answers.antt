@@ -1,7 +1,7 @@
 use Rattle.std.proofs.Common.{◌∷◌, ◌++◌}
 use Rattle.zvt_tlv.proofs.Writing.{puts_after}
-use Rattle.zvt_apdu.proofs.TillMessageLemmas as till_message
-use Rattle.zvt_apdu.proofs.till_message.put_payment.Goals as goal
+use Rattle.zvt_apdu.proofs.BriefLemmas as brief
+use Rattle.zvt_apdu.proofs.brief.put_payment.Goals as goal
 
 pub returns-clause-written : goal.returns-clause-written
 returns-clause-written c =
@@ -9,6 +9,6 @@ returns-clause-written c =
     let two = c.currency_digits.result in
     record {
       bytes = (0x06 ∷ 0x01 ∷ 0x0A ∷ 0x04 ∷ six) ++ (0x49 ∷ two);
-      spelled = till_message.payment_spelled six two c.args.amount c.args.currency c.amount_digits.ensures.six c.amount_digits.ensures.digits c.amount_digits.ensures.number c.currency_digits.ensures.two c.currency_digits.ensures.digits c.currency_digits.ensures.number;
+      spelled = brief.payment_spelled six two c.args.amount c.args.currency c.amount_digits.ensures.six c.amount_digits.ensures.digits c.amount_digits.ensures.number c.currency_digits.ensures.two c.currency_digits.ensures.digits c.currency_digits.ensures.number;
       puts = puts_after (0x06 ∷ 0x01 ∷ 0x0A ∷ 0x04 ∷ six) (0x49 ∷ two) c.args.out.now c.put_after-at.new.out c.put_after.new.out c.put_after-at.result c.put_after.result c.put_after-at.ensures c.put_after.ensures;
     }

@@ -14,7 +14,7 @@ use Rattle.zvt_field.specs.Shapes.{shape_of}
 use Rattle.zvt_apdu.specs.Message.{Message, ack, nack, registration, authorisation, reversal, end_of_day, abort_order}
 use Rattle.zvt_apdu.specs.Grammar.{Spells}
 use Rattle.zvt_apdu.specs.Judging.{Answers}
-use Rattle.zvt_apdu.specs.TillMessages.{digits, PutsMessage}
+use Rattle.zvt_apdu.specs.Briefs.{digits, PutsMessage}
 use Rattle.zvt_apdu.proofs.LawLemmas.{spellings_are_read}
 use Rattle.zvt_apdu.proofs.Writing.{control_is}
 
@@ -169,8 +169,8 @@ payment_spelled six two amount currency long are number short pair other =
     }
 
 -- what is written reads as the message
-pub till_message_read : (m : Message) (answer : Scan (Message × ℕ)) (old new : List ℕ) (count : ℕ) → PutsMessage m old new count → Answers shortest (take count new) answer → answer ≡ Whole (m, count)
-till_message_read m answer old new count p h =
+pub brief_read : (m : Message) (answer : Scan (Message × ℕ)) (old new : List ℕ) (count : ℕ) → PutsMessage m old new count → Answers shortest (take count new) answer → answer ≡ Whole (m, count)
+brief_read m answer old new count p h =
     let prefix : take count new ≡ p.bytes ++ [] = ap (λ (s : List ℕ). take count s) p.puts.0 ∙ ap (λ (k : ℕ). take k (p.bytes ++ drop (length p.bytes) old)) p.puts.1 ∙ take-append_seam p.bytes (drop (length p.bytes) old) ∙ sym (append-nil p.bytes) in
     spellings_are_read shortest m p.bytes [] answer p.spelled (subst (λ (s : List ℕ). Answers shortest s answer) prefix h) ∙ ap (λ (k : ℕ). Whole (m, k)) (sym p.puts.1)
 

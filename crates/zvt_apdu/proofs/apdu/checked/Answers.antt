@@ -1,6 +1,6 @@
 use Rattle.std.proofs.Common.{arith, refl}
 use Rattle.zvt_apdu.proofs.Writing as writing
-use Rattle.zvt_apdu.proofs.apdu.Apdu.checked.Goals as goal
+use Rattle.zvt_apdu.proofs.apdu.checked.Goals as goal
 
 pub returns-then-data_size-gt65535-clause-err : goal.returns-then-data_size-gt65535-clause-err
 returns-then-data_size-gt65535-clause-err c =

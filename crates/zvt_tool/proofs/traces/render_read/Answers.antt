@@ -3,7 +3,7 @@ use Rattle.zvt_trace.specs.Written.{limit}
 use Rattle.std.proofs.lemmas.Result.{err_from_is_err_and}
 use Rattle.zvt_grammar.specs.Lengths.{reading_of}
 use Rattle.zvt_show.proofs.PageLemmas.{read_answered, read_failed}
-use Rattle.zvt_tool.proofs.traces.read_and_render.Goals as goal
+use Rattle.zvt_tool.proofs.traces.render_read.Goals as goal
 
 pub returns-in_err-trace-clause-writes : goal.returns-in_err-trace-clause-writes
 returns-in_err-trace-clause-writes g c =

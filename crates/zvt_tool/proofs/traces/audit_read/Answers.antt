@@ -3,7 +3,7 @@ use Rattle.zvt_trace.specs.Written.{limit}
 use Rattle.zvt_grammar.specs.Lengths.{reading_of}
 use Rattle.std.proofs.lemmas.Result.{err_from_is_err_and}
 use Rattle.zvt_audit.proofs.AuditLemmas.{read_audited, read_failed}
-use Rattle.zvt_tool.proofs.traces.read_and_audit.Goals as goal
+use Rattle.zvt_tool.proofs.traces.audit_read.Goals as goal
 
 pub returns-in_err-audited-clause-writes : goal.returns-in_err-audited-clause-writes
 returns-in_err-audited-clause-writes g c =

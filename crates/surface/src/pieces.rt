@@ -1,0 +1,67 @@
+//! Streams that are fed in pieces, and what they are made of (`zvt_stream`).
+use std::alloc::Global;
+use zvt_grammar::Why;
+use zvt_stream::{Fed, FedView, FeedError, Held, Judge, Judged, Steps, Stream, Truncated};
+
+const ACK: [u8; 3] = [0x80, 0x00, 0x00];
+
+/// No message has the BMP D0.
+const UNKNOWN: [u8; 4] = [0x06, 0x01, 0x02, 0xD0];
+
+pub fn all(alloc: Global) -> bool {
+    fed(alloc) && viewed(alloc) && refused(alloc) && held(alloc) && judged()
+}
+
+fn fed(alloc: Global) -> bool {
+    let mut stream = Stream::new(alloc);
+    let first: Result<Fed, FeedError> = stream.feed(alloc, &[0x80, 0x00]);
+    if !matches!(first, Ok(Fed::More)) || stream.held() != 2 || stream.levels() != 1 {
+        return false;
+    }
+    let cut_off: Result<(), Truncated> = stream.finish();
+    if !matches!(cut_off, Err(Truncated { have: 2 })) {
+        return false;
+    }
+    matches!(
+        stream.feed(alloc, &[0x00]),
+        Ok(Fed::Message { taken: 1, .. })
+    )
+}
+
+fn viewed(alloc: Global) -> bool {
+    let mut stream = Stream::loose(alloc);
+    let fed: Result<FedView, FeedError> = stream.feed_view(&ACK);
+    matches!(fed, Ok(FedView::Message { taken: 3 })) && stream.lent().is_some()
+}
+
+fn refused(alloc: Global) -> bool {
+    let Ok(mut stream) = Stream::reserved(alloc) else {
+        return false;
+    };
+    let why = match stream.feed(alloc, &UNKNOWN) {
+        Ok(Fed::Refused { place: 3, why }) => why,
+        _ => return false,
+    };
+    why == Why::UnknownField && matches!(stream.feed_view(&ACK), Err(FeedError::Stopped))
+}
+
+fn held(alloc: Global) -> bool {
+    let mut grown = Held::new(alloc);
+    let Ok(mut reserved) = Held::reserved(alloc) else {
+        return false;
+    };
+    if grown.add(0x80).is_err() || reserved.add(0x80).is_err() {
+        return false;
+    }
+    reserved.cut(0);
+    grown.len() == 1 && reserved.len() == 0
+}
+
+fn judged() -> bool {
+    let mut steps = Steps::new();
+    let mut strict = Judge::new();
+    let mut loose = Judge::loose();
+    let opened: Result<Judged, Why> = strict.step(&mut steps, 0x80);
+    let also = loose.step(&mut steps, 0x80);
+    matches!(opened, Ok(Judged::Open)) && matches!(also, Ok(Judged::Open)) && strict.levels() == 1
+}

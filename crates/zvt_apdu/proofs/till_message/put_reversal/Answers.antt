@@ -1,7 +1,0 @@
-use Rattle.zvt_apdu.proofs.TillMessageLemmas as till_message
-use Rattle.zvt_apdu.proofs.till_message.put_reversal.Goals as goal
-
-pub returns-clause-written : goal.returns-clause-written
-returns-clause-written c =
-    let put = c.put_with_password.ensures in
-    record { bytes = _; spelled = till_message.reversal_by_two c.args.password c.args.receipt.now put.three put.bytes c.told-receipt put.more_bytes; puts = put.written }

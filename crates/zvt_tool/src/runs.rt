@@ -1,0 +1,147 @@
+//! Runs of the steps that words name, over TCP.
+ghost use Rattle.std.specs.Prelude.{◌≡◌, ◌<◌, ◌≤◌, Err, map, None};
+ghost use Rattle.zvt_grammar.specs.Lengths.{reading_of};
+ghost use Rattle.zvt_session.specs.BothEnds.{BeginsHere, MakesHereBy};
+ghost use Rattle.zvt_session.specs.Reporting.{ReportsNothing, ReportsReversals};
+ghost use Rattle.zvt_session.specs.TillEnd.{BeginsThere, MakesThere};
+ghost use Rattle.zvt_session.specs.declared.arguments.Ends.TheVariants.{Both, Till};
+ghost use Rattle.zvt_tcp.specs.OverTcp.{AnswersRun};
+ghost use Rattle.zvt_till.specs.Events.{run_settings};
+ghost use Rattle.zvt_tool.specs.Commands.{lengths_by};
+ghost use Rattle.zvt_tool.specs.Faults.{MakesWords, ServesOne, plain};
+
+use crate::command::lengths_by;
+use crate::fault::{ToolFault, in_run};
+use std::alloc::Global;
+use std::net::{Net, TcpListener, TcpStream};
+use zvt_io::{Failed, Sink};
+use zvt_json::Form;
+use zvt_session::{Ends, StepOptions, plan};
+use zvt_tcp::{LoopRun, TerminalRun, TillRun};
+use zvt_term::Verdict;
+use zvt_till::TillSettings;
+
+/// How many seconds a till waits for the connection, and for each message.
+const WAIT: u16 = 60;
+
+/// Where a terminal listens.
+const LOCAL_HOST: &str = "127.0.0.1";
+
+/// Takes what a run reports, and keeps none of it.
+#[derive(Drop)]
+struct Unreported;
+
+impl Sink for Unreported {
+    ghost written = { λ _. None };
+
+    ghost failures = { λ _. 0 };
+
+    fn write_all(&mut self, _bytes: &[u8]) -> Result<(), Failed> {
+        Ok(())
+    }
+}
+
+/// Steps are written as text, and none has to succeed.
+fn plain() -> StepOptions
+    ensures { result ≡ plain }
+{
+    StepOptions {
+        form: Form::Text,
+        check: false,
+    }
+}
+
+/// Runs the steps that the words name between a till and a terminal that are both in this process, as
+/// [`zvt_tcp::run_loop`] does. The default steps are run where there are no words.
+///
+/// `BadStep` and `Net` come before anything is written.
+pub fn run_loop<R, W>(
+    rt: &R,
+    alloc: Global,
+    steps: &[&str],
+    writer: &mut W,
+) -> Result<(), ToolFault>
+where
+    R: Net<Listener = TcpListener, Stream = TcpStream>,
+    W: Sink,
+    ensures run { MakesWords Both (map (λ word. word.now) steps.now) (W.written writer.old) (W.written writer.new)
+        (λ plan answer. AnswersRun MakesHereBy BeginsHere run_settings plain plan (W.written writer.old) (W.written writer.new) (ReportsReversals None None 0 0) (ReportsNothing None None 0 0) answer) result }
+    ensures write { result ≡ Err ToolFault.Write → W.failures writer.old < W.failures writer.new }
+{
+    let planned = match plan(alloc, Ends::Both, steps) {
+        Ok(planned) => planned,
+        Err(fault) => return Err(ToolFault::from(fault)),
+    };
+    let run = LoopRun {
+        trace: None,
+        plan: planned.as_slice(),
+        options: plain(),
+    };
+    in_run(zvt_tcp::run_loop(rt, alloc, &run, writer, &mut Unreported))
+}
+
+/// Connects a till to its terminal and runs the steps that the words name, as [`zvt_tcp::run_till`] does. The till has the
+/// default settings and waits for 60 seconds. With `loose` it reads lengths in any form that holds them.
+///
+/// `BadStep` and `Net` come before anything is written.
+pub fn run_till<R, W>(
+    rt: &R,
+    alloc: Global,
+    host: &str,
+    port: u16,
+    steps: &[&str],
+    writer: &mut W,
+    loose: bool,
+) -> Result<(), ToolFault>
+where
+    R: Net<Listener = TcpListener, Stream = TcpStream>,
+    W: Sink,
+    ensures run { MakesWords Till (map (λ word. word.now) steps.now) (W.written writer.old) (W.written writer.new)
+        (λ plan answer. AnswersRun MakesThere (BeginsThere (reading_of (lengths_by loose))) run_settings plain plan (W.written writer.old) (W.written writer.new) (ReportsReversals None None 0 0) (ReportsNothing None None 0 0) answer) result }
+    ensures write { result ≡ Err ToolFault.Write → W.failures writer.old < W.failures writer.new }
+{
+    let planned = match plan(alloc, Ends::Till, steps) {
+        Ok(planned) => planned,
+        Err(fault) => return Err(ToolFault::from(fault)),
+    };
+    let run = TillRun {
+        host,
+        port,
+        seconds: WAIT,
+        settings: TillSettings::default(),
+        lengths: lengths_by(loose),
+        trace: None,
+        show: None,
+        plan: planned.as_slice(),
+        options: plain(),
+    };
+    in_run(zvt_tcp::run_till(rt, alloc, &run, writer, &mut Unreported))
+}
+
+/// Listens at this port of 127.0.0.1, and serves one till to the end of its connection, as [`zvt_tcp::run_terminal`] does.
+/// With `loose` the terminal reads lengths in any form that holds them. Nothing is reported.
+pub fn run_terminal<R>(
+    rt: &R,
+    alloc: Global,
+    port: u16,
+    tid: u32,
+    verdict: Verdict,
+    loose: bool,
+) -> Result<(), ToolFault>
+where
+    R: Net<Listener = TcpListener, Stream = TcpStream>,
+    requires { tid ≤ 99999999 }
+    ensures { ServesOne loose tid verdict result }
+{
+    let run = TerminalRun {
+        host: LOCAL_HOST,
+        port,
+        tid,
+        verdict,
+        lengths: lengths_by(loose),
+        connections: 1,
+        trace: None,
+        form: Form::Text,
+    };
+    in_run(zvt_tcp::run_terminal(rt, alloc, &run, &mut Unreported))
+}
