@@ -16,7 +16,8 @@ _zvt() {
     join) options='--follow' ;;
     audit) options='--loose --check --json --follow' ;;
     normalise) ;;
-    vectors | book) options='--json' ;;
+    vectors) options='--json' ;;
+    book) options='--json --records' ;;
     loop) options='--trace --book --check --json' steps='register pay: decline: reverse: close' ;;
     till) options='--port --host --password --config --currency --timeout --trace --book --check --show --loose --json' steps='register pay: reverse: close' ;;
     terminal) options='--port --host --tid --connections --decline --trace --loose --json' ;;

@@ -27,6 +27,7 @@ complete -c zvt -n '__fish_seen_subcommand_from show join audit receipts' -l fol
 complete -c zvt -n '__fish_seen_subcommand_from show' -l resync -d 'Go on after a message that is refused'
 complete -c zvt -n '__fish_seen_subcommand_from audit' -l check -d 'End with status 1 where a payment is unclear'
 complete -c zvt -n '__fish_seen_subcommand_from show join normalise audit receipts vectors book' -F
+complete -c zvt -n '__fish_seen_subcommand_from book' -l records -d 'Write the whole records of the book as a trace'
 
 complete -c zvt -n '__fish_seen_subcommand_from loop' -l trace -rF -d 'Write a trace of the line to this file'
 complete -c zvt -n '__fish_seen_subcommand_from loop' -l book -rF -d 'Keep the book in this file'

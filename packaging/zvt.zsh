@@ -53,6 +53,7 @@ _zvt() {
     book)
         _arguments $help \
             '--json[write JSON, one object a line]' \
+            '--records[write the whole records of the book as a trace]' \
             '1:book:_files'
         ;;
     loop)

@@ -303,6 +303,14 @@ refuses "a port that nothing listens on" 4 "zvt: no connection: nothing listens 
 check "a reader that goes away" "$(cat "$work/status")" 4 "> Ack" ""
 [ ! -s "$work/err" ] || { echo "NOT AS EXPECTED: a message to a reader that went away"; cat "$work/err"; echo "message" >> "$work/failed"; }
 
+# /dev/null, which the recipes for fleets name beside the traces of each call, is not told to be empty; another file is.
+: > "$work/empty.trace"
+"$zvt" audit /dev/null "$work/empty.trace" > "$work/out" 2> "$work/err"
+check "an empty file beside /dev/null" "$?" 0 "/dev/null: total 0
+$work/empty.trace: total 0
+total 0 in 2 files" "$work/empty.trace: zvt: the trace contains no message"
+[ "$(wc -l < "$work/err")" = 1 ] || { echo "NOT AS EXPECTED: a line for /dev/null"; cat "$work/err"; echo "null" >> "$work/failed"; }
+
 # Whoever sits at a terminal is told that a trace is awaited.
 python3 -c '
 import os, pty, subprocess, sys

@@ -69,6 +69,7 @@ reverse:10001 -> not sent: UnknownEntry
 close -> day closed
 total 1000000000000
 """
+UNSENT = "zvt: reverse:10001 was not sent (UnknownEntry): the book has no such entry\n"
 HELP = ["register", "pay:N", "decline:N:XX", "reverse:N", "close", "> HEX", "Exit status:", *(f"\n  {it} " for it in COMMANDS)]
 failed = []
 
@@ -110,7 +111,7 @@ def main():
             is_refused([*words, setting], f"zvt: {said.format(setting)}\n")
     steps = [line.split(" ")[0] for line in STEPS.splitlines()[:-1]]
     found = run("loop", *steps)
-    check(steps, found == (0, STEPS, ""), found)
+    check(steps, found == (0, STEPS, UNSENT), found)
     found = run("--version")
     check("--version", found == (0, "zvt 0.2.0\n", ""), found)
     has_words(["--help"], HELP)

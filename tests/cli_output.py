@@ -4,7 +4,7 @@
     tests/cli_output.py [PROGRAM]
 
 PROGRAM is the one that `rt ci` built, unless another is named. The cases stand in commands.txt, worked by hand: behind `==`
-the name of a case, behind `$` a command and its words, then what it reads, behind `--` what it writes, behind `++` what it
+the name of a case, behind `$` a command and its words (`{}` is a file with what it reads), then what it reads, behind `--` what it writes, behind `++` what it
 says on standard error (left out where that is not compared), and behind `=>` the status. The table of fields is that of
 docs/FORMAT.md: each field is shown by its name, digits are demanded where the table has them, and no other is listed. The
 status is 1 where anything is not as expected. It takes some seconds.
@@ -13,6 +13,7 @@ import os
 import re
 import subprocess
 import sys
+import tempfile
 
 HERE = os.path.dirname(os.path.abspath(__file__))
 PROGRAM = os.path.abspath(sys.argv[1]) if len(sys.argv) > 1 else os.path.join(HERE, "..", "crates", "zvt", "out", "zvt")
@@ -85,6 +86,14 @@ failed = []
 
 
 def run(words, given):
+    """Where the words have `{}`, what is read is in a file of that place, whose name is `input`."""
+    if "{}" in words:
+        with tempfile.TemporaryDirectory() as folder:
+            with open(os.path.join(folder, "input"), "wb") as file:
+                file.write(given)
+            words = ["input" if word == "{}" else word for word in words]
+            done = subprocess.run([PROGRAM, *words], cwd=folder, capture_output=True, timeout=60)
+            return done.returncode, done.stdout, done.stderr
     done = subprocess.run([PROGRAM, *words], input=given, capture_output=True, timeout=60)
     return done.returncode, done.stdout, done.stderr
 

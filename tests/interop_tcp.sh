@@ -115,11 +115,16 @@ payment="06 01 0A 04 00 00 00 00 12 34 49 09 78"
 taken="80 00 00"
 approved="04 0F 10 27 00 04 00 00 00 00 12 34 0B 00 00 17 87 00 05"
 
+# What is said of a payment of which nothing was heard but that it was taken up.
+doubt="zvt: the payment of 1234 is unclear (Line: the connection was lost). The terminal named no trace or receipt number. It may have been charged or not: look at the terminal's journal or its last receipt before you order it again"
+
 # A terminal that says nothing more has lost its connection once the till has waited, and that is told apart.
 breaks "a silent terminal" "$taken" Line 30
-check "that it was silent" 0 "$(cat "$work/till.$port")" 0 "zvt: connection failed: the terminal sent nothing for 2 s: check it, or let the till wait longer by --timeout"
+check "that it was silent" 0 "$(cat "$work/till.$port")" 0 "$doubt
+zvt: connection failed: the terminal sent nothing for 2 s: check it, or let the till wait longer by --timeout"
 breaks "a terminal that resets the connection" "$taken" Line reset
-check "that the connection broke" 0 "$(cat "$work/till.$port")" 0 "zvt: connection failed: a read failed, as where the other end resets the connection"
+check "that the connection broke" 0 "$(cat "$work/till.$port")" 0 "$doubt
+zvt: connection failed: a read failed, as where the other end resets the connection"
 
 # Both ends as they should be.
 port=$(free_port)
@@ -141,8 +146,7 @@ check "a terminal that counts anew" "$?" "$text" 0 "register -> registered
 pay:20 -> unclear TraceUsed
 total 1000"
 check "what to do then" 0 "$(cat "$work/says")" 0 "zvt: '$work/day.book': 1 booked, 0 unclear, total 1000
-zvt: the payment of 20 is unclear (TraceUsed): the terminal may have charged it or not: look at its journal or its last receipt before you order it again
-zvt: the book has its trace number: if the terminal was exchanged or counts from 1 again, begin a new book"
+zvt: the payment of 20 is unclear (TraceUsed: the book has its trace number already; if the terminal was exchanged or counts from 1 again, begin a new book). The terminal named trace 000001 receipt 0001. It may have been charged or not: look at the terminal's journal or its last receipt before you order it again"
 
 # What comes from the terminal is shown while it comes, and standard output has the outcomes alone. This terminal serves
 # tills without an end.
@@ -282,7 +286,43 @@ check "a terminal that closes in a reversal" "$status" "$text" 4 "register -> re
 pay:1234 -> paid trace 000017 receipt 0005
 reverse:1 -> unclear Line
 total 1234"
-check "is told" 0 "$(grep 'reverse:1' "$work/till.$port")" 0 "zvt: reverse:1 is unclear (Line): the terminal may have reversed the payment or not: check its journal before you refund the amount"
+check "is told" 0 "$(grep 'reverse:1' "$work/till.$port")" 0 "zvt: reverse:1 of the payment of 1234 (trace 000017 receipt 0005) is unclear (Line: the connection was lost). The terminal named no trace or receipt number. It may have been taken back or not: look at the terminal's journal before you refund the amount
+zvt: reverse:1 is unclear (Line): the terminal may have reversed the payment or not: check its journal before you refund the amount"
+
+# What standard error says of an order that is unclear: the numbers that were heard, with a book and without one.
+for book in "" "--book $work/doubt.book"; do
+    port=$(free_port)
+    broken_terminal "$port" "$taken $approved"
+    peer=$!
+    till "$port" $book register pay:1234
+    wait "$peer" 2> /dev/null
+    check "an approved payment without a completion $book" "$status" "$text" 4 "register -> registered
+pay:1234 -> unclear Line
+total 0"
+    check "what was heard of it $book" 0 "$(grep 'payment of' "$work/till.$port")" 0 "zvt: the payment of 1234 is unclear (Line: the connection was lost). The terminal named trace 000017 receipt 0005. It may have been charged or not: look at the terminal's journal or its last receipt before you order it again"
+done
+port=$(free_port)
+broken_terminal "$port" "$taken"
+peer=$!
+till "$port" register pay:1234
+wait "$peer" 2> /dev/null
+check "nothing was heard of it" 0 "$(grep -o 'The terminal named .* number' "$work/till.$port")" 0 "The terminal named no trace or receipt number"
+port=$(free_port)
+python3 -c '
+import socket, sys
+listener = socket.socket()
+listener.setsockopt(socket.SOL_SOCKET, socket.SO_REUSEADDR, 1)
+listener.bind(("127.0.0.1", int(sys.argv[1])))
+listener.listen()
+line, _ = listener.accept()
+line.recv(9)
+' "$port" &
+peer=$!
+till "$port" register pay:1234
+wait "$peer" 2> /dev/null
+check "a registration that is cut off" "$status" "$text" 4 "register -> unclear Line
+total 0"
+check "what may be the reason" 0 "$(grep 'registration' "$work/till.$port")" 0 "zvt: the registration is unclear (Line: the connection was lost). The terminal may be busy with another till"
 
 # A terminal that pads its lengths: a strict till does not know whether it was paid, a loose one does.
 padded="80 00 FF 00 00 04 0F FF 10 00 27 00 04 00 00 00 00 12 34 0B 00 00 17 87 00 05 06 0F FF 00 00"
@@ -332,7 +372,8 @@ check "a payment succeeds" 0 "$text" 0 "total 1001"
 text=$("$zvt" loop --check pay:1000 2> "$work/says")
 check "a step that is not sent" "$?" "$text" 1 "pay:1000 -> not sent: NotRegistered
 total 0"
-check "what is said then" 0 "$(cat "$work/says")" 0 "zvt: a step did not succeed: its line says what became of it"
+check "what is said then" 0 "$(cat "$work/says")" 0 "zvt: pay:1000 was not sent (NotRegistered): the till is not registered on this connection: register first
+zvt: a step did not succeed: its line says what became of it"
 text=$("$zvt" loop pay:1000 2> /dev/null)
 check "without --check" "$?" "$text" 0 "pay:1000 -> not sent: NotRegistered
 total 0"

@@ -4,9 +4,8 @@ use std::alloc::Global;
 use std::process::Abort;
 use std::test::Fail;
 use zvt_bcd::{Amount, Currency, Trace};
-use zvt_till::books::books;
 use zvt_till::{
-    Booked, Cause, CurrencyFact, Happening, Heard, OrderRefusal, Original, Sent, StatusFacts,
+    Booked, Cause, CurrencyFact, Happening, Heard, OrderRefusal, Original, Sent, StatusFacts, books,
 };
 
 /// The price of the payments, in cents.

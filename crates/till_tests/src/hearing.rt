@@ -3,11 +3,10 @@ use crate::assertions::{assert_equal, assert_equal_in};
 use std::alloc::Global;
 use std::process::Abort;
 use std::test::Fail;
-use zvt_apdu::{TillMessage, scan, view};
+use zvt_apdu::{Brief, scan, view};
 use zvt_bcd::{Amount, Currency, Trace};
 use zvt_grammar::Scan;
-use zvt_till::heard::{heard, heard_view};
-use zvt_till::{CurrencyFact, Heard, Original, Outgoing, StatusFacts};
+use zvt_till::{CurrencyFact, Heard, Original, Outgoing, StatusFacts, heard, heard_view};
 
 const APPROVAL: [u8; 19] = [
     0x04, 0x0F, 0x10, 0x27, 0x00, 0x04, 0x00, 0x00, 0x00, 0x00, 0x12, 0x34, 0x0B, 0x00, 0x00, 0x17,
@@ -104,9 +103,9 @@ fn hears_the_other_messages(rt: HostRuntime) -> Result<(), Fail> {
 }
 
 #[test]
-fn sends_what_its_till_message_says(rt: HostRuntime) -> Result<(), Fail> {
+fn sends_what_its_brief_says(rt: HostRuntime) -> Result<(), Fail> {
     let refusal = Outgoing {
-        till_message: TillMessage::Nack(0x83),
+        brief: Brief::Nack(0x83),
     };
     let mut buffer = [0x55; 32];
     assert_equal(&rt, &refusal.put(&mut buffer), &3);
@@ -119,15 +118,11 @@ fn sends_what_its_till_message_says(rt: HostRuntime) -> Result<(), Fail> {
 #[test]
 fn prints_no_password(rt: HostRuntime) -> Result<(), Fail> {
     let closes = Outgoing {
-        till_message: TillMessage::CloseDay {
+        brief: Brief::CloseDay {
             password: [0x12, 0x34, 0x56],
         },
     };
     let printed = format!(in rt.alloc(); "{closes:?}")?;
-    assert_equal(
-        &rt,
-        &printed.as_str(),
-        &"Outgoing { till_message: CloseDay }",
-    );
+    assert_equal(&rt, &printed.as_str(), &"Outgoing { brief: CloseDay }");
     Ok(())
 }

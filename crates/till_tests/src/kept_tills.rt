@@ -7,7 +7,7 @@ use crate::assertions::assert_equal;
 use std::alloc::Global;
 use std::test::Fail;
 use zvt_bcd::{Amount, Currency};
-use zvt_io::Counted;
+use zvt_io::Over;
 use zvt_journal::{Memory, open};
 use zvt_kept::{
     Entry, KeptTill, RecordError, RecoveryError, opening_is_taken, put_heard, put_lost,
@@ -110,8 +110,8 @@ fn an_order_and_its_answers_are_kept(rt: HostRuntime) -> Result<(), Fail> {
     let mut kept = KeptTill::create(alloc, &settings, empty(alloc)?)?;
     assert!(rt; kept.connected(alloc).is_ok());
     let mut end = Endpoint {
-        reader: Counted::new(REGISTERED.as_slice()),
-        writer: Counted::new(Vec::new(alloc)),
+        reader: Over::new(REGISTERED.as_slice()),
+        writer: Over::new(Vec::new(alloc)),
         stream: Stream::new(alloc),
     };
     let ran = run_order_kept(alloc, &mut end, &mut kept, Order::Register, 4);
@@ -166,8 +166,8 @@ fn a_till_goes_on_over_its_book(rt: HostRuntime) -> Result<(), Fail> {
     let mut kept = KeptTill::open(alloc, &settings, file, &records)?;
     assert!(rt; kept.connected(alloc).is_ok());
     let mut end = Endpoint {
-        reader: Counted::new(REGISTERED.as_slice()),
-        writer: Counted::new(Vec::new(alloc)),
+        reader: Over::new(REGISTERED.as_slice()),
+        writer: Over::new(Vec::new(alloc)),
         stream: Stream::new(alloc),
     };
     let ran = run_order_kept(alloc, &mut end, &mut kept, Order::Register, 4);

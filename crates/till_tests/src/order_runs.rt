@@ -6,7 +6,7 @@ use std::process::Abort;
 use std::test::Fail;
 use zvt_bcd::{Amount, Currency, Trace};
 use zvt_grammar::Why;
-use zvt_io::Counted;
+use zvt_io::{Over, Sink, Source};
 use zvt_stream::{Endpoint, LineFault, Stream};
 use zvt_till::{Cause, Order, OrderRefusal, Outcome, RunFault, Till, run_order, send_order};
 
@@ -21,15 +21,34 @@ fn connected_till(rt: &impl Abort, alloc: Global) -> Till {
 }
 
 /// An end of a line over memory, whose writer keeps what is sent.
-type MemoryEnd<'a> = Endpoint<Counted<&'a [u8]>, Counted<Vec<u8>>>;
+type MemoryEnd<'a> = Endpoint<Over<&'a [u8]>, Over<Vec<u8>>>;
 
 /// An end of a line on which these bytes come.
 fn end_over(alloc: Global, coming: &[u8], stream: Stream) -> MemoryEnd<'_> {
     Endpoint {
-        reader: Counted::new(coming),
-        writer: Counted::new(Vec::new(alloc)),
+        reader: Over::new(coming),
+        writer: Over::new(Vec::new(alloc)),
         stream,
     }
+}
+
+/// Gives the till an order at this end of a line, and hears it out.
+fn order_at<R: Source, W: Sink>(
+    alloc: Global,
+    end: &mut Endpoint<R, W>,
+    till: &mut Till,
+    order: Order,
+    turns: u64,
+) -> Result<Outcome, RunFault> {
+    run_order(
+        alloc,
+        &mut end.reader,
+        &mut end.writer,
+        &mut end.stream,
+        till,
+        order,
+        turns,
+    )
 }
 
 /// How a registration by a new till at this end goes, and the till's last outcome after it.
@@ -40,7 +59,7 @@ fn registers(
     turns: u64,
 ) -> (Result<Outcome, RunFault>, Option<Outcome>) {
     let mut till = connected_till(rt, alloc);
-    let result = run_order(alloc, end, &mut till, Order::Register, turns);
+    let result = order_at(alloc, end, &mut till, Order::Register, turns);
     (result, till.last_outcome())
 }
 
@@ -99,7 +118,7 @@ fn an_order_whose_line_breaks(rt: HostRuntime) {
 
 #[test]
 fn an_order_that_is_sent(rt: HostRuntime) {
-    let mut writer = Counted::new(Vec::new(rt.alloc()));
+    let mut writer = Over::new(Vec::new(rt.alloc()));
     let mut till = connected_till(&rt, rt.alloc());
     let refused = RunFault::Order(OrderRefusal::NotRegistered);
     for (order, sent) in [(Order::CloseDay, Err(refused)), (Order::Register, Ok(()))] {
@@ -127,8 +146,8 @@ impl Write for Full {
 fn an_order_that_cannot_be_sent(rt: HostRuntime) {
     let alloc = rt.alloc();
     let mut end = Endpoint {
-        reader: Counted::new([0x80, 0x00, 0x00].as_slice()),
-        writer: Counted::new(Full),
+        reader: Over::new([0x80, 0x00, 0x00].as_slice()),
+        writer: Over::new(Full),
         stream: Stream::new(alloc),
     };
     let mut till = connected_till(&rt, alloc);
@@ -138,7 +157,7 @@ fn an_order_that_cannot_be_sent(rt: HostRuntime) {
         (Order::Register, RunFault::Line(LineFault::Write)),
         (Order::Register, RunFault::Order(OrderRefusal::Offline)),
     ] {
-        let result = run_order(alloc, &mut end, &mut till, order, 10);
+        let result = order_at(alloc, &mut end, &mut till, order, 10);
         assert_equal(&rt, &result, &Err(fault));
     }
     assert_equal(
@@ -204,7 +223,7 @@ impl Write for Failing {
 fn register(rt: &impl Abort, alloc: Global, till: &mut Till) -> Stream {
     let completed = [0x80, 0x00, 0x00, 0x06, 0x0F, 0x00];
     let mut end = end_over(alloc, &completed, Stream::new(alloc));
-    let registered = run_order(alloc, &mut end, till, Order::Register, 10);
+    let registered = order_at(alloc, &mut end, till, Order::Register, 10);
     assert_equal(rt, &registered, &Ok(Outcome::Registered));
     end.stream
 }
@@ -219,19 +238,19 @@ fn pays_over(
 ) -> (Result<Outcome, RunFault>, Option<Outcome>, usize, usize) {
     let mut till = connected_till(rt, alloc);
     let mut end = Endpoint {
-        reader: Counted::new(Dripping {
+        reader: Over::new(Dripping {
             bytes: &APPROVED,
             reads: 0,
             fails: read,
         }),
-        writer: Counted::new(Failing {
+        writer: Over::new(Failing {
             writes: 0,
             fails: write,
         }),
         stream: register(rt, alloc, &mut till),
     };
     let price = Amount::new(1234).expect(rt, "an amount");
-    let result = run_order(alloc, &mut end, &mut till, Order::Pay(price), 100);
+    let result = order_at(alloc, &mut end, &mut till, Order::Pay(price), 100);
     let last = till.last_outcome();
     (result, last, till.book().len(), till.unclear().len())
 }

@@ -2,7 +2,7 @@
 use crate::assertions::assert_equal;
 use std::alloc::Global;
 use std::process::Abort;
-use zvt_apdu::TillMessage;
+use zvt_apdu::Brief;
 use zvt_bcd::{Amount, Currency, Trace};
 use zvt_till::{
     Cause, CurrencyFact, Doubt, Entry, Heard, Order, OrderRefusal, Original, Outcome, Outgoing,
@@ -30,11 +30,11 @@ fn euro(rt: &impl Abort) -> Currency {
 #[derive(Clone, Copy)]
 enum TillEvent {
     /// An order that is sent.
-    Sent(Order, TillMessage),
+    Sent(Order, Brief),
     /// An order that is refused.
     Refused(Order, OrderRefusal),
     /// A message, what answers it, and the outcome where it ends the order.
-    Heard(Heard, Option<TillMessage>, Option<Outcome>),
+    Heard(Heard, Option<Brief>, Option<Outcome>),
 }
 
 // These two say nothing of what they answer: beside it each step of a caller's proof is dear.
@@ -50,8 +50,8 @@ fn hear(till: &mut Till, heard: Heard) -> Reply {
 fn goes(rt: &impl Abort, till: &mut Till, course: &[TillEvent]) {
     for told in course {
         match *told {
-            TillEvent::Sent(sent, till_message) => {
-                assert_equal(rt, &order(till, sent), &Ok(Outgoing { till_message }));
+            TillEvent::Sent(sent, brief) => {
+                assert_equal(rt, &order(till, sent), &Ok(Outgoing { brief }));
             }
             TillEvent::Refused(sent, refusal) => assert_equal(
                 rt,
@@ -59,7 +59,7 @@ fn goes(rt: &impl Abort, till: &mut Till, course: &[TillEvent]) {
                 &Err(refusal),
             ),
             TillEvent::Heard(heard, answer, outcome) => {
-                let send = answer.map(|till_message| Outgoing { till_message });
+                let send = answer.map(|brief| Outgoing { brief });
                 assert_equal(rt, &hear(till, heard), &Reply { send, outcome });
             }
         }
@@ -68,7 +68,7 @@ fn goes(rt: &impl Abort, till: &mut Till, course: &[TillEvent]) {
 
 /// A message that is acknowledged, and ends the running order so, if it does.
 fn acknowledged(heard: Heard, outcome: Option<Outcome>) -> TillEvent {
-    TillEvent::Heard(heard, Some(TillMessage::Ack), outcome)
+    TillEvent::Heard(heard, Some(Brief::Ack), outcome)
 }
 
 /// A till whose line is up.
@@ -85,7 +85,7 @@ fn connected_till(rt: &impl Abort, alloc: Global) -> Till {
 
 /// The till registers on its line.
 fn registers(rt: &impl Abort, till: &mut Till) {
-    let register = TillMessage::Register {
+    let register = Brief::Register {
         password: PASSWORD,
         config: 0xBE,
         currency: euro(rt),
@@ -150,12 +150,12 @@ fn paid(rt: &impl Abort, number: u32, receipt: u8) -> Outcome {
 
 /// The order to pay the worked price is sent.
 fn pay(rt: &impl Abort) -> TillEvent {
-    TillEvent::Sent(Order::Pay(price(rt)), TillMessage::Pay(price(rt), euro(rt)))
+    TillEvent::Sent(Order::Pay(price(rt)), Brief::Pay(price(rt), euro(rt)))
 }
 
 /// The order to take the first payment of the book back is sent.
 fn reverse() -> TillEvent {
-    let message = TillMessage::Reverse {
+    let message = Brief::Reverse {
         password: PASSWORD,
         receipt: [0, 5],
     };
@@ -360,14 +360,14 @@ fn what_changes_nothing_leaves_the_doubt(rt: HostRuntime) {
 #[test]
 fn other_orders_end_too(rt: HostRuntime) {
     let mut till = registered_till(&rt, rt.alloc());
-    let closes = TillMessage::CloseDay { password: PASSWORD };
+    let closes = Brief::CloseDay { password: PASSWORD };
     let course = [
         TillEvent::Refused(Order::Cancel, OrderRefusal::NothingToCancel),
         TillEvent::Sent(Order::CloseDay, closes),
         TillEvent::Refused(Order::Cancel, OrderRefusal::NothingToCancel),
         TillEvent::Heard(Heard::Positive, None, None),
-        TillEvent::Sent(Order::Cancel, TillMessage::AbortOrder),
-        TillEvent::Heard(Heard::Strange, Some(TillMessage::Nack(0x83)), None),
+        TillEvent::Sent(Order::Cancel, Brief::AbortOrder),
+        TillEvent::Heard(Heard::Strange, Some(Brief::Nack(0x83)), None),
         acknowledged(Heard::Completion, Some(Outcome::DayClosed)),
     ];
     goes(&rt, &mut till, &course);
@@ -389,10 +389,7 @@ fn a_full_book_takes_no_payment(rt: HostRuntime) {
     assert_equal(&rt, &till.total(), &12_340_000);
     let course = [
         TillEvent::Refused(Order::Pay(price(&rt)), OrderRefusal::BookFull),
-        TillEvent::Sent(
-            Order::CloseDay,
-            TillMessage::CloseDay { password: PASSWORD },
-        ),
+        TillEvent::Sent(Order::CloseDay, Brief::CloseDay { password: PASSWORD }),
     ];
     goes(&rt, &mut till, &course);
 }

@@ -1,9 +1,27 @@
 //! The terminal on a line, and what it writes without memory.
 use crate::assertions::assert_equal;
+use std::alloc::Global;
 use zvt_bcd::Amount;
-use zvt_io::Counted;
+use zvt_io::{Over, Sink, Source};
 use zvt_stream::{Endpoint, LineFault, Machine, Stream, Until, pump};
 use zvt_term::{Line, Report, Served, Terminal, Verdict, put_report};
+
+/// Lets the terminal hear what comes at this end of a line.
+fn pump_at<R: Source, W: Sink>(
+    alloc: Global,
+    end: &mut Endpoint<R, W>,
+    served: &mut Served,
+) -> Result<(), LineFault> {
+    pump(
+        alloc,
+        &mut end.reader,
+        &mut end.writer,
+        &mut end.stream,
+        served,
+        Until::Rest,
+        10,
+    )
+}
 
 #[test]
 fn serves_a_line_until_it_ends(rt: HostRuntime) {
@@ -18,11 +36,11 @@ fn serves_a_line_until_it_ends(rt: HostRuntime) {
         0x00, 0x00, 0x00, 0x10, 0x00, 0x80, 0x00, 0x00,
     ];
     let mut end = Endpoint {
-        reader: Counted::new(heard.as_slice()),
-        writer: Counted::new(Vec::new(alloc)),
+        reader: Over::new(heard.as_slice()),
+        writer: Over::new(Vec::new(alloc)),
         stream: Stream::new(alloc),
     };
-    let fault = pump(alloc, &mut end, &mut served, Until::Rest, 10);
+    let fault = pump_at(alloc, &mut end, &mut served);
     assert_equal(&rt, &fault, &Err(LineFault::Ended { have: 0 }));
     let written = [
         0x80, 0x00, 0x00, 0x06, 0x0F, 0x05, 0x29, 0x00, 0x00, 0x00, 0x01, 0x80, 0x00, 0x00, 0x04,

@@ -4,7 +4,7 @@ use std::alloc::Global;
 use std::process::Abort;
 use std::test::Fail;
 use zvt_bcd::{Amount, Trace};
-use zvt_io::Counted;
+use zvt_io::Over;
 use zvt_json::Form;
 use zvt_session::{EndFault, write_book};
 use zvt_till::{CurrencyFact, Heard, Order, Original, StatusFacts, Till};
@@ -82,7 +82,7 @@ fn booked_till(rt: &impl Abort, alloc: Global) -> Till {
 }
 
 fn written(alloc: Global, form: Form, till: &Till) -> Result<Vec<u8>, EndFault> {
-    let mut writer = Counted::new(Vec::new(alloc));
+    let mut writer = Over::new(Vec::new(alloc));
     write_book(alloc, form, till, &mut writer)?;
     Ok(writer.inner)
 }

@@ -4,9 +4,9 @@ use std::alloc::{AllocError, Global};
 use std::test::Fail;
 use zvt_diagnostics::write_notes;
 use zvt_grammar::Lengths;
-use zvt_io::{Counted, Failed, GhostCount, Sink, Source};
-use zvt_tool::{audit, show};
-use zvt_trace::{ListenerError, Scope, TraceFault};
+use zvt_io::{Failed, GhostCount, Over, Sink, Source};
+use zvt_tool::{ToolFault, audit, show};
+use zvt_trace::{ListenerError, Scope};
 
 /// Gives that many bytes of a comment, and then fails or ends.
 #[derive(Drop)]
@@ -51,14 +51,14 @@ fn comment_of(bytes_left: usize, breaks: bool) -> Comment {
 
 // This function and those below that call the library say nothing of what it answers: beside that each step of a
 // caller's proof is dear.
-fn shown_comment(alloc: Global, bytes: usize, breaks: bool) -> (Option<TraceFault>, usize) {
-    let mut writer = Counted::new(Vec::new(alloc));
+fn shown_comment(alloc: Global, bytes: usize, breaks: bool) -> (Option<ToolFault>, usize) {
+    let mut writer = Over::new(Vec::new(alloc));
     let answer = show(alloc, &mut comment_of(bytes, breaks), &mut writer);
     (answer.err(), writer.inner.len())
 }
 
-fn audited_comment(alloc: Global, bytes: usize) -> (Option<TraceFault>, usize) {
-    let mut writer = Counted::new(Vec::new(alloc));
+fn audited_comment(alloc: Global, bytes: usize) -> (Option<ToolFault>, usize) {
+    let mut writer = Over::new(Vec::new(alloc));
     let answer = audit(alloc, &mut comment_of(bytes, true), &mut writer);
     (answer.err(), writer.inner.len())
 }
@@ -68,15 +68,15 @@ fn traces_have_a_limit(rt: HostRuntime) {
     let longest = shown_comment(rt.alloc(), 16_777_216, false);
     assert!(rt; matches!(longest, (None, 0)));
     let longer = shown_comment(rt.alloc(), 16_777_217, false);
-    assert!(rt; matches!(longer, (Some(TraceFault::TooLong), 0)));
+    assert!(rt; matches!(longer, (Some(ToolFault::TooLong), 0)));
 }
 
 #[test]
 fn a_read_that_fails_is_reported(rt: HostRuntime) {
     let shown = shown_comment(rt.alloc(), 5, true);
-    assert!(rt; matches!(shown, (Some(TraceFault::Read), 0)));
+    assert!(rt; matches!(shown, (Some(ToolFault::Read), 0)));
     let audited = audited_comment(rt.alloc(), 5);
-    assert!(rt; matches!(audited, (Some(TraceFault::Read), 0)));
+    assert!(rt; matches!(audited, (Some(ToolFault::Read), 0)));
 }
 
 /// Counts the writes, takes that many, and then fails.
@@ -114,8 +114,8 @@ fn takes(writes_left: usize) -> Full {
     }
 }
 
-fn shown(alloc: Global, trace: &[u8], writes_left: usize) -> Option<TraceFault> {
-    show(alloc, &mut Counted::new(trace), &mut takes(writes_left)).err()
+fn shown(alloc: Global, trace: &[u8], writes_left: usize) -> Option<ToolFault> {
+    show(alloc, &mut Over::new(trace), &mut takes(writes_left)).err()
 }
 
 fn noted(alloc: Global, trace: &[u8; 13], writes_left: usize) -> Option<ListenerError> {
@@ -137,7 +137,7 @@ fn a_write_that_fails_is_reported(rt: HostRuntime) -> Result<(), Fail> {
     let trace = long_trace(rt.alloc())?;
     for writes_left in 0..2 {
         let fault = shown(rt.alloc(), trace.as_str().as_bytes(), writes_left);
-        assert!(rt; matches!(fault, Some(TraceFault::Write)), "{writes_left}");
+        assert!(rt; matches!(fault, Some(ToolFault::Write)), "{writes_left}");
     }
     Ok(())
 }
@@ -149,9 +149,9 @@ fn notes_that_cannot_be_written_are_reported(rt: HostRuntime) {
 }
 
 /// What an audit answers, and how often it writes.
-fn audited(alloc: Global, trace: &[u8], writes_left: usize) -> (Option<TraceFault>, usize) {
+fn audited(alloc: Global, trace: &[u8], writes_left: usize) -> (Option<ToolFault>, usize) {
     let mut writer = takes(writes_left);
-    let answer = audit(alloc, &mut Counted::new(trace), &mut writer);
+    let answer = audit(alloc, &mut Over::new(trace), &mut writer);
     (answer.err(), writer.writes)
 }
 
@@ -159,8 +159,8 @@ fn audited(alloc: Global, trace: &[u8], writes_left: usize) -> (Option<TraceFaul
 fn the_books_are_written_once(rt: HostRuntime) {
     let trace = b"> 06 01 07 04 00 00 00 00 12 34\n";
     let full = audited(rt.alloc(), trace, 0);
-    assert!(rt; matches!(full, (Some(TraceFault::Write), 1)));
+    assert!(rt; matches!(full, (Some(ToolFault::Write), 1)));
     let roomy = audited(rt.alloc(), trace, 1);
-    assert!(rt; !matches!(roomy.0, Some(TraceFault::Write)));
+    assert!(rt; !matches!(roomy.0, Some(ToolFault::Write)));
     assert_equal(&rt, &roomy.1, &1);
 }

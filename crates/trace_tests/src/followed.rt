@@ -3,7 +3,7 @@ use crate::assertions::assert_equal;
 use std::alloc::Global;
 use std::test::Fail;
 use zvt_grammar::Lengths;
-use zvt_io::{Counted, Failed, GhostCount, Source};
+use zvt_io::{Failed, GhostCount, Over, Source};
 use zvt_show::{Follower, Style};
 use zvt_tool::follow_trace;
 use zvt_trace::{Scope, TraceFault};
@@ -17,7 +17,7 @@ struct Written {
 
 // This function and those below that call the library say nothing of what it answers.
 fn three_pieces(alloc: Global) -> Result<Written, TraceFault> {
-    let mut writer = Counted::new(Vec::new(alloc));
+    let mut writer = Over::new(Vec::new(alloc));
     let mut follower = Follower::new(alloc, Style::Join, Scope::OneSide, Lengths::Shortest);
     follower.feed(&mut writer, b"> 06 B")?;
     let begun = writer.inner.len();
@@ -74,7 +74,7 @@ impl<'a> Source for Pieces<'a> {
 
 /// The fault of following these pieces, how many messages were read, and what was written.
 fn followed(alloc: Global, pieces: &[&[u8]]) -> (Option<TraceFault>, u64, Vec<u8>) {
-    let mut writer = Counted::new(Vec::new(alloc));
+    let mut writer = Over::new(Vec::new(alloc));
     let mut reader = Pieces {
         pieces,
         next: 0,

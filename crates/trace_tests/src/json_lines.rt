@@ -6,7 +6,7 @@ use crate::assertions::assert_equal;
 use std::alloc::Global;
 use std::test::Fail;
 use zvt_grammar::Lengths;
-use zvt_io::Counted;
+use zvt_io::Over;
 use zvt_show::{Style, render_trace};
 use zvt_trace::Scope;
 
@@ -41,7 +41,7 @@ const PADDED: &[u8] = b"> 80 00 FF 00 00\n";
 fn written(alloc: Global, style: Style, lengths: Lengths, trace: &[u8]) -> Result<Vec<u8>, Fail>
     requires { length trace.now ≤ limit }
 {
-    let mut writer = Counted::new(Vec::new(alloc));
+    let mut writer = Over::new(Vec::new(alloc));
     render_trace(alloc, style, Scope::OneSide, lengths, trace, &mut writer)?;
     Ok(writer.inner)
 }

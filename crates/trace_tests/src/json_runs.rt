@@ -3,7 +3,7 @@ use crate::assertions::assert_equal;
 use crate::reported_runs::Chunks;
 use std::alloc::Global;
 use std::test::Fail;
-use zvt_io::Counted;
+use zvt_io::Over;
 use zvt_json::Form;
 use zvt_session::{EndFault, Endpoint, Ends, StepOptions, StepRun, plan, run_till_end};
 use zvt_stream::{LineFault, Stream};
@@ -33,8 +33,8 @@ fn looped(rt: &HostRuntime, words: &[&str]) -> Result<(Result<(), EndFault>, Vec
             check: false,
         },
     };
-    let mut writer = Counted::new(Vec::new(rt.alloc()));
-    let mut report = Counted::new(Vec::new(rt.alloc()));
+    let mut writer = Over::new(Vec::new(rt.alloc()));
+    let mut report = Over::new(Vec::new(rt.alloc()));
     let ended = run_loop(rt, rt.alloc(), &run, &mut writer, &mut report);
     Ok((ended, writer.inner))
 }
@@ -105,16 +105,16 @@ fn answered(alloc: Global) -> Result<(Result<(), EndFault>, Vec<u8>), EndFault> 
         },
     };
     let mut line = Endpoint {
-        reader: Counted::new(Chunks {
+        reader: Over::new(Chunks {
             chunks: &ANSWERS,
             next: 0,
         }),
-        writer: Counted::new(Vec::new(alloc)),
+        writer: Over::new(Vec::new(alloc)),
         stream: Stream::new(alloc),
     };
     let settings = TillSettings::default();
-    let mut writer = Counted::new(Vec::new(alloc));
-    let mut report = Counted::new(Vec::new(alloc));
+    let mut writer = Over::new(Vec::new(alloc));
+    let mut report = Over::new(Vec::new(alloc));
     let ended = run_till_end(
         alloc,
         &mut line,

@@ -6,7 +6,7 @@ use crate::assertions::assert_equal;
 use std::alloc::Global;
 use std::test::Fail;
 use zvt_grammar::Lengths;
-use zvt_io::Counted;
+use zvt_io::Over;
 use zvt_show::{Style, render_trace};
 use zvt_trace::Scope;
 
@@ -48,7 +48,7 @@ const JSON: &str =
 fn shown(alloc: Global, style: Style, trace: &[u8]) -> Result<(u64, Vec<u8>), Fail>
     requires { length trace.now ≤ limit }
 {
-    let mut writer = Counted::new(Vec::new(alloc));
+    let mut writer = Over::new(Vec::new(alloc));
     let tally = render_trace(
         alloc,
         style,

@@ -8,7 +8,7 @@ use std::io::{self, Write};
 use std::process::Abort;
 use std::test::Fail;
 use zvt_bcd::{Amount, Currency};
-use zvt_io::{Counted, Failed, GhostCount, Source};
+use zvt_io::{Failed, GhostCount, Over, Source};
 use zvt_recorder::{Recorded, end_trace};
 use zvt_stream::{Endpoint, Stream};
 use zvt_till::{Entry, Order, Till, run_order};
@@ -160,9 +160,9 @@ fn next_answers(chance: &mut Chance, made: u32) -> [&'static [u8]; 4] {
     }
 }
 
-type Heard<'a> = Recorded<Pieces, Counted<Shared<'a>>>;
+type Heard<'a> = Recorded<Pieces, Over<Shared<'a>>>;
 
-type Sent<'a> = Recorded<Counted<Vec<u8>>, Counted<Shared<'a>>>;
+type Sent<'a> = Recorded<Over<Vec<u8>>, Over<Shared<'a>>>;
 
 /// A till's end of a new line, which writes its trace there.
 fn new_line(
@@ -177,10 +177,10 @@ fn new_line(
         failures: GhostCount::zero(),
         reads: GhostCount::zero(),
     };
-    let sent = Counted::new(Vec::new(alloc));
-    let writer = Recorded::new(alloc, Direction::FromTill, sent, Counted::new(trace))?;
+    let sent = Over::new(Vec::new(alloc));
+    let writer = Recorded::new(alloc, Direction::FromTill, sent, Over::new(trace))?;
     Ok(Endpoint {
-        reader: Recorded::new(alloc, Direction::FromTerminal, pieces, Counted::new(trace))?,
+        reader: Recorded::new(alloc, Direction::FromTerminal, pieces, Over::new(trace))?,
         writer,
         stream: Stream::new(alloc),
     })
@@ -196,7 +196,15 @@ fn hear(bytes: &mut Vec<u8>, messages: [&[u8]; 4]) -> Result<(), AllocError> {
 
 // Says nothing of what becomes of the order: beside that each step of a caller's proof is dear.
 fn run(alloc: Global, line: &mut Endpoint<Heard<'_>, Sent<'_>>, till: &mut Till, order: Order) {
-    let _ = run_order(alloc, line, till, order, 50);
+    let _ = run_order(
+        alloc,
+        &mut line.reader,
+        &mut line.writer,
+        &mut line.stream,
+        till,
+        order,
+        50,
+    );
 }
 
 /// Makes orders at a till over one line, each answered as chance has it, until the line breaks or five are made.
@@ -214,7 +222,7 @@ fn make_orders(
         run(alloc, &mut line, till, order);
     }
     till.lost();
-    if end_trace(&mut Counted::new(trace)).is_err() {
+    if end_trace(&mut Over::new(trace)).is_err() {
         return Err(Fail::from("the trace does not end"));
     }
     Ok(())
@@ -262,14 +270,14 @@ fn recorded(alloc: Global, seed: u64) -> Result<(Till, Vec<u8>), Fail> {
 
 // This one and the next say nothing of what they answer: beside that each step of a caller's proof is dear.
 fn audited(alloc: Global, trace: &[u8]) -> Result<Vec<u8>, Fail> {
-    let mut writer = Counted::new(Vec::new(alloc));
-    audit(alloc, &mut Counted::new(trace), &mut writer)?;
+    let mut writer = Over::new(Vec::new(alloc));
+    audit(alloc, &mut Over::new(trace), &mut writer)?;
     Ok(writer.inner)
 }
 
 fn shown(alloc: Global, trace: &[u8]) -> Result<Vec<u8>, Fail> {
-    let mut writer = Counted::new(Vec::new(alloc));
-    show(alloc, &mut Counted::new(trace), &mut writer)?;
+    let mut writer = Over::new(Vec::new(alloc));
+    show(alloc, &mut Over::new(trace), &mut writer)?;
     Ok(writer.inner)
 }
 

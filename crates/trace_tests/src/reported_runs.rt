@@ -3,7 +3,7 @@ use crate::assertions::assert_equal;
 use std::alloc::Global;
 use std::io::{self, Read, Write};
 use std::test::Fail;
-use zvt_io::Counted;
+use zvt_io::Over;
 use zvt_json::Form;
 use zvt_session::{EndFault, Endpoint, Ends, StepOptions, StepRun, plan, run_till_end};
 use zvt_stream::{LineFault, Stream};
@@ -26,8 +26,8 @@ impl Write for Full {
 
 #[test]
 fn a_text_that_cannot_be_written(rt: HostRuntime) -> Result<(), Fail> {
-    let mut writer = Counted::new(Full);
-    let mut report = Counted::new(Vec::new(rt.alloc()));
+    let mut writer = Over::new(Full);
+    let mut report = Over::new(Vec::new(rt.alloc()));
     let plan = plan(rt.alloc(), Ends::Both, ["close"].as_slice())?;
     let run = LoopRun {
         trace: None,
@@ -83,19 +83,19 @@ const STEPS: [&str; 3] = ["register", "pay:1234", "reverse:1"];
 fn reverses<E: Write>(
     alloc: Global,
     coming: &[u8],
-    report: &mut Counted<E>,
+    report: &mut Over<E>,
 ) -> Result<(Result<(), EndFault>, Vec<u8>), EndFault> {
     let plan = plan(alloc, Ends::Till, &STEPS)?;
     let chunks = [REGISTERED.as_slice(), PAID.as_slice(), coming];
     let mut line = Endpoint {
-        reader: Counted::new(Chunks {
+        reader: Over::new(Chunks {
             chunks: &chunks,
             next: 0,
         }),
-        writer: Counted::new(Vec::new(alloc)),
+        writer: Over::new(Vec::new(alloc)),
         stream: Stream::new(alloc),
     };
-    let mut writer = Counted::new(Vec::new(alloc));
+    let mut writer = Over::new(Vec::new(alloc));
     let settings = TillSettings::default();
     let steps = StepRun {
         plan: plan.as_slice(),
@@ -119,7 +119,7 @@ const REPORTED: &str =
 
 #[test]
 fn a_reversal_whose_line_breaks_is_reported(rt: HostRuntime) -> Result<(), Fail> {
-    let mut report = Counted::new(Vec::new(rt.alloc()));
+    let mut report = Over::new(Vec::new(rt.alloc()));
     let (ended, written) = reverses(rt.alloc(), &TAKEN_UP, &mut report)?;
     assert!(rt; matches!(ended, Err(EndFault::Line(LineFault::Ended { have: 0 }))));
     assert_equal(&rt, &written.as_slice(), &WRITTEN.as_bytes());
@@ -129,7 +129,7 @@ fn a_reversal_whose_line_breaks_is_reported(rt: HostRuntime) -> Result<(), Fail>
 
 #[test]
 fn a_device_that_takes_no_text_changes_nothing_else(rt: HostRuntime) -> Result<(), Fail> {
-    let mut report = Counted::new(Full);
+    let mut report = Over::new(Full);
     let (ended, written) = reverses(rt.alloc(), &TAKEN_UP, &mut report)?;
     assert!(rt; matches!(ended, Err(EndFault::Line(LineFault::Ended { have: 0 }))));
     assert_equal(&rt, &written.as_slice(), &WRITTEN.as_bytes());
@@ -138,7 +138,7 @@ fn a_device_that_takes_no_text_changes_nothing_else(rt: HostRuntime) -> Result<(
 
 #[test]
 fn a_reversal_with_an_end_is_not_reported(rt: HostRuntime) -> Result<(), Fail> {
-    let mut report = Counted::new(Vec::new(rt.alloc()));
+    let mut report = Over::new(Vec::new(rt.alloc()));
     let (ended, _) = reverses(rt.alloc(), &ABORTED, &mut report)?;
     ended?;
     assert!(rt; report.inner.is_empty());

@@ -7,7 +7,7 @@ use std::net::TcpListener;
 use std::process::Abort;
 use std::test::Fail;
 use zvt_grammar::{Lengths, Why};
-use zvt_io::{Counted, Sink, Source};
+use zvt_io::{Over, Sink, Source};
 use zvt_json::Form;
 use zvt_recorder::Recorded;
 use zvt_session::{
@@ -56,8 +56,8 @@ fn as_text(plan: &[Planned]) -> StepRun<'_> {
 // This function and those below that call the library say nothing of what it answers: beside that each step of a
 // caller's proof is dear.
 fn looped(rt: &HostRuntime, words: &[&str]) -> (Result<(), EndFault>, Vec<u8>) {
-    let mut writer = Counted::new(Vec::new(rt.alloc()));
-    let mut report = Counted::new(Vec::new(rt.alloc()));
+    let mut writer = Over::new(Vec::new(rt.alloc()));
+    let mut report = Over::new(Vec::new(rt.alloc()));
     let plan = match plan(rt.alloc(), Ends::Both, words) {
         Ok(plan) => plan,
         Err(fault) => return (Err(fault), writer.inner),
@@ -100,12 +100,12 @@ fn registers_and_pays(
 ) -> Result<(Result<(), EndFault>, Vec<u8>), EndFault> {
     let plan = plan(alloc, Ends::Till, ["register", "pay:1000"].as_slice())?;
     let mut line = Endpoint {
-        reader: Counted::new(coming),
-        writer: Counted::new(Vec::new(alloc)),
+        reader: Over::new(coming),
+        writer: Over::new(Vec::new(alloc)),
         stream: Stream::new(alloc),
     };
-    let mut writer = Counted::new(Vec::new(alloc));
-    let mut report = Counted::new(Vec::new(alloc));
+    let mut writer = Over::new(Vec::new(alloc));
+    let mut report = Over::new(Vec::new(alloc));
     let ended = run_till_end(
         alloc,
         &mut line,
@@ -178,13 +178,13 @@ fn registers_endlessly(
     let plan = plan(alloc, Ends::Both, ["register"].as_slice())?;
     let mut line = BothEnds {
         till: Endpoint {
-            reader: Counted::new(Again([0x04, 0xFF, 0x01, 0x00].as_slice())),
-            writer: Counted::new(Vec::new(alloc)),
+            reader: Over::new(Again([0x04, 0xFF, 0x01, 0x00].as_slice())),
+            writer: Over::new(Vec::new(alloc)),
             stream: Stream::new(alloc),
         },
         terminal: Endpoint {
-            reader: Counted::new(Again([0x06, 0xB0, 0x00].as_slice())),
-            writer: Counted::new(Vec::new(alloc)),
+            reader: Over::new(Again([0x06, 0xB0, 0x00].as_slice())),
+            writer: Over::new(Vec::new(alloc)),
             stream: Stream::new(alloc),
         },
         served: Served {
@@ -193,8 +193,8 @@ fn registers_endlessly(
         },
     };
     let settings = TillSettings::default();
-    let mut writer = Counted::new(Vec::new(alloc));
-    let mut report = Counted::new(Vec::new(alloc));
+    let mut writer = Over::new(Vec::new(alloc));
+    let mut report = Over::new(Vec::new(alloc));
     let ended = run_both_ends(
         alloc,
         &mut line,
@@ -222,8 +222,8 @@ fn ends_that_never_rest(rt: HostRuntime) -> Result<(), Fail> {
 /// What a terminal of the number 87654321, which declines with 6C, writes where these bytes come, and how it ends.
 fn serves(alloc: Global, coming: &[u8]) -> (Result<(), LineFault>, Vec<u8>) {
     let mut end = Endpoint {
-        reader: Counted::new(coming),
-        writer: Counted::new(Vec::new(alloc)),
+        reader: Over::new(coming),
+        writer: Over::new(Vec::new(alloc)),
         stream: Stream::new(alloc),
     };
     let mut served = Served {
@@ -270,8 +270,8 @@ pub(crate) fn closed_port(rt: &HostRuntime) -> Result<u16, Fail> {
 
 /// A run of a till against this port, and what it writes.
 fn till_at(rt: &HostRuntime, port: u16, words: &[&str]) -> (Result<(), EndFault>, Vec<u8>) {
-    let mut writer = Counted::new(Vec::new(rt.alloc()));
-    let mut report = Counted::new(Vec::new(rt.alloc()));
+    let mut writer = Over::new(Vec::new(rt.alloc()));
+    let mut report = Over::new(Vec::new(rt.alloc()));
     let plan = match plan(rt.alloc(), Ends::Till, words) {
         Ok(plan) => plan,
         Err(fault) => return (Err(fault), writer.inner),
@@ -336,20 +336,15 @@ fn registers_recorded(
     coming: &[u8],
 ) -> Result<(Result<(), EndFault>, Vec<u8>, Vec<u8>), EndFault> {
     let plan = plan(alloc, Ends::Till, ["register"].as_slice())?;
-    let sent = Counted::new(Vec::new(alloc));
-    let reads = Counted::new(Vec::new(alloc));
+    let sent = Over::new(Vec::new(alloc));
+    let reads = Over::new(Vec::new(alloc));
     let mut line = Endpoint {
-        reader: Recorded::new(alloc, Direction::FromTerminal, Counted::new(coming), reads)?,
-        writer: Recorded::new(
-            alloc,
-            Direction::FromTill,
-            sent,
-            Counted::new(Vec::new(alloc)),
-        )?,
+        reader: Recorded::new(alloc, Direction::FromTerminal, Over::new(coming), reads)?,
+        writer: Recorded::new(alloc, Direction::FromTill, sent, Over::new(Vec::new(alloc)))?,
         stream: Stream::new(alloc),
     };
-    let mut writer = Counted::new(Vec::new(alloc));
-    let mut report = Counted::new(Vec::new(alloc));
+    let mut writer = Over::new(Vec::new(alloc));
+    let mut report = Over::new(Vec::new(alloc));
     let ended = run_till_end(
         alloc,
         &mut line,
@@ -385,16 +380,16 @@ fn a_line_is_recorded(rt: HostRuntime) -> Result<(), Fail> {
 
 /// Whether a byte is sent whose trace can't be written, and how many are.
 fn sends_untraced(alloc: Global) -> Result<(bool, usize), AllocError> {
-    let sent = Counted::new(Vec::new(alloc));
-    let mut writer = Recorded::new(alloc, Direction::FromTill, sent, Counted::new(Full))?;
+    let sent = Over::new(Vec::new(alloc));
+    let mut writer = Recorded::new(alloc, Direction::FromTill, sent, Over::new(Full))?;
     let is_sent = writer.write_all([1].as_slice()).is_ok();
     Ok((is_sent, writer.device.inner.len()))
 }
 
 /// How many bytes come in the first read and in the second, where the trace of the first can't be written.
 fn reads_untraced(alloc: Global) -> Result<[Option<usize>; 2], AllocError> {
-    let coming = Counted::new([1, 2].as_slice());
-    let mut reader = Recorded::new(alloc, Direction::FromTerminal, coming, Counted::new(Full))?;
+    let coming = Over::new([1, 2].as_slice());
+    let mut reader = Recorded::new(alloc, Direction::FromTerminal, coming, Over::new(Full))?;
     let mut buffer = [0];
     let first = Source::read(&mut reader, &mut buffer).ok();
     let second = Source::read(&mut reader, &mut buffer).ok();

@@ -4,7 +4,7 @@ use crate::runs::closed_port;
 use std::net::TcpListener;
 use std::test::Fail;
 use zvt_grammar::Lengths;
-use zvt_io::Counted;
+use zvt_io::Over;
 use zvt_json::Form;
 use zvt_session::{EndFault, NetFault};
 use zvt_tcp::{TerminalRun, run_terminal};
@@ -17,7 +17,7 @@ fn terminal_at(
     connections: u64,
     form: Form,
 ) -> (Result<(), EndFault>, Vec<u8>) {
-    let mut report = Counted::new(Vec::new(rt.alloc()));
+    let mut report = Over::new(Vec::new(rt.alloc()));
     let run = TerminalRun {
         host: "127.0.0.1",
         port,

@@ -5,14 +5,14 @@ ghost use Rattle.zvt_journal.specs.Text.{IsSettled};
 use crate::finish::finish_run;
 use crate::output::Output;
 use crate::reports::{report, report_on};
-use std::{io, str};
+use std::{fs, io, str};
 use zvt_bcd::Currency;
-use zvt_io::Counted;
-use zvt_till::{Cause, Till};
+use zvt_io::Over;
+use zvt_till::Till;
 use zvt_tool::statuses::{MEMORY, of_device, of_file_error, of_recovery};
 use zvt_tool::{
     FileDevice, Form, JournalFileError, KeptTill, Opened, RecoveryError, TillSettings, next_line,
-    open_file, read_book, recover, write_book,
+    open_file, read_book, recover, write_book, write_records,
 };
 
 /// What is reported of a book in another currency than the till's, or of no book.
@@ -22,10 +22,6 @@ const OTHER_BOOK: &str =
 /// What is reported of a file that is no book, where a book is to be read.
 const NO_BOOK: &str =
     "this is no journal of a till: name the file of its '--book', or run 'zvt audit' on a trace";
-
-/// What is reported of a payment whose trace number the book has already.
-const USED_NUMBER: &str =
-    "the book has its trace number: if the terminal was exchanged or counts from 1 again, begin a new book";
 
 /// What is reported of a book whose file is no longer the one that was opened.
 const DISPLACED: &str =
@@ -44,9 +40,37 @@ pub fn show(rt: &HostRuntime, path: &str, form: Form) -> io::Result<u8> {
         Ok(till) => till,
         Err(error) => return unrecovered(rt, path, error),
     };
-    let mut writer = Counted::new(Output::new(io::writer(rt)));
+    let mut writer = Over::new(Output::new(io::writer(rt)));
     let answer = write_book(rt.alloc(), form, &till, &mut writer);
     finish_run(rt, writer.inner.broken_pipe, answer)
+}
+
+/// Writes the whole records of the book in this file as a trace, and answers the exit status. What is there of another record
+/// is reported.
+pub fn records(rt: &HostRuntime, path: &str) -> io::Result<u8> {
+    let text = match read_book(rt, rt.alloc(), path) {
+        Ok(text) => text,
+        Err(error) => return unread(rt, path, &error),
+    };
+    if let Err(error) = till_of(rt, text.as_slice()) {
+        return unrecovered(rt, path, error);
+    }
+    let mut writer = Over::new(Output::new(io::writer(rt)));
+    let answer = write_records(text.as_slice(), &mut writer);
+    report_left(rt, path, text.len())?;
+    finish_run(rt, writer.inner.broken_pipe, answer)
+}
+
+/// Reports how many bytes the file has after that many bytes of records and the byte that ends them.
+fn report_left(rt: &HostRuntime, path: &str, records: usize) -> io::Result<()> {
+    let size = fs::metadata(rt, path)?.len();
+    let left = size.saturating_sub(records as u64).saturating_sub(1);
+    if left > 0 {
+        eprintln!(rt;
+            "zvt: '{path}': {left} bytes of an unfinished record were left out: a till is writing it, or a crash left them"
+        )?;
+    }
+    Ok(())
 }
 
 /// The till of these records. Its currency is that of the book. A book without a record is that of a new till.
@@ -149,24 +173,6 @@ fn report_book(rt: &HostRuntime, path: &str, till: &Till) -> io::Result<()> {
     let unclear = till.unclear().len();
     let total = till.total();
     eprintln!(rt; "zvt: '{path}': {booked} booked, {unclear} unclear, total {total}")
-}
-
-/// Reports each payment that became unclear in this run, after the ones that were known before, and what to do.
-pub fn report_unclear(rt: &HostRuntime, till: &Till, known: usize) -> io::Result<()> {
-    let Some(rows) = till.unclear().get(known..) else {
-        return Ok(());
-    };
-    'rows: for (amount, cause) in rows {
-        let amount = amount.get();
-        let name = cause.name();
-        eprintln!(rt;
-            "zvt: the payment of {amount} is unclear ({name}): the terminal may have charged it or not: look at its journal or its last receipt before you order it again"
-        )?;
-        if *cause == Cause::TraceUsed {
-            report(rt, USED_NUMBER)?;
-        }
-    }
-    Ok(())
 }
 
 /// Reports that the file of the book's name was another one by the time that a record was to be written.

@@ -7,13 +7,16 @@ use crate::reports::{SOME_SECONDS, TERMINAL_PORT, report, report_invalid};
 use crate::settings::{settings, verdict};
 use crate::{book, trace_file};
 use std::io;
-use zvt_io::Counted;
+use zvt_io::Over;
+use zvt_tcp::{
+    BookRun, LoopRun, TerminalRun, TillRun, run_loop, run_loop_kept, run_terminal, run_till,
+    run_till_kept,
+};
 use zvt_tool::command::{LoopOptions, connections_by, form_by, lengths_by};
 use zvt_tool::statuses::WORDS;
 use zvt_tool::{
-    BookRun, Ends, FileDevice, KeptTill, LoopRun, Planned, StepOptions, TerminalOptions,
-    TerminalRun, TillOptions, TillRun, TillSettings, plan, run_loop, run_loop_kept, run_terminal,
-    run_till, run_till_kept,
+    Ends, FileDevice, KeptTill, Planned, StepOptions, TerminalOptions, TillOptions, TillSettings,
+    plan,
 };
 
 /// What is reported where a till is given no steps.
@@ -39,14 +42,12 @@ pub fn both_ends(rt: &HostRuntime, options: &LoopOptions<'_>) -> io::Result<u8> 
         plan: plan.as_slice(),
         options: options.options,
     };
-    let mut writer = Counted::new(Output::new(io::writer(rt)));
-    let mut report = Counted::new(rt.stderr());
+    let mut writer = Over::new(Output::new(io::writer(rt)));
+    let mut report = Over::new(rt.stderr());
     let answer = match kept {
         None => run_loop(rt, rt.alloc(), &run, &mut writer, &mut report),
         Some(mut kept) => {
-            let known = kept.till().unclear().len();
             let answer = run_loop_kept(rt, rt.alloc(), &run, &mut kept, &mut writer, &mut report);
-            book::report_unclear(rt, kept.till(), known)?;
             book::report_displaced(rt, kept.device())?;
             answer
         }
@@ -116,8 +117,8 @@ fn report_zero(rt: &HostRuntime, options: &TillOptions<'_>) -> io::Result<bool> 
 
 /// Runs a new till, and answers the exit status.
 fn till_alone(rt: &HostRuntime, run: &TillRun<'_, '_>) -> io::Result<u8> {
-    let mut writer = Counted::new(Output::new(io::writer(rt)));
-    let mut report = Counted::new(rt.stderr());
+    let mut writer = Over::new(Output::new(io::writer(rt)));
+    let mut report = Over::new(rt.stderr());
     let answer = run_till(rt, rt.alloc(), run, &mut writer, &mut report);
     finish_run(rt, writer.inner.broken_pipe, answer)
 }
@@ -138,11 +139,9 @@ fn till_with_book(
         plan: run.plan,
         options: run.options,
     };
-    let mut writer = Counted::new(Output::new(io::writer(rt)));
-    let mut report = Counted::new(rt.stderr());
-    let known = kept.till().unclear().len();
+    let mut writer = Over::new(Output::new(io::writer(rt)));
+    let mut report = Over::new(rt.stderr());
     let answer = run_till_kept(rt, rt.alloc(), &run, &mut kept, &mut writer, &mut report);
-    book::report_unclear(rt, kept.till(), known)?;
     book::report_displaced(rt, kept.device())?;
     finish_run(rt, writer.inner.broken_pipe, answer)
 }
@@ -171,11 +170,11 @@ pub fn terminal(rt: &HostRuntime, options: &TerminalOptions<'_>) -> io::Result<u
         form: form_by(options.json),
     };
     if options.json {
-        let mut report = Counted::new(io::writer(rt));
+        let mut report = Over::new(io::writer(rt));
         let answer = run_terminal(rt, rt.alloc(), &run, &mut report);
         return finish_run(rt, false, answer);
     }
-    let mut report = Counted::new(rt.stderr());
+    let mut report = Over::new(rt.stderr());
     let answer = run_terminal(rt, rt.alloc(), &run, &mut report);
     finish_run(rt, false, answer)
 }

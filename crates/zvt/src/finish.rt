@@ -3,8 +3,9 @@ ghost use Rattle.std.specs.Prelude.{◌≡◌, IfOk};
 ghost use Rattle.zvt_tool.specs.Statuses.{status_of_end_fault, status_of_found, status_of_run};
 
 use crate::reports::{report, report_on};
+use std::fmt::Display;
 use std::io;
-use zvt_tool::{AuditSummary, EndFault, ToolFault, TraceFault, statuses};
+use zvt_tool::{AuditSummary, EndFault, TraceFault, statuses};
 
 /// The exit status of a command on a trace, which may check that no payment is unclear. A fault is reported, with the file
 /// if there is one. Text that was not written since its reader disconnected is no fault to report.
@@ -21,8 +22,8 @@ pub fn finish_trace(
     match answer {
         Ok(_) => {}
         Err(TraceFault::Write) if broken_pipe => {}
-        Err(TraceFault::Write) => report_fault(rt, None, &ToolFault::from(TraceFault::Write))?,
-        Err(fault) => report_fault(rt, file, &ToolFault::from(fault))?,
+        Err(TraceFault::Write) => report(rt, TraceFault::Write)?,
+        Err(fault) => report_fault(rt, file, fault)?,
     }
     Ok(status)
 }
@@ -33,7 +34,7 @@ pub fn finish_plan(rt: &HostRuntime, words: &[&str], fault: EndFault) -> io::Res
 {
     let status = statuses::of_end_fault(&fault);
     let word = word_of(&fault, words);
-    report_fault(rt, word, &ToolFault::from(fault))?;
+    report_fault(rt, word, fault)?;
     Ok(status)
 }
 
@@ -50,13 +51,17 @@ pub fn finish_run(
     match answer {
         Ok(()) => {}
         Err(EndFault::Write) if broken_pipe => {}
-        Err(fault) => report_fault(rt, None, &ToolFault::from(fault))?,
+        Err(fault) => report(rt, fault)?,
     }
     Ok(status)
 }
 
 /// Reports the fault, after the file or the argument that it is about.
-pub fn report_fault(rt: &HostRuntime, word: Option<&str>, fault: &ToolFault) -> io::Result<()> {
+fn report_fault<T: Display + Drop>(
+    rt: &HostRuntime,
+    word: Option<&str>,
+    fault: T,
+) -> io::Result<()> {
     match word {
         Some(word) => report_on(rt, word, fault),
         None => report(rt, fault),

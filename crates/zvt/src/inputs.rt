@@ -7,7 +7,7 @@ use crate::reports::{NO_TRACE, report, report_failed};
 use std::alloc::{AllocError, Global};
 use std::fs::File;
 use std::io::{self, IsTerminal, Write};
-use zvt_io::{Counted, Sink, Source};
+use zvt_io::{Over, Sink, Source};
 use zvt_text::Text;
 use zvt_tool::command::{TraceCommand, TraceWork};
 use zvt_tool::label::Label;
@@ -149,7 +149,7 @@ fn write_sum(rt: &HostRuntime, form: Form, sum: &Sum) -> io::Result<u8> {
     if sum.write(&mut text, form).is_err() {
         return finish_trace(rt, None, false, false, Err(TraceFault::Memory));
     }
-    let mut writer = Counted::new(Output::new(io::writer(rt)));
+    let mut writer = Over::new(Output::new(io::writer(rt)));
     match Sink::write_all(&mut writer, text.bytes()) {
         Ok(()) => Ok(DONE),
         Err(_) => finish_trace(
@@ -179,7 +179,7 @@ fn work_on_input(rt: &HostRuntime, command: &TraceCommand, input: Input<'_>) -> 
             "reading a trace from the keyboard: end it with Ctrl-D at the start of a line",
         )?;
     }
-    work_with(rt, command, input, &mut Counted::new(reader))
+    work_with(rt, command, input, &mut Over::new(reader))
 }
 
 /// Runs the command on the trace in this file.
@@ -196,7 +196,7 @@ fn work_on_file(
             return Ok(Ended::early(DEVICE));
         }
     };
-    work_with(rt, command, input, &mut Counted::new(file))
+    work_with(rt, command, input, &mut Over::new(file))
 }
 
 /// Runs the command on the trace that the reader brings, as it comes or once it is read.
@@ -221,7 +221,7 @@ fn follow<R: Source>(
     input: Input<'_>,
     reader: &mut R,
 ) -> io::Result<Ended> {
-    let mut writer = Counted::new(Output::new(io::writer(rt)));
+    let mut writer = Over::new(Output::new(io::writer(rt)));
     let answer = follow_work(rt.alloc(), command, reader, &mut writer);
     let is_output_lost = matches!(answer, Err(TraceFault::Write));
     report_counts(rt, &answer)?;
@@ -252,7 +252,7 @@ fn work_on_whole<R: Source>(
         let status = finish_trace(rt, path, false, false, Err(TraceFault::Memory))?;
         return Ok(Ended::early(status));
     };
-    let mut writer = Counted::new(output);
+    let mut writer = Over::new(output);
     let trace = trace.as_slice();
     let answer = work_on_trace(rt.alloc(), command, trace, &mut writer);
     let answer = writer.inner.explained(answer);

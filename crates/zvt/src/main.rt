@@ -24,10 +24,9 @@ use crate::reports::report;
 use std::io::ErrorKind;
 use std::process::ExitCode;
 use std::{env, io};
-use zvt_tool::arguments::choice;
 use zvt_tool::command::{Command, command_of};
 use zvt_tool::statuses::{DEVICE, DONE, MEMORY, WORDS};
-use zvt_tool::{Choice, ChoiceFault, TraceFault, with_show};
+use zvt_tool::{Choice, ChoiceFault, TraceFault, choice, with_show};
 
 fn main(rt: HostRuntime) -> ExitCode {
     match run(&rt) {
@@ -96,6 +95,7 @@ fn execute(rt: &HostRuntime, chosen: &Choice<'_>) -> io::Result<u8>
     match command_of(chosen) {
         Command::OnTraces(work, files) => inputs::work_on(rt, &work, files),
         Command::Book(path, form) => book::show(rt, path, form),
+        Command::Records(path) => book::records(rt, path),
         Command::Loop(options) => ends::both_ends(rt, &options),
         Command::Till(options) => ends::till(rt, options),
         Command::Terminal(options) => ends::terminal(rt, options),

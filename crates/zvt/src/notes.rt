@@ -3,14 +3,13 @@ ghost use Rattle.std.specs.Prelude.{◌≡◌, ◌≤◌, length};
 ghost use Rattle.zvt_trace.specs.Written.{limit};
 ghost use Rattle.zvt.specs.Notes.{scope_of, faulty_line};
 
-use crate::finish::report_fault;
 use crate::inputs::Input;
 use crate::reports::{report, report_tally};
 use std::io::{self, ErrorKind, Write};
-use zvt_io::Counted;
+use zvt_io::Over;
 use zvt_tool::command::{TraceCommand, TraceWork};
 use zvt_tool::{
-    AuditSummary, Lengths, ListenerError, Scope, Tally, ToolFault, TraceFault, hint_on, write_notes,
+    AuditSummary, Lengths, ListenerError, Scope, Tally, TraceFault, hint_on, write_notes,
 };
 
 /// Reports bad streams, a trace without a message, and directions that may be swapped. It answers whether there was memory
@@ -113,11 +112,11 @@ fn report_bad_streams(
 ) -> io::Result<bool>
     requires { length trace.now ≤ limit }
 {
-    let mut device = Counted::new(input.errors(rt.alloc(), rt.stderr())?);
+    let mut device = Over::new(input.errors(rt.alloc(), rt.stderr())?);
     match write_notes(rt.alloc(), scope, lengths, trace, &mut device) {
         Ok(()) => Ok(true),
         Err(ListenerError::Memory) => {
-            report_fault(rt, None, &ToolFault::from(TraceFault::Memory))?;
+            report(rt, TraceFault::Memory)?;
             Ok(false)
         }
         Err(ListenerError::Write) if device.inner.out_of_memory => {

@@ -10,10 +10,10 @@ use crate::reports::{NO_TRACE, report, report_failed, report_on};
 use std::alloc::AllocError;
 use std::io::{self, Write};
 use std::net::TcpStream;
-use zvt_io::Counted;
+use zvt_io::Over;
 use zvt_play::{
-    Action, Difference, ScriptFault, ScriptStep, Unplayed, difference_text, listen_on, script,
-    stay_silent, surplus_text,
+    Action, Difference, Names, ScriptFault, ScriptStep, Unplayed, difference_text, listen_on,
+    script, stay_silent, surplus_text,
 };
 use zvt_stream::{Endpoint, Stream};
 use zvt_tcp::SILENCE_SECONDS;
@@ -36,7 +36,7 @@ pub enum Played {
 }
 
 /// An end of a connection.
-type LineEnd<'a> = Endpoint<Counted<&'a TcpStream>, Counted<&'a TcpStream>>;
+type LineEnd<'a> = Endpoint<Over<&'a TcpStream>, Over<&'a TcpStream>>;
 
 /// Plays one side of a trace, and answers the exit status. The whole trace is read before a connection is opened.
 pub fn play(rt: &HostRuntime, options: &PlayOptions<'_>) -> io::Result<u8> {
@@ -110,7 +110,7 @@ pub fn read_text(rt: &HostRuntime, path: &str) -> io::Result<Result<Vec<u8>, u8>
             return Ok(Err(DEVICE));
         }
     };
-    match read_trace(rt.alloc(), &mut Counted::new(file)) {
+    match read_trace(rt.alloc(), &mut Over::new(file)) {
         Ok(text) => Ok(Ok(text)),
         Err(fault) => Ok(Err(finish_trace(rt, Some(path), false, false, Err(fault))?)),
     }
@@ -145,6 +145,7 @@ pub fn play_script(
     listened: u32,
 ) -> io::Result<Played> {
     let mut rest = on_line(steps);
+    let mut names = Names::new();
     let mut is_first = true;
     let milliseconds = listening(steps).unwrap_or(listened);
     for _ in 0..steps.len() {
@@ -165,7 +166,7 @@ pub fn play_script(
             Err(why) => return not_connected(rt, rest, why),
         };
         is_first = false;
-        match play_line(rt, &connection, own, rest, milliseconds)? {
+        match play_line(rt, &connection, own, &mut names, rest, milliseconds)? {
             Ok(after) => rest = on_line(after),
             Err(ended) => return Ok(ended),
         }
@@ -194,7 +195,7 @@ fn listen_for_another(
         return Ok(Played::Whole);
     };
     limit_reads(&connection, milliseconds);
-    match listen_on(&mut Counted::new(&connection), false) {
+    match listen_on(&mut Over::new(&connection), false) {
         Err(Difference::Surplus { count }) => differing(rt, surplus_text(rt.alloc(), None, count)),
         _ => Ok(Played::Whole),
     }
@@ -218,7 +219,7 @@ fn on_line(steps: &[ScriptStep]) -> &[ScriptStep] {
     for (at, step) in steps.iter().enumerate() {
         match step.action {
             Action::Break | Action::Wait(_) | Action::Listen(_) => {}
-            Action::Send(_) | Action::Await(_) | Action::Silence => return &steps[at..],
+            _ => return &steps[at..],
         }
     }
     &[]
@@ -229,6 +230,7 @@ fn play_line<'s>(
     rt: &HostRuntime,
     connection: &TcpStream,
     own: Direction,
+    names: &mut Names,
     steps: &'s [ScriptStep],
     listened: u32,
 ) -> io::Result<Result<&'s [ScriptStep], Played>> {
@@ -236,16 +238,16 @@ fn play_line<'s>(
         return Ok(Err(Played::Ended(without_memory(rt)?)));
     };
     let mut end = Endpoint {
-        reader: Counted::new(connection),
-        writer: Counted::new(connection),
+        reader: Over::new(connection),
+        writer: Over::new(connection),
         stream,
     };
-    match zvt_play::play(rt, &mut end, steps) {
+    match zvt_play::play(rt, &mut end, names, steps) {
         Ok(count) => {
             let (played, after) = steps.split_at(count.min(steps.len()));
             end_line(rt, connection, &mut end, played, after, listened)
         }
-        Err(unplayed) => Ok(Err(differ(rt, &end, own, steps, unplayed)?)),
+        Err(unplayed) => Ok(Err(differ(rt, &end, own, names, steps, unplayed)?)),
     }
 }
 
@@ -341,6 +343,7 @@ fn differ(
     rt: &HostRuntime,
     end: &LineEnd<'_>,
     own: Direction,
+    names: &Names,
     steps: &[ScriptStep],
     unplayed: Unplayed,
 ) -> io::Result<Played> {
@@ -358,6 +361,7 @@ fn differ(
         rt.alloc(),
         own,
         step,
+        names,
         unplayed.why,
         end.stream.lent().as_ref(),
     );

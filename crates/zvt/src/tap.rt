@@ -5,7 +5,7 @@ use crate::trace_file;
 use std::fs::File;
 use std::io::{self, ErrorKind, Write};
 use std::net::TcpStream;
-use zvt_io::Counted;
+use zvt_io::Over;
 use zvt_tap::{Found, SocketTapped, TapFault, TapLog, Tracing, tap_sockets};
 use zvt_tcp::{Door, SILENCE_SECONDS, connect, listen};
 use zvt_tool::command::connections_by;
@@ -136,7 +136,7 @@ fn tap_one(
     trace: &mut TraceFile<'_>,
 ) -> io::Result<u8> {
     let tracing = Tracing {
-        device: Counted::new(Noted {
+        device: Over::new(Noted {
             rt,
             file: trace.file,
             required: trace.required,
@@ -185,10 +185,10 @@ fn tap_into(
     rt: &HostRuntime,
     till: &TcpStream,
     terminal: &TcpStream,
-    tracing: Tracing<Counted<Noted<'_>>>,
+    tracing: Tracing<Over<Noted<'_>>>,
 ) -> io::Result<(u8, bool)> {
     let failed = tracing.failed;
-    let output = Counted::new(Output::new(io::writer(rt)));
+    let output = Over::new(Output::new(io::writer(rt)));
     let Ok(log) = TapLog::new(rt.alloc(), Lengths::Shortest, tracing, output) else {
         return Ok((report_fault(rt, &TraceFault::Memory)?, failed));
     };
@@ -273,7 +273,7 @@ fn why(error: Option<ErrorKind>) -> &'static str {
 /// Reports how much of a line is bad, and what of its text could not be written. Answers the exit status of that.
 fn report_found<W: Write + Drop>(
     rt: &HostRuntime,
-    found: Found<Counted<Noted<'_>>, Counted<Output<W>>>,
+    found: Found<Over<Noted<'_>>, Over<Output<W>>>,
 ) -> io::Result<u8> {
     let is_pipe_closed = found.output.inner.broken_pipe;
     let shown = match found.shown {

@@ -5,9 +5,9 @@ use Rattle.zvt_field.specs.Grammar.{FieldOf, IsContent, plain}
 use Rattle.zvt_field.specs.Shapes.{shape_of}
 use Rattle.zvt_apdu.specs.Message.{Message, registration, reversal, end_of_day}
 use Rattle.zvt_apdu.specs.Grammar.{Spells}
-use Rattle.zvt_apdu.specs.declared.till_message.TillMessage.TheVariants.{Ack, Nack, Register, Pay, Reverse, CloseDay, AbortOrder}
+use Rattle.zvt_apdu.specs.declared.brief.Brief.TheVariants.{Ack, Nack, Register, Pay, Reverse, CloseDay, AbortOrder}
 use Rattle.zvt_apdu.proofs.OneSpelling.{spellings_are_one}
-use Rattle.zvt_apdu.proofs.TillMessageLemmas.{registration_spelled, reversal_spelled, closing_spelled}
+use Rattle.zvt_apdu.proofs.BriefLemmas.{registration_spelled, reversal_spelled, closing_spelled}
 use Rattle.zvt_c.specs.Records.{Masks, has_password, is_with_password, masked_bytes}
 
 -- bytes after other control bytes stay

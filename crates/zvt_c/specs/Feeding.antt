@@ -1,7 +1,7 @@
 -- What bytes of a terminal make of a till and its stream.
 use Rattle.std.specs.Prelude.{◌≡◌, ℕ, true, cond, List, [], length, Option, Some, None}
 use Rattle.zvt_apdu.specs.Message.{Message}
-use Rattle.zvt_apdu.specs.TillMessages.{message_of_till_message, PutsMessage}
+use Rattle.zvt_apdu.specs.Briefs.{message_of_brief, PutsMessage}
 use Rattle.zvt_apdu.specs.Views.{text_in}
 use Rattle.zvt_stream.specs.Feeds.{Feeds}
 use Rattle.zvt_stream.specs.StreamState.{Keeps}
@@ -23,7 +23,7 @@ use Rattle.zvt_c.specs.Saving.{Written}
 -- What the till is to send: nothing, or the spelling of one message at the start of the room.
 abbrev pub Sends : Option Outgoing → (buffer_before buffer_after : List ℕ) → (send : ℕ) → Type 0
 Sends None before after send = (send ≡ 0) × (after ≡ before)
-Sends (Some outgoing) before after send = PutsMessage (message_of_till_message outgoing.till_message) before after send
+Sends (Some outgoing) before after send = PutsMessage (message_of_brief outgoing.brief) before after send
 
 -- What a till answers to a message, while its line is up.
 abbrev pub replied : TillState → Message → Option Outgoing

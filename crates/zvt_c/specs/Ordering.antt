@@ -1,6 +1,6 @@
 -- What an order of a caller makes of a till.
 use Rattle.std.specs.Prelude.{◌≡◌, ◌==◌, ◌&&◌, nat_le, ℕ, cond, List, Option, Some, None, is_some, MatchOption}
-use Rattle.zvt_apdu.specs.TillMessages.{message_of_till_message, PutsMessage}
+use Rattle.zvt_apdu.specs.Briefs.{message_of_brief, PutsMessage}
 use Rattle.zvt_till.specs.declared.orders.Order.{Order}
 use Rattle.zvt_till.specs.declared.orders.Order.TheVariants.{Register, Pay, Reverse, CloseDay, Cancel}
 use Rattle.zvt_till.specs.declared.orders.OrderRefusal.{OrderRefusal}
@@ -40,7 +40,7 @@ status_of Memory = 3
 pub data OrdersEnd (before : Session) (order : Order) (after : Session) (buffer_before buffer_after : List ℕ) (answer : ZvtStep) (status : ℕ) : Type 0 where
   sent : (message : Outgoing) → refusal (facts_of before.till.state) order ≡ None → message_of before.till.state.settings before.till.state.book order ≡ Some message
       → after.till.state ≡ accept before.till.state order → after.stream ≡ before.stream
-      → PutsMessage (message_of_till_message message.till_message) buffer_before buffer_after answer.send → answer ≡ only_sends answer.send → status ≡ 0 → OrdersEnd before order after buffer_before buffer_after answer status
+      → PutsMessage (message_of_brief message.brief) buffer_before buffer_after answer.send → answer ≡ only_sends answer.send → status ≡ 0 → OrdersEnd before order after buffer_before buffer_after answer status
   refused : (why : OrderRefusal) → IsRefusedAs (facts_of before.till.state) before.till.spare order why → after ≡ before → buffer_after ≡ buffer_before → answer ≡ nothing → status ≡ status_of why
       → OrdersEnd before order after buffer_before buffer_after answer status
 

@@ -5,8 +5,8 @@ use Rattle.zvt_grammar.specs.declared.answer.Scan.TheVariants.{Whole}
 use Rattle.zvt_apdu.specs.Grammar.{Spells}
 use Rattle.zvt_apdu.specs.Message.{Message}
 use Rattle.zvt_apdu.specs.Judging as apdu
-use Rattle.zvt_apdu.specs.TillMessages.{message_of_till_message}
-use Rattle.zvt_apdu.specs.declared.till_message.TillMessage.{TillMessage}
+use Rattle.zvt_apdu.specs.Briefs.{message_of_brief}
+use Rattle.zvt_apdu.specs.declared.brief.Brief.{Brief}
 use Rattle.zvt_stream.specs.Answered.{Answered}
 use Rattle.zvt_till.specs.declared.orders.Order.{Order}
 use Rattle.zvt_till.specs.declared.orders.Order.TheVariants.{Register, Pay, Reverse, CloseDay, Cancel}
@@ -56,7 +56,7 @@ masked_bytes bytes = cond (has_password bytes) (take 3 bytes ++ (0 ∷ 0 ∷ 0 �
 
 -- Of the bytes of a till's message they are those of the message that a journal has in its place.
 abbrev pub Masks : List ℕ → Type 0
-Masks sent = (m : TillMessage) → Spells shortest (message_of_till_message m) sent → Spells shortest (message_of_till_message (masked_message m)) (masked_bytes sent)
+Masks sent = (m : Brief) → Spells shortest (message_of_brief m) sent → Spells shortest (message_of_brief (masked_message m)) (masked_bytes sent)
 
 -- The record of the order that two numbers name and of the bytes that are sent for it; or no record, where they name none, where a till
 -- sends no message of so many bytes, or where memory was refused.

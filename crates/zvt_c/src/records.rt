@@ -11,12 +11,11 @@ use crate::answer::{ZvtAnswer, bare, found};
 use crate::codec::zvt_scan;
 use crate::numbers::order_of;
 use std::alloc::{AllocError, Global};
-use zvt_apdu::{MAX_TILL_MESSAGE_LEN, view};
+use zvt_apdu::{MAX_BRIEF_LEN, view};
 use zvt_bcd::Currency;
 use zvt_kept::{answers_to, put_heard, put_lost, put_opening, put_order};
 use zvt_text::Text;
-use zvt_till::heard::heard_view;
-use zvt_till::{MAX_BOOK_ENTRIES, Order};
+use zvt_till::{MAX_BOOK_ENTRIES, Order, heard_view};
 
 /// Writes the first record of a journal: its format, and the currency of its till. The status is 0, 3, or 5 for a currency
 /// that is none.
@@ -56,11 +55,11 @@ pub extern "C" fn zvt_record_order(
         *answer = bare(5);
         return;
     };
-    if sent.len() > MAX_TILL_MESSAGE_LEN {
+    if sent.len() > MAX_BRIEF_LEN {
         *answer = bare(5);
         return;
     }
-    let mut message = [0; MAX_TILL_MESSAGE_LEN];
+    let mut message = [0; MAX_BRIEF_LEN];
     let message = &mut message[..sent.len()];
     message.copy_from_slice(sent);
     mask(message);

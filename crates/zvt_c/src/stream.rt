@@ -15,8 +15,7 @@ use crate::till::{lacks_capacity, write_message};
 use std::alloc::Global;
 use zvt_apdu::ApduView;
 use zvt_stream::{FedView, FeedError};
-use zvt_till::heard::heard_view;
-use zvt_till::{Happening, Outcome, Till};
+use zvt_till::{Happening, Outcome, Till, heard_view};
 
 /// Feeds bytes of the terminal, up to the end of one message. The caller feeds the rest of the piece again, as long as
 /// `message` is 1. What is to be sent is written to `out`, which is to have room for 32. The text of a print line is not

@@ -3,7 +3,7 @@
 //! 6 the handle is closed, 7 the line brought bytes before that begin no message, 10 to 17 the order is refused.
 ghost use Rattle.std.specs.Prelude.{◌≡◌, ◌≤◌, ◌⊎◌, ◌&&◌, None, option_map, length, MatchBool, MatchOption, nat_le, nat_lt, cond, slice_get};
 ghost use Rattle.zvt_till.specs.Till.{step, outcome_at};
-ghost use Rattle.zvt_apdu.specs.TillMessages.{message_of_till_message, PutsMessage};
+ghost use Rattle.zvt_apdu.specs.Briefs.{message_of_brief, PutsMessage};
 ghost use Rattle.zvt_stream.specs.StreamState.{at_start};
 ghost use Rattle.zvt_c.specs.States.{state_of, IsNewTill};
 ghost use Rattle.zvt_c.specs.Numbers.{nothing, outcome_of, row_of, silent, unclear_row_of, IsStateOf};
@@ -16,7 +16,7 @@ use crate::numbers::{
 };
 use crate::session::Session;
 use std::alloc::Global;
-use zvt_apdu::MAX_TILL_MESSAGE_LEN;
+use zvt_apdu::MAX_BRIEF_LEN;
 use zvt_bcd::{Amount, Currency};
 use zvt_stream::Stream;
 use zvt_till::{Cause, Happening, Order, Outgoing, Till};
@@ -99,10 +99,10 @@ pub extern "C" fn zvt_till_lost(alloc: Global, till: &mut ZvtTill, answer: &mut 
 /// Writes a message at the start of `out`, which has room for it, and says its size.
 pub(crate) fn write_message(outgoing: &Outgoing, out: &mut [u8]) -> usize
     requires { 32 ≤ length out.old }
-    ensures written { PutsMessage (message_of_till_message outgoing.now.till_message) out.old out.new result }
+    ensures written { PutsMessage (message_of_brief outgoing.now.brief) out.old out.new result }
     ensures capacity { result ≤ length out.old }
 {
-    let mut buffer = [0; MAX_TILL_MESSAGE_LEN];
+    let mut buffer = [0; MAX_BRIEF_LEN];
     let size = outgoing.put(&mut buffer);
     out[..size].copy_from_slice(&buffer[..size]);
     size

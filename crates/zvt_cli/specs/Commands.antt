@@ -124,7 +124,7 @@ abbrev pub vectors_app : App
 vectors_app = command_app (codes "vectors") (files_rule ∷ flag_rule (codes "json") ∷ [])
 
 abbrev pub book_app : App
-book_app = command_app (codes "book") (book_file_rule ∷ flag_rule (codes "json") ∷ [])
+book_app = command_app (codes "book") (book_file_rule ∷ flag_rule (codes "json") ∷ flag_rule (codes "records") ∷ [])
 
 abbrev pub loop_app : App
 loop_app = command_app (codes "loop") (

@@ -142,6 +142,7 @@ fn book<'a>(inner: &ArgMatches<'a>) -> Option<Choice<'a>>
     Some(Choice::Book {
         file,
         json: flag(inner, "json"),
+        records: flag(inner, "records"),
     })
 }
 

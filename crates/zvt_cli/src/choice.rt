@@ -24,6 +24,8 @@ pub enum Choice<'a> {
         file: &'a str,
         /// Whether the output is JSON.
         json: bool,
+        /// Whether the output is the records of the book, as a trace.
+        records: bool,
     },
     Loop {
         trace: Option<&'a str>,

@@ -175,6 +175,7 @@ fn book() -> CommandRow<'static>
         options: &[
             CommandOption::BookFile(help::BOOK_FILE),
             CommandOption::Flag("json", help::JSON),
+            CommandOption::Flag("records", help::RECORDS),
         ],
     }
 }

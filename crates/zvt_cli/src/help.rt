@@ -192,6 +192,9 @@ pub const KEEP_BOOK: &str =
 
 pub const BOOK_FILE: &str = "The file of the book";
 
+pub const RECORDS: &str =
+    "Write the whole records of the book as a trace, for a pipe, and nothing else; --json changes nothing then";
+
 pub const LOOSE: &str = "Accept non-minimal length encodings, as some terminals send them";
 
 pub const TILL_LOOSE: &str =

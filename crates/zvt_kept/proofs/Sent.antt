@@ -2,7 +2,7 @@
 use Rattle.std.proofs.Common.{◌≡◌, ℕ, List, ◌++◌, length, take, drop, ap, ◌∙◌}
 use Rattle.std.proofs.Math.Seq.{take-append_seam}
 use Rattle.zvt_apdu.specs.Message.{Message}
-use Rattle.zvt_apdu.specs.TillMessages.{PutsMessage}
+use Rattle.zvt_apdu.specs.Briefs.{PutsMessage}
 
 pub put_is : (message : Message) (old new : List ℕ) (count : ℕ) → (p : PutsMessage message old new count) → take count new ≡ p.bytes
 put_is message old new count p =

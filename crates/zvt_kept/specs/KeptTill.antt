@@ -8,6 +8,7 @@ use Rattle.zvt_till.specs.declared.orders.Order.{Order}
 use Rattle.zvt_till.specs.declared.orders.Outgoing.{Outgoing}
 use Rattle.zvt_till.specs.Events.{hears}
 use Rattle.zvt_till.specs.Line.{till_hears, till_loses}
+use Rattle.zvt_till.specs.Numbers.{numbers_begun}
 use Rattle.zvt_till.specs.Refusals.{refusal, sent_as}
 use Rattle.zvt_till.specs.Sending.{Settings, message_of}
 use Rattle.zvt_till.specs.Till.{TillState, accept, facts_of, step}
@@ -97,6 +98,7 @@ module _ {D : Type 0} (seen : D → List ℕ) (may_leave : D → List ℕ → Ty
     pub taken : refusal (facts_of old.till.state) order ≡ None
     pub message : message_of old.till.state.settings old.till.state.book order ≡ Some outgoing
     pub runs : new.till.state ≡ accept old.till.state order
+    pub numbers : new.till.numbers ≡ numbers_begun old.till.numbers order
     pub logs : Logs (order_sent order) old new
     pub outlives : Outlives (order_sent order) old new
 
@@ -104,6 +106,7 @@ module _ {D : Type 0} (seen : D → List ℕ) (may_leave : D → List ℕ → Ty
   pub record OrderLost (order : Order) (old new : Standing D) : Type 0 where
     pub taken : refusal (facts_of old.till.state) order ≡ None
     pub lost : new.till.state ≡ step (accept old.till.state order) Lost
+    pub numbers : new.till.numbers ≡ numbers_begun old.till.numbers order
     pub outlives : Outlives (order_sent order) old new
 
   abbrev pub Orders : Order → (old new : Standing D) → Result Outgoing KeptRefusal → Type 0
@@ -145,6 +148,7 @@ module _ {D : Type 0} (seen : D → List ℕ) (may_leave : D → List ℕ → Ty
   -- A line is up, and that an earlier one was lost is durable.
   pub record NewLine (old new : Standing D) : Type 0 where
     pub state : new.till.state ≡ step old.till.state Connected
+    pub numbers : new.till.numbers ≡ old.till.numbers
     pub logs : Logs line_changed old new
     pub outlives : Outlives line_changed old new
 

@@ -2,11 +2,11 @@
 use Rattle.std.specs.Prelude.{[], ◌∷◌}
 use Rattle.zvt_till.specs.declared.orders.Outgoing.{Outgoing}
 use Rattle.zvt_till.specs.Sending.{outgoing}
-use Rattle.zvt_apdu.specs.declared.till_message.TillMessage.{TillMessage}
-use Rattle.zvt_apdu.specs.declared.till_message.TillMessage.TheVariants.{Ack, Nack, Register, Pay, Reverse, CloseDay, AbortOrder}
+use Rattle.zvt_apdu.specs.declared.brief.Brief.{Brief}
+use Rattle.zvt_apdu.specs.declared.brief.Brief.TheVariants.{Ack, Nack, Register, Pay, Reverse, CloseDay, AbortOrder}
 
 -- the message with the password 00 00 00 in place of its own
-abbrev pub masked_message : TillMessage → TillMessage
+abbrev pub masked_message : Brief → Brief
 masked_message (Register password config currency) = Register (0 ∷ 0 ∷ 0 ∷ []) config currency
 masked_message (Reverse password receipt) = Reverse (0 ∷ 0 ∷ 0 ∷ []) receipt
 masked_message (CloseDay password) = CloseDay (0 ∷ 0 ∷ 0 ∷ [])
@@ -16,4 +16,4 @@ masked_message (Nack code) = Nack code
 masked_message AbortOrder = AbortOrder
 
 abbrev pub masked : Outgoing → Outgoing
-masked o = outgoing (masked_message o.till_message)
+masked o = outgoing (masked_message o.brief)

@@ -15,12 +15,11 @@ ghost use Rattle.zvt_till.specs.Till.{facts_of};
 use crate::records::{put_heard, put_lost, put_order};
 use crate::refusal::KeptRefusal;
 use std::alloc::Global;
-use zvt_apdu::{ApduView, MAX_TILL_MESSAGE_LEN, TillMessage};
+use zvt_apdu::{ApduView, Brief, MAX_BRIEF_LEN};
 use zvt_journal::{Device, DeviceError, Journal};
 use zvt_stream::Answers;
 use zvt_text::Text;
-use zvt_till::heard::heard_view;
-use zvt_till::{Heard, Order, Outgoing, Till, reply_to};
+use zvt_till::{Heard, Order, Outgoing, Till, heard_view, reply_to};
 
 /// Gives the till an order once its journal has it, and answers the message to send.
 pub(crate) fn take_order<D: Device>(
@@ -102,7 +101,7 @@ fn keep_order<D: Device>(
     requires spelled { IsSpelledOrder order.now }
     ensures { Recorded D.seen D.may_leave D.moment D.left_since (ordered order.now) journal.old.device journal.new.device journal.new.gate result }
 {
-    let mut buffer = [0; MAX_TILL_MESSAGE_LEN];
+    let mut buffer = [0; MAX_BRIEF_LEN];
     let size = masked(outgoing).put(&mut buffer);
     let mut text = Text::new(alloc);
     put_order(&mut text, order, &buffer[..size])?;
@@ -141,24 +140,24 @@ pub(crate) fn keep_lost<D: Device>(
 fn masked(outgoing: &Outgoing) -> Outgoing
     ensures { result ≡ masked outgoing.now }
 {
-    let till_message = match outgoing.till_message {
-        TillMessage::Register {
+    let brief = match outgoing.brief {
+        Brief::Register {
             config,
             currency,
             ..
-        } => TillMessage::Register {
+        } => Brief::Register {
             password: [0; 3],
             config,
             currency,
         },
-        TillMessage::Reverse { receipt, .. } => TillMessage::Reverse {
+        Brief::Reverse { receipt, .. } => Brief::Reverse {
             password: [0; 3],
             receipt,
         },
-        TillMessage::CloseDay { .. } => TillMessage::CloseDay { password: [0; 3] },
+        Brief::CloseDay { .. } => Brief::CloseDay { password: [0; 3] },
         other => other,
     };
-    Outgoing { till_message }
+    Outgoing { brief }
 }
 
 /// The bytes with which a till answers this at once, while its line is up.
@@ -167,7 +166,7 @@ pub fn answers_to(heard: &Heard) -> Answers
 {
     let mut answers = Answers::new();
     if let Some(outgoing) = reply_to(heard) {
-        let mut buffer = [0; MAX_TILL_MESSAGE_LEN];
+        let mut buffer = [0; MAX_BRIEF_LEN];
         let size = outgoing.put(&mut buffer);
         answers.add(&buffer[..size]);
     }

@@ -16,8 +16,7 @@ use zvt_bcd::Currency;
 use zvt_grammar::Scan;
 use zvt_text::Text;
 use zvt_text::words::trailing;
-use zvt_till::heard::heard;
-use zvt_till::{Order, OrderRefusal, Till, TillSettings};
+use zvt_till::{Order, OrderRefusal, Till, TillSettings, heard};
 
 /// Why a journal's records make no till.
 #[derive(Clone, Copy, Debug, PartialEq, Eq, Error)]

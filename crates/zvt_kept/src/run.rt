@@ -5,7 +5,7 @@ ghost use Rattle.zvt_kept.specs.Runs.{RanKept};
 use crate::kept_till::KeptTill;
 use crate::refusal::KeptRefusal;
 use std::alloc::Global;
-use zvt_apdu::MAX_TILL_MESSAGE_LEN;
+use zvt_apdu::MAX_BRIEF_LEN;
 use zvt_io::{Sink, Source};
 use zvt_journal::Device;
 use zvt_stream::{Endpoint, LineFault, Machine, Until, pump, send};
@@ -43,13 +43,14 @@ pub fn run_order_kept<R: Source, W: Sink, D: Device>(
         Err(KeptRefusal::Order(why)) => return Err(KeptFault::Order(why)),
         Err(KeptRefusal::Journal(_)) => return Err(KeptFault::Journal),
     };
-    let mut buffer = [0; MAX_TILL_MESSAGE_LEN];
+    let mut buffer = [0; MAX_BRIEF_LEN];
     let size = outgoing.put(&mut buffer);
     if let Err(fault) = send(&mut end.writer, &buffer[..size]) {
         kept.lost();
         return Err(KeptFault::Line(fault));
     }
-    if let Err(fault) = pump(alloc, end, kept, Until::Rest, turns) {
+    let (reader, writer, stream) = (&mut end.reader, &mut end.writer, &mut end.stream);
+    if let Err(fault) = pump(alloc, reader, writer, stream, kept, Until::Rest, turns) {
         return Err(KeptFault::Line(fault));
     }
     if kept.has_failed() {

@@ -9,3 +9,4 @@ pub mod Seen
 pub mod Parts
 pub mod Unclear
 pub mod BookObjects
+pub mod Noted

@@ -11,6 +11,14 @@ pub two_parts : (r : Result (Unit {0}) AllocError) (old t new a b : List ℕ) �
 two_parts (Ok done) old t new a b first second = second ∙ ap (λ l. l ++ b) first ∙ append_assoc old a b
 two_parts (Err refused) old t new a b first second = tt
 
+pub then_part : (r : Result (Unit {0}) AllocError) (old t new a b : List ℕ) → t ≡ old ++ a → OnOk r (new ≡ t ++ b) → OnOk r (new ≡ old ++ (a ++ b))
+then_part (Ok done) old t new a b first second = second ∙ ap (λ l. l ++ b) first ∙ append_assoc old a b
+then_part (Err refused) old t new a b first second = tt
+
+pub then_three : (r : Result (Unit {0}) AllocError) (old t u new a b c : List ℕ) → t ≡ old ++ a → u ≡ t ++ b → OnOk r (new ≡ u ++ c) → OnOk r (new ≡ old ++ (a ++ (b ++ c)))
+then_three r old t u new a b c first second third =
+    subst (λ (said : List ℕ). OnOk r (new ≡ old ++ said)) (append_assoc a b c) (then_part r old u new (a ++ b) c (second ∙ ap (λ l. l ++ b) first ∙ append_assoc old a b) third)
+
 pub three_parts : (r : Result (Unit {0}) AllocError) (old t u new a b c : List ℕ) → t ≡ old ++ a → u ≡ t ++ b → Adds r u new c → OnOk r (new ≡ old ++ (a ++ (b ++ c)))
 three_parts r old t u new a b c first second third =
     subst (λ (said : List ℕ). OnOk r (new ≡ old ++ said)) (append_assoc a b c) (two_parts r old u new (a ++ b) c (second ∙ ap (λ l. l ++ b) first ∙ append_assoc old a b) third)

@@ -1,4 +1,4 @@
--- A run, by what contracts see of its line.
+-- A run, by what contracts see of its line, and by what was reported of it.
 use Rattle.std.proofs.Common.{◌≡◌, Bool, true, ℕ, List, [], ◌∷◌, Option, Some, None, Result, Ok, Err, ap, inl, inr}
 use Rattle.zvt_session.specs.declared.plans.StepOptions.{StepOptions}
 use Rattle.zvt_stream.specs.declared.line.LineFault.{LineFault}
@@ -10,7 +10,10 @@ use Rattle.zvt_till.specs.declared.happenings.Happening.TheVariants.{Connected}
 use Rattle.zvt_session.specs.declared.fault.EndFault.{EndFault}
 use Rattle.zvt_session.specs.declared.fault.EndFault.TheVariants.{BadStep, Book, Line as LineBroke, Memory, Net, Silent, Trace, Unsuccessful, Write}
 use Rattle.zvt_session.specs.declared.plans.Planned.{Planned}
-use Rattle.zvt_session.specs.Runs.{Answers, EndsEarly, Law, MakesAll, MakesTo, Ran, Standing, itself, standing}
+use Rattle.zvt_session.specs.Made.{Made}
+use Rattle.zvt_session.specs.Notes.{notes_text}
+use Rattle.zvt_session.specs.Reporting.{Reports, ReportsReversals, ReportsRun}
+use Rattle.zvt_session.specs.Runs.{Answers, EndsInStep, EndsInTotal, Law, MakesAll, MakesTo, Ran, RunsOut, Standing, itself, standing}
 use Rattle.zvt_session.specs.RunsPlan.{RunsPlan}
 
 -- ---- a line that contracts see as something else
@@ -22,95 +25,114 @@ by seen law old till planned result new left = law (seen old) till planned resul
 abbrev pub as_seen : {L S T : Type 0} → (L → S) → Standing L T → Standing S T
 as_seen seen s = standing (seen s.line) s.till
 
-all_seen : {L S T : Type 0} (look : T → TillValue) (seen : L → S) (law : Law S T) (options : StepOptions) (plan : List Planned) (before after : Standing L T) (text : List ℕ) (short : Bool)
-    → MakesAll look (by seen law) options plan before after text short → MakesAll look law options plan (as_seen seen before) (as_seen seen after) text short
-all_seen look seen law options [] before after text short all = (ap (as_seen seen) all.0, all.1, all.2)
-all_seen look seen law options (planned ∷ plan) before after text short all = (
-  all.0,
-  as_seen seen all.1,
-  all.2,
-  all.3,
-  all.4,
-  record { made = all.5.made; said = all.5.said },
-  all.6,
-  all_seen look seen law options plan all.1 after all.3 all.4 all.7,
-  all.8,
-  all.9,
-)
+all_seen : {L S T : Type 0} (look : T → TillValue) (seen : L → S) (law : Law S T) (plan : List Planned) (before after : Standing L T) (all : List Made)
+    → MakesAll look (by seen law) plan before after all → MakesAll look law plan (as_seen seen before) (as_seen seen after) all
+all_seen look seen law [] before after all made = (ap (as_seen seen) made.0, made.1)
+all_seen look seen law (planned ∷ plan) before after all made = (made.0, as_seen seen made.1, made.2, made.3, made.4, all_seen look seen law plan made.1 after made.2 made.5, made.6)
 
-to_seen : {L S T : Type 0} (look : T → TillValue) (seen : L → S) (law : Law S T) (options : StepOptions) (plan : List Planned) (broken : Option LineFault) (short : Bool) (before after : Standing L T) (text : List ℕ)
-    → MakesTo look (by seen law) options plan broken short before after text → MakesTo look law options plan broken short (as_seen seen before) (as_seen seen after) text
-to_seen look seen law options plan None short before after text all = all_seen look seen law options plan before after text short all
-to_seen look seen law options plan (Some fault) short before after text b = record {
+to_seen : {L S T : Type 0} (look : T → TillValue) (seen : L → S) (law : Law S T) (plan : List Planned) (broken : Option LineFault) (before after : Standing L T) (all : List Made)
+    → MakesTo look (by seen law) plan broken before after all → MakesTo look law plan broken (as_seen seen before) (as_seen seen after) all
+to_seen look seen law plan None before after all made = all_seen look seen law plan before after all made
+to_seen look seen law plan (Some fault) before after all b = record {
   done = b.done;
   planned = b.planned;
   later = b.later;
   middle = as_seen seen b.middle;
-  said = b.said;
-  last = b.last;
-  short = b.short;
+  earlier = b.earlier;
   cut = b.cut;
-  all = all_seen look seen law options b.done before b.middle b.said b.short b.all;
-  breaks = record { made = b.breaks.made; said = b.breaks.said };
+  made = all_seen look seen law b.done before b.middle b.earlier b.made;
+  breaks = b.breaks;
   whole = b.whole;
 }
 
-early_seen : {L S T : Type 0} (look : T → TillValue) (seen : L → S) (law : Law S T) (options : StepOptions) (Part : List ℕ → List ℕ → Type 0) (plan : List Planned) (before after : Standing L T) (old new : Option (List ℕ))
-    → EndsEarly look (by seen law) options Part plan before after old new → EndsEarly look law options Part plan (as_seen seen before) (as_seen seen after) old new
-early_seen look seen law options Part plan before after old new (inl s) = inl (record {
-  done = s.done;
-  planned = s.planned;
-  later = s.later;
-  middle = as_seen seen s.middle;
-  result = s.result;
-  said = s.said;
-  last = s.last;
-  short = s.short;
-  between = s.between;
-  cut = s.cut;
-  all = all_seen look seen law options s.done before s.middle s.said s.short s.all;
-  made = record { made = s.made.made; said = s.made.said };
-  appended = s.appended;
-  partly = s.partly;
-})
-early_seen look seen law options Part plan before after old new (inr t) = inr (record {
-  broken = t.broken;
-  short = t.short;
-  said = t.said;
-  between = t.between;
-  made = to_seen look seen law options plan t.broken t.short before after t.said t.made;
-  appended = t.appended;
-  partly = t.partly;
-})
+module _ {L S T : Type 0} (look : T → TillValue) (seen : L → S) (law : Law S T) (options : StepOptions) (Noted Told : List ℕ → Type 0) (told : (text : List ℕ) → Noted text → Told text) where
+  step_seen : (plan : List Planned) (before after : Standing L T) (old new : Option (List ℕ))
+      → EndsInStep look (by seen law) options Noted plan before after old new → EndsInStep look law options Told plan (as_seen seen before) (as_seen seen after) old new
+  step_seen plan before after old new s = record {
+    done = s.done;
+    planned = s.planned;
+    later = s.later;
+    middle = as_seen seen s.middle;
+    result = s.result;
+    earlier = s.earlier;
+    between = s.between;
+    cut = s.cut;
+    all = all_seen look seen law s.done before s.middle s.earlier s.all;
+    made = s.made;
+    appended = s.appended;
+    partly = s.partly;
+    noted = told _ s.noted;
+  }
 
-ran_seen : {L S T : Type 0} (look : T → TillValue) (seen : L → S) (law : Law S T) (options : StepOptions) (plan : List Planned) (broken : Option LineFault) (short : Bool) (before after : Standing L T) (old new : Option (List ℕ))
-    → Ran look (by seen law) options plan broken short before after old new → Ran look law options plan broken short (as_seen seen before) (as_seen seen after) old new
-ran_seen look seen law options plan broken short before after old new run = record { said = run.said; made = to_seen look seen law options plan broken short before after run.said run.made; appended = run.appended }
+  out_seen : (plan : List Planned) (before after : Standing L T) (old new : Option (List ℕ))
+      → RunsOut look (by seen law) options Noted plan before after old new → RunsOut look law options Told plan (as_seen seen before) (as_seen seen after) old new
+  out_seen plan before after old new s = record {
+    done = s.done;
+    planned = s.planned;
+    later = s.later;
+    middle = as_seen seen s.middle;
+    result = s.result;
+    earlier = s.earlier;
+    cut = s.cut;
+    all = all_seen look seen law s.done before s.middle s.earlier s.all;
+    made = s.made;
+    appended = s.appended;
+    noted = told _ s.noted;
+  }
 
-pub answers_seen : {L S T : Type 0} (look : T → TillValue) (seen : L → S) (law : Law S T) (options : StepOptions) (plan : List Planned) (before after : Standing L T) (old new : Option (List ℕ)) (result : Result Unit EndFault)
-    → Answers look (by seen law) options plan before after old new result → Answers look law options plan (as_seen seen before) (as_seen seen after) old new result
-answers_seen look seen law options plan before after old new (Ok done) run = (run.0, ran_seen look seen law options plan None run.0 before after old new run.1, run.2)
-answers_seen look seen law options plan before after old new (Err Unsuccessful) run = (ran_seen look seen law options plan None true before after old new run.0, run.1)
-answers_seen look seen law options plan before after old new (Err (LineBroke fault)) run = ran_seen look seen law options plan (Some fault) true before after old new run
-answers_seen look seen law options plan before after old new (Err Write) run = early_seen look seen law options _ plan before after old new run
-answers_seen look seen law options plan before after old new (Err Memory) run = early_seen look seen law options _ plan before after old new run
-answers_seen look seen law options plan before after old new (Err (BadStep at)) run = absurd run
-answers_seen look seen law options plan before after old new (Err (Net why)) run = absurd run
-answers_seen look seen law options plan before after old new (Err (Silent seconds)) run = absurd run
-answers_seen look seen law options plan before after old new (Err Trace) run = absurd run
-answers_seen look seen law options plan before after old new (Err Book) run = absurd run
+  total_seen : (Part : List ℕ → List ℕ → Type 0) (plan : List Planned) (before after : Standing L T) (old new : Option (List ℕ))
+      → EndsInTotal look (by seen law) options Noted Part plan before after old new → EndsInTotal look law options Told Part plan (as_seen seen before) (as_seen seen after) old new
+  total_seen Part plan before after old new t = record {
+    broken = t.broken;
+    all = t.all;
+    between = t.between;
+    made = to_seen look seen law plan t.broken before after t.all t.made;
+    appended = t.appended;
+    partly = t.partly;
+    noted = told _ t.noted;
+  }
+
+  ran_seen : (plan : List Planned) (broken : Option LineFault) (before after : Standing L T) (old new : Option (List ℕ))
+      → Ran look (by seen law) options Noted plan broken before after old new → Ran look law options Told plan broken (as_seen seen before) (as_seen seen after) old new
+  ran_seen plan broken before after old new run = record { all = run.all; made = to_seen look seen law plan broken before after run.all run.made; appended = run.appended; noted = told (notes_text run.all) run.noted }
+
+  pub answers_seen : (plan : List Planned) (before after : Standing L T) (old new : Option (List ℕ)) (result : Result Unit EndFault)
+      → Answers look (by seen law) options Noted plan before after old new result → Answers look law options Told plan (as_seen seen before) (as_seen seen after) old new result
+  unfolding ran_seen
+  answers_seen plan before after old new (Ok done) run = (ran_seen plan None before after old new run.0, run.1)
+  answers_seen plan before after old new (Err Unsuccessful) run = (ran_seen plan None before after old new run.0, run.1, run.2)
+  answers_seen plan before after old new (Err (LineBroke fault)) run = ran_seen plan (Some fault) before after old new run
+  answers_seen plan before after old new (Err Write) (inl run) = inl (step_seen plan before after old new run)
+  answers_seen plan before after old new (Err Write) (inr run) = inr (total_seen _ plan before after old new run)
+  answers_seen plan before after old new (Err Memory) (inl run) = inl (out_seen plan before after old new run)
+  answers_seen plan before after old new (Err Memory) (inr run) = inr (total_seen _ plan before after old new run)
+  answers_seen plan before after old new (Err (BadStep at)) run = absurd run
+  answers_seen plan before after old new (Err (Net why)) run = absurd run
+  answers_seen plan before after old new (Err (Silent seconds)) run = absurd run
+  answers_seen plan before after old new (Err Trace) run = absurd run
+  answers_seen plan before after old new (Err Book) run = absurd run
 
 -- ---- a run
 
+-- the notes of a run were reported, and something after them
+pub answers_told : {L T : Type 0} (look : T → TillValue) (law : Law L T) (options : StepOptions) (Noted Told : List ℕ → Type 0) (told : (text : List ℕ) → Noted text → Told text) (plan : List Planned) (before after : Standing L T) (old new : Option (List ℕ)) (result : Result Unit EndFault)
+    → Answers look law options Noted plan before after old new result → Answers look law options Told plan before after old new result
+answers_told look law options Noted Told told plan before after old new result run = answers_seen look (λ l. l) law options Noted Told told plan before after old new result run
+
+-- the notes of a run were reported, and then the unclear reversals of its book
+pub then_reversals : (old between new : Option (List ℕ)) (before failures after : ℕ) (book : List Entry) → ReportsReversals between new failures after book
+    → (notes : List ℕ) → Reports notes old between before failures → ReportsRun old new before after notes book
+then_reversals old between new before failures after book reversals notes noted = record { between = between; failures = failures; noted = noted; reversals = reversals }
+
 -- a new till that was connected made the steps
-pub ran : {L S : Type 0} (seen : L → S) (law : Law S TillValue) (begins : S → Type 0) (settings : Settings) (options : StepOptions) (plan : List Planned) (before after : Standing L TillValue) (old new : Option (List ℕ)) (Reported : List Entry → Type 0) (result : Result Unit EndFault)
+pub ran : {L S : Type 0} (seen : L → S) (law : Law S TillValue) (begins : S → Type 0) (settings : Settings) (options : StepOptions) (plan : List Planned) (before after : Standing L TillValue) (old new : Option (List ℕ)) (Noted : List ℕ → Type 0) (Reported : List ℕ → List Entry → Type 0) (result : Result Unit EndFault)
     → begins (seen before.line) → before.till.state ≡ step (new_till settings) Connected
-    → Answers itself (by seen law) options plan before after old new result → Reported after.till.state.book → RunsPlan law begins settings options plan old new Reported result
-ran seen law begins settings options plan before after old new Reported result begun connected run reported = record {
+    → ((notes : List ℕ) → Noted notes → Reported notes after.till.state.book)
+    → Answers itself (by seen law) options Noted plan before after old new result → RunsPlan law begins settings options plan old new Reported result
+ran seen law begins settings options plan before after old new Noted Reported result begun connected reported run = record {
   before = as_seen seen before;
   after = as_seen seen after;
   begun = begun;
   connected = connected;
-  answers = answers_seen itself seen law options plan before after old new result run;
-  reported = reported;
+  answers = answers_seen itself seen law options Noted (λ notes. Reported notes after.till.state.book) reported plan before after old new result run;
 }

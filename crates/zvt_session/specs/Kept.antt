@@ -48,16 +48,15 @@ module _ {D : Type 0} (seen : D → List ℕ) (may_leave : D → List ℕ → Ty
 -- ---- runs
 
 module _ {L D : Type 0} (connects : KeptValue D → KeptValue D → Result Unit DeviceError → Type 0) (makes : Law L (KeptValue D)) (begins : L → Type 0) where
-  -- That the line is up was durable, the steps were made, and this was reported of the book.
-  pub record RunsBook (options : StepOptions) (plan : List Planned) (old new : KeptValue D) (first last : Option (List ℕ)) (Reported : List Entry → Type 0) (result : Result Unit EndFault) : Type 0 where
+  -- That the line is up was durable, the steps were made, and this was reported of them and of the book.
+  pub record RunsBook (options : StepOptions) (plan : List Planned) (old new : KeptValue D) (first last : Option (List ℕ)) (Reported : List ℕ → List Entry → Type 0) (result : Result Unit EndFault) : Type 0 where
     pub before : L
     pub after : L
     pub connected : KeptValue D
     pub ended : Result Unit EndFault
     pub begun : begins before
     pub up : connects old connected (Ok tt)
-    pub answers : Answers till_of makes options plan (standing before connected) (standing after new) first last ended
-    pub reported : Reported new.standing.till.state.book
+    pub answers : Answers till_of makes options (λ notes. Reported notes new.standing.till.state.book) plan (standing before connected) (standing after new) first last ended
     pub is : result ≡ by_book new.failed ended
 
   -- The journal failed before a step. Nothing was sent, written or reported.
@@ -69,5 +68,5 @@ module _ {L D : Type 0} (connects : KeptValue D → KeptValue D → Result Unit 
     pub is : result ≡ Err Book
 
   -- What a run of these steps answers on a line.
-  abbrev pub AnswersBook : StepOptions → List Planned → (old new : KeptValue D) → (first last : Option (List ℕ)) → (Reported : List Entry → Type 0) → (Quiet : Type 0) → Result Unit EndFault → Type 0
+  abbrev pub AnswersBook : StepOptions → List Planned → (old new : KeptValue D) → (first last : Option (List ℕ)) → (Reported : List ℕ → List Entry → Type 0) → (Quiet : Type 0) → Result Unit EndFault → Type 0
   AnswersBook options plan old new first last Reported Quiet result = RunsBook options plan old new first last Reported result ⊎ NoLine old new first last Quiet result

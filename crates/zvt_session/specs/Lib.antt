@@ -2,6 +2,8 @@ pub mod Words
 pub mod Steps
 pub mod Outcomes
 pub mod Objects
+pub mod Made
+pub mod Notes
 pub mod Plans
 pub mod Runs
 pub mod LineEnd

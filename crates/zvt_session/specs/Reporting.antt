@@ -1,5 +1,5 @@
--- What is reported of a till's reversals.
-use Rattle.std.specs.Prelude.{◌≡◌, ◌⊎◌, ◌+◌, ℕ, List, [], ◌++◌, codes, flat_map, Option}
+-- What a run reports: the notes of its steps, and the unclear reversals of its book.
+use Rattle.std.specs.Prelude.{◌≡◌, ◌⊎◌, ◌+◌, ℕ, Bool, true, false, List, [], ◌++◌, codes, flat_map, Option}
 use Rattle.std.specs.Fmt.{decimal}
 use Rattle.std.specs.Io.KnownBytes.{Appends, Keeps}
 use Rattle.zvt_io.specs.Devices.{IsPrefix}
@@ -12,6 +12,11 @@ use Rattle.zvt_till.specs.declared.outcomes.Cause.{Cause}
 -- The text was written, or a prefix of it where the device failed.
 abbrev pub Reports : List ℕ → (old new : Option (List ℕ)) → (failures_before failures_after : ℕ) → Type 0
 Reports text old new before after = ((after ≡ before) × Appends old new text) ⊎ ((after ≡ before + 1) × (part : List ℕ) × IsPrefix part text × Appends old new part)
+
+-- All of the text was reported; or the device failed, which takes nothing more.
+abbrev pub ReportedSoFar : (works : Bool) → (old new : Option (List ℕ)) → (before after : ℕ) → List ℕ → Type 0
+ReportedSoFar true old new before after text = (after ≡ before) × Appends old new text
+ReportedSoFar false old new before after text = (after ≡ before + 1) × (part : List ℕ) × IsPrefix part text × Appends old new part
 
 -- the line of an unclear reversal of the entry of this number, counted from 1
 abbrev pub reversal_text : ℕ → Cause → List ℕ
@@ -30,6 +35,13 @@ reversals_text rows = flat_map (λ row. reversal_text (row.0 + 1) row.1) rows
 -- The unclear reversals of this book were reported.
 abbrev pub ReportsReversals : (old new : Option (List ℕ)) → (failures_before failures_after : ℕ) → List Entry → Type 0
 ReportsReversals old new before after book = Reports (reversals_text (unclear_reversals book)) old new before after
+
+-- The notes of the steps of a run were reported, and then the unclear reversals of its book.
+pub record ReportsRun (old new : Option (List ℕ)) (failures_before failures_after : ℕ) (notes : List ℕ) (book : List Entry) : Type 0 where
+  pub between : Option (List ℕ)
+  pub failures : ℕ
+  pub noted : Reports notes old between failures_before failures
+  pub reversals : ReportsReversals between new failures failures_after book
 
 -- nothing was reported
 abbrev pub ReportsNothing : (old new : Option (List ℕ)) → (failures_before failures_after : ℕ) → Type 0

@@ -1,5 +1,6 @@
 //! A till's book, and its text.
-ghost use Rattle.std.specs.Prelude.{◌≡◌, ◌<◌, ◌++◌, Err, OnOk};
+ghost use Rattle.std.specs.Prelude.{◌≡◌, ◌<◌, ◌++◌, Err, IfErr, OnOk};
+ghost use Rattle.zvt_io.specs.Devices.{Writes};
 ghost use Rattle.zvt_session.specs.BookObjects.{book_lines};
 ghost use Rattle.zvt_session.specs.Books.{book_text, booked_text, doubt_text, entries_text, entry_text, reversed_text, unclear_reversal_text, unclear_text, unclears_text};
 ghost use Rattle.zvt_session.specs.Runs.{AnswersText};
@@ -31,6 +32,18 @@ pub fn write_book<W: Sink>(
     say_lines(&mut text, form, till)?;
     writer.write_all(text.bytes())?;
     Ok(())
+}
+
+/// Writes the records of a book as they are. Their text is a trace.
+pub fn write_records<W: Sink>(records: &[u8], writer: &mut W) -> Result<(), EndFault>
+    ensures text { Writes (W.written writer.old) (W.written writer.new) result records.now }
+    ensures fault { IfErr result (λ fault. fault ≡ EndFault.Write) }
+    ensures write { result ≡ Err EndFault.Write → W.failures writer.old < W.failures writer.new }
+{
+    match writer.write_all(records) {
+        Ok(()) => Ok(()),
+        Err(_) => Err(EndFault::Write),
+    }
 }
 
 /// The lines of a book in this form.

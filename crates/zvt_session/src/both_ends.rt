@@ -4,7 +4,7 @@ ghost use Rattle.zvt_till.specs.Line.{till_loses};
 ghost use Rattle.zvt_session.specs.BothEnds.{Alternates, BeginsHere, BreaksOff, MakesHereBy, ended_of, here, line_of};
 ghost use Rattle.zvt_session.specs.RunsPlan.{RunsPlan};
 ghost use Rattle.zvt_till.specs.Settings.{settings_of};
-ghost use Rattle.zvt_session.specs.Reporting.{ReportsReversals};
+ghost use Rattle.zvt_session.specs.Reporting.{ReportsRun};
 
 use crate::arguments::Step;
 use crate::fault::EndFault;
@@ -85,11 +85,11 @@ pub fn run_both_ends<A: LineEnd, B: LineEnd, T: Sink, E: Sink>(
     report: &mut E,
 ) -> Result<(), EndFault>
     requires { BeginsHere (line_of A.state B.state line.old) }
-    ensures run { RunsPlan MakesHereBy BeginsHere (settings_of settings.now) steps.now.options steps.now.plan.now (T.written writer.old) (T.written writer.new) (ReportsReversals (E.written report.old) (E.written report.new) (E.failures report.old) (E.failures report.new)) result }
+    ensures run { RunsPlan MakesHereBy BeginsHere (settings_of settings.now) steps.now.options steps.now.plan.now (T.written writer.old) (T.written writer.new) (ReportsRun (E.written report.old) (E.written report.new) (E.failures report.old) (E.failures report.new)) result }
     ensures write { result ≡ Err EndFault.Write → T.failures writer.old < T.failures writer.new }
 {
     let mut till = connected_till(alloc, settings);
-    let answer = run_steps(alloc, line, &mut till, steps, writer);
+    let answer = run_steps(alloc, line, &mut till, steps, writer, report);
     report_reversals(till.book(), report);
     answer
 }

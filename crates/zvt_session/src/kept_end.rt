@@ -3,7 +3,7 @@ ghost use Rattle.std.specs.Prelude.{◌≡◌, ◌<◌, Err};
 ghost use Rattle.zvt_kept.specs.KeptTill.{Connects};
 ghost use Rattle.zvt_stream.specs.StreamState.{start_in};
 ghost use Rattle.zvt_session.specs.Kept.{AnswersBook, MakesThereKept};
-ghost use Rattle.zvt_session.specs.Reporting.{ReportsNothing, ReportsReversals};
+ghost use Rattle.zvt_session.specs.Reporting.{ReportsNothing, ReportsRun};
 ghost use Rattle.zvt_session.specs.TillEnd.{BeginsThere};
 
 use crate::arguments::Step;
@@ -54,7 +54,7 @@ pub fn run_till_end_kept<R: Source, W: Sink, D: Device, T: Sink, E: Sink>(
 ) -> Result<(), EndFault>
     requires { end.old.stream ≡ start_in end.old.stream.reading }
     ensures run { AnswersBook (Connects D.seen D.may_leave D.moment D.left_since) (MakesThereKept D.seen D.may_leave D.moment D.left_since) (BeginsThere end.old.stream.reading) steps.now.options steps.now.plan.now kept.old kept.new (T.written writer.old) (T.written writer.new)
-        (ReportsReversals (E.written report.old) (E.written report.new) (E.failures report.old) (E.failures report.new)) (ReportsNothing (E.written report.old) (E.written report.new) (E.failures report.old) (E.failures report.new)) result }
+        (ReportsRun (E.written report.old) (E.written report.new) (E.failures report.old) (E.failures report.new)) (ReportsNothing (E.written report.old) (E.written report.new) (E.failures report.old) (E.failures report.new)) result }
     ensures write { result ≡ Err EndFault.Write → T.failures writer.old < T.failures writer.new }
 {
     run_kept_steps(alloc, end, kept, steps, writer, report)

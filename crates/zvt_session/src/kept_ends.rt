@@ -5,7 +5,7 @@ ghost use Rattle.zvt_session.specs.BothEnds.{BeginsHere, line_of};
 ghost use Rattle.zvt_session.specs.BothKept.{AlternatesKept, BreaksOffKept, MakesHereKept, NotSentKept, WritesKept};
 ghost use Rattle.zvt_session.specs.Runs.{standing};
 ghost use Rattle.zvt_session.specs.Kept.{AnswersBook};
-ghost use Rattle.zvt_session.specs.Reporting.{ReportsNothing, ReportsReversals};
+ghost use Rattle.zvt_session.specs.Reporting.{ReportsNothing, ReportsRun};
 
 use crate::arguments::Step;
 use crate::both_ends::{ALTERNATIONS, BothEnds, ended};
@@ -15,7 +15,7 @@ use crate::line_end::LineEnd;
 use crate::plans::StepRun;
 use crate::steps::StepLine;
 use std::alloc::Global;
-use zvt_apdu::MAX_TILL_MESSAGE_LEN;
+use zvt_apdu::MAX_BRIEF_LEN;
 use zvt_io::Sink;
 use zvt_journal::Device;
 use zvt_kept::{KeptFault, KeptRefusal, KeptTill};
@@ -38,7 +38,7 @@ fn send_kept<A: LineEnd, D: Device>(
         Err(KeptRefusal::Order(why)) => return Err(KeptFault::Order(why)),
         Err(KeptRefusal::Journal(_)) => return Err(KeptFault::Journal),
     };
-    let mut buffer = [0; MAX_TILL_MESSAGE_LEN];
+    let mut buffer = [0; MAX_BRIEF_LEN];
     let size = outgoing.put(&mut buffer);
     if let Err(fault) = end.send(&buffer[..size]) {
         kept.lost();
@@ -113,7 +113,7 @@ pub fn run_both_ends_kept<A: LineEnd, B: LineEnd, D: Device, T: Sink, E: Sink>(
 ) -> Result<(), EndFault>
     requires { BeginsHere (line_of A.state B.state line.old) }
     ensures run { AnswersBook (Connects D.seen D.may_leave D.moment D.left_since) (MakesHereKept D.seen D.may_leave D.moment D.left_since) BeginsHere steps.now.options steps.now.plan.now kept.old kept.new (T.written writer.old) (T.written writer.new)
-        (ReportsReversals (E.written report.old) (E.written report.new) (E.failures report.old) (E.failures report.new)) (ReportsNothing (E.written report.old) (E.written report.new) (E.failures report.old) (E.failures report.new)) result }
+        (ReportsRun (E.written report.old) (E.written report.new) (E.failures report.old) (E.failures report.new)) (ReportsNothing (E.written report.old) (E.written report.new) (E.failures report.old) (E.failures report.new)) result }
     ensures write { result ≡ Err EndFault.Write → T.failures writer.old < T.failures writer.new }
 {
     run_kept_steps(alloc, line, kept, steps, writer, report)

@@ -2,7 +2,7 @@
 ghost use Rattle.std.specs.Prelude.{◌≡◌, ◌<◌, Err};
 ghost use Rattle.zvt_kept.specs.KeptTill.{Connects};
 ghost use Rattle.zvt_session.specs.Kept.{AnswersBook, run_fault_of};
-ghost use Rattle.zvt_session.specs.Reporting.{ReportsNothing, ReportsReversals};
+ghost use Rattle.zvt_session.specs.Reporting.{ReportsNothing, ReportsRun};
 
 use crate::fault::{EndFault, by_book};
 use crate::plans::StepRun;
@@ -39,13 +39,13 @@ pub(crate) fn run_kept_steps<L: StepLine<KeptTill<D>>, D: Device, T: Sink, E: Si
     report: &mut E,
 ) -> Result<(), EndFault>
     ensures run { AnswersBook (Connects D.seen D.may_leave D.moment D.left_since) L.makes (λ begun. begun ≡ line.old) steps.now.options steps.now.plan.now kept.old kept.new (T.written writer.old) (T.written writer.new)
-        (ReportsReversals (E.written report.old) (E.written report.new) (E.failures report.old) (E.failures report.new)) (ReportsNothing (E.written report.old) (E.written report.new) (E.failures report.old) (E.failures report.new)) result }
+        (ReportsRun (E.written report.old) (E.written report.new) (E.failures report.old) (E.failures report.new)) (ReportsNothing (E.written report.old) (E.written report.new) (E.failures report.old) (E.failures report.new)) result }
     ensures write { result ≡ Err EndFault.Write → T.failures writer.old < T.failures writer.new }
 {
     if let Err(_) = kept.connected(alloc) {
         return Err(EndFault::Book);
     }
-    let answer = run_steps(alloc, line, kept, steps, writer);
+    let answer = run_steps(alloc, line, kept, steps, writer, report);
     report_reversals(kept.till().book(), report);
     by_book(kept.has_failed(), answer)
 }

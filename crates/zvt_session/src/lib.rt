@@ -13,6 +13,7 @@ mod kept_end;
 mod kept_ends;
 mod kept_steps;
 mod line_end;
+mod notes;
 mod objects;
 mod outcomes;
 mod plans;
@@ -23,7 +24,7 @@ mod steps;
 mod till_end;
 
 pub use arguments::{Ends, Step, result_code, step_of};
-pub use books::write_book;
+pub use books::{write_book, write_records};
 pub use both_ends::{BothEnds, run_both_ends};
 pub use fault::{EndFault, NetFault};
 pub use kept_end::run_till_end_kept;

@@ -50,6 +50,14 @@ impl<R: Source, W: Sink> LineEnd for Endpoint<R, W> {
     }
 
     fn turn<M: Machine>(&mut self, alloc: Global, machine: &mut M) -> Result<(), LineFault> {
-        pump(alloc, self, machine, Until::Sent, READS_OF_A_TURN)
+        pump(
+            alloc,
+            &mut self.reader,
+            &mut self.writer,
+            &mut self.stream,
+            machine,
+            Until::Sent,
+            READS_OF_A_TURN,
+        )
     }
 }

@@ -22,7 +22,16 @@ pub fn serve<R: Source, W: Sink>(
         (end_state end.new.stream (R.remaining end.new.reader) (W.written end.new.writer) (R.reads end.new.reader) (R.failures end.new.reader) (W.failures end.new.writer)) served.new
         result }
 {
-    match pump(alloc, end, served, Until::Rest, READS_OF_A_SERVICE) {
+    let ended = pump(
+        alloc,
+        &mut end.reader,
+        &mut end.writer,
+        &mut end.stream,
+        served,
+        Until::Rest,
+        READS_OF_A_SERVICE,
+    );
+    match ended {
         Ok(()) | Err(LineFault::Ended { have: 0 }) => Ok(()),
         Err(fault) => Err(fault),
     }

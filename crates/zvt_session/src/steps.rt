@@ -1,6 +1,6 @@
 //! Steps made one after another on a line, and what is written of them.
-ghost use Rattle.std.specs.Prelude.{◌≡◌, ◌<◌, ◌++◌, Err, IfOk, OnOk, Result};
-ghost use Rattle.zvt_io.specs.Devices.{Writes};
+ghost use Rattle.std.specs.Prelude.{◌≡◌, ◌<◌, ◌++◌, Err, IfErr, IfOk, OnOk, Result, false};
+ghost use Rattle.std.specs.String.{string_bytes};
 ghost use Rattle.zvt_till.specs.Marks.{total};
 ghost use Rattle.zvt_till.specs.Till.{new_till, step};
 ghost use Rattle.zvt_till.specs.View.{TillValue};
@@ -11,10 +11,13 @@ ghost use Rattle.zvt_session.specs.declared.arguments.Step.{Step};
 ghost use Rattle.zvt_session.specs.Objects.{step_line, total_line};
 ghost use Rattle.zvt_session.specs.Outcomes.{ending_text, step_text, total_text};
 ghost use Rattle.zvt_till.specs.Settings.{settings_of};
-ghost use Rattle.zvt_session.specs.Runs.{Answers, AnswersStep, AnswersText, fault_of, fell_short, standing, succeeded, wants_memory};
+ghost use Rattle.zvt_session.specs.Made.{fault_of, fell_short, succeeded, wants_memory};
+ghost use Rattle.zvt_session.specs.Reporting.{Reports};
+ghost use Rattle.zvt_session.specs.Runs.{Answers, AnswersText, standing};
 
 use crate::arguments::Step;
 use crate::fault::EndFault;
+use crate::notes::{note_of, report_note};
 use crate::objects::{say_step_object, say_total_object};
 use crate::outcomes::outcome_text;
 use crate::plans::{Planned, StepOptions, StepRun};
@@ -57,28 +60,37 @@ pub(crate) trait StepLine<K: Keeper> {
 }
 
 /// Makes the steps one after another. Each writes a line when it ends: its word and its outcome. The last line is the
-/// till's total. `steps` has the form of these lines. After a connection that failed no further step is made, and the
-/// fault is `Line`. A run that checks its steps ends with `Unsuccessful` where one did not succeed. An order that is not sent
-/// is another fault only where memory runs out. The other faults are `Write` and `Memory`. After these no step is made again, and no step after the one whose line is missing. The lines of all steps
-/// before it were written. After `Write` a prefix of its own line may be written.
-pub(crate) fn run_steps<L: StepLine<K>, K: Keeper, W: Sink>(
+/// till's total. `steps` has the form of these lines. A step whose order is unclear or was not sent is reported besides, with
+/// what to do.
+///
+/// After a connection that failed no further step is made, and the fault is `Line`. A run that checks its steps ends with
+/// `Unsuccessful` if one did not succeed. An order that is not sent is another fault only if memory runs out. The other
+/// faults are `Write` and `Memory`: then no further step is made, and the lines of all steps before the last were written.
+/// After `Write` a prefix of its own line may be written. A failure of `report` is no fault, and nothing more is reported.
+pub(crate) fn run_steps<L: StepLine<K>, K: Keeper, W: Sink, E: Sink>(
     alloc: Global,
     line: &mut L,
     till: &mut K,
     steps: &StepRun<'_>,
     writer: &mut W,
+    report: &mut E,
 ) -> Result<(), EndFault>
-    ensures run { Answers K.till L.makes steps.now.options steps.now.plan.now (standing line.old till.old) (standing line.new till.new) (W.written writer.old) (W.written writer.new) result }
+    ensures run { Answers K.till L.makes steps.now.options (λ notes. Reports notes (E.written report.old) (E.written report.new) (E.failures report.old) (E.failures report.new)) steps.now.plan.now (standing line.old till.old) (standing line.new till.new) (W.written writer.old) (W.written writer.new) result }
     ensures write { result ≡ Err EndFault.Write → W.failures writer.old < W.failures writer.new }
 {
     let mut short = false;
+    let mut reports = true;
     'steps: for planned in steps.plan {
-        let end = make_step(alloc, line, till, steps.options, planned, writer)?;
-        if let Some(fault) = end.broken {
+        let made = line.make(alloc, till, &planned.step);
+        let text = line_of(alloc, steps.options.form, planned, &made, till.look())?;
+        let note = note_of(alloc, planned, &made, till.look())?;
+        reports = report_note(reports, &note, report);
+        writer.write_all(text.bytes())?;
+        if let Some(fault) = fault_of(&made) {
             write_total(alloc, till, steps.options.form, writer)?;
             return Err(EndFault::Line(fault));
         }
-        short |= end.short;
+        short |= fell_short(&planned.step, &made);
     }
     write_total(alloc, till, steps.options.form, writer)?;
     if steps.options.check && short {
@@ -96,47 +108,25 @@ pub(crate) fn connected_till(alloc: Global, settings: &TillSettings) -> Till
     till
 }
 
-/// How a step ended.
-#[derive(Clone, Copy)]
-struct StepEnd {
-    /// How the line broke, if it did.
-    broken: Option<LineFault>,
-    /// Whether the step did not succeed.
-    short: bool,
-}
-
-/// Makes a step and writes its line in this form.
-fn make_step<L: StepLine<K>, K: Keeper, W: Sink>(
+/// Returns the line of a step in this form. The only fault is `Memory`, also if its order was not sent because memory ran out.
+fn line_of(
     alloc: Global,
-    line: &mut L,
-    till: &mut K,
-    options: StepOptions,
+    form: Form,
     planned: &Planned,
-    writer: &mut W,
-) -> Result<StepEnd, EndFault>
-    ensures step { AnswersStep K.till L.makes options planned.now (standing line.old till.old) (standing line.new till.new) (W.written writer.old) (W.written writer.new) result }
-    ensures write { result ≡ Err EndFault.Write → W.failures writer.old < W.failures writer.new }
-    ensures count { IfOk result (λ _. W.failures writer.new ≡ W.failures writer.old) }
+    made: &Result<Outcome, RunFault>,
+    till: &Till,
+) -> Result<Text, EndFault>
+    ensures text { IfOk result (λ text. text ≡ step_line form (string_bytes planned.now.word) made.now till.now.state.last_outcome) }
+    ensures sent { OnOk result (wants_memory made.now ≡ false) }
+    ensures memory { IfErr result (λ fault. fault ≡ EndFault.Memory) }
 {
-    let made = line.make(alloc, till, &planned.step);
-    if wants_memory(&made) {
+    if wants_memory(made) {
         return Err(EndFault::Memory);
     }
     let mut text = Text::new(alloc);
-    let last = till.look().last_outcome();
-    say_step(
-        alloc,
-        &mut text,
-        options.form,
-        planned.word.as_str(),
-        &made,
-        last,
-    )?;
-    writer.write_all(text.bytes())?;
-    Ok(StepEnd {
-        broken: fault_of(&made),
-        short: fell_short(&planned.step, &made),
-    })
+    let word = planned.word.as_str();
+    say_step(alloc, &mut text, form, word, made, till.last_outcome())?;
+    Ok(text)
 }
 
 /// Whether a step did not succeed: its order was not sent, ended otherwise than it was meant to, or was cut off by its line. A

@@ -3,7 +3,7 @@ ghost use Rattle.std.specs.Prelude.{◌≡◌, ◌<◌, Err};
 ghost use Rattle.zvt_stream.specs.StreamState.{start_in};
 ghost use Rattle.zvt_session.specs.RunsPlan.{RunsPlan};
 ghost use Rattle.zvt_till.specs.Settings.{settings_of};
-ghost use Rattle.zvt_session.specs.Reporting.{ReportsReversals};
+ghost use Rattle.zvt_session.specs.Reporting.{ReportsRun};
 ghost use Rattle.zvt_session.specs.TillEnd.{BeginsThere, MakesThere};
 
 use crate::arguments::Step;
@@ -33,7 +33,15 @@ impl<R: Source, W: Sink> StepLine<Till> for Endpoint<R, W> {
         // After a broken line it is known what became of the order.
         ensures over { IfErr result (λ fault. IsOver fault till.new.state) }
     {
-        run_order(alloc, self, till, step.order(), READS_OF_AN_ORDER)
+        run_order(
+            alloc,
+            &mut self.reader,
+            &mut self.writer,
+            &mut self.stream,
+            till,
+            step.order(),
+            READS_OF_AN_ORDER,
+        )
     }
 }
 
@@ -53,11 +61,11 @@ pub fn run_till_end<R: Source, W: Sink, T: Sink, E: Sink>(
     report: &mut E,
 ) -> Result<(), EndFault>
     requires { end.old.stream ≡ start_in end.old.stream.reading }
-    ensures run { RunsPlan MakesThere (BeginsThere end.old.stream.reading) (settings_of settings.now) steps.now.options steps.now.plan.now (T.written writer.old) (T.written writer.new) (ReportsReversals (E.written report.old) (E.written report.new) (E.failures report.old) (E.failures report.new)) result }
+    ensures run { RunsPlan MakesThere (BeginsThere end.old.stream.reading) (settings_of settings.now) steps.now.options steps.now.plan.now (T.written writer.old) (T.written writer.new) (ReportsRun (E.written report.old) (E.written report.new) (E.failures report.old) (E.failures report.new)) result }
     ensures write { result ≡ Err EndFault.Write → T.failures writer.old < T.failures writer.new }
 {
     let mut till = connected_till(alloc, settings);
-    let answer = run_steps(alloc, end, &mut till, steps, writer);
+    let answer = run_steps(alloc, end, &mut till, steps, writer, report);
     report_reversals(till.book(), report);
     answer
 }

@@ -41,7 +41,7 @@ traced Answers true (Err (Net why)) never a = a
 traced Answers true (Err (Silent seconds)) never a = a
 
 -- what a run of steps answers
-answers : {L : Type 0} (makes : Law L TillValue) (begins : L → Type 0) (settings : Settings) (options : StepOptions) (plan : List Planned) (old new : Option (List ℕ)) (Reported : List Entry → Type 0) (Quiet : Type 0) (result : Result Unit EndFault)
+answers : {L : Type 0} (makes : Law L TillValue) (begins : L → Type 0) (settings : Settings) (options : StepOptions) (plan : List Planned) (old new : Option (List ℕ)) (Reported : List ℕ → List Entry → Type 0) (Quiet : Type 0) (result : Result Unit EndFault)
     → AnswersTraced (RunsPlan makes begins settings options plan old new Reported) result → AnswersRun makes begins settings options plan old new Reported Quiet result
 answers makes begins settings options plan old new Reported Quiet (Ok done) runs = runs
 answers makes begins settings options plan old new Reported Quiet (Err (Line fault)) runs = runs
@@ -55,7 +55,7 @@ answers makes begins settings options plan old new Reported Quiet (Err (Net why)
 answers makes begins settings options plan old new Reported Quiet (Err (Silent seconds)) runs = absurd runs.answers
 
 -- the terminal was silent for too long, or was not
-silenced : {L : Type 0} (makes : Law L TillValue) (begins : L → Type 0) (settings : Settings) (options : StepOptions) (plan : List Planned) (old new : Option (List ℕ)) (Reported : List Entry → Type 0) (Quiet : Type 0) (waited : Option ℕ) (result : Result Unit EndFault)
+silenced : {L : Type 0} (makes : Law L TillValue) (begins : L → Type 0) (settings : Settings) (options : StepOptions) (plan : List Planned) (old new : Option (List ℕ)) (Reported : List ℕ → List Entry → Type 0) (Quiet : Type 0) (waited : Option ℕ) (result : Result Unit EndFault)
     → AnswersRun makes begins settings options plan old new Reported Quiet result → AnswersRun makes begins settings options plan old new Reported Quiet (by_silence waited result)
 silenced makes begins settings options plan old new Reported Quiet None result runs = runs
 silenced makes begins settings options plan old new Reported Quiet (Some seconds) (Ok done) runs = runs
@@ -70,7 +70,7 @@ silenced makes begins settings options plan old new Reported Quiet (Some seconds
 silenced makes begins settings options plan old new Reported Quiet (Some seconds) (Err (Net why)) runs = runs
 
 -- a run whose trace is whole, or broke
-pub traced_run : {L : Type 0} (makes : Law L TillValue) (begins : L → Type 0) (settings given : Settings) (options : StepOptions) (plan : List Planned) (broken : Bool) (old new : Option (List ℕ)) (Reported : List Entry → Type 0) (Quiet : Type 0) (answer result : Result Unit EndFault)
+pub traced_run : {L : Type 0} (makes : Law L TillValue) (begins : L → Type 0) (settings given : Settings) (options : StepOptions) (plan : List Planned) (broken : Bool) (old new : Option (List ℕ)) (Reported : List ℕ → List Entry → Type 0) (Quiet : Type 0) (answer result : Result Unit EndFault)
     → given ≡ settings → result ≡ by_trace broken answer → RunsPlan makes begins given options plan old new Reported answer → AnswersRun makes begins settings options plan old new Reported Quiet result
 traced_run makes begins settings given options plan broken old new Reported Quiet answer result set is runs =
     let run : RunsPlan makes begins settings options plan old new Reported answer = subst (λ (s : Settings). RunsPlan makes begins s options plan old new Reported answer) set runs in
@@ -78,13 +78,13 @@ traced_run makes begins settings given options plan broken old new Reported Quie
     (answers makes begins settings options plan old new Reported Quiet (by_trace broken answer) (traced (RunsPlan makes begins settings options plan old new Reported) broken answer (λ r. r.answers) run))
 
 -- a run of a till, whose trace is whole or broke, and whose terminal was silent for too long or was not
-pub silenced_run : {L : Type 0} (makes : Law L TillValue) (begins : L → Type 0) (settings given : Settings) (options : StepOptions) (plan : List Planned) (broken : Bool) (waited : Option ℕ) (old new : Option (List ℕ)) (Reported : List Entry → Type 0) (Quiet : Type 0) (answer whole result : Result Unit EndFault)
+pub silenced_run : {L : Type 0} (makes : Law L TillValue) (begins : L → Type 0) (settings given : Settings) (options : StepOptions) (plan : List Planned) (broken : Bool) (waited : Option ℕ) (old new : Option (List ℕ)) (Reported : List ℕ → List Entry → Type 0) (Quiet : Type 0) (answer whole result : Result Unit EndFault)
     → given ≡ settings → whole ≡ by_trace broken answer → result ≡ by_silence waited whole → RunsPlan makes begins given options plan old new Reported answer → AnswersRun makes begins settings options plan old new Reported Quiet result
 silenced_run makes begins settings given options plan broken waited old new Reported Quiet answer whole result set is silent runs =
     subst (λ (r : Result Unit EndFault). AnswersRun makes begins settings options plan old new Reported Quiet r) (sym silent)
     (silenced makes begins settings options plan old new Reported Quiet waited whole (traced_run makes begins settings given options plan broken old new Reported Quiet answer whole set is runs))
 
 -- a run on a line whose stream has that reading
-pub begun_by : {r k : Reading} {settings : Settings} {options : StepOptions} {plan : List Planned} {old new : Option (List ℕ)} {Reported : List Entry → Type 0} {result : Result Unit EndFault} → r ≡ k → RunsPlan MakesThere (BeginsThere r) settings options plan old new Reported result
+pub begun_by : {r k : Reading} {settings : Settings} {options : StepOptions} {plan : List Planned} {old new : Option (List ℕ)} {Reported : List ℕ → List Entry → Type 0} {result : Result Unit EndFault} → r ≡ k → RunsPlan MakesThere (BeginsThere r) settings options plan old new Reported result
     → RunsPlan MakesThere (BeginsThere k) settings options plan old new Reported result
 begun_by {settings = settings} {options = options} {plan = plan} {old = old} {new = new} {Reported = Reported} {result = result} e = subst (λ (x : Reading). RunsPlan MakesThere (BeginsThere x) settings options plan old new Reported result) e

@@ -35,7 +35,7 @@ module _ {L D : Type 0} (connects : KeptValue D → KeptValue D → Result Unit 
 
   -- The steps were made on a line, with a trace perhaps, which lacks something or does not. The terminal was silent for too
   -- long, or was not.
-  pub record TracesBook (options : StepOptions) (plan : List Planned) (old new : KeptValue D) (first last : Option (List ℕ)) (Reported : List Entry → Type 0) (Quiet : Type 0) (result : Result Unit EndFault) : Type 0 where
+  pub record TracesBook (options : StepOptions) (plan : List Planned) (old new : KeptValue D) (first last : Option (List ℕ)) (Reported : List ℕ → List Entry → Type 0) (Quiet : Type 0) (result : Result Unit EndFault) : Type 0 where
     pub ended : Result Unit EndFault
     pub lacks : Bool
     pub waited : Option ℕ
@@ -43,5 +43,5 @@ module _ {L D : Type 0} (connects : KeptValue D → KeptValue D → Result Unit 
     pub is : result ≡ by_silence waited (by_trace lacks ended)
 
   -- What a run of these steps answers over TCP.
-  abbrev pub AnswersBookRun : StepOptions → List Planned → (old new : KeptValue D) → (first last : Option (List ℕ)) → (Reported : List Entry → Type 0) → (Quiet : Type 0) → Result Unit EndFault → Type 0
+  abbrev pub AnswersBookRun : StepOptions → List Planned → (old new : KeptValue D) → (first last : Option (List ℕ)) → (Reported : List ℕ → List Entry → Type 0) → (Quiet : Type 0) → Result Unit EndFault → Type 0
   AnswersBookRun options plan old new first last Reported Quiet result = TracesBook options plan old new first last Reported Quiet result ⊎ NotBegun old new first last Quiet result

@@ -15,7 +15,7 @@ use Rattle.zvt_tcp.specs.Traced.{AnswersTraced}
 
 -- What a run of these steps answers, with a trace perhaps. Without a connection nothing is written or reported. The words of
 -- the steps were read before, so none of them is found wrong.
-abbrev pub AnswersRun : {L : Type 0} → Law L TillValue → (L → Type 0) → Settings → StepOptions → List Planned → (old new : Option (List ℕ)) → (Reported : List Entry → Type 0) → (Quiet : Type 0) → Result Unit EndFault → Type 0
+abbrev pub AnswersRun : {L : Type 0} → Law L TillValue → (L → Type 0) → Settings → StepOptions → List Planned → (old new : Option (List ℕ)) → (Reported : List ℕ → List Entry → Type 0) → (Quiet : Type 0) → Result Unit EndFault → Type 0
 AnswersRun makes begins settings options plan old new Reported Quiet (Ok done) = AnswersTraced (RunsPlan makes begins settings options plan old new Reported) (Ok done)
 AnswersRun makes begins settings options plan old new Reported Quiet (Err (LineBroke fault)) = AnswersTraced (RunsPlan makes begins settings options plan old new Reported) (Err (LineBroke fault))
 AnswersRun makes begins settings options plan old new Reported Quiet (Err (Silent seconds)) = (fault : LineFault) × AnswersTraced (RunsPlan makes begins settings options plan old new Reported) (Err (LineBroke fault))

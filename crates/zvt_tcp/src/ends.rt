@@ -12,7 +12,7 @@ use std::fs::File;
 use std::io::Stderr;
 use std::net::TcpStream;
 use zvt_grammar::Lengths;
-use zvt_io::Counted;
+use zvt_io::Over;
 use zvt_recorder::{Recorded, ends_lacking};
 use zvt_session::BothEnds;
 use zvt_stream::{Endpoint, Stream};
@@ -20,17 +20,17 @@ use zvt_term::{DEFAULT_TID, Served, Terminal, Verdict};
 use zvt_trace::Direction;
 
 /// An end over a connection that is not recorded.
-pub(crate) type PlainEnd<'a> = Endpoint<Counted<&'a TcpStream>, Counted<&'a TcpStream>>;
+pub(crate) type PlainEnd<'a> = Endpoint<Over<&'a TcpStream>, Over<&'a TcpStream>>;
 
 /// A direction of a connection, whose bytes go to such a trace.
-pub(crate) type TracedSocket<'a, T> = Recorded<Counted<Socket<'a>>, T>;
+pub(crate) type TracedSocket<'a, T> = Recorded<Over<Socket<'a>>, T>;
 
 /// A direction of a connection, whose bytes go to the file of a trace.
-type TcpDevice<'a> = TracedSocket<'a, Counted<TraceFile<'a>>>;
+type TcpDevice<'a> = TracedSocket<'a, Over<TraceFile<'a>>>;
 
 /// A till's end over a connection, whose reads and writes go to a trace. What is read may be shown.
 pub(crate) type TillLine<'a> = Endpoint<
-    TracedSocket<'a, ShownTrace<Counted<TraceFile<'a>>, Stderr>>,
+    TracedSocket<'a, ShownTrace<Over<TraceFile<'a>>, Stderr>>,
     TcpDevice<'a>,
 >;
 
@@ -51,8 +51,8 @@ pub(crate) fn both_ends_of<'a>(
     BothEnds {
         till,
         terminal: Endpoint {
-            reader: Counted::new(terminal_end),
-            writer: Counted::new(terminal_end),
+            reader: Over::new(terminal_end),
+            writer: Over::new(terminal_end),
             stream: Stream::of(alloc, Lengths::Shortest),
         },
         served: Served {
@@ -91,10 +91,10 @@ pub(crate) fn till_line_of<'a>(
     ensures sides { IfOk result (λ end. (end.reader.from ≡ Direction.FromTerminal) × (end.writer.from ≡ Direction.FromTill)) }
 {
     let shown_trace = ShownTrace {
-        trace: Counted::new(TraceFile { file: trace }),
+        trace: Over::new(TraceFile { file: trace }),
         shown,
     };
-    let socket = Counted::new(Socket::new(connection));
+    let socket = Over::new(Socket::new(connection));
     Ok(Endpoint {
         reader: Recorded::new(alloc, Direction::FromTerminal, socket, shown_trace)?,
         writer: tcp_device(alloc, Direction::FromTill, connection, trace)?,
@@ -129,8 +129,8 @@ fn tcp_device<'a>(
     ensures from { IfOk result (λ device. device.from ≡ from) }
     ensures whole { IfOk result (λ device. device.broken ≡ false) }
 {
-    let trace = Counted::new(TraceFile { file: trace });
-    let socket = Counted::new(Socket::new(connection));
+    let trace = Over::new(TraceFile { file: trace });
+    let socket = Over::new(Socket::new(connection));
     Recorded::new(alloc, from, socket, trace)
 }
 
@@ -143,5 +143,5 @@ pub(crate) fn is_broken<'a, T>(
     ensures { (end.now.reader.broken || end.now.writer.broken) ≡ true → result ≡ true }
 {
     let lacks = end.reader.broken || end.writer.broken;
-    ends_lacking(lacks, &mut Counted::new(TraceFile { file: trace }))
+    ends_lacking(lacks, &mut Over::new(TraceFile { file: trace }))
 }

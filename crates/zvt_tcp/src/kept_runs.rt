@@ -5,7 +5,7 @@ ghost use Rattle.zvt_kept.specs.KeptTill.{Connects};
 ghost use Rattle.zvt_session.specs.BothEnds.{BeginsHere};
 ghost use Rattle.zvt_session.specs.BothKept.{MakesHereKept};
 ghost use Rattle.zvt_session.specs.Kept.{MakesThereKept};
-ghost use Rattle.zvt_session.specs.Reporting.{ReportsNothing, ReportsReversals};
+ghost use Rattle.zvt_session.specs.Reporting.{ReportsNothing, ReportsRun};
 ghost use Rattle.zvt_session.specs.TillEnd.{BeginsThere};
 ghost use Rattle.zvt_tcp.specs.KeptOverTcp.{AnswersBookRun};
 
@@ -41,7 +41,7 @@ where
     W: Sink,
     E: Sink,
     ensures run { AnswersBookRun (Connects D.seen D.may_leave D.moment D.left_since) (MakesThereKept D.seen D.may_leave D.moment D.left_since) (BeginsThere (reading_of run.now.lengths)) run.now.options run.now.plan.now kept.old kept.new (W.written writer.old) (W.written writer.new)
-        (ReportsReversals (E.written report.old) (E.written report.new) (E.failures report.old) (E.failures report.new)) (ReportsNothing (E.written report.old) (E.written report.new) (E.failures report.old) (E.failures report.new)) result }
+        (ReportsRun (E.written report.old) (E.written report.new) (E.failures report.old) (E.failures report.new)) (ReportsNothing (E.written report.old) (E.written report.new) (E.failures report.old) (E.failures report.new)) result }
     ensures write { result ≡ Err EndFault.Write → W.failures writer.old < W.failures writer.new }
 {
     let steps = StepRun {
@@ -74,7 +74,7 @@ where
     W: Sink,
     E: Sink,
     ensures run { AnswersBookRun (Connects D.seen D.may_leave D.moment D.left_since) (MakesHereKept D.seen D.may_leave D.moment D.left_since) BeginsHere run.now.options run.now.plan.now kept.old kept.new (W.written writer.old) (W.written writer.new)
-        (ReportsReversals (E.written report.old) (E.written report.new) (E.failures report.old) (E.failures report.new)) (ReportsNothing (E.written report.old) (E.written report.new) (E.failures report.old) (E.failures report.new)) result }
+        (ReportsRun (E.written report.old) (E.written report.new) (E.failures report.old) (E.failures report.new)) (ReportsNothing (E.written report.old) (E.written report.new) (E.failures report.old) (E.failures report.new)) result }
     ensures write { result ≡ Err EndFault.Write → W.failures writer.old < W.failures writer.new }
 {
     let steps = StepRun {

@@ -2,7 +2,7 @@
 ghost use Rattle.std.specs.Prelude.{◌≡◌, ◌<◌, Err};
 ghost use Rattle.zvt_grammar.specs.Lengths.{reading_of};
 ghost use Rattle.zvt_session.specs.BothEnds.{BeginsHere, MakesHereBy};
-ghost use Rattle.zvt_session.specs.Reporting.{ReportsNothing, ReportsReversals};
+ghost use Rattle.zvt_session.specs.Reporting.{ReportsNothing, ReportsRun};
 ghost use Rattle.zvt_session.specs.TillEnd.{BeginsThere, MakesThere};
 ghost use Rattle.zvt_tcp.specs.OverTcp.{AnswersRun};
 ghost use Rattle.zvt_till.specs.Events.{run_settings};
@@ -36,7 +36,7 @@ where
     R: Net<Listener = TcpListener, Stream = TcpStream>,
     W: Sink,
     E: Sink,
-    ensures run { AnswersRun MakesHereBy BeginsHere run_settings run.now.options run.now.plan.now (W.written writer.old) (W.written writer.new) (ReportsReversals (E.written report.old) (E.written report.new) (E.failures report.old) (E.failures report.new)) (ReportsNothing (E.written report.old) (E.written report.new) (E.failures report.old) (E.failures report.new)) result }
+    ensures run { AnswersRun MakesHereBy BeginsHere run_settings run.now.options run.now.plan.now (W.written writer.old) (W.written writer.new) (ReportsRun (E.written report.old) (E.written report.new) (E.failures report.old) (E.failures report.new)) (ReportsNothing (E.written report.old) (E.written report.new) (E.failures report.old) (E.failures report.new)) result }
     ensures write { result ≡ Err EndFault.Write → W.failures writer.old < W.failures writer.new }
 {
     let settings = TillSettings::default();
@@ -68,7 +68,7 @@ where
     R: Net<Listener = TcpListener, Stream = TcpStream>,
     W: Sink,
     E: Sink,
-    ensures run { AnswersRun MakesThere (BeginsThere (reading_of run.now.lengths)) (settings_of run.now.settings) run.now.options run.now.plan.now (W.written writer.old) (W.written writer.new) (ReportsReversals (E.written report.old) (E.written report.new) (E.failures report.old) (E.failures report.new)) (ReportsNothing (E.written report.old) (E.written report.new) (E.failures report.old) (E.failures report.new)) result }
+    ensures run { AnswersRun MakesThere (BeginsThere (reading_of run.now.lengths)) (settings_of run.now.settings) run.now.options run.now.plan.now (W.written writer.old) (W.written writer.new) (ReportsRun (E.written report.old) (E.written report.new) (E.failures report.old) (E.failures report.new)) (ReportsNothing (E.written report.old) (E.written report.new) (E.failures report.old) (E.failures report.new)) result }
     ensures write { result ≡ Err EndFault.Write → W.failures writer.old < W.failures writer.new }
 {
     let steps = StepRun {

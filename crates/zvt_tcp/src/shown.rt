@@ -5,7 +5,7 @@ use std::alloc::Global;
 use std::io::{Stderr, Write};
 use std::marker::Model;
 use zvt_grammar::Lengths;
-use zvt_io::{Counted, Failed, Sink};
+use zvt_io::{Failed, Over, Sink};
 use zvt_json::Form;
 use zvt_show::{Follower, Style};
 use zvt_trace::Scope;
@@ -17,7 +17,7 @@ const MAX_TEXT: usize = 16_384;
 #[derive(Drop)]
 pub(crate) struct Shown<S> {
     follower: Option<Follower>,
-    output: Counted<S>,
+    output: Over<S>,
 }
 
 impl<S> Model for Shown<S> {
@@ -42,7 +42,7 @@ pub(crate) fn shown_by(
         Form::Text => Style::Show,
         Form::Json => Style::Json,
     };
-    let output = Counted::new(output?);
+    let output = Over::new(output?);
     Some(Shown {
         follower: Some(Follower::new(alloc, style, Scope::OneSide, lengths)),
         output,

@@ -3,7 +3,7 @@ use Rattle.std.proofs.Common.{◌≡◌, ℕ, true, cond, List, [], ◌∷◌, �
 use Rattle.std.proofs.lemmas.List.{map-append}
 use Rattle.std.proofs.Math.Seq.{take-append_seam}
 use Rattle.zvt_apdu.specs.Message.{Message}
-use Rattle.zvt_apdu.specs.TillMessages.{PutsMessage}
+use Rattle.zvt_apdu.specs.Briefs.{PutsMessage}
 use Rattle.zvt_stream.specs.Apdus.{Spelled}
 use Rattle.zvt_till.specs.declared.happenings.Happening.{Happening}
 use Rattle.zvt_till.specs.declared.happenings.Happening.TheVariants.{Sent as SentOut, Heard as HeardIn}

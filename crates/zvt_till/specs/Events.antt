@@ -2,7 +2,7 @@
 use Rattle.std.specs.Prelude.{◌≡◌, ◌⊎◌, ℕ, Bool, true, false, cond, List, [], ◌∷◌, ◌++◌, Option, Some, None, map, option_to_list}
 use Rattle.zvt_grammar.specs.Reading.{shortest}
 use Rattle.zvt_apdu.specs.Message.{Message}
-use Rattle.zvt_apdu.specs.TillMessages.{message_of_till_message}
+use Rattle.zvt_apdu.specs.Briefs.{message_of_brief}
 use Rattle.zvt_stream.specs.Apdus.{Alive, Cut, Spelled}
 use Rattle.zvt_stream.specs.StreamState.{StreamState, Holds}
 use Rattle.zvt_till.specs.declared.happenings.Happening.{Happening}
@@ -81,7 +81,7 @@ sent_from log [] = []
 sent_from log (h ∷ more) = sends log h ++ sent_from (log ++ h ∷ []) more
 
 abbrev pub message_out : Outgoing → Message
-message_out outgoing = message_of_till_message outgoing.till_message
+message_out outgoing = message_of_brief outgoing.brief
 
 -- all that is sent over a log, in order
 abbrev pub sent_over : List Happening → List Message

@@ -28,6 +28,7 @@ value_of t =
             last_outcome = t.last_outcome;
           };
       spare = spare_of t;
+      numbers = t.numbers;
     }
 
 abbrev pub IsSound : Inside → Type 0

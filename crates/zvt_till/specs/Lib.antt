@@ -21,3 +21,4 @@ pub mod Cuttings
 pub mod TillHistory
 pub mod Judging
 pub mod Names
+pub mod Numbers

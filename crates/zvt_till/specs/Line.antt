@@ -18,6 +18,7 @@ use Rattle.zvt_till.specs.declared.orders.Outgoing.{Outgoing}
 use Rattle.zvt_till.specs.declared.outcomes.Outcome.{Outcome}
 use Rattle.zvt_till.specs.declared.statuses.Running.{Running}
 use Rattle.zvt_till.specs.Hearing.{heard_as}
+use Rattle.zvt_till.specs.Numbers.{numbers_after, numbers_begun}
 use Rattle.zvt_till.specs.Refusals.{refusal}
 use Rattle.zvt_till.specs.Sending.{message_of, reply_to}
 use Rattle.zvt_till.specs.Till.{TillState, step, accept, facts_of}
@@ -33,12 +34,13 @@ Answers (Some outgoing) answered = Spells (message_out outgoing) answered.bytes 
 abbrev pub till_hears : TillValue → Message → Answered → TillValue → Type 0
 till_hears old message answered new =
     (new.state ≡ step old.state (HeardIn (heard_as message))) × Answers (cond old.state.line_up (reply_to (heard_as message)) None) answered × KeepsRoom old new
+    × (new.numbers ≡ numbers_after old.state old.numbers (HeardIn (heard_as message)))
 
 abbrev pub till_loses : TillValue → TillValue → Type 0
-till_loses old new = (new.state ≡ step old.state Lost) × KeepsRoom old new
+till_loses old new = (new.state ≡ step old.state Lost) × KeepsRoom old new × (new.numbers ≡ old.numbers)
 
 abbrev pub till_malforms : TillValue → TillValue → Type 0
-till_malforms old new = (new.state ≡ step old.state Malformed) × KeepsRoom old new
+till_malforms old new = (new.state ≡ step old.state Malformed) × KeepsRoom old new × (new.numbers ≡ old.numbers)
 
 abbrev pub is_idle : Option Running → Bool
 is_idle None = true
@@ -55,6 +57,7 @@ pub record Sends (order : Order) (old new : TillValue) (first last : Option (Lis
   pub taken : refusal (facts_of old.state) order ≡ None
   pub runs : new.state ≡ accept old.state order
   pub room : old.spare ≤ new.spare
+  pub numbers : new.numbers ≡ numbers_begun old.numbers order
   pub message : message_of old.state.settings old.state.book order ≡ Some outgoing
   pub spelled : Spells (message_out outgoing) bytes
   pub appended : Appends first last bytes
@@ -63,7 +66,7 @@ pub record Sends (order : Order) (old new : TillValue) (first last : Option (Lis
 -- a payment took one place then.
 abbrev pub NotSent : RunFault → Order → (old new : TillValue) → (first last : Option (List ℕ)) → Type 0
 NotSent (OrderFault why) order old new first last = IsRefusedAs (facts_of old.state) old.spare order why × (new ≡ old) × (last ≡ first)
-NotSent (Line fault) order old new first last = (fault ≡ Write) × (refusal (facts_of old.state) order ≡ None) × (new.state ≡ step (accept old.state order) Lost) × (old.spare ≤ new.spare + 1)
+NotSent (Line fault) order old new first last = (fault ≡ Write) × (refusal (facts_of old.state) order ≡ None) × (new.state ≡ step (accept old.state order) Lost) × (old.spare ≤ new.spare + 1) × (new.numbers ≡ numbers_begun old.numbers order)
 
 -- An order was sent, and the line went on until the till rested: this became of the order.
 pub record Runs (order : Order) (outcome : Outcome) (before after : StreamState) (old new : TillValue) (coming left first last : Option (List ℕ)) (turns reads_before reads_after : ℕ) : Type 0 where

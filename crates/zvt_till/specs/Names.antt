@@ -1,4 +1,4 @@
--- The names of causes and refusals, as every output writes them.
+-- The names of causes and refusals, as every output writes them, and what they mean.
 use Rattle.std.specs.Prelude.{ℕ, List, codes}
 use Rattle.zvt_till.specs.declared.outcomes.Cause.{Cause}
 use Rattle.zvt_till.specs.declared.outcomes.Cause.TheVariants.{NoStatus, Conflict, AmountDiffers, NoTrace, TraceUsed, AbortAfterApproval, Line, Malformed, Unfinished, WrongCurrency}
@@ -27,3 +27,26 @@ refusal_name UnknownEntry = codes "UnknownEntry"
 refusal_name AlreadyReversed = codes "AlreadyReversed"
 refusal_name NoReceipt = codes "NoReceipt"
 refusal_name Memory = codes "Memory"
+
+abbrev pub cause_words : Cause → List ℕ
+cause_words NoStatus = codes "it was completed without status information"
+cause_words Conflict = codes "its status information names no single result, or contradicts itself"
+cause_words AmountDiffers = codes "its status information names another amount"
+cause_words NoTrace = codes "its status information does not name the trace number"
+cause_words TraceUsed = codes "the book has its trace number already; if the terminal was exchanged or counts from 1 again, begin a new book"
+cause_words AbortAfterApproval = codes "it was broken off after the terminal had approved it or contradicted itself"
+cause_words Line = codes "the connection was lost"
+cause_words Malformed = codes "the terminal sent bytes that are no message"
+cause_words Unfinished = codes "it has not ended"
+cause_words WrongCurrency = codes "its status information names another currency"
+
+abbrev pub refusal_words : OrderRefusal → List ℕ
+refusal_words Offline = codes "there is no connection"
+refusal_words NotRegistered = codes "the till is not registered on this connection: register first"
+refusal_words Busy = codes "another order is running"
+refusal_words NothingToCancel = codes "the terminal has taken up no order that could be cancelled"
+refusal_words BookFull = codes "the book has no room for another payment: begin a new book"
+refusal_words UnknownEntry = codes "the book has no such entry"
+refusal_words AlreadyReversed = codes "this payment is reversed already"
+refusal_words NoReceipt = codes "the payment has no receipt number, so the terminal could not find it"
+refusal_words Memory = codes "out of memory"

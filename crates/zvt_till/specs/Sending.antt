@@ -3,8 +3,8 @@ use Rattle.std.specs.Prelude.{ℕ, List, Option, Some, None, slice_get, option_m
 use Rattle.zvt_till.specs.declared.orders.Order.{Order}
 use Rattle.zvt_till.specs.declared.orders.Order.TheVariants.{Register as RegisterOrder, Pay as PayOrder, Reverse as ReverseOrder, CloseDay as CloseDayOrder, Cancel as CancelOrder}
 use Rattle.zvt_till.specs.declared.orders.Outgoing.{Outgoing}
-use Rattle.zvt_apdu.specs.declared.till_message.TillMessage.{TillMessage}
-use Rattle.zvt_apdu.specs.declared.till_message.TillMessage.TheVariants.{Ack, Nack, Register, Pay, Reverse, CloseDay, AbortOrder}
+use Rattle.zvt_apdu.specs.declared.brief.Brief.{Brief}
+use Rattle.zvt_apdu.specs.declared.brief.Brief.TheVariants.{Ack, Nack, Register, Pay, Reverse, CloseDay, AbortOrder}
 use Rattle.zvt_till.specs.declared.messages.Heard.{Heard}
 use Rattle.zvt_till.specs.declared.messages.Heard.TheVariants.{Positive, Negative, Status, Passing, Completion, Abort, Strange}
 use Rattle.zvt_till.specs.declared.entries.Entry.{Entry}
@@ -20,8 +20,8 @@ abbrev pub receipt_at : Option Entry → Option (List ℕ)
 receipt_at None = None
 receipt_at (Some row) = row.receipt
 
-abbrev pub outgoing : TillMessage → Outgoing
-outgoing till_message = record { till_message = till_message }
+abbrev pub outgoing : Brief → Outgoing
+outgoing brief = record { brief = brief }
 
 -- the message of an accepted order
 abbrev pub message_of : Settings → List Entry → Order → Option Outgoing

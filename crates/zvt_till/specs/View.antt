@@ -1,6 +1,7 @@
 -- What contracts see of a till.
 use Rattle.std.specs.Prelude.{◌≡◌, ℕ, ◌-◌, ◌<◌, ◌≤◌, false, List, Option, Some, None}
 use Rattle.zvt_till.specs.declared.entries.Entry.{Entry}
+use Rattle.zvt_till.specs.declared.numbers.Numbers.{Numbers}
 use Rattle.zvt_till.specs.declared.orders.Order.{Order}
 use Rattle.zvt_till.specs.declared.orders.Order.TheVariants.{Register, Pay, Reverse, CloseDay, Cancel}
 use Rattle.zvt_till.specs.declared.orders.OrderRefusal.{OrderRefusal}
@@ -12,10 +13,12 @@ use Rattle.zvt_till.specs.Outcomes.{trace_used}
 use Rattle.zvt_till.specs.Refusals.{Facts, refusal, most_rows}
 use Rattle.zvt_till.specs.Till.{TillState}
 
--- the state, and how many payments can surely be written down without more memory
+-- the state, how many payments can surely be written down without more memory, and the numbers that the terminal named of the
+-- order that began last
 pub record TillValue : Type 0 where
   pub state : TillState
   pub spare : ℕ
+  pub numbers : Numbers
 
 -- an order is refused for the first reason that holds; out of memory comes last, for a payment without a spare place
 abbrev pub IsRefusedAs : Facts → ℕ → Order → OrderRefusal → Type 0

@@ -1,7 +1,7 @@
 //! A till's run over the events of its line.
 ghost use Rattle.std.specs.Prelude.{◌≡◌, ◌++◌, ◌∷◌, [], ℕ, List, true, false, if◌then◌else◌, OnOk, IfOk};
 ghost use Rattle.zvt_apdu.specs.Message.{Message};
-ghost use Rattle.zvt_apdu.specs.TillMessages.{message_of_till_message};
+ghost use Rattle.zvt_apdu.specs.Briefs.{message_of_brief};
 ghost use Rattle.zvt_stream.specs.Apdus.{Spelled};
 ghost use Rattle.zvt_stream.specs.StreamState.{at_start};
 ghost use Rattle.zvt_till.specs.Refusals.{refusal, sent_as};
@@ -14,12 +14,12 @@ ghost use Rattle.zvt_grammar.specs.Reading.{shortest};
 ghost use Rattle.zvt_till.specs.Events.{IsTied, HoldsLine, Follows, IsLogOf, run_settings, sent_over, log_after_order, message_out, ReadsPiece};
 
 use crate::happenings::{Happening, Sent};
-use crate::heard::heard_view;
+use crate::hearing::heard_view;
 use crate::messages::{CurrencyFact, Heard, Original, StatusFacts};
 use crate::orders::{Order, OrderRefusal, Outgoing};
 use crate::till::Till;
 use std::alloc::{AllocError, Global};
-use zvt_apdu::MAX_TILL_MESSAGE_LEN;
+use zvt_apdu::MAX_BRIEF_LEN;
 use zvt_bcd::{Amount, Currency, Trace};
 use zvt_stream::{FedView, FeedError, Stream};
 
@@ -78,7 +78,7 @@ fn add(log: &mut Vec<Happening>, happening: Happening) -> Result<(), AllocError>
 fn send(sent: &mut Vec<u8>, outgoing: &Outgoing) -> Result<(), AllocError>
     ensures { OnOk result ((before : List Message) → Spelled sent.old.items before [] → Spelled sent.new.items (before ++ message_out outgoing.now ∷ []) []) }
 {
-    let mut buffer = [0; MAX_TILL_MESSAGE_LEN];
+    let mut buffer = [0; MAX_BRIEF_LEN];
     let size = outgoing.put(&mut buffer);
     sent.extend_from_slice(&buffer[..size])?;
     Ok(())

@@ -2,15 +2,16 @@
 //! and its book.
 #![tactic(auto)]
 
-pub mod books;
+mod bookkeeping;
 mod entries;
 mod events;
 mod happenings;
-pub mod heard;
+mod hearing;
 pub mod laws;
 mod line;
 mod log_books;
 mod messages;
+mod numbers;
 mod orders;
 mod outcomes;
 mod settings;
@@ -18,12 +19,15 @@ mod statuses;
 mod till;
 mod used_traces;
 
+pub use bookkeeping::{Bookkeeping, books};
 pub use entries::{Doubt, Entry};
 pub use events::{Event, Run, replay};
 pub use happenings::{Happening, Sent};
+pub use hearing::{currency_in, currency_shown, heard, heard_view};
 pub use line::{RunFault, run_order, send_order};
 pub use log_books::{Booked, Books};
 pub use messages::{CurrencyFact, Heard, Original, StatusFacts, reply_to};
+pub use numbers::Numbers;
 pub use orders::{Order, OrderRefusal, Outgoing, Reply};
 pub use outcomes::{Cause, Outcome};
 pub use settings::TillSettings;

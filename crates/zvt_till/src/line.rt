@@ -4,14 +4,14 @@ ghost use Rattle.std.specs.Result.{IsErrOf};
 ghost use Rattle.zvt_stream.specs.StreamState.{IsReserved};
 ghost use Rattle.zvt_till.specs.Line.{Sends, NotSent, Runs, Fails, IsOver, reads_failed, writes_failed};
 
-use crate::heard::heard_view;
+use crate::hearing::heard_view;
 use crate::orders::{Order, OrderRefusal};
 use crate::outcomes::Outcome;
 use crate::till::Till;
 use std::alloc::{AllocError, Global};
-use zvt_apdu::{ApduView, MAX_TILL_MESSAGE_LEN};
+use zvt_apdu::{ApduView, MAX_BRIEF_LEN};
 use zvt_io::{Sink, Source};
-use zvt_stream::{Answers, Endpoint, LineFault, Machine, Until, pump, send};
+use zvt_stream::{Answers, LineFault, Machine, Stream, Until, pump, send};
 
 /// A till rests where no order runs. It never wants memory.
 impl Machine for Till {
@@ -32,7 +32,7 @@ impl Machine for Till {
         let answer = Till::hear(self, heard_view(apdu)).send;
         let mut answers = Answers::new();
         if let Some(outgoing) = answer {
-            let mut buffer = [0; MAX_TILL_MESSAGE_LEN];
+            let mut buffer = [0; MAX_BRIEF_LEN];
             let size = outgoing.put(&mut buffer);
             answers.add(&buffer[..size]);
         }
@@ -58,7 +58,7 @@ pub enum RunFault {
     /// It was refused. Nothing was sent or read, and the till is as it was.
     Order(OrderRefusal),
     /// The line broke, which was reported to the till. The till's last outcome is what became of the order. The line is
-    /// given up: a new one has a new endpoint.
+    /// given up: a new one has a new stream.
     Line(LineFault),
 }
 
@@ -73,7 +73,7 @@ pub fn send_order<W: Sink>(writer: &mut W, till: &mut Till, order: Order) -> Res
         Err(why) => return Err(RunFault::Order(why)),
         Ok(outgoing) => outgoing,
     };
-    let mut buffer = [0; MAX_TILL_MESSAGE_LEN];
+    let mut buffer = [0; MAX_BRIEF_LEN];
     let size = outgoing.put(&mut buffer);
     if let Err(fault) = send(writer, &buffer[..size]) {
         let _ = Till::lost(till);
@@ -88,28 +88,30 @@ pub fn send_order<W: Sink>(writer: &mut W, till: &mut Till, order: Order) -> Res
 /// memory.
 pub fn run_order<R: Source, W: Sink>(
     alloc: Global,
-    end: &mut Endpoint<R, W>,
+    reader: &mut R,
+    writer: &mut W,
+    stream: &mut Stream,
     till: &mut Till,
     order: Order,
     turns: u64,
 ) -> Result<Outcome, RunFault>
-    ensures ok { IfOk result (λ outcome. Runs order outcome end.old.stream end.new.stream till.old till.new
-        (R.remaining end.old.reader) (R.remaining end.new.reader) (W.written end.old.writer) (W.written end.new.writer) turns (R.reads end.old.reader) (R.reads end.new.reader)) }
-    ensures err { IfErr result (λ fault. Fails fault order end.old.stream end.new.stream till.old till.new
-        (R.remaining end.old.reader) (R.remaining end.new.reader) (W.written end.old.writer) (W.written end.new.writer) turns (R.reads end.old.reader) (R.reads end.new.reader)) }
+    ensures ok { IfOk result (λ outcome. Runs order outcome stream.old stream.new till.old till.new
+        (R.remaining reader.old) (R.remaining reader.new) (W.written writer.old) (W.written writer.new) turns (R.reads reader.old) (R.reads reader.new)) }
+    ensures err { IfErr result (λ fault. Fails fault order stream.old stream.new till.old till.new
+        (R.remaining reader.old) (R.remaining reader.new) (W.written writer.old) (W.written writer.new) turns (R.reads reader.old) (R.reads reader.new)) }
     // However it goes, it takes the place of one payment at most.
     ensures room { till.old.spare ≤ till.new.spare + 1 }
     // After a broken line it is known what became of the order.
     ensures over { IfErr result (λ fault. IsOver fault till.new.state) }
-    ensures reads { R.reads end.new.reader ≤ R.reads end.old.reader + turns }
-    ensures frugal { IsReserved end.old.stream → IsErrOf result (RunFault.Line LineFault.Memory) → ⊥ }
-    ensures reader_failures { MatchResult result (λ _. R.failures end.new.reader ≡ R.failures end.old.reader) (λ fault. R.failures end.new.reader ≡ R.failures end.old.reader + reads_failed fault) }
-    ensures writer_failures { MatchResult result (λ _. W.failures end.new.writer ≡ W.failures end.old.writer) (λ fault. W.failures end.new.writer ≡ W.failures end.old.writer + writes_failed fault) }
+    ensures reads { R.reads reader.new ≤ R.reads reader.old + turns }
+    ensures frugal { IsReserved stream.old → IsErrOf result (RunFault.Line LineFault.Memory) → ⊥ }
+    ensures reader_failures { MatchResult result (λ _. R.failures reader.new ≡ R.failures reader.old) (λ fault. R.failures reader.new ≡ R.failures reader.old + reads_failed fault) }
+    ensures writer_failures { MatchResult result (λ _. W.failures writer.new ≡ W.failures writer.old) (λ fault. W.failures writer.new ≡ W.failures writer.old + writes_failed fault) }
 {
-    if let Err(fault) = send_order(&mut end.writer, till, order) {
+    if let Err(fault) = send_order(writer, till, order) {
         return Err(fault);
     }
-    if let Err(fault) = pump(alloc, end, till, Until::Rest, turns) {
+    if let Err(fault) = pump(alloc, reader, writer, stream, till, Until::Rest, turns) {
         return Err(RunFault::Line(fault));
     }
     match till.last_outcome() {

@@ -4,7 +4,7 @@ ghost use Rattle.zvt_till.specs.Sending.{reply_to};
 ghost use Rattle.zvt_till.specs.Statuses.{spells};
 
 use crate::orders::Outgoing;
-use zvt_apdu::TillMessage;
+use zvt_apdu::Brief;
 use zvt_bcd::{Amount, Currency, Trace, is_digits, number};
 
 /// The answer code of a message that a till does not understand.
@@ -115,10 +115,10 @@ fn spells(digits: [u8; 3], trace: Trace) -> bool
 pub fn reply_to(heard: &Heard) -> Option<Outgoing>
     ensures { result ≡ reply_to heard.now }
 {
-    let till_message = match heard {
+    let brief = match heard {
         Heard::Positive | Heard::Negative(_) => return None,
-        Heard::Strange => TillMessage::Nack(UNKNOWN_MESSAGE),
-        _ => TillMessage::Ack,
+        Heard::Strange => Brief::Nack(UNKNOWN_MESSAGE),
+        _ => Brief::Ack,
     };
-    Some(Outgoing { till_message })
+    Some(Outgoing { brief })
 }

@@ -2,7 +2,7 @@
 use crate::outcomes::Outcome;
 use std::alloc::{AllocError, Global};
 use std::fmt;
-use zvt_apdu::{Apdu, MAX_TILL_MESSAGE_LEN, TillMessage, put_till_message, till_message_apdu};
+use zvt_apdu::{Apdu, Brief, MAX_BRIEF_LEN, brief_message, put_brief};
 use zvt_bcd::Amount;
 
 /// What a caller asks of the till.
@@ -45,7 +45,7 @@ pub enum OrderRefusal {
 
 impl OrderRefusal {
     ghost use Rattle.std.specs.Prelude.{◌≡◌};
-    ghost use Rattle.zvt_till.specs.Names.{refusal_name};
+    ghost use Rattle.zvt_till.specs.Names.{refusal_name, refusal_words};
 
     /// The name of the refusal, as it is written in every output.
     pub fn name(self) -> &'static str
@@ -61,6 +61,29 @@ impl OrderRefusal {
             OrderRefusal::AlreadyReversed => "AlreadyReversed",
             OrderRefusal::NoReceipt => "NoReceipt",
             OrderRefusal::Memory => "Memory",
+        }
+    }
+
+    /// Says in words why the order was not sent.
+    pub fn words(self) -> &'static str
+        ensures { result.now ≡ refusal_words self }
+    {
+        match self {
+            OrderRefusal::Offline => "there is no connection",
+            OrderRefusal::NotRegistered => {
+                "the till is not registered on this connection: register first"
+            }
+            OrderRefusal::Busy => "another order is running",
+            OrderRefusal::NothingToCancel => {
+                "the terminal has taken up no order that could be cancelled"
+            }
+            OrderRefusal::BookFull => "the book has no room for another payment: begin a new book",
+            OrderRefusal::UnknownEntry => "the book has no such entry",
+            OrderRefusal::AlreadyReversed => "this payment is reversed already",
+            OrderRefusal::NoReceipt => {
+                "the payment has no receipt number, so the terminal could not find it"
+            }
+            OrderRefusal::Memory => "out of memory",
         }
     }
 }
@@ -80,27 +103,27 @@ impl fmt::Display for OrderRefusal {
 #[derive(Clone, Copy, Debug, PartialEq, Eq)]
 pub struct Outgoing {
     /// The values that it is made of.
-    pub till_message: TillMessage,
+    pub brief: Brief,
 }
 
 impl Outgoing {
     ghost use Rattle.std.specs.Prelude.{◌≡◌, ◌≤◌, IfOk};
-    ghost use Rattle.zvt_apdu.specs.TillMessages.{message_of_till_message, PutsMessage};
+    ghost use Rattle.zvt_apdu.specs.Briefs.{message_of_brief, PutsMessage};
 
     /// Writes its bytes from the start of the buffer, and returns how many. They always fit, and the bytes after them
     /// stay.
-    pub fn put(&self, buffer: &mut [u8; MAX_TILL_MESSAGE_LEN]) -> usize
-        ensures written { PutsMessage (message_of_till_message self.now.till_message) buffer.old buffer.new result }
+    pub fn put(&self, buffer: &mut [u8; MAX_BRIEF_LEN]) -> usize
+        ensures written { PutsMessage (message_of_brief self.now.brief) buffer.old buffer.new result }
         ensures fits { result ≤ 32 }
     {
-        put_till_message(&self.till_message, buffer)
+        put_brief(&self.brief, buffer)
     }
 
     /// The message itself.
     pub fn message(&self, alloc: Global) -> Result<Apdu, AllocError>
-        ensures { IfOk result (λ apdu. apdu ≡ message_of_till_message self.now.till_message) }
+        ensures { IfOk result (λ apdu. apdu ≡ message_of_brief self.now.brief) }
     {
-        till_message_apdu(alloc, &self.till_message)
+        brief_message(alloc, &self.brief)
     }
 }
 

@@ -40,7 +40,7 @@ pub enum Cause {
 }
 
 impl Cause {
-    ghost use Rattle.zvt_till.specs.Names.{cause_name};
+    ghost use Rattle.zvt_till.specs.Names.{cause_name, cause_words};
 
     /// The name of the cause, as it is written in every output.
     pub fn name(self) -> &'static str
@@ -57,6 +57,30 @@ impl Cause {
             Cause::Malformed => "Malformed",
             Cause::Unfinished => "Unfinished",
             Cause::WrongCurrency => "WrongCurrency",
+        }
+    }
+
+    /// Says in words why the order is unclear.
+    pub fn words(self) -> &'static str
+        ensures { result.now ≡ cause_words self }
+    {
+        match self {
+            Cause::NoStatus => "it was completed without status information",
+            Cause::Conflict => {
+                "its status information names no single result, or contradicts itself"
+            }
+            Cause::AmountDiffers => "its status information names another amount",
+            Cause::NoTrace => "its status information does not name the trace number",
+            Cause::TraceUsed => {
+                "the book has its trace number already; if the terminal was exchanged or counts from 1 again, begin a new book"
+            }
+            Cause::AbortAfterApproval => {
+                "it was broken off after the terminal had approved it or contradicted itself"
+            }
+            Cause::Line => "the connection was lost",
+            Cause::Malformed => "the terminal sent bytes that are no message",
+            Cause::Unfinished => "it has not ended",
+            Cause::WrongCurrency => "its status information names another currency",
         }
     }
 }

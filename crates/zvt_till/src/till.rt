@@ -8,6 +8,7 @@ mod restoring;
 use crate::entries::{Doubt, Entry};
 use crate::happenings::{Happening, ends};
 use crate::messages::{Heard, reply_to};
+use crate::numbers::Numbers;
 use crate::orders::{Order, Reply};
 use crate::outcomes::{Cause, Outcome, outcome_by};
 use crate::settings::TillSettings;
@@ -36,6 +37,8 @@ pub struct Till {
     used: UsedTraces,
     unclear: Vec<(Amount, Cause)>,
     last_outcome: Option<Outcome>,
+    /// What the terminal named of the order that began last.
+    numbers: Numbers,
 }
 
 impl Model for Till {
@@ -57,11 +60,14 @@ impl Till {
     ghost use Rattle.zvt_till.specs.Doubts.{unclear_reversals};
     ghost use Rattle.zvt_till.specs.Marks.{total};
     ghost use Rattle.zvt_till.specs.Events.{run_settings};
+    ghost use Rattle.zvt_till.specs.Numbers.{no_numbers, numbers_after, with_status_of};
+    ghost use Rattle.zvt_till.specs.Segments.{status_of};
 
     /// A till whose line is down, with an empty book. The password and the configuration byte go into a
     /// registration as they are.
     pub fn new(alloc: Global, password: [u8; 3], config: u8, currency: Currency) -> Till
-        ensures { result.state ≡ new_till (record { password = password; config = config; currency = currency }) }
+        ensures state { result.state ≡ new_till (record { password = password; config = config; currency = currency }) }
+        ensures numbers { result.numbers ≡ no_numbers }
     {
         Till {
             password,
@@ -74,12 +80,14 @@ impl Till {
             used: UsedTraces::new(alloc),
             unclear: Vec::new(alloc),
             last_outcome: None,
+            numbers: Numbers::none(),
         }
     }
 
     /// A new till with the default settings: the password 00 00 00, the configuration byte BE and the euro.
     pub fn with_defaults(alloc: Global) -> Till
-        ensures { result.state ≡ new_till run_settings }
+        ensures state { result.state ≡ new_till run_settings }
+        ensures numbers { result.numbers ≡ no_numbers }
     {
         let settings = TillSettings::default();
         Till::new(alloc, settings.password, settings.config, settings.currency)
@@ -89,6 +97,7 @@ impl Till {
     pub fn connected(&mut self)
         ensures state { self.new.state ≡ step self.old.state Happening.Connected }
         ensures room { KeepsRoom self.old self.new }
+        ensures numbers { self.new.numbers ≡ self.old.numbers }
     {
         self.line_up = true;
     }
@@ -189,12 +198,20 @@ impl Till {
         self.last_outcome
     }
 
+    /// The numbers that the terminal named of the order that runs, or of the one that ended last where none runs.
+    pub fn numbers(&self) -> Numbers
+        ensures { result ≡ self.now.numbers }
+    {
+        self.numbers
+    }
+
     /// Ends the running order, and writes down what it came to.
     fn finish(&mut self, order: &Order, outcome: &Outcome)
         requires ends { CanEnd order.now (length self.old.state.book) (length self.old.state.unclear) self.old.spare }
         requires books { CanBook outcome.now self.old.state.book }
         ensures state { self.new.state ≡ finish self.old.state order.now outcome.now }
         ensures room { self.old.spare ≤ self.new.spare + claimed_by order.now }
+        ensures numbers { self.new.numbers ≡ self.old.numbers }
     {
         self.running = None;
         self.last_outcome = Some(*outcome);
@@ -213,6 +230,7 @@ impl Till {
         requires books { CanBook outcome.now self.old.state.book }
         ensures state { self.new.state ≡ payment_ended self.old.state amount outcome.now }
         ensures room { self.old.spare ≤ self.new.spare + 1 }
+        ensures numbers { self.new.numbers ≡ self.old.numbers }
     {
         match outcome {
             Outcome::Paid { trace, receipt } => {
@@ -235,6 +253,7 @@ impl Till {
         ensures state { self.new.state ≡ meet self.old.state happening.now }
         ensures room { KeepsRoom self.old self.new }
         ensures outcome { result ≡ outcome_at self.old.state happening.now }
+        ensures numbers { self.new.numbers ≡ with_status_of self.old.state.running self.old.numbers (status_of happening.now) }
     {
         let running = self.running?;
         if ends(running.positive, happening) {
@@ -244,6 +263,7 @@ impl Till {
         }
         let demand = demand_of(Some(self.currency), self.book(), &running.order);
         self.running = Some(listened(&demand, &running, happening));
+        self.numbers = self.numbers.with(happening);
         None
     }
 
@@ -253,6 +273,7 @@ impl Till {
         ensures room { KeepsRoom self.old self.new }
         ensures send { result.send ≡ (if self.old.state.line_up then reply_to heard else None) }
         ensures outcome { result.outcome ≡ (if self.old.state.line_up then outcome_at self.old.state (Happening.Heard heard) else None) }
+        ensures numbers { self.new.numbers ≡ numbers_after self.old.state self.old.numbers (Happening.Heard heard) }
     {
         if !self.line_up {
             return Reply {
@@ -270,6 +291,7 @@ impl Till {
     fn line_down(&mut self)
         ensures state { self.new.state ≡ line_down self.old.state }
         ensures room { self.new.spare ≡ self.old.spare }
+        ensures numbers { self.new.numbers ≡ self.old.numbers }
     {
         self.line_up = false;
         self.registered = false;
@@ -280,6 +302,7 @@ impl Till {
         ensures state { self.new.state ≡ step self.old.state Happening.Lost }
         ensures room { KeepsRoom self.old self.new }
         ensures outcome { result ≡ outcome_at self.old.state Happening.Lost }
+        ensures numbers { self.new.numbers ≡ self.old.numbers }
     {
         let outcome = self.meet(&Happening::Lost);
         self.line_down();
@@ -291,6 +314,7 @@ impl Till {
         ensures state { self.new.state ≡ step self.old.state Happening.Malformed }
         ensures room { KeepsRoom self.old self.new }
         ensures outcome { result ≡ outcome_at self.old.state Happening.Malformed }
+        ensures numbers { self.new.numbers ≡ self.old.numbers }
     {
         let outcome = self.meet(&Happening::Malformed);
         self.line_down();

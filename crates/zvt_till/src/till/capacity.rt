@@ -27,6 +27,7 @@ impl Till {
         ensures wanted { OnErr result (self.new.spare < pays) }
         ensures kept { self.old.spare ≤ self.new.spare }
         ensures state { self.new.state ≡ self.old.state }
+        ensures numbers { self.new.numbers ≡ self.old.numbers }
     {
         if pays <= self.spare() {
             return Ok(());

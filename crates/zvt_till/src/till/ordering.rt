@@ -2,12 +2,14 @@
 ghost use Rattle.std.specs.Prelude.{◌≡◌, ◌≤◌, length, IfOk, IfErr, OnOk, OnErr, slice_get};
 
 use super::{MAX_BOOK_ENTRIES, Till};
+use crate::numbers::Numbers;
 use crate::orders::{Order, OrderRefusal, Outgoing};
 use crate::statuses::{Running, Statuses};
 use std::alloc::AllocError;
-use zvt_apdu::TillMessage;
+use zvt_apdu::Brief;
 
 impl Till {
+    ghost use Rattle.zvt_till.specs.Numbers.{numbers_begun};
     ghost use Rattle.zvt_till.specs.Refusals.{cancel_refusal, capacity_refusal, row_refusal, line_refusal, refusal};
     ghost use Rattle.zvt_till.specs.Sending.{receipt_at, message_of};
     ghost use Rattle.zvt_till.specs.Till.{accept, facts_of};
@@ -77,29 +79,29 @@ impl Till {
         if let Some(why) = self.line_refusal(order) {
             return Err(why);
         }
-        let till_message = match order {
-            Order::Register => TillMessage::Register {
+        let brief = match order {
+            Order::Register => Brief::Register {
                 password: self.password,
                 config: self.config,
                 currency: self.currency,
             },
             Order::Pay(amount) => match self.capacity_refusal() {
                 Some(why) => return Err(why),
-                None => TillMessage::Pay(*amount, self.currency),
+                None => Brief::Pay(*amount, self.currency),
             },
             Order::Reverse(entry) => match self.receipt_at(*entry) {
                 Err(why) => return Err(why),
-                Ok(receipt) => TillMessage::Reverse {
+                Ok(receipt) => Brief::Reverse {
                     password: self.password,
                     receipt,
                 },
             },
-            Order::CloseDay => TillMessage::CloseDay {
+            Order::CloseDay => Brief::CloseDay {
                 password: self.password,
             },
-            Order::Cancel => TillMessage::AbortOrder,
+            Order::Cancel => Brief::AbortOrder,
         };
-        Ok(Outgoing { till_message })
+        Ok(Outgoing { brief })
     }
 
     /// The order runs.
@@ -107,6 +109,7 @@ impl Till {
         requires { CanEnd order (length self.old.state.book) (length self.old.state.unclear) self.old.spare }
         ensures state { self.new.state ≡ accept self.old.state order }
         ensures room { self.new.spare ≡ self.old.spare }
+        ensures numbers { self.new.numbers ≡ numbers_begun self.old.numbers order }
     {
         if let Order::Cancel = &order {
             return;
@@ -114,6 +117,7 @@ impl Till {
         if let Order::Register = &order {
             self.registered = false;
         }
+        self.numbers = Numbers::none();
         self.running = Some(Running {
             order,
             positive: false,
@@ -128,6 +132,7 @@ impl Till {
         ensures sent { IfOk result (λ message. message_of self.old.state.settings self.old.state.book order ≡ Some message) }
         ensures runs { OnOk result (self.new.state ≡ accept self.old.state order) }
         ensures room { OnOk result (self.old.spare ≤ self.new.spare) }
+        ensures numbers { OnOk result (self.new.numbers ≡ numbers_begun self.old.numbers order) }
         ensures refused { IfErr result (λ why. IsRefusedAs (facts_of self.old.state) self.old.spare order why) }
         ensures unchanged { OnErr result (self.new ≡ self.old) }
     {

@@ -6,6 +6,7 @@ ghost use Rattle.zvt_till.specs.Restoring.{OnceBelow};
 use super::{MAX_BOOK_ENTRIES, Till};
 use crate::entries::Entry;
 use crate::happenings::Happening;
+use crate::numbers::Numbers;
 use crate::outcomes::{Cause, Outcome};
 use crate::used_traces::UsedTraces;
 use std::alloc::Global;
@@ -41,10 +42,11 @@ fn traces_of(alloc: Global, book: &[Entry]) -> Result<UsedTraces, RestoreError>
 
 impl Till {
     ghost use Rattle.zvt_till.specs.Restoring.{CanStand, IsUnrestored, at_rest};
+    ghost use Rattle.zvt_till.specs.Numbers.{no_numbers};
     ghost use Rattle.zvt_till.specs.Till.{step};
 
     /// A till with the settings of this one, whose line is down, with these payments booked and these unclear, and with
-    /// this as its last outcome. Err where no till has these rows, or memory was refused.
+    /// this as its last outcome; what the terminal named of its orders is not known. Err where no till has these rows, or memory was refused.
     pub fn restored(
         &self,
         alloc: Global,
@@ -53,6 +55,7 @@ impl Till {
         last: Option<Outcome>,
     ) -> Result<Till, RestoreError>
         ensures state { IfOk result (λ till. till.state ≡ at_rest self.now.state.settings book.items unclear.items last) }
+        ensures numbers { IfOk result (λ till. till.numbers ≡ no_numbers) }
         ensures stands { OnOk result (CanStand book.items unclear.items) }
         ensures err { IfErr result (λ why. IsUnrestored why book.items unclear.items) }
     {
@@ -71,6 +74,7 @@ impl Till {
                 used,
                 unclear,
                 last_outcome: last,
+                numbers: Numbers::none(),
             }),
             Err(why) => Err(why),
         }

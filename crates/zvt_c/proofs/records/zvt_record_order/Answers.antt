@@ -9,9 +9,9 @@ use Rattle.zvt_c.proofs.records.zvt_record_order.Goals as goal
 pub returns-in_default-clause-masked : goal.returns-in_default-clause-masked
 returns-in_default-clause-masked c = masks c.args.sent.now
 
-pub returns-then-sent-gt-MAX_TILL_MESSAGE_LEN-clause-masked :
-    goal.returns-then-sent-gt-MAX_TILL_MESSAGE_LEN-clause-masked
-returns-then-sent-gt-MAX_TILL_MESSAGE_LEN-clause-masked c = masks c.args.sent.now
+pub returns-then-sent-gt-MAX_BRIEF_LEN-clause-masked :
+    goal.returns-then-sent-gt-MAX_BRIEF_LEN-clause-masked
+returns-then-sent-gt-MAX_BRIEF_LEN-clause-masked c = masks c.args.sent.now
 
 pub returns-clause-masked : goal.returns-clause-masked
 returns-clause-masked c = masks c.args.sent.now
@@ -22,6 +22,6 @@ returns-clause-record c =
     let order = c.in-Some.order in
     let same : c.mask.new.message ≡ masked_bytes c.args.sent.now = c.mask.ensures ∙ ap masked_bytes c.copy_from_slice.ensures.after in
     let begun = subst (λ (old : List ℕ). Extends written.result old written.new.text (order_record order c.mask.new.message)) c.new-text.ensures written.ensures.written in
-    recorded order (sym c.in-Some.ensures.order) c.if-sent-gt-MAX_TILL_MESSAGE_LEN.false
+    recorded order (sym c.in-Some.ensures.order) c.if-sent-gt-MAX_BRIEF_LEN.false
     (subst (λ (bytes : List ℕ). IsRecordOf (ordered order) (order_record order bytes)) same (written.ensures.kept c.in-Some.ensures.spelled))
     (handed written.result _ _ _ _ _ (subst (λ (bytes : List ℕ). Extends written.result [] written.new.text (order_record order bytes)) same begun) c.hand_out.ensures)

@@ -3,6 +3,7 @@ use Rattle.zvt_till.specs.declared.happenings.Happening.TheVariants.{Heard as He
 use Rattle.zvt_till.specs.Events.{hears}
 use Rattle.zvt_till.specs.Hearing.{heard_as}
 use Rattle.zvt_till.specs.Line.{Answers}
+use Rattle.zvt_till.specs.Numbers.{numbers_after}
 use Rattle.zvt_till.specs.Sending.{reply_to}
 use Rattle.zvt_till.specs.Till.{step}
 use Rattle.zvt_kept.specs.Records.{heard}
@@ -21,10 +22,11 @@ returns-in-Ok g c =
     let new : Standing g.row.D.Denot = record { till = c.hear.new.self; device = c.keep_heard.new.journal.device; gate = c.keep_heard.new.journal.gate } in
     let kept = c.in-Ok.ensures in
     let goes = c.hear.ensures.state ∙ ap (λ h. step state (HeardIn h)) c.heard_view-heard.ensures in
+    let named = c.hear.ensures.numbers ∙ ap (λ h. numbers_after state c.args.till.now.numbers (HeardIn h)) c.heard_view-heard.ensures in
     let replied = ap reply_to c.heard_view-heard.ensures ∙ sym (ap (λ b. cond b (reply_to (heard_as m)) None) c.requires.up) in
     record {
       up = c.requires.up;
-      heard = (goes, subst (λ o. Answers o c.answers_to-answers.result) replied c.answers_to-answers.ensures, c.hear.ensures.room);
+      heard = (goes, subst (λ o. Answers o c.answers_to-answers.result) replied c.answers_to-answers.ensures, c.hear.ensures.room, named);
       logs = logs_one V.seen V.may_leave V.moment V.left_since old new (heard kept.0) kept.2.added (λ settings. hears m) c.requires.up (λ settings. refl) (heard_follows state c.requires.up) (λ settings. goes) kept.2.is (λ settings. (m, kept.1, refl)) kept.2.durable.0 kept.2.durable.1;
       outlives = outlives records_are_kept V.seen V.may_leave V.moment V.left_since old new (heard kept.0) kept.2.added (message_heard V.seen V.may_leave V.moment V.left_since m) kept.2.is (λ settings. (m, kept.1, refl)) kept.2.leaves;
     }
@@ -38,6 +40,6 @@ returns-in-Err g c =
     let kept = c.keep_heard.ensures in
     record {
       up = c.requires.up;
-      lost = (c.lost.ensures.state, c.lost.ensures.room);
+      lost = (c.lost.ensures.state, c.lost.ensures.room, c.lost.ensures.numbers);
       outlives = outlives records_are_kept V.seen V.may_leave V.moment V.left_since old new (heard kept.0) kept.2.added (message_heard V.seen V.may_leave V.moment V.left_since m) kept.2.is (λ settings. (m, kept.1, refl)) kept.2.leaves;
     }

@@ -29,6 +29,7 @@ returns-in-Ok-keep_order g c =
       taken = took.taken;
       message = took.sent;
       runs = took.runs;
+      numbers = took.numbers;
       logs = logs_one V.seen V.may_leave V.moment V.left_since old new (ordered order) kept.added (λ settings. SentOut (sent_as settings.currency order)) (taken_up state order took.taken) (λ settings. refl) (order_follows order state took.taken)
           (λ settings. took.runs ∙ sym (step-order settings.currency state order)) kept.is (λ settings. refl) kept.durable.0 kept.durable.1;
       outlives = outlives records_are_kept V.seen V.may_leave V.moment V.left_since old new (ordered order) kept.added (order_sent V.seen V.may_leave V.moment V.left_since order) kept.is (λ settings. refl) kept.leaves;
@@ -44,5 +45,6 @@ returns-in-Err-keep_order g c =
     record {
       taken = c.in-Ok.ensures.taken;
       lost = c.lost.ensures.state ∙ ap (λ s. step s Lost) c.in-Ok.ensures.runs;
+      numbers = c.lost.ensures.numbers ∙ c.in-Ok.ensures.numbers;
       outlives = outlives records_are_kept V.seen V.may_leave V.moment V.left_since old new (ordered order) kept.added (order_sent V.seen V.may_leave V.moment V.left_since order) kept.is (λ settings. refl) kept.leaves;
     }

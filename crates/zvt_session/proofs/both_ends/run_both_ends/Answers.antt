@@ -4,9 +4,11 @@ use Rattle.zvt_session.specs.BothEnds.{BeginsHere, MakesHereBy, line_of}
 use Rattle.zvt_session.specs.Runs.{standing}
 use Rattle.zvt_till.specs.Settings.{settings_of}
 use Rattle.zvt_session.specs.Reporting.{ReportsReversals}
-use Rattle.zvt_session.proofs.Seen.{ran}
+use Rattle.zvt_session.proofs.Seen.{ran, then_reversals}
 use Rattle.zvt_session.proofs.both_ends.run_both_ends.Goals as goal
 
 pub returns-clause-run : goal.returns-clause-run
 returns-clause-run g c =
-    ran (line_of g.A.LineEnd.state g.B.LineEnd.state) MakesHereBy BeginsHere (settings_of c.args.settings.now) c.args.steps.now.options c.args.steps.now.plan.now (standing c.args.line.now c.connected_till-till.result) (standing c.run_steps-answer.new.line c.run_steps-answer.new.till) _ _ _ c.run_steps-answer.result c.requires c.connected_till-till.ensures c.run_steps-answer.ensures.run (subst (λ (b : List Entry). ReportsReversals (g.E.Sink.written c.args.report.now) (g.E.Sink.written c.report_reversals.new.report) (g.E.Sink.failures c.args.report.now) (g.E.Sink.failures c.report_reversals.new.report) b) c.book.ensures.rows c.report_reversals.ensures)
+    let reversals = subst (λ (b : List Entry). ReportsReversals (g.E.Sink.written c.run_steps-answer.new.report) (g.E.Sink.written c.report_reversals.new.report) (g.E.Sink.failures c.run_steps-answer.new.report) (g.E.Sink.failures c.report_reversals.new.report) b) c.book.ensures.rows c.report_reversals.ensures in
+    ran (line_of g.A.LineEnd.state g.B.LineEnd.state) MakesHereBy BeginsHere (settings_of c.args.settings.now) c.args.steps.now.options c.args.steps.now.plan.now (standing c.args.line.now c.connected_till-till.result) (standing c.run_steps-answer.new.line c.run_steps-answer.new.till) _ _ _ _ c.run_steps-answer.result c.requires c.connected_till-till.ensures
+    (then_reversals _ _ _ _ _ _ c.run_steps-answer.new.till.state.book reversals) c.run_steps-answer.ensures.run

@@ -38,6 +38,7 @@ returns g c =
     let down = sym c.line_up.ensures ∙ c.if-line_up.false in
     let made : NewLine V.seen V.may_leave V.moment V.left_since old new = record {
       state = c.connected.ensures.state;
+      numbers = c.connected.ensures.numbers;
       logs = logs_line V.seen V.may_leave V.moment V.left_since old new lost kept.added down c.connected.ensures.state kept.is (λ settings. refl) kept.durable.0 kept.durable.1;
       outlives = outlives records_are_kept V.seen V.may_leave V.moment V.left_since old new lost kept.added (line_changed V.seen V.may_leave V.moment V.left_since) kept.is (λ settings. refl) kept.leaves;
     } in

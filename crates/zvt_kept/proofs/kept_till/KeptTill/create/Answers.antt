@@ -17,7 +17,7 @@ invariant_of-result g c =
     let text = c.in_ok-append.ensures.acknowledged ∙ ap (λ (l : List ℕ). l ++ c.bytes.result.now) (empty_text (V.seen c.args.device) c.requires.at_gate)
     ∙ text_is c.bytes.result.now c.new-text.result _ (c.bytes.ensures ∙ c.in_ok-put_opening.ensures.written) c.new-text.ensures in
     keeps_some (settings_of c.args.settings.now) _ (V.seen new.device) (V.may_leave new.device) new.gate c.new-till.result.state
-    (begun (settings_of c.args.settings.now) (V.seen new.device) (V.may_leave new.device) new.gate c.new-till.result.state c.in_ok-append.ensures.settled text c.put_opening.ensures.kept c.new-till.ensures)
+    (begun (settings_of c.args.settings.now) (V.seen new.device) (V.may_leave new.device) new.gate c.new-till.result.state c.in_ok-append.ensures.settled text c.put_opening.ensures.kept c.new-till.ensures.state)
 
 pub returns-clause-log : goal.returns-clause-log
 returns-clause-log g c =
@@ -25,4 +25,4 @@ returns-clause-log g c =
     let new = c.append.new.self in
     let text = c.in_ok-append.ensures.acknowledged ∙ ap (λ (l : List ℕ). l ++ c.bytes.result.now) (empty_text (V.seen c.args.device) c.requires.at_gate)
     ∙ text_is c.bytes.result.now c.new-text.result _ (c.bytes.ensures ∙ c.in_ok-put_opening.ensures.written) c.new-text.ensures in
-    begun (settings_of c.args.settings.now) (V.seen new.device) (V.may_leave new.device) new.gate c.new-till.result.state c.in_ok-append.ensures.settled text c.put_opening.ensures.kept c.new-till.ensures
+    begun (settings_of c.args.settings.now) (V.seen new.device) (V.may_leave new.device) new.gate c.new-till.result.state c.in_ok-append.ensures.settled text c.put_opening.ensures.kept c.new-till.ensures.state

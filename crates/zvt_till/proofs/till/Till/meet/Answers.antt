@@ -16,3 +16,6 @@ returns-then-ends-clause-state c = search rules
 
 pub returns-then-ends-clause-outcome : goal.returns-then-ends-clause-outcome
 returns-then-ends-clause-outcome c = search rules
+
+pub returns-then-ends-clause-numbers : goal.returns-then-ends-clause-numbers
+returns-then-ends-clause-numbers c = search rules

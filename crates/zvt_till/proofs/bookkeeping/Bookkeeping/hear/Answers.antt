@@ -1,8 +1,8 @@
 use Rattle.std.proofs.Common.{sym, ◌∙◌}
 use Rattle.zvt_apdu.specs.declared.kinds.Kind.TheVariants as kind
 use Rattle.zvt_till.proofs.HeardLemmas.{heard-by-kind, heard-passing, heard-positive, heard-rest, passing-kinds}
-use Rattle.zvt_till.proofs.books.Bookkeeping.hear.Goals.{in-Some, in_default-running}
-use Rattle.zvt_till.proofs.books.Bookkeeping.hear.Goals as goal
+use Rattle.zvt_till.proofs.bookkeeping.Bookkeeping.hear.Goals.{in-Some, in_default-running}
+use Rattle.zvt_till.proofs.bookkeeping.Bookkeeping.hear.Goals as goal
 
 pub returns-in-Intermediate : goal.returns-in-Intermediate
 returns-in-Intermediate c = λ log judged. heard-passing log _ _ _ _ (passing-kinds c.args.apdu.now _ c.kind.ensures c.in-Intermediate.is) judged

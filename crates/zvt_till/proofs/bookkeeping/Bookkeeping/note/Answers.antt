@@ -2,8 +2,8 @@ use Rattle.std.proofs.Common.{refl, ap, ◌∙◌}
 use Rattle.zvt_till.specs.Judging.{paying}
 use Rattle.zvt_till.specs.Outcomes.{note}
 use Rattle.zvt_till.proofs.HeardLemmas.{heard-more, heard-rest, or-false}
-use Rattle.zvt_till.proofs.books.Bookkeeping.note.Goals.{in-Some, in_default}
-use Rattle.zvt_till.proofs.books.Bookkeeping.note.Goals as goal
+use Rattle.zvt_till.proofs.bookkeeping.Bookkeeping.note.Goals.{in-Some, in_default}
+use Rattle.zvt_till.proofs.bookkeeping.Bookkeeping.note.Goals as goal
 
 pub returns : goal.returns
 returns c = λ log judged.

@@ -1,6 +1,6 @@
 use Rattle.std.proofs.Common.{take}
 use Rattle.zvt_till.specs.Judging.{HasJudged}
-use Rattle.zvt_till.proofs.books.books.Given as goal
+use Rattle.zvt_till.proofs.bookkeeping.books.Given as goal
 
 abbrev pub invariant-loop-happening : goal.invariant-loop-happening
 invariant-loop-happening l = record {

@@ -10,7 +10,7 @@ ghost use Rattle.zvt_till.specs.Hearing.{facts_in_fields, heard_as};
 ghost use Rattle.zvt_till.specs.Judging.{HasJudged, books_value};
 
 use crate::happenings::{Happening, force_after};
-use crate::heard::{facts_shown, heard_view};
+use crate::hearing::{facts_shown, heard_view};
 use crate::log_books::{Books, OpenPayment};
 use crate::messages::Heard;
 use crate::statuses::Statuses;

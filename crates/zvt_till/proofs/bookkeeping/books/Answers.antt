@@ -1,7 +1,7 @@
 use Rattle.std.proofs.Common.{[], ◌∷◌, ◌++◌, take, ap, sym, ◌∙◌, add-one}
 use Rattle.std.proofs.Math.Seq.{take-suc}
 use Rattle.zvt_till.specs.declared.happenings.Happening.{Happening}
-use Rattle.zvt_till.proofs.books.books.Goals as goal
+use Rattle.zvt_till.proofs.bookkeeping.books.Goals as goal
 
 pub loop-happening-preserved : goal.loop-happening-preserved
 loop-happening-preserved c =

@@ -2,7 +2,7 @@ use Rattle.std.proofs.Common.{sym, ap, ◌∙◌}
 use Rattle.zvt_till.specs.Segments.{force_after}
 use Rattle.zvt_till.proofs.Segments.{fold-snoc}
 use Rattle.std.specs.Prelude.{None}
-use Rattle.zvt_till.proofs.books.Bookkeeping.take.Goals as goal
+use Rattle.zvt_till.proofs.bookkeeping.Bookkeeping.take.Goals as goal
 
 pub returns : goal.returns
 returns c = λ log judged.
