@@ -223,6 +223,41 @@ check "a new trace" "$?" 0 "register -> registered
 total 0" ""
 [ ! -s "$work/err" ] && [ "$(head -n 1 "$work/new.trace")" = "> 060006000000BE0978" ] || echo "a new trace says nothing" >> "$work/failed"
 
+# A line that a full disk left unfinished is cut off: at once, and where the file is opened again.
+(trap '' XFSZ; ulimit -f 1; exec "$zvt" loop --trace "$work/filled.trace" register pay:500 pay:600 pay:700 pay:800 pay:900) > "$work/out" 2> "$work/err"
+check "a trace on a disk that fills" "$?" 4 "$(cat "$work/out")" "zvt: '$work/filled.trace': the last line was not finished, so its"
+[ "$(tail -c 1 "$work/filled.trace" | od -An -tx1)" = " 0a" ] || echo "the end of a cut trace" >> "$work/failed"
+"$zvt" join "$work/filled.trace" > "$work/out" 2> "$work/err"
+check "a trace on a disk that filled is read" "$?" 0 "$(cat "$work/out")" ""
+"$zvt" loop --trace "$work/torn.trace" register > /dev/null 2>&1
+head -c -1 "$work/torn.trace" > "$work/whole.trace"
+for torn in "> 0" "< 80000" "<"; do
+    { cat "$work/whole.trace"; printf '\n%s' "$torn"; } > "$work/torn.trace"
+    "$zvt" loop --trace "$work/torn.trace" register > "$work/out" 2> "$work/err"
+    check "a trace behind the unfinished '$torn'" "$?" 0 "register -> registered
+total 0" "the last line was not finished, so its ${#torn} bytes were cut off"
+    "$zvt" join "$work/torn.trace" > "$work/out" 2> "$work/err"
+    check "a trace that had '$torn' is read" "$?" 0 "$(cat "$work/out")" ""
+done
+printf '> 06' > "$work/torn.trace"
+"$zvt" loop --trace "$work/torn.trace" register > "$work/out" 2> "$work/err"
+cmp -s "$work/torn.trace" "$work/new.trace" || { echo "NOT AS EXPECTED: a trace of nothing but an unfinished line"; echo "a torn trace" >> "$work/failed"; }
+
+# A book and a trace in one file are refused before either is opened.
+mkdir "$work/folder"
+ln -s folder "$work/link"
+: > "$work/one"
+ln "$work/one" "$work/other"
+for pair in "none none" "none ./none" "folder/none link/none" "one one" "one other"; do
+    book=${pair% *}
+    trace=${pair#* }
+    for command in loop "till --port $port"; do
+        refuses "$command with the book $book and the trace $trace" 2 "'--book' and '--trace' name the same file" \
+            $command --book "$work/$book" --trace "$work/$trace" register
+    done
+done
+[ ! -e "$work/none" ] && [ ! -e "$work/folder/none" ] && [ ! -s "$work/one" ] || echo "one file for two" >> "$work/failed"
+
 # Books that can't be had. A file that is there is left as it is, and nothing is connected.
 "$zvt" loop --book "$work/day.book" register pay:500 > "$work/out" 2> "$work/err"
 check "a new book" "$?" 0 "register -> registered

@@ -2,6 +2,7 @@
 ghost use Rattle.std.specs.Prelude.{◌≤◌};
 
 use crate::finish::{finish_plan, finish_run};
+use crate::one_file::report_one_file;
 use crate::output::Output;
 use crate::reports::{SOME_SECONDS, TERMINAL_PORT, report, report_invalid};
 use crate::settings::{settings, verdict};
@@ -28,6 +29,9 @@ pub fn both_ends(rt: &HostRuntime, options: &LoopOptions<'_>) -> io::Result<u8> 
         Ok(plan) => plan,
         Err(status) => return Ok(status),
     };
+    if report_one_file(rt, options.book, options.trace)? {
+        return Ok(WORDS);
+    }
     let settings = TillSettings::default();
     let kept = match opened(rt, options.book, &settings)? {
         Ok(kept) => kept,
@@ -52,7 +56,8 @@ pub fn both_ends(rt: &HostRuntime, options: &LoopOptions<'_>) -> io::Result<u8> 
             answer
         }
     };
-    finish_run(rt, writer.inner.broken_pipe, answer)
+    let status = finish_run(rt, writer.inner.broken_pipe, answer)?;
+    trace_file::mend_after(rt, options.trace, run.trace, status)
 }
 
 /// Runs a till, and answers the exit status.
@@ -67,6 +72,9 @@ pub fn till(rt: &HostRuntime, options: &TillOptions<'_>) -> io::Result<u8> {
         Ok(plan) => plan,
         Err(status) => return Ok(status),
     };
+    if report_one_file(rt, options.book, options.trace)? {
+        return Ok(WORDS);
+    }
     let kept = match opened(rt, options.book, &settings)? {
         Ok(kept) => kept,
         Err(status) => return Ok(status),
@@ -96,10 +104,11 @@ pub fn till(rt: &HostRuntime, options: &TillOptions<'_>) -> io::Result<u8> {
     if options.steps.is_empty() {
         report(rt, NO_STEPS)?;
     }
-    match kept {
-        None => till_alone(rt, &run),
-        Some(kept) => till_with_book(rt, &run, kept),
-    }
+    let status = match kept {
+        None => till_alone(rt, &run)?,
+        Some(kept) => till_with_book(rt, &run, kept)?,
+    };
+    trace_file::mend_after(rt, options.trace, run.trace, status)
 }
 
 /// Whether the port or the time to wait is 0, which is reported.
@@ -169,14 +178,15 @@ pub fn terminal(rt: &HostRuntime, options: &TerminalOptions<'_>) -> io::Result<u
         trace,
         form: form_by(options.json),
     };
-    if options.json {
+    let answer = if options.json {
         let mut report = Over::new(io::writer(rt));
-        let answer = run_terminal(rt, rt.alloc(), &run, &mut report);
-        return finish_run(rt, false, answer);
-    }
-    let mut report = Over::new(rt.stderr());
-    let answer = run_terminal(rt, rt.alloc(), &run, &mut report);
-    finish_run(rt, false, answer)
+        run_terminal(rt, rt.alloc(), &run, &mut report)
+    } else {
+        let mut report = Over::new(rt.stderr());
+        run_terminal(rt, rt.alloc(), &run, &mut report)
+    };
+    let status = finish_run(rt, false, answer)?;
+    trace_file::mend_after(rt, options.trace, trace, status)
 }
 
 /// The steps that the words name. A word that names no step is reported, and the exit status is answered.

@@ -12,6 +12,7 @@ mod ends;
 mod finish;
 mod inputs;
 mod notes;
+mod one_file;
 mod output;
 mod play;
 mod progress;

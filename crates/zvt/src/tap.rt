@@ -111,7 +111,14 @@ fn tap_all(
             }
         };
         let answer = match connect(rt, to.host, to.port, SILENCE_SECONDS) {
-            Ok(terminal) => tap_one(rt, &till, &terminal, trace)?,
+            Ok(terminal) => {
+                let had_failed = trace.failed;
+                let answer = tap_one(rt, &till, &terminal, trace)?;
+                if trace.failed && !had_failed {
+                    trace_file::mend_after(rt, options.trace, trace.file, answer)?;
+                }
+                answer
+            }
             Err(why) => {
                 eprintln!(rt;
                     "zvt: no connection to the terminal at '{}': {why}",

@@ -1,0 +1,60 @@
+//! Whether two names are those of one file.
+use crate::reports::report;
+use std::fs::{self, Metadata};
+use std::io;
+use std::os::unix::fs::MetadataExt;
+use std::path::Path;
+
+/// What is reported of a book and a trace in one file.
+const BOOK_AND_TRACE: &str =
+    "'--book' and '--trace' name the same file: a book holds nothing but the till's records, so \
+name another file for the trace";
+
+/// Whether the book and the trace are to be in one file, which is reported. Nothing is opened for it.
+pub fn report_one_file(
+    rt: &HostRuntime,
+    book: Option<&str>,
+    trace: Option<&str>,
+) -> io::Result<bool> {
+    let (Some(book), Some(trace)) = (book, trace) else {
+        return Ok(false);
+    };
+    let is_one = is_one_file(rt, book, trace);
+    if is_one {
+        report(rt, BOOK_AND_TRACE)?;
+    }
+    Ok(is_one)
+}
+
+/// Whether both names are those of one file, or would be once it is made.
+fn is_one_file(rt: &HostRuntime, one: &str, other: &str) -> bool {
+    match (fs::metadata(rt, one), fs::metadata(rt, other)) {
+        (Ok(one), Ok(other)) => is_one(&one, &other),
+        (Err(_), Err(_)) => is_one_place(rt, Path::new(one), Path::new(other)),
+        _ => false,
+    }
+}
+
+/// Whether both names are the same one in the same folder.
+fn is_one_place(rt: &HostRuntime, one: Path<'_>, other: Path<'_>) -> bool {
+    if one.file_name() != other.file_name() {
+        return false;
+    }
+    match (folder_of(rt, one), folder_of(rt, other)) {
+        (Ok(one), Ok(other)) => is_one(&one, &other),
+        _ => false,
+    }
+}
+
+/// The folder that a file of this name is in.
+fn folder_of(rt: &HostRuntime, path: Path<'_>) -> io::Result<Metadata> {
+    match path.parent() {
+        Some(folder) if !folder.as_str().is_empty() => fs::metadata(rt, folder),
+        _ => fs::metadata(rt, "."),
+    }
+}
+
+/// Whether both are of one file: its number on its device.
+fn is_one(one: &Metadata, other: &Metadata) -> bool {
+    one.dev() == other.dev() && one.ino() == other.ino()
+}
