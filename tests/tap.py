@@ -6,7 +6,8 @@
 PROGRAM is the one that `rt ci` built, unless another is named. First `zvt till` and `zvt terminal` talk through a tap: what they
 write is what they write without it. Then 300 lines, or with `--many` 10,000, carry parts of the examples, random bytes and
 nothing, cut anywhere, in both ways at once. 50 lines, or 1,000, come one after another. Then come sides that close one way,
-reset, send a part of a message, read nothing, or are not there, and traces that can't be written. In all cases the trace has
+reset, send a part of a message, read nothing, or are not there, traces that can't be written, reports that nobody reads, and a
+system that refuses connections. In all cases the trace has
 what was sent, in order. Standard output is what `zvt show` writes of the trace of each line, and then `zvt audit`. The status
 is 1 where anything is not as expected. It takes 20 seconds.
 """
@@ -14,6 +15,7 @@ import os
 import pathlib
 import random
 import re
+import resource
 import socket
 import struct
 import subprocess
@@ -459,10 +461,56 @@ def no_output():
     door.close()
 
 
+def no_reports():
+    """Nobody reads the reports: each line is passed on all the same, and the status is that of the lines."""
+    door = listener()
+    tap = subprocess.Popen([PROGRAM, "tap", "--listen", "0", "--to", f"127.0.0.1:{door.getsockname()[1]}", "--connections", "3"],
+                           stdin=subprocess.DEVNULL, stdout=subprocess.PIPE, stderr=subprocess.PIPE)
+    port = int(re.search(rb":(\d+)$", tap.stderr.readline().rstrip())[1])
+    tap.stderr.close()
+    for sent in (b"\x06\xB0\x00", b"\xFF\xFF\xFF\xFF\xFF", b"\x80\x00\x00"):
+        till = socket.create_connection(("127.0.0.1", port), timeout=SECONDS)
+        terminal, _ = door.accept()
+        terminal.settimeout(SECONDS)
+        till.sendall(sent)
+        till.shutdown(socket.SHUT_WR)
+        check(f"nobody reads the reports: what the terminal receives of {sent.hex()}", drain(terminal), sent)
+        terminal.close()
+        till.close()
+    check("nobody reads the reports: the status", (tap.wait(SECONDS), tap.stdout.read() != b""), (1, True))
+    tap.stdout.close()
+    door.close()
+
+
+def refused_connections():
+    """The system has no descriptor for a connection: the tap says so, and takes the till once it has one again."""
+    door = listener()
+    tap = Tap(door.getsockname()[1], "--connections", "2")
+    till, terminal = pair(tap, door)
+    till.sendall(bytes.fromhex("06B000"))
+    check("before it: what the terminal receives", terminal.recv(100), bytes.fromhex("06B000"))
+    _, most = resource.prlimit(tap.run.pid, resource.RLIMIT_NOFILE)
+    resource.prlimit(tap.run.pid, resource.RLIMIT_NOFILE, (0, most))
+    till.close()
+    terminal.close()
+    till = tap.till()
+    until = time.monotonic() + SECONDS
+    while not any(b"no connection from a till" in line for line in tap.says) and time.monotonic() < until:
+        time.sleep(0.05)
+    resource.prlimit(tap.run.pid, resource.RLIMIT_NOFILE, (1024, most))
+    terminal, _ = door.accept()
+    till.sendall(bytes.fromhex("06B000"))
+    check("a connection that was refused: what the terminal receives", terminal.recv(100), bytes.fromhex("06B000"))
+    till.close()
+    terminal.close()
+    ended("a connection that was refused", tap, 0, r"(zvt: no connection from a till: [^\n]*\n)+", whole=False)
+    door.close()
+
+
 def main():
     both = threading.Thread(target=unread)
     both.start()
-    for part in (programs, at_once, half_closed, resets, parts, missing, traces, no_output, in_a_row, cut_lines):
+    for part in (programs, at_once, half_closed, resets, parts, missing, traces, no_output, no_reports, refused_connections, in_a_row, cut_lines):
         part()
     both.join()
     print(f"tap: {checks} checks, {LINES} lines cut anywhere, {IN_A_ROW} in a row" + (f"; NOT AS EXPECTED: {len(failed)}" if failed else ""))

@@ -2,9 +2,12 @@
 use crate::output::Output;
 use crate::reports::{report, report_invalid, report_tally};
 use crate::trace_file;
+use std::fmt::Display;
 use std::fs::File;
 use std::io::{self, ErrorKind, Write};
 use std::net::TcpStream;
+use std::thread;
+use std::time::Duration;
 use zvt_io::Over;
 use zvt_tap::{Found, SocketTapped, TapFault, TapLog, Tracing, tap_sockets};
 use zvt_tcp::{Door, SILENCE_SECONDS, connect, listen};
@@ -15,6 +18,9 @@ use zvt_trace::Direction;
 
 /// The host of a tap that names none.
 const HERE: &str = "127.0.0.1";
+
+/// How long the tap waits after the system refused it a connection, as where it has no descriptor left.
+const REFUSED_SECONDS: u64 = 1;
 
 /// An address of the command line.
 #[derive(Clone, Copy)]
@@ -82,12 +88,31 @@ pub fn tap(rt: &HostRuntime, options: &TapOptions<'_>) -> io::Result<u8> {
         failed: false,
     };
     match listen(rt, from.host, from.port) {
-        Ok(mut door) => tap_all(rt, options, to, &mut door, &mut trace),
+        Ok(mut door) => Ok(tap_all(rt, options, to, &mut door, &mut trace)),
         Err(why) => {
             eprintln!(rt; "zvt: cannot listen at '{}': {why}", options.listen)?;
             Ok(DEVICE)
         }
     }
+}
+
+/// Reports this, if it can be. A line goes on without anyone who reads the reports.
+fn report_if_read<T: Display + Drop>(rt: &HostRuntime, what: T) {
+    let _ = report(rt, what);
+}
+
+/// The next connection of a till. Where the system refuses one, that is reported, and the tap tries again.
+fn next_till(rt: &HostRuntime, door: &mut Door) -> Option<TcpStream> {
+    for _try in 0..u64::MAX {
+        match door.next() {
+            Ok(till) => return Some(till),
+            Err(why) => {
+                let _ = eprintln!(rt; "zvt: no connection from a till: {why}");
+                thread::sleep(rt, Duration::from_secs(REFUSED_SECONDS));
+            }
+        }
+    }
+    None
 }
 
 /// Passes on one line after another, and answers the highest exit status.
@@ -97,42 +122,38 @@ fn tap_all(
     to: Address<'_>,
     door: &mut Door,
     trace: &mut TraceFile<'_>,
-) -> io::Result<u8> {
+) -> u8 {
     if let Ok(address) = door.address() {
-        eprintln!(rt; "zvt: a tap listens at {address}")?;
+        let _ = eprintln!(rt; "zvt: a tap listens at {address}");
     }
     let mut status = DONE;
     for _line in 0..connections_by(options.connections) {
-        let till = match door.next() {
-            Ok(till) => till,
-            Err(why) => {
-                eprintln!(rt; "zvt: no connection from a till: {why}")?;
-                return Ok(DEVICE);
-            }
+        let Some(till) = next_till(rt, door) else {
+            return DEVICE;
         };
         let answer = match connect(rt, to.host, to.port, SILENCE_SECONDS) {
             Ok(terminal) => {
                 let had_failed = trace.failed;
-                let answer = tap_one(rt, &till, &terminal, trace)?;
+                let answer = tap_one(rt, &till, &terminal, trace);
                 if trace.failed && !had_failed {
-                    trace_file::mend_after(rt, options.trace, trace.file, answer)?;
+                    let _ = trace_file::mend_after(rt, options.trace, trace.file, answer);
                 }
                 answer
             }
             Err(why) => {
-                eprintln!(rt;
+                let _ = eprintln!(rt;
                     "zvt: no connection to the terminal at '{}': {why}",
                     options.to
-                )?;
+                );
                 DEVICE
             }
         };
         status = status.max(answer);
         if trace.failed && trace.required {
-            return Ok(status);
+            return status;
         }
     }
-    Ok(status)
+    status
 }
 
 /// Passes on one line, and answers its exit status.
@@ -141,7 +162,7 @@ fn tap_one(
     till: &TcpStream,
     terminal: &TcpStream,
     trace: &mut TraceFile<'_>,
-) -> io::Result<u8> {
+) -> u8 {
     let tracing = Tracing {
         device: Over::new(Noted {
             rt,
@@ -151,9 +172,9 @@ fn tap_one(
         failed: trace.failed,
         required: trace.required,
     };
-    let (status, failed) = tap_into(rt, till, terminal, tracing)?;
+    let (status, failed) = tap_into(rt, till, terminal, tracing);
     trace.failed = failed;
-    Ok(if failed { status.max(DEVICE) } else { status })
+    if failed { status.max(DEVICE) } else { status }
 }
 
 /// The file of a trace. A write that fails is reported at once. Where there is no file, all bytes are taken and none is kept.
@@ -193,57 +214,57 @@ fn tap_into(
     till: &TcpStream,
     terminal: &TcpStream,
     tracing: Tracing<Over<Noted<'_>>>,
-) -> io::Result<(u8, bool)> {
+) -> (u8, bool) {
     let failed = tracing.failed;
     let output = Over::new(Output::new(io::writer(rt)));
     let Ok(log) = TapLog::new(rt.alloc(), Lengths::Shortest, tracing, output) else {
-        return Ok((report_fault(rt, &TraceFault::Memory)?, failed));
+        return (report_fault(rt, &TraceFault::Memory), failed);
     };
     let tapped = match tap_sockets(rt, rt.alloc(), till, terminal, log) {
         Ok(tapped) => tapped,
         Err(error) if matches!(error.kind(), ErrorKind::OutOfMemory) => {
-            return Ok((report_fault(rt, &TraceFault::Memory)?, failed));
+            return (report_fault(rt, &TraceFault::Memory), failed);
         }
         Err(error) => {
-            eprintln!(rt; "zvt: the sockets of the line can't be used: {error}")?;
-            return Ok((DEVICE, failed));
+            let _ = eprintln!(rt; "zvt: the sockets of the line can't be used: {error}");
+            return (DEVICE, failed);
         }
     };
     let SocketTapped { tapped, error } = tapped;
     let status = match tapped.ended {
         Ok(()) => DONE,
-        Err(fault) => report_end(rt, fault, error)?,
+        Err(fault) => report_end(rt, fault, error),
     };
     let found = tapped.found;
     let failed = found.tracing.failed;
-    let status = status.max(report_found(rt, found)?);
-    Ok((status, failed))
+    let status = status.max(report_found(rt, found));
+    (status, failed)
 }
 
 /// Reports why a line ended early, and answers the exit status of that.
-fn report_end(rt: &HostRuntime, fault: TapFault, error: Option<ErrorKind>) -> io::Result<u8> {
+fn report_end(rt: &HostRuntime, fault: TapFault, error: Option<ErrorKind>) -> u8 {
     match fault {
         TapFault::Read(from) => {
-            eprintln!(rt; "zvt: the line to the {} broke: {}", name(from), why(error))?;
-            Ok(DEVICE)
+            let _ = eprintln!(rt; "zvt: the line to the {} broke: {}", name(from), why(error));
+            DEVICE
         }
         TapFault::Write(from) => {
-            eprintln!(rt;
+            let _ = eprintln!(rt;
                 "zvt: the line to the {} broke: {}",
                 other_name(from),
                 why(error)
-            )?;
-            Ok(DEVICE)
+            );
+            DEVICE
         }
         // It was reported when the trace failed.
-        TapFault::Trace => Ok(DEVICE),
+        TapFault::Trace => DEVICE,
         TapFault::Memory => report_fault(rt, &TraceFault::Memory),
         TapFault::Wait => {
-            report(
+            report_if_read(
                 rt,
                 "the system can't say which side has sent something, so the line ended",
-            )?;
-            Ok(DEVICE)
+            );
+            DEVICE
         }
     }
 }
@@ -281,29 +302,29 @@ fn why(error: Option<ErrorKind>) -> &'static str {
 fn report_found<W: Write + Drop>(
     rt: &HostRuntime,
     found: Found<Over<Noted<'_>>, Over<Output<W>>>,
-) -> io::Result<u8> {
+) -> u8 {
     let is_pipe_closed = found.output.inner.broken_pipe;
     let shown = match found.shown {
         Ok(tally) if tally.bad > 0 => {
-            report_tally(rt, tally)?;
+            let _ = report_tally(rt, tally);
             BAD
         }
         Ok(_) => DONE,
-        Err(TraceFault::Write) if is_pipe_closed => return Ok(DEVICE),
+        Err(TraceFault::Write) if is_pipe_closed => return DEVICE,
         Err(fault) => return report_fault(rt, &fault),
     };
     match found.audited {
-        Ok(_) => Ok(shown),
-        Err(TraceFault::Write) if is_pipe_closed => Ok(DEVICE),
+        Ok(_) => shown,
+        Err(TraceFault::Write) if is_pipe_closed => DEVICE,
         Err(fault) => report_fault(rt, &fault),
     }
 }
 
 /// Reports that what passes can't be shown, and answers the exit status of that.
-fn report_fault(rt: &HostRuntime, fault: &TraceFault) -> io::Result<u8> {
-    eprintln!(rt; "zvt: the line can't be shown: {fault}")?;
-    Ok(match fault {
+fn report_fault(rt: &HostRuntime, fault: &TraceFault) -> u8 {
+    let _ = eprintln!(rt; "zvt: the line can't be shown: {fault}");
+    match fault {
         TraceFault::Memory => MEMORY,
         _ => DEVICE,
-    })
+    }
 }
