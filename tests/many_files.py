@@ -1,13 +1,12 @@
 #!/usr/bin/env python3
-"""Gives `show`, `join`, `audit`, `receipts` and `vectors` several files, and compares with what they write of each by itself.
+"""Gives `show`, `join`, `audit`, `receipts`, `vectors` and `book` several files, and compares with what they write of each by itself.
 
     tests/many_files.py [PROGRAM]
 
 PROGRAM is the one that `rt ci` built, unless another is named. Among the files one is missing, one is a folder, one has a
 line that can't be read, some have bad streams, one is standard input, and one has a name that JSON must escape. What is
-written is that of each file, in order: each line after the name, and in JSON each object after the member `file`. Audits end
-with their sum. The status
-is the highest of theirs, and standard error names each file that can't be read. `zvt FILE` of a file that is there is
+written is that of each file, in order: each line after the name, and in JSON each object after the member `file`. Audits and
+books end with their sum, but for books of several currencies. The status is the highest of theirs, and standard error names each file that can't be read. `zvt FILE` of a file that is there is
 `zvt show FILE`. The status is 1 where anything is not as expected. It takes seconds.
 """
 import itertools
@@ -30,6 +29,7 @@ INPUT = (EXAMPLES / "messages/terminal.trace").read_bytes()
 COMMANDS = [
     ["show"], ["show", "--loose"], ["show", "--json"], ["show", "--json", "--loose"], ["join"], ["audit"], ["audit", "--loose"], ["audit", "--json"],
     ["audit", "--check"], ["audit", "--check", "--json"], ["receipts"], ["receipts", "--loose"], ["receipts", "--json"], ["vectors"],
+    ["book"], ["book", "--json"],
 ]
 RANDOM_LISTS = 6
 failed, runs = [], []
@@ -55,7 +55,7 @@ def named(name, line, as_json):
 
 
 def summed(names, singles, as_json):
-    """The last line of several audits: the sum of those that came to their end."""
+    """The last line of several audits or books: the sum of those that came to their end."""
     audited = [singles[name][1].splitlines()[-1] for name in names if singles[name][0] < 3]
     if as_json:
         total = sum(json.loads(line)["total"] for line in audited)
@@ -83,6 +83,27 @@ def make(folder):
     return traces + bad, ["good.txt", "other.txt", "half.txt"] + bad
 
 
+def make_books(folder):
+    """Books of tills, and files that are none."""
+    for name, steps in (("day.book", ["pay:700", "pay:300", "reverse:1"]), (ODD_NAME + ".book", ["pay:5"]), ("new.book", [])):
+        subprocess.run([PROGRAM, "loop", "--book", name, "register", *steps], cwd=folder, capture_output=True, check=True)
+    (folder / "empty.book").write_bytes(b"")
+    return ["day.book", ODD_NAME + ".book", "new.book", "empty.book", "payment.trace", "missing", "folder"]
+
+
+def knows_currencies(folder):
+    """Totals in different currencies are not added, and a book without a record has none."""
+    (folder / "francs.book").write_bytes(b"# zvt journal 1, currency 756\n")
+    mixed = run(["book", "empty.book", "francs.book", "day.book"], folder)
+    single = [run(["book", name], folder)[1].splitlines() for name in ("empty.book", "francs.book", "day.book")]
+    rows = [named(name, line, False) for name, lines in zip(("empty.book", "francs.book", "day.book"), single) for line in lines]
+    check("books of two currencies", (mixed[0], mixed[1].splitlines(), mixed[2]),
+          (0, rows, "zvt: the books are kept in different currencies, so there is no sum\n"))
+    check("books of one currency", run(["book", "francs.book", "empty.book"], folder)[1].splitlines()[-1], b"total 0 in 2 files")
+    check("the null device", run(["book", "/dev/null", "day.book"], folder)[1].splitlines()[-1], b"total 300 in 2 files")
+    check("the null device alone", run(["book", "/dev/null"], folder)[0], 4)
+
+
 def lists(names, chance):
     """Lists of these files: all, each two neighbours, one twice, and some at random."""
     yield names
@@ -97,7 +118,7 @@ def hold(words, names, singles, folder):
     command = f"{' '.join(words)} of {names}"
     status, written, said = run([*words, *names], folder)
     rows = [named(name, line, "--json" in words) for name in names for line in singles[name][1].splitlines()]
-    check(f"what {command} writes", written.splitlines(), rows + ([summed(names, singles, "--json" in words)] if words[0] == "audit" else []))
+    check(f"what {command} writes", written.splitlines(), rows + ([summed(names, singles, "--json" in words)] if words[0] in ("audit", "book") else []))
     check(f"the status of {command}", status, max(singles[name][0] for name in names))
     for name in names:
         if singles[name][0] >= 3:
@@ -140,6 +161,8 @@ def refuses():
     """What follows one line after another takes one file."""
     status, written, said = run(["show", "--follow", "a.trace", "b.trace"], ".")
     check("--follow of two files", (status, written, said), (2, b"", "zvt: '--follow' takes one FILE: it reads one line after another\n"))
+    status, written, said = run(["book", "--records", "a.book", "b.book"], ".")
+    check("--records of two files", (status, written, said), (2, b"", "zvt: '--records' takes one FILE: the records of two books make no trace of one till\n"))
 
 
 def main():
@@ -149,16 +172,18 @@ def main():
     chance = random.Random(20261126)
     with tempfile.TemporaryDirectory() as folder:
         traces, vectors = make(pathlib.Path(folder))
+        books = make_books(pathlib.Path(folder))
         for words in COMMANDS:
-            names = vectors if words[0] == "vectors" else traces
+            names = {"vectors": vectors, "book": books}.get(words[0], traces)
             singles = {name: run([*words, name], folder) for name in names}
             statuses = {single[0] for single in singles.values()}
-            check(f"the statuses of single files of {words}", statuses, {0, 1, 3, 4})
+            check(f"the statuses of single files of {words}", statuses, {0, 3, 4} if words[0] == "book" else {0, 1, 3, 4})
             for some in lists(names, chance):
                 hold(words, some, singles, folder)
         for name in traces[:-3]:
             path = name if "." in name else f"./{name}"
             check(f"zvt {path}", run([path], folder), run(["show", path], folder))
+        knows_currencies(pathlib.Path(folder))
         progresses(folder)
     refuses()
     print(f"{'NOT AS EXPECTED' if failed else 'ok'}: {len(COMMANDS)} commands, {len(runs)} runs, {len(failed)} wrong")

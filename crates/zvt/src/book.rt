@@ -3,16 +3,17 @@ ghost use Rattle.zvt_journal.specs.Files.{file_may_leave, file_seen};
 ghost use Rattle.zvt_journal.specs.Text.{IsSettled};
 
 use crate::finish::finish_run;
+use crate::inputs::{Input, write_sum};
 use crate::output::Output;
 use crate::reports::{report, report_on};
 use std::{fs, io, str};
 use zvt_bcd::Currency;
 use zvt_io::Over;
 use zvt_till::Till;
-use zvt_tool::statuses::{MEMORY, of_device, of_file_error, of_recovery};
+use zvt_tool::statuses::{DONE, MEMORY, WORDS, of_device, of_file_error, of_recovery};
 use zvt_tool::{
-    FileDevice, Form, JournalFileError, KeptTill, Opened, RecoveryError, TillSettings, next_line,
-    open_file, read_book, recover, write_book, write_records,
+    EndFault, FileDevice, Form, JournalFileError, KeptTill, Opened, RecoveryError, Sum,
+    TillSettings, next_line, open_file, read_book, recover, write_book, write_records,
 };
 
 /// What is reported of a book in another currency than the till's, or of no book.
@@ -27,27 +28,130 @@ const NO_BOOK: &str =
 const DISPLACED: &str =
     "the file of the book is no longer the one that was opened: it was moved, deleted, replaced or changed, so nothing more was sent";
 
+/// What is reported of several books whose totals are not added.
+const MIXED: &str = "the books are kept in different currencies, so there is no sum";
+
+/// What is reported where the records of several books are asked for.
+const ONE_RECORDS: &str =
+    "'--records' takes one FILE: the records of two books make no trace of one till";
+
 /// What the first line of a book says before the number of its currency.
 const OPENING: [u8; 26] = *b"# zvt journal 1, currency ";
 
-/// Writes what the book in this file has in this form, and answers the exit status.
-pub fn show(rt: &HostRuntime, path: &str, form: Form) -> io::Result<u8> {
-    let text = match read_book(rt, rt.alloc(), path) {
-        Ok(text) => text,
-        Err(error) => return unread(rt, path, &error),
+/// What came of showing a book.
+#[derive(Clone, Copy)]
+struct Shown {
+    status: u8,
+    /// The book's currency, where it has a record.
+    currency: Option<Currency>,
+    /// The book's total, where it was written.
+    total: Option<u64>,
+    /// Whether nothing more can be written.
+    is_output_lost: bool,
+}
+
+impl Shown {
+    /// Nothing was written.
+    fn early(status: u8) -> Shown {
+        Shown {
+            status,
+            currency: None,
+            total: None,
+            is_output_lost: false,
+        }
+    }
+}
+
+/// Writes what the books in these files have in this form, and answers the highest exit status. Of several, each line names its
+/// file, and the sum of the totals comes last.
+pub fn show(rt: &HostRuntime, paths: &[&str], form: Form) -> io::Result<u8> {
+    match paths {
+        [path] => Ok(show_one(rt, path, form, false)?.status),
+        _ => show_all(rt, paths, form),
+    }
+}
+
+/// Writes one book after another, and the sum of their totals.
+fn show_all(rt: &HostRuntime, paths: &[&str], form: Form) -> io::Result<u8> {
+    let mut sum = Sum::new(paths.len());
+    let mut currency = None;
+    let mut is_mixed = false;
+    let mut status = DONE;
+    for path in paths {
+        let shown = show_one(rt, path, form, true)?;
+        status = status.max(shown.status);
+        if shown.is_output_lost {
+            return Ok(status);
+        }
+        is_mixed = is_mixed || differ(currency, shown.currency);
+        currency = shown.currency.or(currency);
+        if let Some(total) = shown.total {
+            sum.add(u128::from(total));
+        }
+    }
+    if is_mixed {
+        report(rt, MIXED)?;
+        return Ok(status);
+    }
+    Ok(status.max(write_sum(rt, form, &sum)?))
+}
+
+/// Whether these are two currencies.
+fn differ(one: Option<Currency>, other: Option<Currency>) -> bool {
+    matches!((one, other), (Some(one), Some(other)) if one != other)
+}
+
+/// Writes what the book in this file has. The null device, as one of several, is a book without a record.
+fn show_one(rt: &HostRuntime, path: &str, form: Form, is_labelled: bool) -> io::Result<Shown> {
+    let input = Input::new(path, is_labelled);
+    let text = if input.is_null_device() {
+        Vec::new(rt.alloc())
+    } else {
+        match read_book(rt, rt.alloc(), path) {
+            Ok(text) => text,
+            Err(error) => return Ok(Shown::early(unread(rt, path, &error)?)),
+        }
     };
     let till = match till_of(rt, text.as_slice()) {
         Ok(till) => till,
-        Err(error) => return unrecovered(rt, path, error),
+        Err(error) => return Ok(Shown::early(unrecovered(rt, path, error)?)),
     };
-    let mut writer = Over::new(Output::new(io::writer(rt)));
-    let answer = write_book(rt.alloc(), form, &till, &mut writer);
-    finish_run(rt, writer.inner.broken_pipe, answer)
+    let Ok(output) = input.output(rt.alloc(), form, io::writer(rt)) else {
+        return Ok(Shown::early(finish_run(rt, false, Err(EndFault::Memory))?));
+    };
+    let mut writer = Over::new(output);
+    let answer = match write_book(rt.alloc(), form, &till, &mut writer) {
+        Err(EndFault::Write) if writer.inner.out_of_memory => Err(EndFault::Memory),
+        answer => answer,
+    };
+    let is_output_lost = matches!(answer, Err(EndFault::Write));
+    let total = if answer.is_ok() {
+        Some(till.total())
+    } else {
+        None
+    };
+    Ok(Shown {
+        status: finish_run(rt, writer.inner.broken_pipe, answer)?,
+        currency: currency_of(text.as_slice()),
+        total,
+        is_output_lost,
+    })
+}
+
+/// Writes the whole records of the book in the one file that is named as a trace, and answers the exit status.
+pub fn records(rt: &HostRuntime, paths: &[&str]) -> io::Result<u8> {
+    match paths {
+        [path] => records_of(rt, path),
+        _ => {
+            report(rt, ONE_RECORDS)?;
+            Ok(WORDS)
+        }
+    }
 }
 
 /// Writes the whole records of the book in this file as a trace, and answers the exit status. What is there of another record
 /// is reported.
-pub fn records(rt: &HostRuntime, path: &str) -> io::Result<u8> {
+fn records_of(rt: &HostRuntime, path: &str) -> io::Result<u8> {
     let text = match read_book(rt, rt.alloc(), path) {
         Ok(text) => text,
         Err(error) => return unread(rt, path, &error),

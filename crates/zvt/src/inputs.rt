@@ -1,4 +1,4 @@
-//! Where the traces of a command come from.
+//! The files of a command: where its traces come from, and how each of several is named.
 use crate::finish::finish_trace;
 use crate::notes::{faulty_line, report_counts, report_hint, report_notes};
 use crate::output::Output;
@@ -9,7 +9,7 @@ use std::fs::File;
 use std::io::{self, IsTerminal, Write};
 use zvt_io::{Over, Sink, Source};
 use zvt_text::Text;
-use zvt_tool::command::{TraceCommand, TraceWork};
+use zvt_tool::command::{TraceCommand, TraceWork, form_by};
 use zvt_tool::label::Label;
 use zvt_tool::on_trace::{follow_work, work_on_trace};
 use zvt_tool::statuses::{DEVICE, DONE, MEMORY, WORDS};
@@ -23,6 +23,11 @@ pub struct Input<'a> {
 }
 
 impl<'a> Input<'a> {
+    /// The trace in this file, alone or as one of several.
+    pub fn new(file: &'a str, is_labelled: bool) -> Input<'a> {
+        Input { file, is_labelled }
+    }
+
     /// The name of the file, if the trace is in one.
     fn path(&self) -> Option<&'a str> {
         if self.file == "-" {
@@ -37,20 +42,19 @@ impl<'a> Input<'a> {
         self.is_labelled && self.file == "/dev/null"
     }
 
-    /// A writer of what a command finds in the trace: of one of several, each line names it.
-    fn output<W: Write + Drop>(
+    /// A writer of what a command finds in the file: of one of several, each line names it.
+    pub fn output<W: Write + Drop>(
         &self,
         alloc: Global,
-        command: &TraceCommand,
+        form: Form,
         inner: W,
     ) -> Result<Output<W>, AllocError> {
         if !self.is_labelled {
             return Ok(Output::new(inner));
         }
-        let label = if command.is_json() {
-            Label::of_json(alloc, self.file)?
-        } else {
-            Label::of_text(alloc, self.file)?
+        let label = match form {
+            Form::Json => Label::of_json(alloc, self.file)?,
+            Form::Text => Label::of_text(alloc, self.file)?,
         };
         Ok(Output::labelled(alloc, inner, label))
     }
@@ -109,11 +113,7 @@ pub fn work_on(rt: &HostRuntime, command: &TraceCommand, files: &[&str]) -> io::
 
 /// Runs the command on the one trace that is named.
 fn work_on_only(rt: &HostRuntime, command: &TraceCommand, file: &str) -> io::Result<u8> {
-    let input = Input {
-        file,
-        is_labelled: false,
-    };
-    Ok(work_on_one(rt, command, input)?.status)
+    Ok(work_on_one(rt, command, Input::new(file, false))?.status)
 }
 
 /// Runs the command on one trace after another. An audit ends with the sum of all.
@@ -122,17 +122,13 @@ fn work_on_all(rt: &HostRuntime, command: &TraceCommand, files: &[&str]) -> io::
     let mut sum = Sum::new(files.len());
     let mut status = DONE;
     for file in files {
-        let input = Input {
-            file,
-            is_labelled: true,
-        };
-        let ended = work_on_one(rt, command, input)?;
+        let ended = work_on_one(rt, command, Input::new(file, true))?;
         status = status.max(ended.status);
         if ended.is_output_lost {
             return Ok(status);
         }
         if let Some(found) = ended.found {
-            sum.add(&found);
+            sum.add(found.total);
         }
         progress.step(rt)?;
     }
@@ -144,7 +140,7 @@ fn work_on_all(rt: &HostRuntime, command: &TraceCommand, files: &[&str]) -> io::
 }
 
 /// Writes the line of the sum, and answers the exit status of that.
-fn write_sum(rt: &HostRuntime, form: Form, sum: &Sum) -> io::Result<u8> {
+pub fn write_sum(rt: &HostRuntime, form: Form, sum: &Sum) -> io::Result<u8> {
     let mut text = Text::new(rt.alloc());
     if sum.write(&mut text, form).is_err() {
         return finish_trace(rt, None, false, false, Err(TraceFault::Memory));
@@ -248,7 +244,7 @@ fn work_on_whole<R: Source>(
         Ok(trace) => trace,
         Err(fault) => return Ok(Ended::early(finish_trace(rt, path, false, false, Err(fault))?)),
     };
-    let Ok(output) = input.output(rt.alloc(), command, io::writer(rt)) else {
+    let Ok(output) = input.output(rt.alloc(), form_by(command.is_json()), io::writer(rt)) else {
         let status = finish_trace(rt, path, false, false, Err(TraceFault::Memory))?;
         return Ok(Ended::early(status));
     };

@@ -95,8 +95,8 @@ fn execute(rt: &HostRuntime, chosen: &Choice<'_>) -> io::Result<u8>
 {
     match command_of(chosen) {
         Command::OnTraces(work, files) => inputs::work_on(rt, &work, files),
-        Command::Book(path, form) => book::show(rt, path, form),
-        Command::Records(path) => book::records(rt, path),
+        Command::Book(files, form) => book::show(rt, files, form),
+        Command::Records(files) => book::records(rt, files),
         Command::Loop(options) => ends::both_ends(rt, &options),
         Command::Till(options) => ends::till(rt, options),
         Command::Terminal(options) => ends::terminal(rt, options),

@@ -1,25 +1,24 @@
-//! The sum of the audits of several traces.
+//! The sum of what several files come to.
 ghost use Rattle.std.specs.Prelude.{◌≡◌, ◌+◌, ◌++◌, ◌^◌, ◌<◌, OnOk};
 ghost use Rattle.zvt_audit.specs.Sums.{sum_in, sum_json, sum_text};
 
-use crate::summary::AuditSummary;
 use std::alloc::AllocError;
 use zvt_json::Form;
 use zvt_text::Text;
 
-/// What the audits of several traces add up to.
+/// What the audits of several traces, or the books of several tills, come to together.
 #[derive(Clone, Copy, Debug, PartialEq, Eq)]
 pub struct Sum {
     /// The sum of their totals, in the smallest unit of the currency.
     total: u128,
-    /// How many traces were read to their end.
+    /// How many files were read to their end.
     audited: usize,
     /// How many there are.
     files: usize,
 }
 
 impl Sum {
-    /// No trace was audited yet, of so many.
+    /// No file was read yet, of so many.
     pub fn new(files: usize) -> Sum
         ensures { (result.total ≡ 0) × (result.audited ≡ 0) × (result.files ≡ files) }
     {
@@ -30,13 +29,13 @@ impl Sum {
         }
     }
 
-    /// One more trace was audited.
-    pub fn add(&mut self, found: &AuditSummary)
-        ensures total { self.old.total + found.now.total < 2 ^ 128 → self.new.total ≡ self.old.total + found.now.total }
+    /// One more file was read, which has this total.
+    pub fn add(&mut self, total: u128)
+        ensures total { self.old.total + total < 2 ^ 128 → self.new.total ≡ self.old.total + total }
         ensures audited { self.old.audited + 1 < 2 ^ 64 → self.new.audited ≡ self.old.audited + 1 }
         ensures files { self.new.files ≡ self.old.files }
     {
-        self.total = self.total.saturating_add(found.total);
+        self.total = self.total.saturating_add(total);
         self.audited = self.audited.saturating_add(1);
     }
 

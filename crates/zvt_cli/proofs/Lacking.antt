@@ -28,7 +28,7 @@ till_has rows (Play options) said lacks = other_first (codes "till") (codes "pla
 till_has rows (CheckTill options) said lacks = other_first (codes "till") (codes "check-till") (λ e. omega (arith, e)) said.0
 till_has rows (CheckTerminal options) said lacks = other_first (codes "till") (codes "check-terminal") (λ e. omega (arith, e)) said.0
 till_has rows (Vectors options) said lacks = other_first (codes "till") (codes "vectors") (λ e. omega (arith, e)) said.0
-till_has rows (Book file json records) said lacks = other_first (codes "till") (codes "book") (λ e. omega (arith, e)) said.0
+till_has rows (Book files json records) said lacks = other_first (codes "till") (codes "book") (λ e. omega (arith, e)) said.0
 till_has rows (Loop trace book check json steps) said lacks = other_first (codes "till") (codes "loop") (λ e. omega (arith, e)) said.0
 till_has rows (Till options) said lacks = lacks options.port options.timeout said.1 said.6
 till_has rows (Terminal options) said lacks = other_second (codes "till") (codes "terminal") (λ e. omega (arith, e)) said.0
@@ -44,7 +44,7 @@ till_has_host rows (Play options) said lacks = other_first (codes "till") (codes
 till_has_host rows (CheckTill options) said lacks = other_first (codes "till") (codes "check-till") (λ e. omega (arith, e)) said.0
 till_has_host rows (CheckTerminal options) said lacks = other_first (codes "till") (codes "check-terminal") (λ e. omega (arith, e)) said.0
 till_has_host rows (Vectors options) said lacks = other_first (codes "till") (codes "vectors") (λ e. omega (arith, e)) said.0
-till_has_host rows (Book file json records) said lacks = other_first (codes "till") (codes "book") (λ e. omega (arith, e)) said.0
+till_has_host rows (Book files json records) said lacks = other_first (codes "till") (codes "book") (λ e. omega (arith, e)) said.0
 till_has_host rows (Loop trace book check json steps) said lacks = other_first (codes "till") (codes "loop") (λ e. omega (arith, e)) said.0
 till_has_host rows (Till options) said lacks = let bad : Some options.host.now ≡ None = sym said.2 ∙ lacks in cc
 till_has_host rows (Terminal options) said lacks = other_second (codes "till") (codes "terminal") (λ e. omega (arith, e)) said.0
@@ -60,7 +60,7 @@ terminal_has_host rows (Play options) said lacks = other_first (codes "terminal"
 terminal_has_host rows (CheckTill options) said lacks = other_first (codes "terminal") (codes "check-till") (λ e. omega (arith, e)) said.0
 terminal_has_host rows (CheckTerminal options) said lacks = other_first (codes "terminal") (codes "check-terminal") (λ e. omega (arith, e)) said.0
 terminal_has_host rows (Vectors options) said lacks = other_first (codes "terminal") (codes "vectors") (λ e. omega (arith, e)) said.0
-terminal_has_host rows (Book file json records) said lacks = other_first (codes "terminal") (codes "book") (λ e. omega (arith, e)) said.0
+terminal_has_host rows (Book files json records) said lacks = other_first (codes "terminal") (codes "book") (λ e. omega (arith, e)) said.0
 terminal_has_host rows (Loop trace book check json steps) said lacks = other_first (codes "terminal") (codes "loop") (λ e. omega (arith, e)) said.0
 terminal_has_host rows (Till options) said lacks = other_second (codes "terminal") (codes "till") (λ e. omega (arith, e)) said.0
 terminal_has_host rows (Terminal options) said lacks = let bad : Some options.host.now ≡ None = sym said.2 ∙ lacks in cc
@@ -77,26 +77,10 @@ terminal_has rows (Play options) said lacks = other_first (codes "terminal") (co
 terminal_has rows (CheckTill options) said lacks = other_first (codes "terminal") (codes "check-till") (λ e. omega (arith, e)) said.0
 terminal_has rows (CheckTerminal options) said lacks = other_first (codes "terminal") (codes "check-terminal") (λ e. omega (arith, e)) said.0
 terminal_has rows (Vectors options) said lacks = other_first (codes "terminal") (codes "vectors") (λ e. omega (arith, e)) said.0
-terminal_has rows (Book file json records) said lacks = other_first (codes "terminal") (codes "book") (λ e. omega (arith, e)) said.0
+terminal_has rows (Book files json records) said lacks = other_first (codes "terminal") (codes "book") (λ e. omega (arith, e)) said.0
 terminal_has rows (Loop trace book check json steps) said lacks = other_first (codes "terminal") (codes "loop") (λ e. omega (arith, e)) said.0
 terminal_has rows (Till options) said lacks = other_second (codes "terminal") (codes "till") (λ e. omega (arith, e)) said.0
 terminal_has rows (Terminal options) said lacks = lacks options.port options.tid options.connections said.1 said.3 said.4
-
-book_has : (rows : List Row) (choice : Choice) → IsCommandOf (codes "book") rows choice → first_of (codes "file") rows ≢ None
-book_has rows (Show options) said lacks = other_first (codes "book") (codes "show") (λ e. omega (arith, e)) said.0
-book_has rows (Join options) said lacks = other_first (codes "book") (codes "join") (λ e. omega (arith, e)) said.0
-book_has rows (Normalise options) said lacks = other_first (codes "book") (codes "normalise") (λ e. omega (arith, e)) said.0
-book_has rows (Audit options) said lacks = other_first (codes "book") (codes "audit") (λ e. omega (arith, e)) said.0
-book_has rows (Receipts options) said lacks = other_first (codes "book") (codes "receipts") (λ e. omega (arith, e)) said.0
-book_has rows (Tap options) said lacks = other_first (codes "book") (codes "tap") (λ e. omega (arith, e)) said.0
-book_has rows (Play options) said lacks = other_first (codes "book") (codes "play") (λ e. omega (arith, e)) said.0
-book_has rows (CheckTill options) said lacks = other_first (codes "book") (codes "check-till") (λ e. omega (arith, e)) said.0
-book_has rows (CheckTerminal options) said lacks = other_first (codes "book") (codes "check-terminal") (λ e. omega (arith, e)) said.0
-book_has rows (Vectors options) said lacks = other_first (codes "book") (codes "vectors") (λ e. omega (arith, e)) said.0
-book_has rows (Loop trace book check json steps) said lacks = other_first (codes "book") (codes "loop") (λ e. omega (arith, e)) said.0
-book_has rows (Till options) said lacks = other_first (codes "book") (codes "till") (λ e. omega (arith, e)) said.0
-book_has rows (Terminal options) said lacks = other_first (codes "book") (codes "terminal") (λ e. omega (arith, e)) said.0
-book_has rows (Book file json records) said lacks = let bad : Some file.now ≡ None = sym said.1 ∙ lacks in cc
 
 tap_has : (rows : List Row) (choice : Choice) → IsCommandOf (codes "tap") rows choice
     → ((listen to : Bor Text) (connections : ℕ) → first_of (codes "listen") rows ≡ Some listen.now → first_of (codes "to") rows ≡ Some to.now → GivesNumber (codes "connections") rows 65535 connections → ⊥) → ⊥
@@ -109,7 +93,7 @@ tap_has rows (Play options) said lacks = other_first (codes "tap") (codes "play"
 tap_has rows (CheckTill options) said lacks = other_first (codes "tap") (codes "check-till") (λ e. omega (arith, e)) said.0
 tap_has rows (CheckTerminal options) said lacks = other_first (codes "tap") (codes "check-terminal") (λ e. omega (arith, e)) said.0
 tap_has rows (Vectors options) said lacks = other_first (codes "tap") (codes "vectors") (λ e. omega (arith, e)) said.0
-tap_has rows (Book file json records) said lacks = other_first (codes "tap") (codes "book") (λ e. omega (arith, e)) said.0
+tap_has rows (Book files json records) said lacks = other_first (codes "tap") (codes "book") (λ e. omega (arith, e)) said.0
 tap_has rows (Loop trace book check json steps) said lacks = other_first (codes "tap") (codes "loop") (λ e. omega (arith, e)) said.0
 tap_has rows (Till options) said lacks = other_second (codes "tap") (codes "till") (λ e. omega (arith, e)) said.0
 tap_has rows (Terminal options) said lacks = other_second (codes "tap") (codes "terminal") (λ e. omega (arith, e)) said.0
@@ -124,7 +108,7 @@ play_has_host rows (Receipts options) said lacks = other_first (codes "play") (c
 play_has_host rows (CheckTill options) said lacks = other_first (codes "play") (codes "check-till") (λ e. omega (arith, e)) said.0
 play_has_host rows (CheckTerminal options) said lacks = other_first (codes "play") (codes "check-terminal") (λ e. omega (arith, e)) said.0
 play_has_host rows (Vectors options) said lacks = other_first (codes "play") (codes "vectors") (λ e. omega (arith, e)) said.0
-play_has_host rows (Book file json records) said lacks = other_first (codes "play") (codes "book") (λ e. omega (arith, e)) said.0
+play_has_host rows (Book files json records) said lacks = other_first (codes "play") (codes "book") (λ e. omega (arith, e)) said.0
 play_has_host rows (Loop trace book check json steps) said lacks = other_first (codes "play") (codes "loop") (λ e. omega (arith, e)) said.0
 play_has_host rows (Till options) said lacks = other_first (codes "play") (codes "till") (λ e. omega (arith, e)) said.0
 play_has_host rows (Terminal options) said lacks = other_first (codes "play") (codes "terminal") (λ e. omega (arith, e)) said.0
@@ -139,7 +123,7 @@ check_till_has rows (Normalise options) said lacks = other_first (codes "check-t
 check_till_has rows (Audit options) said lacks = other_first (codes "check-till") (codes "audit") (λ e. omega (arith, e)) said.0
 check_till_has rows (Receipts options) said lacks = other_first (codes "check-till") (codes "receipts") (λ e. omega (arith, e)) said.0
 check_till_has rows (Vectors options) said lacks = other_first (codes "check-till") (codes "vectors") (λ e. omega (arith, e)) said.0
-check_till_has rows (Book file json records) said lacks = other_first (codes "check-till") (codes "book") (λ e. omega (arith, e)) said.0
+check_till_has rows (Book files json records) said lacks = other_first (codes "check-till") (codes "book") (λ e. omega (arith, e)) said.0
 check_till_has rows (Loop trace book check json steps) said lacks = other_first (codes "check-till") (codes "loop") (λ e. omega (arith, e)) said.0
 check_till_has rows (Till options) said lacks = other_first (codes "check-till") (codes "till") (λ e. omega (arith, e)) said.0
 check_till_has rows (Terminal options) said lacks = other_first (codes "check-till") (codes "terminal") (λ e. omega (arith, e)) said.0
@@ -156,7 +140,7 @@ check_terminal_has rows (Normalise options) said lacks = other_first (codes "che
 check_terminal_has rows (Audit options) said lacks = other_first (codes "check-terminal") (codes "audit") (λ e. omega (arith, e)) said.0
 check_terminal_has rows (Receipts options) said lacks = other_first (codes "check-terminal") (codes "receipts") (λ e. omega (arith, e)) said.0
 check_terminal_has rows (Vectors options) said lacks = other_first (codes "check-terminal") (codes "vectors") (λ e. omega (arith, e)) said.0
-check_terminal_has rows (Book file json records) said lacks = other_first (codes "check-terminal") (codes "book") (λ e. omega (arith, e)) said.0
+check_terminal_has rows (Book files json records) said lacks = other_first (codes "check-terminal") (codes "book") (λ e. omega (arith, e)) said.0
 check_terminal_has rows (Loop trace book check json steps) said lacks = other_first (codes "check-terminal") (codes "loop") (λ e. omega (arith, e)) said.0
 check_terminal_has rows (Till options) said lacks = other_first (codes "check-terminal") (codes "till") (λ e. omega (arith, e)) said.0
 check_terminal_has rows (Terminal options) said lacks = other_first (codes "check-terminal") (codes "terminal") (λ e. omega (arith, e)) said.0
@@ -170,9 +154,6 @@ till_without_port rows lacks = λ choice said. till_has rows choice said (λ por
 
 pub till_without_timeout : (rows : List Row) → IsNumberOf (codes "timeout") rows 65535 None → HasNoChoice (Some (codes "till", rows))
 till_without_timeout rows lacks = λ choice said. till_has rows choice said (λ port timeout a b. lacks timeout b)
-
-pub book_without_file : (rows : List Row) → first_of (codes "file") rows ≡ None → HasNoChoice (Some (codes "book", rows))
-book_without_file rows lacks = λ choice said. book_has rows choice said lacks
 
 pub till_without_host : (rows : List Row) → first_of (codes "host") rows ≡ None → HasNoChoice (Some (codes "till", rows))
 till_without_host rows lacks = λ choice said. till_has_host rows choice said lacks
@@ -227,7 +208,7 @@ no_command name rows show join normalise audit receipts vectors book loop till t
     no (Audit options) said = audit said.0
     no (Receipts options) said = receipts said.0
     no (Vectors options) said = vectors said.0
-    no (Book file json records) said = book said.0
+    no (Book files json records) said = book said.0
     no (Loop trace book check json steps) said = loop said.0
     no (Till options) said = till said.0
     no (Terminal options) said = terminal said.0

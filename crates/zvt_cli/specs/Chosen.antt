@@ -69,7 +69,7 @@ IsCommandOf name rows (Normalise options) = (name ≡ codes "normalise") × AreT
 IsCommandOf name rows (Audit options) = (name ≡ codes "audit") × AreTraceOptionsOf rows options
 IsCommandOf name rows (Receipts options) = (name ≡ codes "receipts") × AreTraceOptionsOf rows options
 IsCommandOf name rows (Vectors options) = (name ≡ codes "vectors") × AreTraceOptionsOf rows options
-IsCommandOf name rows (Book file json records) = (name ≡ codes "book") × (first_of (codes "file") rows ≡ Some file.now) × IsFlagOf (codes "json") rows json
+IsCommandOf name rows (Book files json records) = (name ≡ codes "book") × (map (λ file. file.now) files.items ≡ words_of (codes "file") rows) × IsFlagOf (codes "json") rows json
     × IsFlagOf (codes "records") rows records
 IsCommandOf name rows (Loop trace book check json steps) =
     (name ≡ codes "loop") × IsTextOf (codes "trace") rows trace

@@ -13,9 +13,9 @@ use Rattle.zvt_cli.specs.declared.options.CommandOption.TheVariants as option
 abbrev pub several_rule : Text → Rule
 several_rule name = record (new_rule name) { action = Some Append; value_names = 1 }
 
--- a word that has to be there
-abbrev pub book_file_rule : Rule
-book_file_rule = record (new_rule (codes "file")) { value_names = 1; required = true }
+-- words of which one has to be there
+abbrev pub book_files_rule : Rule
+book_files_rule = record (several_rule (codes "file")) { required = true }
 
 -- an option without a value
 abbrev pub flag_rule : Text → Rule
@@ -56,7 +56,7 @@ number_rule name default = record (option_rule name) {
 -- an option, by what it is
 abbrev pub rule_for : CommandOption → Rule
 rule_for (option.Several name value text) = several_rule name.now
-rule_for (option.BookFile text) = book_file_rule
+rule_for (option.BookFiles text) = book_files_rule
 rule_for (option.Flag name text) = flag_rule name.now
 rule_for (option.Value name value text) = option_rule name.now
 rule_for (option.Needed name value text) = needed_rule name.now
@@ -124,7 +124,7 @@ abbrev pub vectors_app : App
 vectors_app = command_app (codes "vectors") (files_rule ∷ flag_rule (codes "json") ∷ [])
 
 abbrev pub book_app : App
-book_app = command_app (codes "book") (book_file_rule ∷ flag_rule (codes "json") ∷ flag_rule (codes "records") ∷ [])
+book_app = command_app (codes "book") (book_files_rule ∷ flag_rule (codes "json") ∷ flag_rule (codes "records") ∷ [])
 
 abbrev pub loop_app : App
 loop_app = command_app (codes "loop") (

@@ -91,7 +91,11 @@ fn chosen<'a>(
         "audit" => Some(Choice::Audit(on_traces(alloc, inner)?)),
         "receipts" => Some(Choice::Receipts(on_traces(alloc, inner)?)),
         "vectors" => Some(Choice::Vectors(on_traces(alloc, inner)?)),
-        "book" => book(inner),
+        "book" => Some(Choice::Book {
+            files: words(alloc, inner, "file")?,
+            json: flag(inner, "json"),
+            records: flag(inner, "records"),
+        }),
         "loop" => Some(Choice::Loop {
             trace: text(inner, "trace"),
             book: text(inner, "book"),
@@ -133,17 +137,6 @@ fn nothing<'a>(alloc: Global) -> TraceOptions<'a>
         follow: false,
         resync: false,
     }
-}
-
-fn book<'a>(inner: &ArgMatches<'a>) -> Option<Choice<'a>>
-    ensures { MayBeChoiceOf (Some (codes "book", rows_of (found_of inner.now))) result }
-{
-    let file = text(inner, "file")?;
-    Some(Choice::Book {
-        file,
-        json: flag(inner, "json"),
-        records: flag(inner, "records"),
-    })
 }
 
 fn till<'a>(alloc: Global, inner: &ArgMatches<'a>) -> Result<Option<Choice<'a>>, AllocError>

@@ -19,9 +19,10 @@ pub enum Choice<'a> {
     Receipts(TraceOptions<'a>),
     /// Vectors are read from the files in place of traces.
     Vectors(TraceOptions<'a>),
-    /// The till's book is kept in a file of this name.
+    /// The books of tills.
     Book {
-        file: &'a str,
+        /// Their files, of which there is one or more.
+        files: Vec<&'a str>,
         /// Whether the output is JSON.
         json: bool,
         /// Whether the output is the records of the book, as a trace.

@@ -173,7 +173,7 @@ fn book() -> CommandRow<'static>
         about: help::BOOK,
         more: help::BOOK_EXAMPLE,
         options: &[
-            CommandOption::BookFile(help::BOOK_FILE),
+            CommandOption::BookFiles(help::BOOK_FILES),
             CommandOption::Flag("json", help::JSON),
             CommandOption::Flag("records", help::RECORDS),
         ],

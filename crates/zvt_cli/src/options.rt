@@ -1,7 +1,7 @@
 //! The options and steps of the commands.
 ghost use Rattle.std.specs.Prelude.{◌≡◌, false};
 ghost use Rattle.clap.specs.Words.{rule_of};
-ghost use Rattle.zvt_cli.specs.Commands.{book_file_rule, flag_rule, host_rule, needed_port_rule, needed_rule, number_rule, option_rule, port_option_rule, rule_for, several_rule, tid_rule};
+ghost use Rattle.zvt_cli.specs.Commands.{book_files_rule, flag_rule, host_rule, needed_port_rule, needed_rule, number_rule, option_rule, port_option_rule, rule_for, several_rule, tid_rule};
 
 use clap::{Arg, ArgAction, value_parser};
 use std::alloc::Global;
@@ -11,8 +11,8 @@ use std::alloc::Global;
 pub enum CommandOption<'a> {
     /// Any number of words of this name, and what help calls one.
     Several(&'a str, &'a str, &'a str),
-    /// The file of a book, which has to be there.
-    BookFile(&'a str),
+    /// The files of books, of which one has to be there.
+    BookFiles(&'a str),
     /// An option of this name that has no value.
     Flag(&'a str, &'a str),
     /// An option of this name that has one value and no default, and what help calls the value.
@@ -39,7 +39,7 @@ impl<'a> CommandOption<'a> {
     {
         match self {
             CommandOption::Several(name, value, text) => several(alloc, name, value, text),
-            CommandOption::BookFile(text) => book_file(alloc, text),
+            CommandOption::BookFiles(text) => book_files(alloc, text),
             CommandOption::Flag(name, text) => flag(alloc, name, text),
             CommandOption::Value(name, value, text) => value_of(alloc, name, value, text),
             CommandOption::Needed(name, value, text) => needed(alloc, name, value, text),
@@ -65,14 +65,11 @@ fn several<'a>(alloc: Global, name: &'a str, value: &'a str, text: &'a str) -> A
         .help(text)
 }
 
-fn book_file<'a>(alloc: Global, text: &'a str) -> Arg<'a>
-    ensures rule { rule_of result ≡ book_file_rule }
+fn book_files<'a>(alloc: Global, text: &'a str) -> Arg<'a>
+    ensures rule { rule_of result ≡ book_files_rule }
     ensures local { result.global ≡ false }
 {
-    Arg::new(alloc, "file")
-        .required(true)
-        .value_name("FILE")
-        .help(text)
+    several(alloc, "file", "FILE", text).required(true)
 }
 
 /// An option of this name that has the number of a TCP port, and no default.

@@ -62,7 +62,7 @@ chosen_on_trace (choice.Normalise options) = working (Render Join) Padded option
 chosen_on_trace (choice.Audit options) = working (Audit (form_by options.json)) (lengths_by options.loose) options
 chosen_on_trace (choice.Receipts options) = working (Render (style_by Receipts JsonReceipts options.json)) (lengths_by options.loose) options
 chosen_on_trace (choice.Vectors options) = working (Vectors (form_by options.json)) Shortest options
-chosen_on_trace (choice.Book file objects records) = None
+chosen_on_trace (choice.Book files objects records) = None
 chosen_on_trace (choice.Loop trace book check objects steps) = None
 chosen_on_trace (choice.Till options) = None
 chosen_on_trace (choice.Terminal options) = None
@@ -73,8 +73,8 @@ chosen_on_trace (choice.CheckTerminal options) = None
 
 abbrev pub on_trace : Command → Option TraceCommand
 on_trace (OnTraces command files) = Some command
-on_trace (Book file written) = None
-on_trace (Records file) = None
+on_trace (Book files written) = None
+on_trace (Records files) = None
 on_trace (Loop options) = None
 on_trace (Till options) = None
 on_trace (Terminal options) = None
@@ -86,8 +86,8 @@ on_trace (CheckTerminal options) = None
 -- a terminal's number has eight digits at most
 abbrev pub HasTerminalNumber : Command → Type 0
 HasTerminalNumber (OnTraces command files) = Unit {0}
-HasTerminalNumber (Book file written) = Unit {0}
-HasTerminalNumber (Records file) = Unit {0}
+HasTerminalNumber (Book files written) = Unit {0}
+HasTerminalNumber (Records files) = Unit {0}
 HasTerminalNumber (Loop options) = Unit {0}
 HasTerminalNumber (Till options) = Unit {0}
 HasTerminalNumber (Terminal options) = options.now.tid ≤ 99999999

@@ -75,10 +75,10 @@ pub struct LoopOptions<'a> {
 #[derive(Clone, Copy)]
 pub enum Command<'a> {
     OnTraces(TraceCommand, &'a [&'a str]),
-    /// What a book has, by its file, in this form.
-    Book(&'a str, Form),
-    /// The records of a book, by its file.
-    Records(&'a str),
+    /// What the books in these files have, in this form.
+    Book(&'a [&'a str], Form),
+    /// The records of the book in one file.
+    Records(&'a [&'a str]),
     Loop(LoopOptions<'a>),
     Till(&'a TillOptions<'a>),
     Terminal(&'a TerminalOptions<'a>),
@@ -165,11 +165,11 @@ pub fn command_of<'a>(chosen: &'a Choice<'a>) -> Command<'a>
             working(work, Lengths::Shortest, options)
         }
         Choice::Book {
-            file,
+            files,
             records: true,
             ..
-        } => Command::Records(file),
-        Choice::Book { file, json, .. } => Command::Book(file, form_by(*json)),
+        } => Command::Records(files.as_slice()),
+        Choice::Book { files, json, .. } => Command::Book(files.as_slice(), form_by(*json)),
         Choice::Loop {
             trace,
             book,
