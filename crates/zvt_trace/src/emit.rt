@@ -91,6 +91,22 @@ pub(crate) fn emit_refusal<D, L: Listener<D>>(
     listener.hear(device, at.line, &TraceEvent::Refused { from, refusal })
 }
 
+/// Emits that a piece is not read.
+#[cold]
+#[inline(never)]
+pub(crate) fn emit_unread<D, L: Listener<D>>(
+    listener: &mut L,
+    device: &mut D,
+    at: &PieceAt,
+) -> Result<(), ListenerError>
+    ensures { MatchResult result
+        (λ _. L.hears (listener.old, device.old) (on at.now.line (trace_event.unread at.now.from)) (listener.new, device.new))
+        (λ failure. L.fails (listener.old, device.old) (on at.now.line (trace_event.unread at.now.from)) failure (listener.new, device.new)) }
+{
+    let from = at.from;
+    listener.hear(device, at.line, &TraceEvent::Unread { from })
+}
+
 /// Emits that the side is read on, where no byte of a refused message is left, and answers whether it is.
 #[cold]
 #[inline(never)]

@@ -6,8 +6,9 @@ ghost use Rattle.zvt_trace.specs.Trace.{Side};
 ghost use Rattle.zvt_trace.specs.Listening.{EmitsBytes, EmitsFirst, EmitsPiece, EmitsThere, IsBoth, one_message, one_refusal, uncounted};
 ghost use Rattle.zvt_trace.specs.Written.{Follows, ReadsBy};
 
-use crate::emit::{PieceAt, emit_message, emit_refusal, emit_resumed, emit_truncation};
-use crate::event::TraceEvent;
+use crate::emit::{
+    PieceAt, emit_message, emit_refusal, emit_resumed, emit_truncation, emit_unread,
+};
 use crate::fault::Tally;
 use crate::line::CHUNK;
 use crate::listener::{Listener, ListenerError, Scope};
@@ -246,8 +247,7 @@ fn feed_piece<D, L: Listener<D>>(
     if reads || heard.any {
         return Ok(hearing);
     }
-    let from = at.from;
-    listener.hear(device, at.line, &TraceEvent::Unread { from })?;
+    emit_unread(listener, device, at)?;
     Ok(hearing)
 }
 

@@ -12,7 +12,7 @@ ghost use Rattle.zvt_trace.specs.Listening.{AnswersFrom, AnswersWalk, EmitsEnd, 
 ghost use Rattle.zvt_trace.specs.Written.{limit};
 
 use crate::direction::Direction;
-use crate::emit::{PieceAt, WalkOptions, emit_truncation};
+use crate::emit::{PieceAt, WalkOptions, emit_truncation, emit_unread};
 use crate::event::TraceEvent;
 use crate::fault::{Tally, TraceFault, TraceLineError};
 use crate::feed::{Piece, feed_side};
@@ -263,13 +263,12 @@ impl BothSides {
         ensures few { IfOk result (λ tally. tally.messages ≤ length (bytes_in piece.entry)) }
         ensures bad { IfOk result (λ tally. tally.bad ≤ length (bytes_in piece.entry) + 2) }
     {
-        let from = at.from;
         if self.rejected {
-            listener.hear(device, at.line, &TraceEvent::Unread { from })?;
+            emit_unread(listener, device, at)?;
             return Ok(Tally::none());
         }
         let BothSides { till, terminal, .. } = self;
-        let hearing = match from {
+        let hearing = match at.from {
             Direction::FromTill => feed_side(listener, device, at, till, terminal, piece)?,
             Direction::FromTerminal => feed_side(listener, device, at, terminal, till, piece)?,
         };
