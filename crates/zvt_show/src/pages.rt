@@ -99,6 +99,7 @@ fn flush_full<W: Sink>(block: &mut Text, writer: &mut W) -> Result<(), ListenerE
 }
 
 /// Writes the block to the device and empties it, also where the write fails.
+#[inline(never)]
 pub(crate) fn flush<W: Sink>(block: &mut Text, writer: &mut W) -> Result<(), ListenerError>
     ensures bytes { OnOk result (Appends (W.written writer.old) (W.written writer.new) block.old) }
     ensures fault { IfErr result (λ failure. failure ≡ ListenerError.Write) }

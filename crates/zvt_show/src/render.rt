@@ -84,6 +84,7 @@ fn json(
 }
 
 /// Adds a print line of the terminal as a line of JSON, and nothing of another event.
+#[inline(never)]
 fn json_receipt(
     text: &mut Text,
     alloc: Global,
@@ -214,6 +215,7 @@ fn line(text: &mut Text, from: Direction, bytes: &[u8]) -> Result<(), AllocError
 }
 
 /// Adds the text of a print line of the terminal.
+#[inline(never)]
 fn receipt(text: &mut Text, from: Direction, apdu: &ApduView<'_>) -> Result<(), AllocError>
     ensures { Adds result text.old text.new (receipt from apdu.now) }
 {

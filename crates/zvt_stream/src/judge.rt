@@ -219,7 +219,7 @@ fn beginning() -> Goes
 }
 
 /// Judges bytes one after another, up to the end of a message, and writes each to the room. Where it goes on is kept in a
-/// copy, which takes no memory.
+/// copy, which takes no memory: of each field, since a copy of the whole has the padding too.
 #[inline(always)]
 fn run(
     lengths: Lengths,
@@ -235,7 +235,11 @@ fn run(
     ensures judged { (held : List ℕ) → StandsFor (state_of (reading_of lengths) goes.old levels.old) held → Ran (reading_of lengths) held bytes.now result (state_of (reading_of lengths) goes.new levels.new) }
     ensures count { judged_of steps.new ≡ judged_of steps.old + taken_by bytes.now result }
 {
-    let mut now = *goes;
+    let mut now = Goes {
+        part: goes.part,
+        more: goes.more,
+        left: goes.left,
+    };
     let mut taken = 0;
     'bytes: while taken < bytes.len() {
         let byte = bytes[taken];
@@ -254,7 +258,9 @@ fn run(
         }
         taken += 1;
     }
-    *goes = now;
+    goes.part = now.part;
+    goes.more = now.more;
+    goes.left = now.left;
     DecodeRun::Open
 }
 

@@ -13,7 +13,7 @@ use Rattle.zvt_stream.specs.StreamState.{StreamState, HasRefused, Holds, Keeps}
 use Rattle.zvt_stream.specs.Head.{head_of}
 use Rattle.zvt_stream.specs.declared.head.Head.{Head}
 use Rattle.zvt_trace.specs.Listening.{BytesBegin, EmitsRest, Fails, FailsIn, Hears, HearsAll, HearsBytes, HearsEnd, StaysSilent, one_message, one_refusal, uncounted}
-use Rattle.zvt_trace.specs.TraceEvent.{At, Tallies, message, on, unread}
+use Rattle.zvt_trace.specs.TraceEvent.{At, Tallies, message, on}
 use Rattle.zvt_trace.specs.TraceEvent as trace_event
 use Rattle.zvt_trace.specs.Emitting.{PartEmits, PrefixOf, SideEnds}
 use Rattle.zvt_trace.specs.Resuming.{IsWithin, announced, refused_size, resuming_events, side_refused, side_skipping, skipping_events}
@@ -126,7 +126,7 @@ ends_refusal r hears fails line from (Some size) come reader next now new (Ok an
 ends_refusal r hears fails line from (Some size) come reader next now new (Err why) gone is rest all = rest size (size - come) (gone, is)
 
 pub hears_refused : {S : Type 0} {r : Reading} (hears : Hears S) (fails : Fails S) (scope : Scope) (line : ℕ) (from : Direction) (part : List ℕ) (reader next : SideReader) (place : ℕ) (why : Why) (now middle new : S) (any : Bool) → reader.stream.stopped ≡ false
-    → IsRefusedIn r (reader.stream.held ++ part) place why → suc place ≡ length (reader.stream.held ++ part) → hears now (refusal_event line from (reader.stream.held ++ part) place why) middle
+    → IsRefusedIn r (reader.stream.held ++ part) place why → suc place ≡ length (reader.stream.held ++ part) → ((held : List ℕ) → IsOpening reader.opening held → suc place ≡ length (held ++ part) → hears now (refusal_event line from (held ++ part) place why) middle)
     → (((held : List ℕ) → IsOpening reader.opening held → suc place ≡ length (held ++ part) → EndsRefusal r hears fails line from (refused_size scope (held ++ part) place) (length (held ++ part)) next middle new (Ok any)))
     → (side : Side) → Follows r reader side → HearsBytes r hears scope line from side part next one_refusal now new
 hears_refused hears fails scope line from part reader next place why now middle new any going fatal all heard ended stopped follows = absurd (false≢true (sym going ∙ (follows.0).1))
@@ -141,7 +141,7 @@ hears_refused {r = r} hears fails scope line from part reader next place why now
       events = first ∷ later;
       after = after;
       passes = one_part r scope line from (running before) after part (first ∷ later) (refusal_emits scope line from before part reader place why follows fatal all);
-      heard = (middle, heard, over.0);
+      heard = (middle, heard reader.stream.held (follows.1).1 all, over.0);
       follows = over.1;
       counts = no_more size (length whole);
       any = refl;
@@ -156,7 +156,7 @@ hears_refused {r = r} hears fails scope line from part reader next place why now
     no_more (Some size) come = none_left size (size - come)
 
 pub fails_refused : {S : Type 0} {r : Reading} (hears : Hears S) (fails : Fails S) (failure : ListenerError) (scope : Scope) (line : ℕ) (from : Direction) (part : List ℕ) (reader : SideReader) (place : ℕ) (why : Why) (now new : S) → reader.stream.stopped ≡ false
-    → IsRefusedIn r (reader.stream.held ++ part) place why → suc place ≡ length (reader.stream.held ++ part) → fails now (refusal_event line from (reader.stream.held ++ part) place why) failure new
+    → IsRefusedIn r (reader.stream.held ++ part) place why → suc place ≡ length (reader.stream.held ++ part) → ((held : List ℕ) → IsOpening reader.opening held → suc place ≡ length (held ++ part) → fails now (refusal_event line from (held ++ part) place why) failure new)
     → (side : Side) → Follows r reader side → FailsIn hears fails failure (BytesBegin r scope line from side part) now new
 fails_refused hears fails failure scope line from part reader place why now new going fatal all failed stopped follows = absurd (false≢true (sym going ∙ (follows.0).1))
 fails_refused hears fails failure scope line from part reader place why now new going fatal all failed (skipping size left) follows = absurd (false≢true (sym going ∙ (follows.0).1))
@@ -168,10 +168,10 @@ fails_refused {r = r} hears fails failure scope line from part reader place why 
     let after = side_refused size (length whole) in
     let passes = one_part r scope line from (running before) after part (first ∷ later) (refusal_emits scope line from before part reader place why follows fatal all) in
     fails_next hears fails failure [] first now now new refl
-    (record { first = part; more = []; after = after; cut = sym (append-nil part); emits = record { all = first ∷ later; later = later; emit = passes; is_prefix = refl } }) failed
+    (record { first = part; more = []; after = after; cut = sym (append-nil part); emits = record { all = first ∷ later; later = later; emit = passes; is_prefix = refl } }) (failed reader.stream.held (follows.1).1 all)
 
 pub fails_resumed : {S : Type 0} {r : Reading} (hears : Hears S) (fails : Fails S) (failure : ListenerError) (scope : Scope) (line : ℕ) (from : Direction) (part : List ℕ) (reader next : SideReader) (place : ℕ) (why : Why) (now middle new : S) → reader.stream.stopped ≡ false
-    → IsRefusedIn r (reader.stream.held ++ part) place why → suc place ≡ length (reader.stream.held ++ part) → hears now (refusal_event line from (reader.stream.held ++ part) place why) middle
+    → IsRefusedIn r (reader.stream.held ++ part) place why → suc place ≡ length (reader.stream.held ++ part) → ((held : List ℕ) → IsOpening reader.opening held → suc place ≡ length (held ++ part) → hears now (refusal_event line from (held ++ part) place why) middle)
     → (((held : List ℕ) → IsOpening reader.opening held → suc place ≡ length (held ++ part) → EndsRefusal r hears fails line from (refused_size scope (held ++ part) place) (length (held ++ part)) next middle new (Err failure)))
     → (side : Side) → Follows r reader side → FailsIn hears fails failure (BytesBegin r scope line from side part) now new
 fails_resumed hears fails failure scope line from part reader next place why now middle new going fatal all heard ended stopped follows = absurd (false≢true (sym going ∙ (follows.0).1))
@@ -182,7 +182,7 @@ fails_resumed {r = r} hears fails failure scope line from part reader next place
     let first = refusal_event line from whole place why in
     let after = side_refused size (length whole) in
     let emits = refusal_emits scope line from before part reader place why follows fatal all in
-    fails_after hears fails failure (first ∷ []) now middle new (hears_one hears first now middle heard) (ended reader.stream.held (follows.1).1 all) (λ events so. record {
+    fails_after hears fails failure (first ∷ []) now middle new (hears_one hears first now middle (heard reader.stream.held (follows.1).1 all)) (ended reader.stream.held (follows.1).1 all) (λ events so. record {
       first = part;
       more = [];
       after = after;

@@ -1,15 +1,11 @@
 -- Events, one after another.
 use Rattle.std.proofs.Common.{◌≡◌, inl, inr, ℕ, ◌+◌, List, [], ◌∷◌, ◌++◌, length, refl, sym, ◌∙◌, ap, subst, arith, append_assoc, append-nil}
 use Rattle.std.proofs.lemmas.List.Sums.{sum_by-append, sum_by-cons}
-use Rattle.std.specs.Prelude.{slice_index}
-use Rattle.zvt_grammar.specs.declared.why.Why.{Why}
 use Rattle.zvt_apdu.specs.Message.{Message}
-use Rattle.zvt_stream.specs.Head.{head_of}
 use Rattle.zvt_trace.specs.Listening.{Fails, FailsIn, Hears, HearsAll, Stops}
-use Rattle.zvt_trace.specs.TraceEvent.{At, Tallies, bad_count, bad_in, message, message_count, messages_in, on, refused}
+use Rattle.zvt_trace.specs.TraceEvent.{At, Tallies, bad_count, bad_in, message, message_count, messages_in, on}
 use Rattle.zvt_trace.specs.Emitting.{PrefixOf, messages_emitted}
 use Rattle.zvt_trace.specs.declared.direction.Direction.{Direction}
-use Rattle.zvt_trace.specs.declared.event.Refusal.{Refusal}
 use Rattle.zvt_trace.specs.declared.fault.Tally.{Tally}
 use Rattle.zvt_trace.specs.declared.listener.ListenerError.{ListenerError}
 use Rattle.zvt_trace.specs.declared.listener.ListenerError.TheVariants.{Memory}
@@ -25,19 +21,6 @@ hears_one hears event x y heard = (y, heard, refl)
 
 pub hears_event : {S : Type 0} (hears : Hears S) (events : List At) (event : At) (x y : S) → events ≡ event ∷ [] → hears x event y → HearsAll hears x events y
 hears_event hears events event x y is heard = subst (λ (es : List At). HearsAll hears x es y) (sym is) (hears_one hears event x y heard)
-
--- a refusal as the code hands it on, and as the bytes have it
-pub refusal_is : (line : ℕ) (from : Direction) (held bytes : List ℕ) (place : ℕ) (why : Why) (refusal : Refusal) → refusal.head ≡ head_of (held ++ bytes) → refusal.byte ≡ slice_index (held ++ bytes) place → refusal.place ≡ place → refusal.why ≡ why
-    → on line (refused from refusal.head refusal.byte refusal.place refusal.why) ≡ on line (refused from (head_of (held ++ bytes)) (slice_index (held ++ bytes) place) place why)
-refusal_is line from held bytes place why refusal head byte at of = rw (head, byte, at, of) refl
-
-pub hears_refusal : {S : Type 0} (hears : Hears S) (line : ℕ) (from : Direction) (held bytes : List ℕ) (place : ℕ) (why : Why) (refusal : Refusal) (x y : S) → refusal.head ≡ head_of (held ++ bytes) → refusal.byte ≡ slice_index (held ++ bytes) place → refusal.place ≡ place → refusal.why ≡ why
-    → hears x (on line (refused from refusal.head refusal.byte refusal.place refusal.why)) y → hears x (on line (refused from (head_of (held ++ bytes)) (slice_index (held ++ bytes) place) place why)) y
-hears_refusal hears line from held bytes place why refusal x y head byte at of heard = subst (λ (event : At). hears x event y) (refusal_is line from held bytes place why refusal head byte at of) heard
-
-pub fails_refusal : {S : Type 0} (fails : Fails S) (failure : ListenerError) (line : ℕ) (from : Direction) (held bytes : List ℕ) (place : ℕ) (why : Why) (refusal : Refusal) (x y : S) → refusal.head ≡ head_of (held ++ bytes) → refusal.byte ≡ slice_index (held ++ bytes) place → refusal.place ≡ place → refusal.why ≡ why
-    → fails x (on line (refused from refusal.head refusal.byte refusal.place refusal.why)) failure y → fails x (on line (refused from (head_of (held ++ bytes)) (slice_index (held ++ bytes) place) place why)) failure y
-fails_refusal fails failure line from held bytes place why refusal x y head byte at of failed = subst (λ (event : At). fails x event failure y) (refusal_is line from held bytes place why refusal head byte at of) failed
 
 pub hears_push : {S : Type 0} (hears : Hears S) (a : List At) (event : At) (x y z : S) → HearsAll hears x a y → hears y event z → HearsAll hears x (a ++ event ∷ []) z
 hears_push hears a event x y z so heard = hears_append hears a (event ∷ []) x y z so (hears_one hears event y z heard)

@@ -11,7 +11,7 @@ use Rattle.zvt_trace.specs.Emitting.{BrokenTrace, PrefixOf, WholeTrace, LineEnds
 use Rattle.zvt_trace.specs.Trace.{Sides, new_line}
 use Rattle.zvt_trace.specs.declared.walker.BothSides.{BothSides}
 use Rattle.zvt_trace.specs.declared.walker.Progress.{Progress}
-use Rattle.zvt_trace.specs.declared.walker.WalkOptions.{WalkOptions}
+use Rattle.zvt_trace.specs.declared.emit.WalkOptions.{WalkOptions}
 use Rattle.zvt_trace.specs.declared.fault.Tally.{Tally}
 use Rattle.zvt_trace.specs.declared.fault.TraceFault.{TraceFault}
 use Rattle.zvt_trace.specs.declared.fault.TraceFault.TheVariants.{Memory, Read, TooLong, Trace, Write}

@@ -1,5 +1,5 @@
 //! Emits to a listener what one side of the line sends.
-ghost use Rattle.std.specs.Prelude.{◌≡◌, ◌<◌, ◌≤◌, ◌+◌, ◌++◌, List, ℕ, length, slice_index, false, true, Some, IfOk, OnOk, MatchResult};
+ghost use Rattle.std.specs.Prelude.{◌≡◌, ◌<◌, ◌≤◌, ◌+◌, ◌++◌, List, ℕ, suc, length, slice_index, false, true, Some, IfOk, OnOk, MatchResult};
 ghost use Rattle.zvt_grammar.specs.Reading.{Reading};
 ghost use Rattle.zvt_grammar.specs.Lengths.{reading_of};
 ghost use Rattle.zvt_apdu.specs.Message.{Message};
@@ -9,7 +9,7 @@ ghost use Rattle.zvt_trace.specs.TraceEvent as trace_event;
 ghost use Rattle.zvt_trace.specs.Trace.{Side};
 ghost use Rattle.zvt_trace.specs.Emitting.{SideEnds};
 ghost use Rattle.zvt_trace.specs.Listening.{EmitsEnd, EmitsRest, StaysSilent};
-ghost use Rattle.zvt_trace.specs.Written.{ReadsBy, SkipsTo, StreamFollows, is_everything};
+ghost use Rattle.zvt_trace.specs.Written.{IsOpening, ReadsBy, SkipsTo, StreamFollows, is_everything};
 
 use crate::direction::Direction;
 use crate::event::{Refusal, TraceEvent};
@@ -18,16 +18,22 @@ use crate::side::{SideReader, Skipped};
 use std::alloc::Global;
 use zvt_apdu::view;
 use zvt_grammar::{Lengths, Why};
-use zvt_stream::{Head, Stream, Truncated};
+use zvt_stream::{Stream, Truncated};
+
+/// How a trace is walked: its memory, what a refusal leaves unread, and the lengths that its streams take.
+#[derive(Clone, Copy)]
+pub(crate) struct WalkOptions {
+    pub(crate) alloc: Global,
+    pub(crate) scope: Scope,
+    pub(crate) lengths: Lengths,
+}
 
 /// The line of a piece, who sent it, and how it is read.
 #[derive(Clone, Copy)]
 pub(crate) struct PieceAt {
     pub(crate) line: u64,
     pub(crate) from: Direction,
-    pub(crate) alloc: Global,
-    pub(crate) scope: Scope,
-    pub(crate) lengths: Lengths,
+    pub(crate) options: WalkOptions,
 }
 
 /// Emits the whole message that the stream holds.
@@ -35,14 +41,14 @@ pub(crate) struct PieceAt {
 pub(crate) fn emit_message<D, L: Listener<D>>(
     listener: &mut L,
     device: &mut D,
-    at: PieceAt,
+    at: &PieceAt,
     stream: &Stream,
 ) -> Result<(), ListenerError>
     requires lent { (message : Message) × (stream.now.lent ≡ Some message) }
-    requires reading { stream.now.reading ≡ reading_of at.lengths }
+    requires reading { stream.now.reading ≡ reading_of at.now.options.lengths }
     ensures { (message : Message) → stream.now.lent ≡ Some message → MatchResult result
-        (λ _. L.hears (listener.old, device.old) (on at.line (trace_event.message at.from message)) (listener.new, device.new))
-        (λ failure. L.fails (listener.old, device.old) (on at.line (trace_event.message at.from message)) failure (listener.new, device.new)) }
+        (λ _. L.hears (listener.old, device.old) (on at.now.line (trace_event.message at.now.from message)) (listener.new, device.new))
+        (λ failure. L.fails (listener.old, device.old) (on at.now.line (trace_event.message at.now.from message)) failure (listener.new, device.new)) }
 {
     let Some(bytes) = stream.lent_bytes() else {
         return Ok(());
@@ -52,75 +58,67 @@ pub(crate) fn emit_message<D, L: Listener<D>>(
         from: at.from,
         apdu,
         bytes,
-        lengths: at.lengths,
+        lengths: at.options.lengths,
     };
     listener.hear(device, at.line, &trace_event)
 }
 
-/// The incomplete message of a side: its control bytes, as far as they have come, and how many bytes are held.
-#[derive(Clone, Copy)]
-pub(crate) struct Beginning {
-    head: Head,
-    pub(crate) held: usize,
-}
-
-impl Beginning {
-    /// The incomplete message that the stream holds.
-    #[inline(always)]
-    pub(crate) fn of(stream: &Stream) -> Beginning
-        ensures head { result.head ≡ head_of stream.now.held }
-        ensures held { result.held ≡ length stream.now.held }
-    {
-        Beginning {
-            head: stream.head(),
-            held: stream.held(),
-        }
-    }
-
-    /// The refusal of this message at that place, where these bytes follow what is held.
-    #[inline(always)]
-    pub(crate) fn refusal(self, bytes: &[u8], place: usize, why: Why) -> Refusal
-        requires begun { self.held ≤ place }
-        requires within { place < self.held + length bytes.now }
-        ensures head { (held : List ℕ) → self.head ≡ head_of held → result.head ≡ head_of (held ++ bytes.now) }
-        ensures byte { (held : List ℕ) → self.held ≡ length held → result.byte ≡ slice_index (held ++ bytes.now) place }
-        ensures place { result.place ≡ place }
-        ensures why { result.why ≡ why }
-    {
-        Refusal {
-            head: self.head.before(bytes),
-            byte: bytes[place - self.held],
-            place,
-            why,
-        }
-    }
-}
-
-/// Emits that the message of a side is refused.
+/// Emits that the message of a side is refused at that place, of which these last bytes have come now.
+#[cold]
+#[inline(never)]
 pub(crate) fn emit_refusal<D, L: Listener<D>>(
     listener: &mut L,
     device: &mut D,
-    at: PieceAt,
-    refusal: Refusal,
+    at: &PieceAt,
+    reader: &SideReader,
+    bytes: &[u8],
+    place: usize,
+    why: Why,
 ) -> Result<(), ListenerError>
-    ensures { MatchResult result
-        (λ _. L.hears (listener.old, device.old) (on at.line (trace_event.refused at.from refusal.head refusal.byte refusal.place refusal.why)) (listener.new, device.new))
-        (λ failure. L.fails (listener.old, device.old) (on at.line (trace_event.refused at.from refusal.head refusal.byte refusal.place refusal.why)) failure (listener.new, device.new)) }
+    requires some { 0 < length bytes.now }
+    ensures { (held : List ℕ) → IsOpening reader.now.opening held → suc place ≡ length (held ++ bytes.now) → MatchResult result
+        (λ _. L.hears (listener.old, device.old) (on at.now.line (trace_event.refused at.now.from (head_of (held ++ bytes.now)) (slice_index (held ++ bytes.now) place) place why)) (listener.new, device.new))
+        (λ failure. L.fails (listener.old, device.old) (on at.now.line (trace_event.refused at.now.from (head_of (held ++ bytes.now)) (slice_index (held ++ bytes.now) place) place why)) failure (listener.new, device.new)) }
 {
     let from = at.from;
+    let head = reader.opening.head().before(bytes);
+    let refusal = Refusal {
+        head,
+        byte: bytes[bytes.len() - 1],
+        place,
+        why,
+    };
     listener.hear(device, at.line, &TraceEvent::Refused { from, refusal })
 }
 
+/// Emits that a piece is not read.
+#[cold]
+#[inline(never)]
+pub(crate) fn emit_unread<D, L: Listener<D>>(
+    listener: &mut L,
+    device: &mut D,
+    at: &PieceAt,
+) -> Result<(), ListenerError>
+    ensures { MatchResult result
+        (λ _. L.hears (listener.old, device.old) (on at.now.line (trace_event.unread at.now.from)) (listener.new, device.new))
+        (λ failure. L.fails (listener.old, device.old) (on at.now.line (trace_event.unread at.now.from)) failure (listener.new, device.new)) }
+{
+    let from = at.from;
+    listener.hear(device, at.line, &TraceEvent::Unread { from })
+}
+
 /// Emits that the side is read on, where no byte of a refused message is left, and answers whether it is.
+#[cold]
+#[inline(never)]
 pub(crate) fn emit_resumed<D, L: Listener<D>>(
     listener: &mut L,
     device: &mut D,
-    at: PieceAt,
+    at: &PieceAt,
     reader: &mut SideReader,
 ) -> Result<bool, ListenerError>
-    requires reading { reader.old.stream.reading ≡ reading_of at.lengths }
-    ensures reading { OnOk result (ReadsBy (reading_of at.lengths) reader.new) }
-    ensures rest { (size left : ℕ) → SkipsTo reader.old size left → EmitsRest (reading_of at.lengths) L.hears L.fails at.line at.from size left reader.new (listener.old, device.old) (listener.new, device.new) result }
+    requires reading { reader.old.stream.reading ≡ reading_of at.now.options.lengths }
+    ensures reading { OnOk result (ReadsBy (reading_of at.now.options.lengths) reader.new) }
+    ensures rest { (size left : ℕ) → SkipsTo reader.old size left → EmitsRest (reading_of at.now.options.lengths) L.hears L.fails at.now.line at.now.from size left reader.new (listener.old, device.old) (listener.new, device.new) result }
     ensures none { is_everything reader.old.skipped ≡ true → StaysSilent L.hears reader.old reader.new (listener.old, device.old) (listener.new, device.new) result }
 {
     match reader.skipped {
@@ -130,7 +128,7 @@ pub(crate) fn emit_resumed<D, L: Listener<D>>(
             }
             let from = at.from;
             listener.hear(device, at.line, &TraceEvent::Resumed { from, size })?;
-            *reader = SideReader::new(at.alloc, at.lengths);
+            *reader = SideReader::new(at.options.alloc, at.options.lengths);
             Ok(true)
         }
         Skipped::Nothing | Skipped::Everything => Ok(false),
@@ -138,6 +136,8 @@ pub(crate) fn emit_resumed<D, L: Listener<D>>(
 }
 
 /// Emits that the message of that side is cut off, if it holds one, and answers how many are.
+#[cold]
+#[inline(never)]
 pub(crate) fn emit_truncation<D, L: Listener<D>>(
     listener: &mut L,
     device: &mut D,

@@ -6,8 +6,9 @@ ghost use Rattle.zvt_trace.specs.Trace.{Side};
 ghost use Rattle.zvt_trace.specs.Listening.{EmitsBytes, EmitsFirst, EmitsPiece, EmitsThere, IsBoth, one_message, one_refusal, uncounted};
 ghost use Rattle.zvt_trace.specs.Written.{Follows, ReadsBy};
 
-use crate::emit::{Beginning, PieceAt, emit_message, emit_refusal, emit_resumed, emit_truncation};
-use crate::event::TraceEvent;
+use crate::emit::{
+    PieceAt, emit_message, emit_refusal, emit_resumed, emit_truncation, emit_unread,
+};
 use crate::fault::Tally;
 use crate::line::CHUNK;
 use crate::listener::{Listener, ListenerError, Scope};
@@ -105,17 +106,17 @@ pub(crate) struct Hearing {
 fn feed_next<'b, D, L: Listener<D>>(
     listener: &mut L,
     device: &mut D,
-    at: PieceAt,
+    at: &PieceAt,
     reader: &mut SideReader,
     bytes: &'b [u8],
 ) -> Result<Next<'b>, ListenerError>
-    requires reading { ReadsBy (reading_of at.lengths) reader.old }
-    ensures reading { OnOk result (ReadsBy (reading_of at.lengths) reader.new) }
-    ensures emits { (side : Side) → Follows (reading_of at.lengths) reader.old side → EmitsFirst (reading_of at.lengths) L.hears L.fails at.scope at.line at.from side bytes.now reader.new (listener.old, device.old) (listener.new, device.new) result }
+    requires reading { ReadsBy (reading_of at.now.options.lengths) reader.old }
+    ensures reading { OnOk result (ReadsBy (reading_of at.now.options.lengths) reader.new) }
+    ensures emits { (side : Side) → Follows (reading_of at.now.options.lengths) reader.old side → EmitsFirst (reading_of at.now.options.lengths) L.hears L.fails at.now.options.scope at.now.line at.now.from side bytes.now reader.new (listener.old, device.old) (listener.new, device.new) result }
     ensures few { IfOk result (λ next. next.heard.tally.messages + next.heard.tally.bad + length next.rest.now ≤ length bytes.now) }
     ensures less { IfOk result (λ next. 0 < length next.rest.now → length next.rest.now < length bytes.now) }
 {
-    let begun = Beginning::of(&reader.stream);
+    let held = reader.stream.held();
     match reader.stream.feed_view(bytes) {
         Ok(FedView::Message { taken }) => {
             reader.opening.clear();
@@ -130,10 +131,9 @@ fn feed_next<'b, D, L: Listener<D>>(
             Ok(Next { heard, rest: &[] })
         }
         Ok(FedView::Refused { place, why }) => {
-            let (refused, rest) = bytes.split_at(place - begun.held + 1);
-            let refusal = begun.refusal(refused, place, why);
-            emit_refusal(listener, device, at, refusal)?;
-            reader.refuse(at.scope, refused, place);
+            let (refused, rest) = bytes.split_at(place - held + 1);
+            emit_refusal(listener, device, at, reader, refused, place, why)?;
+            reader.refuse(at.options.scope, refused, place);
             emit_resumed(listener, device, at, reader)?;
             let heard = Heard::refusal();
             Ok(Next { heard, rest })
@@ -153,13 +153,13 @@ fn feed_next<'b, D, L: Listener<D>>(
 fn feed_bytes<D, L: Listener<D>>(
     listener: &mut L,
     device: &mut D,
-    at: PieceAt,
+    at: &PieceAt,
     reader: &mut SideReader,
     bytes: &[u8],
 ) -> Result<Heard, ListenerError>
-    requires reading { ReadsBy (reading_of at.lengths) reader.old }
-    ensures reading { OnOk result (ReadsBy (reading_of at.lengths) reader.new) }
-    ensures emits { (side : Side) → Follows (reading_of at.lengths) reader.old side → EmitsBytes (reading_of at.lengths) L.hears L.fails at.scope at.line at.from side bytes.now reader.new (listener.old, device.old) (listener.new, device.new) result }
+    requires reading { ReadsBy (reading_of at.now.options.lengths) reader.old }
+    ensures reading { OnOk result (ReadsBy (reading_of at.now.options.lengths) reader.new) }
+    ensures emits { (side : Side) → Follows (reading_of at.now.options.lengths) reader.old side → EmitsBytes (reading_of at.now.options.lengths) L.hears L.fails at.now.options.scope at.now.line at.now.from side bytes.now reader.new (listener.old, device.old) (listener.new, device.new) result }
     ensures few { IfOk result (λ heard. heard.tally.messages + heard.tally.bad ≤ length bytes.now) }
 {
     let mut heard = Heard::uncounted(false);
@@ -176,14 +176,14 @@ fn feed_bytes<D, L: Listener<D>>(
 fn feed_long_piece<D, L: Listener<D>>(
     listener: &mut L,
     device: &mut D,
-    at: PieceAt,
+    at: &PieceAt,
     reader: &mut SideReader,
     piece: Piece<'_>,
 ) -> Result<Heard, ListenerError>
-    requires reading { ReadsBy (reading_of at.lengths) reader.old }
+    requires reading { ReadsBy (reading_of at.now.options.lengths) reader.old }
     requires spelled { SpellsBytes piece.undecoded.now }
-    ensures reading { OnOk result (ReadsBy (reading_of at.lengths) reader.new) }
-    ensures emits { (side : Side) → Follows (reading_of at.lengths) reader.old side → EmitsBytes (reading_of at.lengths) L.hears L.fails at.scope at.line at.from side (bytes_in piece.entry) reader.new (listener.old, device.old) (listener.new, device.new) result }
+    ensures reading { OnOk result (ReadsBy (reading_of at.now.options.lengths) reader.new) }
+    ensures emits { (side : Side) → Follows (reading_of at.now.options.lengths) reader.old side → EmitsBytes (reading_of at.now.options.lengths) L.hears L.fails at.now.options.scope at.now.line at.now.from side (bytes_in piece.entry) reader.new (listener.old, device.old) (listener.new, device.new) result }
     ensures few { IfOk result (λ heard. heard.tally.messages + heard.tally.bad ≤ length (bytes_in piece.entry)) }
 {
     let mut heard = feed_bytes(listener, device, at, reader, piece.bytes)?;
@@ -206,14 +206,14 @@ fn feed_long_piece<D, L: Listener<D>>(
 fn feed_content<D, L: Listener<D>>(
     listener: &mut L,
     device: &mut D,
-    at: PieceAt,
+    at: &PieceAt,
     reader: &mut SideReader,
     piece: Piece<'_>,
 ) -> Result<Heard, ListenerError>
-    requires reading { ReadsBy (reading_of at.lengths) reader.old }
+    requires reading { ReadsBy (reading_of at.now.options.lengths) reader.old }
     requires spelled { SpellsBytes piece.undecoded.now }
-    ensures reading { OnOk result (ReadsBy (reading_of at.lengths) reader.new) }
-    ensures emits { (side : Side) → Follows (reading_of at.lengths) reader.old side → EmitsBytes (reading_of at.lengths) L.hears L.fails at.scope at.line at.from side (bytes_in piece.entry) reader.new (listener.old, device.old) (listener.new, device.new) result }
+    ensures reading { OnOk result (ReadsBy (reading_of at.now.options.lengths) reader.new) }
+    ensures emits { (side : Side) → Follows (reading_of at.now.options.lengths) reader.old side → EmitsBytes (reading_of at.now.options.lengths) L.hears L.fails at.now.options.scope at.now.line at.now.from side (bytes_in piece.entry) reader.new (listener.old, device.old) (listener.new, device.new) result }
     ensures few { IfOk result (λ heard. heard.tally.messages + heard.tally.bad ≤ length (bytes_in piece.entry)) }
 {
     if piece.undecoded.is_empty() {
@@ -228,14 +228,14 @@ fn feed_content<D, L: Listener<D>>(
 fn feed_piece<D, L: Listener<D>>(
     listener: &mut L,
     device: &mut D,
-    at: PieceAt,
+    at: &PieceAt,
     reader: &mut SideReader,
     piece: Piece<'_>,
 ) -> Result<Hearing, ListenerError>
-    requires reading { ReadsBy (reading_of at.lengths) reader.old }
+    requires reading { ReadsBy (reading_of at.now.options.lengths) reader.old }
     requires spelled { SpellsBytes piece.undecoded.now }
-    ensures reading { OnOk result (ReadsBy (reading_of at.lengths) reader.new) }
-    ensures emits { (side : Side) → Follows (reading_of at.lengths) reader.old side → EmitsPiece (reading_of at.lengths) L.hears L.fails at.scope at.line at.from side (bytes_in piece.entry) reader.new (listener.old, device.old) (listener.new, device.new) result }
+    ensures reading { OnOk result (ReadsBy (reading_of at.now.options.lengths) reader.new) }
+    ensures emits { (side : Side) → Follows (reading_of at.now.options.lengths) reader.old side → EmitsPiece (reading_of at.now.options.lengths) L.hears L.fails at.now.options.scope at.now.line at.now.from side (bytes_in piece.entry) reader.new (listener.old, device.old) (listener.new, device.new) result }
     ensures few { IfOk result (λ hearing. hearing.tally.messages + hearing.tally.bad ≤ length (bytes_in piece.entry)) }
 {
     let reads = reader.reads();
@@ -247,8 +247,7 @@ fn feed_piece<D, L: Listener<D>>(
     if reads || heard.any {
         return Ok(hearing);
     }
-    let from = at.from;
-    listener.hear(device, at.line, &TraceEvent::Unread { from })?;
+    emit_unread(listener, device, at)?;
     Ok(hearing)
 }
 
@@ -257,21 +256,21 @@ fn feed_piece<D, L: Listener<D>>(
 pub(crate) fn feed_side<D, L: Listener<D>>(
     listener: &mut L,
     device: &mut D,
-    at: PieceAt,
+    at: &PieceAt,
     reader: &mut SideReader,
     other: &SideReader,
     piece: Piece<'_>,
 ) -> Result<Hearing, ListenerError>
-    requires reading { ReadsBy (reading_of at.lengths) reader.old }
+    requires reading { ReadsBy (reading_of at.now.options.lengths) reader.old }
     requires spelled { SpellsBytes piece.undecoded.now }
-    ensures reading { OnOk result (ReadsBy (reading_of at.lengths) reader.new) }
-    ensures emits { (side beside : Side) → Follows (reading_of at.lengths) reader.old side → Follows (reading_of at.lengths) other.now beside → EmitsThere (reading_of at.lengths) L.hears L.fails at.scope at.line at.from side beside (bytes_in piece.entry) reader.new other.now (listener.old, device.old) (listener.new, device.new) result }
+    ensures reading { OnOk result (ReadsBy (reading_of at.now.options.lengths) reader.new) }
+    ensures emits { (side beside : Side) → Follows (reading_of at.now.options.lengths) reader.old side → Follows (reading_of at.now.options.lengths) other.now beside → EmitsThere (reading_of at.now.options.lengths) L.hears L.fails at.now.options.scope at.now.line at.now.from side beside (bytes_in piece.entry) reader.new other.now (listener.old, device.old) (listener.new, device.new) result }
     ensures few { IfOk result (λ hearing. hearing.tally.messages ≤ length (bytes_in piece.entry)) }
     ensures bad { IfOk result (λ hearing. hearing.tally.bad ≤ length (bytes_in piece.entry) + 1) }
 {
     let hearing = feed_piece(listener, device, at, reader, piece)?;
     let Tally { messages, bad } = hearing.tally;
-    if at.scope == Scope::WholeLine && hearing.stopped {
+    if at.options.scope == Scope::WholeLine && hearing.stopped {
         let cut_off = emit_truncation(listener, device, at.line, at.from.other(), &other.stream)?;
         return Ok(Hearing {
             tally: Tally {

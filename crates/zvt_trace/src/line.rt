@@ -1,12 +1,11 @@
 //! One line of a trace.
 ghost use Rattle.std.specs.Prelude.{◌≡◌, ◌<◌, ◌≤◌, length, IfOk, IfSome, Ok, Err};
 ghost use Rattle.hex.specs.Hex.{decode_of};
-ghost use Rattle.zvt_trace.specs.Meanings.{Begins, GoesOn, IsPlain, IsSign, Reads, meant_by, piece_of, size_of, without_spaces};
+ghost use Rattle.zvt_trace.specs.Meanings.{GoesOn, IsPlain, IsSign, Reads, meant_by, piece_of, size_of, without_spaces};
 ghost use Rattle.zvt_trace.specs.declared.fault.TraceLineError.{TraceLineError};
 
 use crate::direction::Direction;
 use crate::fault::TraceLineError;
-use crate::lines::next_line;
 use crate::spelled;
 
 /// How many bytes of a piece are read at once.
@@ -27,42 +26,17 @@ pub(crate) enum TraceLine<'a, 't> {
     Lost,
 }
 
-/// Reads the first line, and answers what follows it too. Of a piece, as many bytes are read as the buffer takes.
-#[inline(always)]
-pub(crate) fn first_line<'a, 't>(
-    buffer: &'a mut [u8],
-    rest: &'t [u8],
-) -> (Result<TraceLine<'a, 't>, TraceLineError>, &'t [u8])
-    requires { 0 < length rest.now }
-    ensures { Begins rest.now (λ line. Reads line result.0) result.1.now }
-{
-    match plain_piece(buffer, rest) {
-        Some(Plain { from, count, after }) => {
-            let line = TraceLine::Piece {
-                from,
-                bytes: &buffer[..count],
-                undecoded: &[],
-            };
-            (Ok(line), after)
-        }
-        None => {
-            let (line, after) = next_line(rest);
-            (read_line(buffer, line), after)
-        }
-    }
-}
-
 /// A piece in the plain form: `count` bytes, and what follows its line.
-struct Plain<'t> {
-    from: Direction,
-    count: usize,
-    after: &'t [u8],
+pub(crate) struct Plain<'t> {
+    pub(crate) from: Direction,
+    pub(crate) count: usize,
+    pub(crate) after: &'t [u8],
 }
 
 /// Reads the first line where it is a piece in the plain form and fits into the buffer. The plain form is a sign, a space
 /// and pairs of digits. So the end of the line is found as its digits are read.
 #[inline(always)]
-fn plain_piece<'t>(buffer: &mut [u8], rest: &'t [u8]) -> Option<Plain<'t>>
+pub(crate) fn plain_piece<'t>(buffer: &mut [u8], rest: &'t [u8]) -> Option<Plain<'t>>
     ensures begins { IfSome result (IsPlain rest.now buffer.new) }
     ensures few { IfSome result (λ plain. plain.count ≤ length buffer.new) }
     ensures size { length buffer.new ≡ length buffer.old }
@@ -93,7 +67,7 @@ fn direction(sign: u8) -> Option<Direction>
 /// Reads a line, which has lost its line feed. Of a piece, as many bytes are read as the buffer takes.
 // Few lines come here, and what reads the others is small enough to be inlined without this.
 #[inline(never)]
-fn read_line<'a, 't>(
+pub(crate) fn read_line<'a, 't>(
     buffer: &'a mut [u8],
     line: &'t [u8],
 ) -> Result<TraceLine<'a, 't>, TraceLineError>

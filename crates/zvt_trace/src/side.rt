@@ -1,6 +1,7 @@
 //! What is read of one side of the line.
 ghost use Rattle.std.specs.Prelude.{◌≡◌, ◌++◌, [], ℕ, List, length, suc};
 ghost use Rattle.zvt_grammar.specs.Lengths.{reading_of};
+ghost use Rattle.zvt_stream.specs.Head.{head_of};
 ghost use Rattle.zvt_trace.specs.Resuming.{announced, refused_size, size_by};
 ghost use Rattle.zvt_trace.specs.Trace.{running};
 ghost use Rattle.zvt_trace.specs.Written.{Follows, IsOpening, ReadsBy, Skips, is_everything, is_nothing, skipped_by};
@@ -9,7 +10,7 @@ use crate::listener::Scope;
 use arrayvec::ArrayVec;
 use std::alloc::Global;
 use zvt_grammar::Lengths;
-use zvt_stream::Stream;
+use zvt_stream::{Head, Stream};
 
 /// The first bytes of a message, as far as they have come: those that announce its size.
 #[derive(Drop)]
@@ -36,12 +37,26 @@ impl Opening {
     }
 
     /// These bytes of the message come next.
+    #[inline(always)]
     pub(crate) fn add(&mut self, bytes: &[u8])
         ensures { (held : List ℕ) → IsOpening self.old held → IsOpening self.new (held ++ bytes.now) }
     {
+        // A side that sends byte by byte costs no call for each.
+        if let [byte] = bytes {
+            let _ = self.first.try_push(*byte);
+            return;
+        }
         let room = self.first.remaining_capacity();
         let count = bytes.len().min(room);
         let _ = self.first.try_extend_from_slice(&bytes[..count]);
+    }
+
+    /// The control bytes of the message, as far as they have come.
+    pub(crate) fn head(&self) -> Head
+        ensures { (held : List ℕ) → IsOpening self.now held → result ≡ head_of held }
+    {
+        let head = Head::Empty.before(self.first.as_slice());
+        head
     }
 
     /// The size of the whole message, where enough of it has come.
@@ -124,6 +139,8 @@ impl SideReader {
     }
 
     /// Skips what the scope says after a refusal at that place of the message, of which these last bytes have come now.
+    #[cold]
+    #[inline(never)]
     pub(crate) fn refuse(&mut self, scope: Scope, bytes: &[u8], place: usize)
         ensures skipped { (held : List ℕ) → IsOpening self.old.opening held → suc place ≡ length (held ++ bytes.now) → self.new.skipped ≡ skipped_by (refused_size scope (held ++ bytes.now) place) (length (held ++ bytes.now)) }
         ensures stream { self.new.stream ≡ self.old.stream }
@@ -133,6 +150,8 @@ impl SideReader {
     }
 
     /// Skips what is to be skipped of these bytes, and answers those after it.
+    #[cold]
+    #[inline(never)]
     pub(crate) fn skip<'b>(&mut self, bytes: &'b [u8]) -> &'b [u8]
         ensures skips { Skips self.old.skipped bytes.now self.new.skipped result.now }
         ensures stream { self.new.stream ≡ self.old.stream }

@@ -12,11 +12,12 @@ ghost use Rattle.zvt_trace.specs.Listening.{AnswersFrom, AnswersWalk, EmitsEnd, 
 ghost use Rattle.zvt_trace.specs.Written.{limit};
 
 use crate::direction::Direction;
-use crate::emit::{PieceAt, emit_truncation};
+use crate::emit::{PieceAt, WalkOptions, emit_truncation, emit_unread};
 use crate::event::TraceEvent;
 use crate::fault::{Tally, TraceFault, TraceLineError};
 use crate::feed::{Piece, feed_side};
-use crate::line::{CHUNK, TraceLine, first_line};
+use crate::line::{CHUNK, Plain, TraceLine, plain_piece, read_line};
+use crate::lines::next_line;
 use crate::listener::{Listener, ListenerError, Scope};
 use crate::side::SideReader;
 use std::alloc::Global;
@@ -104,12 +105,39 @@ impl Progress {
         let mut buffer = [0; CHUNK];
         let mut rest = text;
         'lines: while !rest.is_empty() {
-            let (read, after) = first_line(&mut buffer, rest);
             number += 1;
-            let counted = emit_line(listener, device, options, &mut self.sides, number, read)?;
-            tally.messages += counted.messages;
-            tally.bad += counted.bad;
-            rest = after;
+            match plain_piece(&mut buffer, rest) {
+                Some(Plain { from, count, after }) => {
+                    let at = PieceAt {
+                        line: number,
+                        from,
+                        options,
+                    };
+                    let piece = Piece {
+                        bytes: &buffer[..count],
+                        undecoded: &[],
+                    };
+                    let counted = self.sides.feed_piece(listener, device, &at, piece)?;
+                    tally.messages += counted.messages;
+                    tally.bad += counted.bad;
+                    rest = after;
+                }
+                None => {
+                    let (line, after) = next_line(rest);
+                    let read = read_line(&mut buffer, line);
+                    let counted = emit_line(
+                        listener,
+                        device,
+                        options,
+                        &mut self.sides,
+                        number,
+                        read,
+                    )?;
+                    tally.messages += counted.messages;
+                    tally.bad += counted.bad;
+                    rest = after;
+                }
+            }
         }
         self.number = number;
         self.tally = tally;
@@ -134,8 +162,8 @@ impl Progress {
     }
 }
 
-/// Emits the events of the line of that number, where it could be read.
-#[inline(always)]
+/// Emits the events of the line of that number, where it could be read. Few lines are no piece in the plain form.
+#[inline(never)]
 fn emit_line<D, L: Listener<D>>(
     listener: &mut L,
     device: &mut D,
@@ -156,14 +184,6 @@ fn emit_line<D, L: Listener<D>>(
         Err(what) => return Err(TraceFault::Trace { line: number, what }),
     };
     Ok(sides.emit(listener, device, options, number, &line)?)
-}
-
-/// How a trace is walked: its memory, what a refusal leaves unread, and the lengths that its streams take.
-#[derive(Clone, Copy)]
-struct WalkOptions {
-    alloc: Global,
-    scope: Scope,
-    lengths: Lengths,
 }
 
 /// Both sides of the line. Once a refusal has left both sides unread, neither is fed.
@@ -204,11 +224,6 @@ impl BothSides {
         ensures few { IfOk result (λ tally. tally.messages ≤ size_of (meant_by line.now)) }
         ensures bad { IfOk result (λ tally. tally.bad ≤ size_of (meant_by line.now) + 2) }
     {
-        let WalkOptions {
-            alloc,
-            scope,
-            lengths,
-        } = options;
         match line {
             TraceLine::Comment => Ok(Tally::none()),
             TraceLine::Piece {
@@ -219,16 +234,14 @@ impl BothSides {
                 let at = PieceAt {
                     line: number,
                     from: *from,
-                    alloc,
-                    scope,
-                    lengths,
+                    options,
                 };
-                self.feed_piece(listener, device, at, Piece { bytes, undecoded })
+                self.feed_piece(listener, device, &at, Piece { bytes, undecoded })
             }
             TraceLine::Lost => {
                 let bad = self.emit_end(listener, device, number)?;
                 listener.hear(device, number, &TraceEvent::Lost)?;
-                *self = BothSides::new(alloc, lengths);
+                *self = BothSides::new(options.alloc, options.lengths);
                 Ok(Tally { messages: 0, bad })
             }
         }
@@ -240,23 +253,22 @@ impl BothSides {
         &mut self,
         listener: &mut L,
         device: &mut D,
-        at: PieceAt,
+        at: &PieceAt,
         piece: Piece<'_>,
     ) -> Result<Tally, ListenerError>
-        requires reading { TakeBy (reading_of at.lengths) self.old }
+        requires reading { TakeBy (reading_of at.now.options.lengths) self.old }
         requires spelled { SpellsBytes piece.undecoded.now }
-        ensures reading { OnOk result (TakeBy (reading_of at.lengths) self.new) }
-        ensures emits { (sides : Sides) → FollowBoth (reading_of at.lengths) self.old sides → EmitsLine (reading_of at.lengths) L.hears L.fails at.scope at.line (meaning.piece at.from (bytes_in piece.entry)) sides self.new (listener.old, device.old) (listener.new, device.new) result }
+        ensures reading { OnOk result (TakeBy (reading_of at.now.options.lengths) self.new) }
+        ensures emits { (sides : Sides) → FollowBoth (reading_of at.now.options.lengths) self.old sides → EmitsLine (reading_of at.now.options.lengths) L.hears L.fails at.now.options.scope at.now.line (meaning.piece at.now.from (bytes_in piece.entry)) sides self.new (listener.old, device.old) (listener.new, device.new) result }
         ensures few { IfOk result (λ tally. tally.messages ≤ length (bytes_in piece.entry)) }
         ensures bad { IfOk result (λ tally. tally.bad ≤ length (bytes_in piece.entry) + 2) }
     {
-        let from = at.from;
         if self.rejected {
-            listener.hear(device, at.line, &TraceEvent::Unread { from })?;
+            emit_unread(listener, device, at)?;
             return Ok(Tally::none());
         }
         let BothSides { till, terminal, .. } = self;
-        let hearing = match from {
+        let hearing = match at.from {
             Direction::FromTill => feed_side(listener, device, at, till, terminal, piece)?,
             Direction::FromTerminal => feed_side(listener, device, at, terminal, till, piece)?,
         };

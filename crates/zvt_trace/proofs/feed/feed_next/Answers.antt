@@ -2,7 +2,6 @@ use Rattle.std.proofs.Common.{◌∙◌, ◌+◌, ◌-◌, ◌++◌, length, tak
 use Rattle.std.proofs.lemmas.List.{take-append-drop}
 use Rattle.std.proofs.lemmas.Result.{err_from_is_err_and}
 use Rattle.zvt_trace.proofs.EmitLemmas.{ends_refusal, fails_message, fails_refused, fails_resumed, fails_skipped, hears_message, hears_more, hears_refused, hears_skipped, skipped_part, skips_part}
-use Rattle.zvt_trace.proofs.EventLemmas.{fails_refusal, hears_refusal}
 use Rattle.zvt_trace.proofs.FeedLemmas.{split_is}
 use Rattle.zvt_stream.specs.StreamState.{HasRefused, Keeps}
 use Rattle.zvt_grammar.specs.Lengths.{reading_of}
@@ -61,11 +60,10 @@ returns-in_err-emit_refusal-in-Ok-Refused-clause-emits g c = λ side follows.
     let held = c.args.reader.now.stream.held in
     let found = fed_as c.args.reader.now.stream c.feed_view.new.self bytes c.in-Ok-Refused.field-0 (fed.Refused c.in-Ok-Refused.place c.in-Ok-Refused.why) c.in-Ok-Refused.field-0-is c.in-Ok-Refused.ensures.fed in
     let feeds = found.0 in
-    let is = c.refusal-refusal.ensures in
-    let fatal = fatal_cut _ held bytes part c.in-Ok-Refused.place (c.in-Ok-Refused.place - length held + 1) c.in-Ok-Refused.why (refused_by _ _ _ _ _ c.requires.reading.0 feeds.0) feeds.1 refl (c.split_at-in-Ok-Refused.ensures.front ∙ ap (λ n. take (c.in-Ok-Refused.place - n + 1) bytes) c.of-begun.ensures.held) in
+    let fatal = fatal_cut _ held bytes part c.in-Ok-Refused.place (c.in-Ok-Refused.place - length held + 1) c.in-Ok-Refused.why (refused_by _ _ _ _ _ c.requires.reading.0 feeds.0) feeds.1 refl (c.split_at-in-Ok-Refused.ensures.front ∙ ap (λ n. take (c.in-Ok-Refused.place - n + 1) bytes) c.held-held.ensures.count) in
     rw (p.1, p.2) (fails_part g.L.Listener.hears g.L.Listener.fails _ _ _ _ side bytes part rest _ _ (split_is _ bytes part rest c.split_at-in-Ok-Refused.ensures.front c.split_at-in-Ok-Refused.ensures.back)
     (fails_refused g.L.Listener.hears g.L.Listener.fails _ _ _ _ part c.args.reader.now c.in-Ok-Refused.place c.in-Ok-Refused.why _ _ (going _ _ _ c.in-Ok-Refused.is c.feed_view.ensures.stopped) fatal.0 fatal.1
-    (fails_refusal g.L.Listener.fails _ _ _ held part _ _ c.refusal-refusal.result _ _ (is.head held c.of-begun.ensures.head) (is.byte held c.of-begun.ensures.held) is.place is.why c.in_err-emit_refusal-in-Ok-Refused.ensures) side follows))
+    c.in_err-emit_refusal-in-Ok-Refused.ensures side follows))
 
 pub returns-in_err-emit_resumed-in-Ok-Refused-clause-emits :
     goal.returns-in_err-emit_resumed-in-Ok-Refused-clause-emits
@@ -77,12 +75,11 @@ returns-in_err-emit_resumed-in-Ok-Refused-clause-emits g c = λ side follows.
     let held = c.args.reader.now.stream.held in
     let found = fed_as c.args.reader.now.stream c.feed_view.new.self bytes c.in-Ok-Refused.field-0 (fed.Refused c.in-Ok-Refused.place c.in-Ok-Refused.why) c.in-Ok-Refused.field-0-is c.in-Ok-Refused.ensures.fed in
     let feeds = found.0 in
-    let is = c.refusal-refusal.ensures in
-    let fatal = fatal_cut _ held bytes part c.in-Ok-Refused.place (c.in-Ok-Refused.place - length held + 1) c.in-Ok-Refused.why (refused_by _ _ _ _ _ c.requires.reading.0 feeds.0) feeds.1 refl (c.split_at-in-Ok-Refused.ensures.front ∙ ap (λ n. take (c.in-Ok-Refused.place - n + 1) bytes) c.of-begun.ensures.held) in
+    let fatal = fatal_cut _ held bytes part c.in-Ok-Refused.place (c.in-Ok-Refused.place - length held + 1) c.in-Ok-Refused.why (refused_by _ _ _ _ _ c.requires.reading.0 feeds.0) feeds.1 refl (c.split_at-in-Ok-Refused.ensures.front ∙ ap (λ n. take (c.in-Ok-Refused.place - n + 1) bytes) c.held-held.ensures.count) in
     rw (p.1, p.2) (fails_part g.L.Listener.hears g.L.Listener.fails _ _ _ _ side bytes part rest _ _ (split_is _ bytes part rest c.split_at-in-Ok-Refused.ensures.front c.split_at-in-Ok-Refused.ensures.back)
     (fails_resumed g.L.Listener.hears g.L.Listener.fails _ _ _ _ part c.args.reader.now c.emit_resumed.new.reader c.in-Ok-Refused.place c.in-Ok-Refused.why _ _ _ (going _ _ _ c.in-Ok-Refused.is c.feed_view.ensures.stopped) fatal.0 fatal.1
-    (hears_refusal g.L.Listener.hears _ _ held part _ _ c.refusal-refusal.result _ _ (is.head held c.of-begun.ensures.head) (is.byte held c.of-begun.ensures.held) is.place is.why c.in_ok-emit_refusal-in-Ok-Refused.ensures)
-    (λ held opens all. ends_refusal (reading_of c.args.at.lengths) g.L.Listener.hears g.L.Listener.fails _ _ _ _ c.refuse.new.self c.emit_resumed.new.reader _ _ _ (subst HasRefused (sym c.refuse.ensures.stream) feeds.2) (c.refuse.ensures.skipped held opens all) c.in_err-emit_resumed-in-Ok-Refused.ensures.rest c.in_err-emit_resumed-in-Ok-Refused.ensures.none) side follows))
+    c.in_ok-emit_refusal-in-Ok-Refused.ensures
+    (λ held opens all. ends_refusal (reading_of c.args.at.now.options.lengths) g.L.Listener.hears g.L.Listener.fails _ _ _ _ c.refuse.new.self c.emit_resumed.new.reader _ _ _ (subst HasRefused (sym c.refuse.ensures.stream) feeds.2) (c.refuse.ensures.skipped held opens all) c.in_err-emit_resumed-in-Ok-Refused.ensures.rest c.in_err-emit_resumed-in-Ok-Refused.ensures.none) side follows))
 
 pub returns-in_ok-emit_resumed-in-Ok-Refused-clause-emits :
     goal.returns-in_ok-emit_resumed-in-Ok-Refused-clause-emits
@@ -93,14 +90,13 @@ returns-in_ok-emit_resumed-in-Ok-Refused-clause-emits g c = λ side follows.
     let held = c.args.reader.now.stream.held in
     let found = fed_as c.args.reader.now.stream c.feed_view.new.self bytes c.in-Ok-Refused.field-0 (fed.Refused c.in-Ok-Refused.place c.in-Ok-Refused.why) c.in-Ok-Refused.field-0-is c.in-Ok-Refused.ensures.fed in
     let feeds = found.0 in
-    let is = c.refusal-refusal.ensures in
-    let fatal = fatal_cut _ held bytes part c.in-Ok-Refused.place (c.in-Ok-Refused.place - length held + 1) c.in-Ok-Refused.why (refused_by _ _ _ _ _ c.requires.reading.0 feeds.0) feeds.1 refl (c.split_at-in-Ok-Refused.ensures.front ∙ ap (λ n. take (c.in-Ok-Refused.place - n + 1) bytes) c.of-begun.ensures.held) in
+    let fatal = fatal_cut _ held bytes part c.in-Ok-Refused.place (c.in-Ok-Refused.place - length held + 1) c.in-Ok-Refused.why (refused_by _ _ _ _ _ c.requires.reading.0 feeds.0) feeds.1 refl (c.split_at-in-Ok-Refused.ensures.front ∙ ap (λ n. take (c.in-Ok-Refused.place - n + 1) bytes) c.held-held.ensures.count) in
     rw c.refusal-heard.ensures (record {
       first = part;
       cut = split_is _ bytes part rest c.split_at-in-Ok-Refused.ensures.front c.split_at-in-Ok-Refused.ensures.back;
       heard = hears_refused g.L.Listener.hears g.L.Listener.fails _ _ _ part c.args.reader.now c.emit_resumed.new.reader c.in-Ok-Refused.place c.in-Ok-Refused.why _ _ _ c.in_ok-emit_resumed-in-Ok-Refused.field-0 (going _ _ _ c.in-Ok-Refused.is c.feed_view.ensures.stopped) fatal.0 fatal.1
-          (hears_refusal g.L.Listener.hears _ _ held part _ _ c.refusal-refusal.result _ _ (is.head held c.of-begun.ensures.head) (is.byte held c.of-begun.ensures.held) is.place is.why c.in_ok-emit_refusal-in-Ok-Refused.ensures)
-          (λ held opens all. ends_refusal (reading_of c.args.at.lengths) g.L.Listener.hears g.L.Listener.fails _ _ _ _ c.refuse.new.self c.emit_resumed.new.reader _ _ _ (subst HasRefused (sym c.refuse.ensures.stream) feeds.2) (c.refuse.ensures.skipped held opens all) c.in_ok-emit_resumed-in-Ok-Refused.ensures.rest c.in_ok-emit_resumed-in-Ok-Refused.ensures.none) side follows;
+          c.in_ok-emit_refusal-in-Ok-Refused.ensures
+          (λ held opens all. ends_refusal (reading_of c.args.at.now.options.lengths) g.L.Listener.hears g.L.Listener.fails _ _ _ _ c.refuse.new.self c.emit_resumed.new.reader _ _ _ (subst HasRefused (sym c.refuse.ensures.stream) feeds.2) (c.refuse.ensures.skipped held opens all) c.in_ok-emit_resumed-in-Ok-Refused.ensures.rest c.in_ok-emit_resumed-in-Ok-Refused.ensures.none) side follows;
     })
 
 pub returns-in_err-resumed-in-Err-Stopped-clause-emits : goal.returns-in_err-resumed-in-Err-Stopped-clause-emits

@@ -20,11 +20,11 @@ returns-then-reads-clause-emits g c = λ side follows.
     ] in
     hears_piece g.L.Listener.hears _ _ _ side _ c.args.reader.now c.feed_content.new.reader c.in_ok-heard.heard _ _ _ follows (c.in_ok-heard.ensures.emits side follows) refl c.has_stopped.ensures some
 
-pub returns-in_err-hear-clause-emits : goal.returns-in_err-hear-clause-emits
-returns-in_err-hear-clause-emits g c = λ side follows.
-    let p = err_from_is_err_and c.from_residual-in_err-hear.result c.from_residual-in_err-hear.ensures.1 in
-    rw (p.1, p.2) (unread_fails g.L.Listener.hears g.L.Listener.fails _ _ _ _ side _ c.args.reader.now c.feed_content.new.reader c.in_ok-heard.heard _ _ _ follows (c.in_ok-heard.ensures.emits side follows) (or_from _ _ (sym c.reads-reads.ensures ∙ c.if-reads.false) c.if-heard.false) c.in_err-hear.ensures)
+pub returns-in_err-emit_unread-clause-emits : goal.returns-in_err-emit_unread-clause-emits
+returns-in_err-emit_unread-clause-emits g c = λ side follows.
+    let p = err_from_is_err_and c.from_residual-in_err-emit_unread.result c.from_residual-in_err-emit_unread.ensures.1 in
+    rw (p.1, p.2) (unread_fails g.L.Listener.hears g.L.Listener.fails _ _ _ _ side _ c.args.reader.now c.feed_content.new.reader c.in_ok-heard.heard _ _ _ follows (c.in_ok-heard.ensures.emits side follows) (or_from _ _ (sym c.reads-reads.ensures ∙ c.if-reads.false) c.if-heard.false) c.in_err-emit_unread.ensures)
 
 pub returns-clause-emits : goal.returns-clause-emits
 returns-clause-emits g c = λ side follows.
-    unread_piece g.L.Listener.hears _ _ _ side _ c.args.reader.now c.feed_content.new.reader c.in_ok-heard.heard _ _ _ _ follows (c.in_ok-heard.ensures.emits side follows) refl c.has_stopped.ensures (or_from _ _ (sym c.reads-reads.ensures ∙ c.if-reads.false) c.if-heard.false) c.in_ok-hear.ensures
+    unread_piece g.L.Listener.hears _ _ _ side _ c.args.reader.now c.feed_content.new.reader c.in_ok-heard.heard _ _ _ _ follows (c.in_ok-heard.ensures.emits side follows) refl c.has_stopped.ensures (or_from _ _ (sym c.reads-reads.ensures ∙ c.if-reads.false) c.if-heard.false) c.in_ok-emit_unread.ensures
