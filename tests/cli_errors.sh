@@ -57,7 +57,6 @@ for command in show join normalise audit receipts; do
 done
 echo '> 8' > "$work/half.trace"
 refuses "a line that is none" 3 "zvt: '$work/half.trace': line 1 of the trace: " audit "$work/half.trace"
-refuses "two books" 2 "'two'" book one two
 refuses "two files that are followed" 2 "zvt: '--follow' takes one FILE" show --follow one two
 refuses "the second of two files that are not there" 4 "zvt: 'two': cannot open the trace: " show one two
 refuses "a word that is no text" 2 "zvt: an argument is not valid UTF-8" show "$(printf '\377')"
