@@ -2,6 +2,7 @@ mod Begun
 mod Bytes
 mod CallsOutlived
 mod Crashed
+mod Failing
 mod Kept
 pub mod Known
 mod LineLemmas
@@ -16,5 +17,6 @@ mod Relived
 mod Rows
 mod RunsOutlived
 mod Sent
+mod Short
 mod Steps
 mod WordLemmas

@@ -1,5 +1,5 @@
 -- One order of a till with its journal, from end to end.
-use Rattle.std.specs.Prelude.{◌≡◌, ◌⊎◌, ℕ, Bool, true, false, List, Option, Some, Result, Ok, Err}
+use Rattle.std.specs.Prelude.{◌≡◌, ◌⊎◌, ℕ, Bool, true, false, List, Option, Some, None, Result, Ok, Err}
 use Rattle.std.specs.Io.KnownBytes.{Appends}
 use Rattle.zvt_stream.specs.Apdus.{Spells}
 use Rattle.zvt_stream.specs.StreamState.{StreamState}
@@ -13,17 +13,19 @@ use Rattle.zvt_till.specs.Events.{message_out}
 use Rattle.zvt_till.specs.Line.{till_rests}
 use Rattle.zvt_till.specs.Till.{facts_of}
 use Rattle.zvt_till.specs.View.{IsRefusedAs}
-use Rattle.zvt_kept.specs.KeptTill.{Hears, KeptValue, LosesLine, OrderLost, Ordered}
+use Rattle.zvt_journal.specs.declared.device.DeviceError.{DeviceError}
+use Rattle.zvt_kept.specs.KeptTill.{FailsOnlyBy, Hears, KeptValue, LosesLine, OrderLost, Ordered, has_failed}
 use Rattle.zvt_kept.specs.declared.run.KeptFault.{KeptFault}
 use Rattle.zvt_kept.specs.declared.run.KeptFault.TheVariants.{Order as OrderFault, Journal as JournalFault, Line as LineBroke}
 
-module _ {D : Type 0} (seen : D → List ℕ) (may_leave : D → List ℕ → Type 0) (moment : D → ℕ) (left_since : D → ℕ → List ℕ → Type 0) where
+module _ {D : Type 0} (seen : D → List ℕ) (may_leave : D → List ℕ → Type 0) (moment : D → ℕ) (left_since : D → ℕ → List ℕ → Type 0) (faults : D → ℕ) where
   -- An order's record was made durable, and then its message written.
   pub record SendsKept (order : Order) (old new : KeptValue D) (first last : Option (List ℕ)) : Type 0 where
     pub outgoing : Outgoing
     pub bytes : List ℕ
-    pub ordered : Ordered seen may_leave moment left_since order outgoing old.standing new.standing
-    pub whole : new.failed ≡ old.failed
+    pub ordered : Ordered seen may_leave moment left_since faults order outgoing old.standing new.standing
+    pub same : new.failure ≡ old.failure
+    pub whole : new.failure ≡ None
     pub spelled : Spells (message_out outgoing) bytes
     pub appended : Appends first last bytes
 
@@ -33,27 +35,27 @@ module _ {D : Type 0} (seen : D → List ℕ) (may_leave : D → List ℕ → Ty
     pub between : Option (List ℕ)
     pub answered : Bool
     pub sends : SendsKept order old sent_till first between
-    pub pumped : Pumped (Hears seen may_leave moment left_since) before after sent_till new coming left between last answered
+    pub pumped : Pumped (Hears seen may_leave moment left_since faults) before after sent_till new coming left between last answered
     pub rests : till_rests new.standing.till ≡ true
     pub came : new.standing.till.state.last_outcome ≡ Some outcome
-    pub whole : new.failed ≡ false
+    pub whole : has_failed new ≡ false
 
   -- The journal failed before the order was sent, and nothing was; or while its answers were heard.
   abbrev pub JournalBroke : Order → (before after : StreamState) → (old new : KeptValue D) → (coming left first last : Option (List ℕ)) → Type 0
   JournalBroke order before after old new coming left first last =
-      (new.failed ≡ true)
-      × ((OrderLost seen may_leave moment left_since order old.standing new.standing × (after ≡ before) × (left ≡ coming) × (last ≡ first))
+      (why : DeviceError) × (new.failure ≡ Some why) × FailsOnlyBy seen may_leave moment left_since faults why old.standing new.standing
+      × ((OrderLost seen may_leave moment left_since faults order why old.standing new.standing × (after ≡ before) × (left ≡ coming) × (last ≡ first))
       ⊎ ((sent_till : KeptValue D) × (between : Option (List ℕ)) × (answered : Bool) × SendsKept order old sent_till first between
-      × Pumped (Hears seen may_leave moment left_since) before after sent_till new coming left between last answered))
+      × Pumped (Hears seen may_leave moment left_since faults) before after sent_till new coming left between last answered))
 
   -- An order was sent, or its message could not be written, and the line broke.
   abbrev pub LineBrokeKept : LineFault → Order → (before after : StreamState) → (old new : KeptValue D) → (coming left first last : Option (List ℕ)) → Type 0
   LineBrokeKept fault order before after old new coming left first last =
-      ((fault ≡ Write) × (outgoing : Outgoing) × (sent_till : KeptValue D) × Ordered seen may_leave moment left_since order outgoing old.standing sent_till.standing
-      × LosesLine seen may_leave moment left_since sent_till new × (after ≡ before) × (left ≡ coming))
+      ((fault ≡ Write) × (outgoing : Outgoing) × (sent_till : KeptValue D) × Ordered seen may_leave moment left_since faults order outgoing old.standing sent_till.standing
+      × LosesLine seen may_leave moment left_since faults sent_till new × (after ≡ before) × (left ≡ coming))
       ⊎ ((sent_till : KeptValue D) × (between : Option (List ℕ)) × (middle : KeptValue D) × SendsKept order old sent_till first between
-      × Broken (Hears seen may_leave moment left_since) fault before after sent_till middle coming left between last
-      × Reported (LosesLine seen may_leave moment left_since) (LosesLine seen may_leave moment left_since) fault middle new)
+      × Broken (Hears seen may_leave moment left_since faults) fault before after sent_till middle coming left between last
+      × Reported (LosesLine seen may_leave moment left_since faults) (LosesLine seen may_leave moment left_since faults) fault middle new)
 
   abbrev pub RanKept : Order → (before after : StreamState) → (old new : KeptValue D) → (coming left first last : Option (List ℕ)) → Result Outcome KeptFault → Type 0
   RanKept order before after old new coming left first last (Ok outcome) = RunsKept order outcome before after old new coming left first last

@@ -1,5 +1,5 @@
 //! The steps of a till, each of them in its journal first.
-ghost use Rattle.std.specs.Prelude.{◌≡◌, List, ℕ, true};
+ghost use Rattle.std.specs.Prelude.{◌≡◌, ◌≤◌, List, ℕ, length, true};
 ghost use Rattle.zvt_apdu.specs.Grammar.{Spells};
 ghost use Rattle.zvt_grammar.specs.Reading.{padded};
 ghost use Rattle.zvt_journal.specs.Text.{IsSettled};
@@ -29,7 +29,7 @@ pub(crate) fn take_order<D: Device>(
     order: Order,
 ) -> Result<Outgoing, KeptRefusal>
     requires { till.old.state.line_up ≡ true → KeepsSome (D.seen journal.old.device) (D.may_leave journal.old.device) journal.old.gate till.old.state }
-    ensures { Orders D.seen D.may_leave D.moment D.left_since order
+    ensures { Orders D.seen D.may_leave D.moment D.left_since D.faults order
         (record { till = till.old; device = journal.old.device; gate = journal.old.gate })
         (record { till = till.new; device = journal.new.device; gate = journal.new.gate }) result }
 {
@@ -56,7 +56,7 @@ pub(crate) fn take_message<D: Device>(
 ) -> Result<Answers, DeviceError>
     requires up { till.old.state.line_up ≡ true }
     requires kept { KeepsSome (D.seen journal.old.device) (D.may_leave journal.old.device) journal.old.gate till.old.state }
-    ensures { Takes D.seen D.may_leave D.moment D.left_since apdu.now
+    ensures { Takes D.seen D.may_leave D.moment D.left_since D.faults apdu.now
         (record { till = till.old; device = journal.old.device; gate = journal.old.gate })
         (record { till = till.new; device = journal.new.device; gate = journal.new.gate }) result }
 {
@@ -99,7 +99,7 @@ fn keep_order<D: Device>(
 ) -> Result<(), DeviceError>
     requires settled { IsSettled (D.seen journal.old.device) (D.may_leave journal.old.device) journal.old.gate }
     requires spelled { IsSpelledOrder order.now }
-    ensures { Recorded D.seen D.may_leave D.moment D.left_since (ordered order.now) journal.old.device journal.new.device journal.new.gate result }
+    ensures { Recorded D.seen D.may_leave D.moment D.left_since D.faults (ordered order.now) journal.old.device journal.new.device journal.new.gate result }
 {
     let mut buffer = [0; MAX_BRIEF_LEN];
     let size = masked(outgoing).put(&mut buffer);
@@ -116,7 +116,8 @@ fn keep_heard<D: Device>(
     answers: &[u8],
 ) -> Result<(), DeviceError>
     requires settled { IsSettled (D.seen journal.old.device) (D.may_leave journal.old.device) journal.old.gate }
-    ensures { (bytes : List ℕ) × ∥ Spells padded message.now bytes ∥₁ × Recorded D.seen D.may_leave D.moment D.left_since (heard bytes) journal.old.device journal.new.device journal.new.gate result }
+    requires few { length answers.now ≤ 32 }
+    ensures { (bytes : List ℕ) × ∥ Spells padded message.now bytes ∥₁ × Recorded D.seen D.may_leave D.moment D.left_since D.faults (heard bytes) journal.old.device journal.new.device journal.new.gate result }
 {
     let mut text = Text::new(alloc);
     put_heard(&mut text, message.bytes(), answers)?;
@@ -129,7 +130,7 @@ pub(crate) fn keep_lost<D: Device>(
     journal: &mut Journal<D>,
 ) -> Result<(), DeviceError>
     requires { IsSettled (D.seen journal.old.device) (D.may_leave journal.old.device) journal.old.gate }
-    ensures { Recorded D.seen D.may_leave D.moment D.left_since lost journal.old.device journal.new.device journal.new.gate result }
+    ensures { Recorded D.seen D.may_leave D.moment D.left_since D.faults lost journal.old.device journal.new.device journal.new.gate result }
 {
     let mut text = Text::new(alloc);
     put_lost(&mut text)?;
@@ -162,7 +163,8 @@ fn masked(outgoing: &Outgoing) -> Outgoing
 
 /// The bytes with which a till answers this at once, while its line is up.
 pub fn answers_to(heard: &Heard) -> Answers
-    ensures { IsAnswer (reply_to heard.now) result }
+    ensures answers { IsAnswer (reply_to heard.now) result }
+    ensures few { length result.bytes ≤ 32 }
 {
     let mut answers = Answers::new();
     if let Some(outgoing) = reply_to(heard) {

@@ -21,23 +21,23 @@ use zvt_till::{Order, Outgoing, Till, TillSettings};
 pub struct KeptTill<D: Device> {
     till: Till,
     journal: Journal<D>,
-    /// Whether the journal failed.
-    failed: bool,
+    /// Why the journal failed, if it did.
+    failure: Option<DeviceError>,
 }
 
 impl<D: Device> Model for KeptTill<D> {
-    ghost use Rattle.std.specs.Prelude.{◌≡◌};
+    ghost use Rattle.std.specs.Prelude.{◌≡◌, is_some};
     ghost use Rattle.zvt_kept.specs.KeptTill.{KeptValue, IsKept};
 
     ghost Value = { KeptValue D };
 
-    ghost view = { λ k. record { standing = record { till = k.till; device = k.journal.device; gate = k.journal.gate }; failed = k.failed } };
+    ghost view = { λ k. record { standing = record { till = k.till; device = k.journal.device; gate = k.journal.gate }; failure = k.failure } };
 
-    ghost invariant = { λ k. IsKept k.failed (D.seen k.journal.device) (D.may_leave k.journal.device) k.journal.gate k.till.state };
+    ghost invariant = { λ k. IsKept (is_some k.failure) (D.seen k.journal.device) (D.may_leave k.journal.device) k.journal.gate k.till.state };
 }
 
 impl<D: Device + Drop> KeptTill<D> {
-    ghost use Rattle.std.specs.Prelude.{◌∷◌, [], Err, List, false, length, IfOk, MatchResult};
+    ghost use Rattle.std.specs.Prelude.{◌∷◌, [], Err, List, None, length, IfOk, MatchResult};
     ghost use Rattle.zvt_journal.specs.Text.{recovered};
     ghost use Rattle.zvt_kept.specs.Logs.{StandsFor};
     ghost use Rattle.zvt_kept.specs.Recovery.{IsRecovered, Recovers};
@@ -57,7 +57,7 @@ impl<D: Device + Drop> KeptTill<D> {
     ) -> Result<KeptTill<D>, DeviceError>
         requires { IsSettled (D.seen device) (D.may_leave device) 0 }
         ensures till { IfOk result (λ kept. kept.standing.till.state ≡ new_till (settings_of settings.now)) }
-        ensures whole { IfOk result (λ kept. kept.failed ≡ false) }
+        ensures whole { IfOk result (λ kept. kept.failure ≡ None) }
         ensures log { IfOk result (λ kept. Keeps (settings_of settings.now) (Connected ∷ []) (D.seen kept.standing.device) (D.may_leave kept.standing.device) kept.standing.gate kept.standing.till.state) }
     {
         let mut text = Text::new(alloc);
@@ -72,7 +72,7 @@ impl<D: Device + Drop> KeptTill<D> {
         Ok(KeptTill {
             till,
             journal,
-            failed: false,
+            failure: None,
         })
     }
 
@@ -89,7 +89,7 @@ impl<D: Device + Drop> KeptTill<D> {
         requires settled { IsSettled (D.seen device) (D.may_leave device) (length text.now) }
         ensures till { MatchResult result (λ kept. IsRecovered (settings_of settings.now) text.now kept.standing.till.state) (λ why. Recovers (settings_of settings.now) text.now (Err why)) }
         ensures device { IfOk result (λ kept. (kept.standing.device ≡ device) × (kept.standing.gate ≡ length text.now)) }
-        ensures whole { IfOk result (λ kept. kept.failed ≡ false) }
+        ensures whole { IfOk result (λ kept. kept.failure ≡ None) }
         ensures log { IfOk result (λ kept. (log : List Happening) → StandsFor settings.now.currency text.now log → Keeps (settings_of settings.now) log (D.seen device) (D.may_leave device) (length text.now) kept.standing.till.state) }
     {
         let till = recover(alloc, settings, text)?;
@@ -101,18 +101,19 @@ impl<D: Device + Drop> KeptTill<D> {
         Ok(KeptTill {
             till,
             journal,
-            failed: false,
+            failure: None,
         })
     }
 }
 
 impl<D: Device> KeptTill<D> {
-    ghost use Rattle.zvt_kept.specs.KeptTill.{IsKept, Orders, Connects, LosesLine, failed_after};
+    ghost use Rattle.std.specs.Prelude.{None, OnOk};
+    ghost use Rattle.zvt_kept.specs.KeptTill.{IsKept, Orders, Connects, LosesLine, failure_after, has_failed};
 
     /// The till, to look at.
     pub fn till(&self) -> &Till
         ensures till { result.now ≡ self.now.standing.till }
-        ensures kept { IsKept self.now.failed (D.seen self.now.standing.device) (D.may_leave self.now.standing.device) self.now.standing.gate self.now.standing.till.state }
+        ensures kept { IsKept (has_failed self.now) (D.seen self.now.standing.device) (D.may_leave self.now.standing.device) self.now.standing.gate self.now.standing.till.state }
     {
         &self.till
     }
@@ -126,21 +127,29 @@ impl<D: Device> KeptTill<D> {
 
     /// Whether the journal failed. The till's line is down then, and stays so.
     pub fn has_failed(&self) -> bool
-        ensures { result ≡ self.now.failed }
+        ensures { result ≡ has_failed self.now }
     {
-        self.failed
+        self.failure.is_some()
+    }
+
+    /// Why the journal failed, if it did.
+    pub fn failure(&self) -> Option<DeviceError>
+        ensures { result ≡ self.now.failure }
+    {
+        self.failure
     }
 
     /// Gives the till an order, and answers the message to send. The order's record is durable then.
     pub fn order(&mut self, alloc: Global, order: Order) -> Result<Outgoing, KeptRefusal>
-        ensures orders { Orders D.seen D.may_leave D.moment D.left_since order self.old.standing self.new.standing result }
-        ensures failed { self.new.failed ≡ failed_after self.old.failed result }
+        ensures orders { Orders D.seen D.may_leave D.moment D.left_since D.faults order self.old.standing self.new.standing result }
+        ensures failure { self.new.failure ≡ failure_after self.old.failure result }
+        ensures whole { OnOk result (self.new.failure ≡ None) }
     {
         match take_order(alloc, &mut self.till, &mut self.journal, order) {
             Ok(outgoing) => Ok(outgoing),
             Err(KeptRefusal::Order(why)) => Err(KeptRefusal::Order(why)),
             Err(KeptRefusal::Journal(why)) => {
-                self.failed = true;
+                self.failure = Some(why);
                 Err(KeptRefusal::Journal(why))
             }
         }
@@ -148,16 +157,16 @@ impl<D: Device> KeptTill<D> {
 
     /// The line is up. A record says that an earlier line was lost. Nothing changes where the line is up.
     pub fn connected(&mut self, alloc: Global) -> Result<(), DeviceError>
-        ensures { Connects D.seen D.may_leave D.moment D.left_since self.old self.new result }
+        ensures { Connects D.seen D.may_leave D.moment D.left_since D.faults self.old self.new result }
     {
-        if self.failed {
+        if self.failure.is_some() {
             return Err(DeviceError::Failed);
         }
         if self.till.line_up() {
             return Ok(());
         }
         if let Err(why) = keep_lost(alloc, &mut self.journal) {
-            self.failed = true;
+            self.failure = Some(why);
             return Err(why);
         }
         self.till.connected();
@@ -166,7 +175,7 @@ impl<D: Device> KeptTill<D> {
 
     /// The line was lost. The journal is written when the next line is up.
     fn line_lost(&mut self)
-        ensures { LosesLine D.seen D.may_leave D.moment D.left_since self.old self.new }
+        ensures { LosesLine D.seen D.may_leave D.moment D.left_since D.faults self.old self.new }
     {
         let _ = self.till.lost();
     }
@@ -179,11 +188,11 @@ impl<D: Device> Machine for KeptTill<D> {
     ghost use Rattle.zvt_kept.specs.KeptTill.{Hears, LosesLine};
     ghost use Rattle.zvt_till.specs.Line.{till_rests};
 
-    ghost hears = { λ old message answered new. Hears D.seen D.may_leave D.moment D.left_since old message answered new };
+    ghost hears = { λ old message answered new. Hears D.seen D.may_leave D.moment D.left_since D.faults old message answered new };
 
-    ghost loses = { λ old new. LosesLine D.seen D.may_leave D.moment D.left_since old new };
+    ghost loses = { λ old new. LosesLine D.seen D.may_leave D.moment D.left_since D.faults old new };
 
-    ghost malforms = { λ old new. LosesLine D.seen D.may_leave D.moment D.left_since old new };
+    ghost malforms = { λ old new. LosesLine D.seen D.may_leave D.moment D.left_since D.faults old new };
 
     ghost is_resting = { λ k. till_rests k.standing.till };
 
@@ -195,8 +204,8 @@ impl<D: Device> Machine for KeptTill<D> {
         }
         match take_message(alloc, &mut self.till, &mut self.journal, apdu) {
             Ok(answers) => Ok(answers),
-            Err(_) => {
-                self.failed = true;
+            Err(why) => {
+                self.failure = Some(why);
                 Ok(Answers::new())
             }
         }

@@ -34,7 +34,7 @@ pub fn run_order_kept<R: Source, W: Sink, D: Device>(
     order: Order,
     turns: u64,
 ) -> Result<Outcome, KeptFault>
-    ensures ran { RanKept D.seen D.may_leave D.moment D.left_since order end.old.stream end.new.stream kept.old kept.new
+    ensures ran { RanKept D.seen D.may_leave D.moment D.left_since D.faults order end.old.stream end.new.stream kept.old kept.new
         (R.remaining end.old.reader) (R.remaining end.new.reader) (W.written end.old.writer) (W.written end.new.writer) result }
     ensures reads { R.reads end.new.reader ≤ R.reads end.old.reader + turns }
 {
