@@ -19,7 +19,7 @@ use Rattle.zvt_journal.specs.Device.{LeavesOnly}
 use Rattle.zvt_journal.specs.Files.{IsRepairable}
 use Rattle.zvt_journal.specs.declared.device.DeviceError.{DeviceError}
 use Rattle.zvt_journal.specs.declared.device.DeviceError.TheVariants.{Memory, Failed, Full}
-use Rattle.zvt_kept.specs.Records.{Kept, IsRecordOf}
+use Rattle.zvt_kept.specs.Records.{Kept, IsRecordOf, opening}
 use Rattle.zvt_kept.specs.Logs.{StandsFor}
 use Rattle.zvt_kept.specs.declared.refusal.KeptRefusal.{KeptRefusal}
 use Rattle.zvt_kept.specs.declared.refusal.KeptRefusal.TheVariants.{Order as OrderRefused, Journal as JournalFailed}
@@ -91,6 +91,12 @@ module _ {D : Type 0} (seen : D → List ℕ) (may_leave : D → List ℕ → Ty
     pub added : List ℕ
     pub is : IsRecordOf one added
     pub adds : Adds added old new gate result
+
+  -- A journal was to begin on a device without records, which became the other. A crash at any moment leaves no record, or the
+  -- opening, in a file that opening repairs.
+  pub record Begins (currency : ℕ) (old new : D) : Type 0 where
+    pub leaves : LeavesOnly moment left_since old new (IsWithOrWithout [] (opening currency))
+    pub repairable : LeavesOnly moment left_since old new IsRepairable
 
   -- The journal fails only by a fault of its disk between the two, or by its bound.
   abbrev pub FailsOnlyBy : DeviceError → (old new : Standing D) → Type 0

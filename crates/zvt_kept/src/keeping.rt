@@ -1,21 +1,22 @@
 //! The steps of a till, each of them in its journal first.
-ghost use Rattle.std.specs.Prelude.{◌≡◌, ◌≤◌, List, ℕ, length, true};
+ghost use Rattle.std.specs.Prelude.{◌≡◌, ◌≤◌, [], List, OnErr, Some, ℕ, length, true};
 ghost use Rattle.zvt_apdu.specs.Grammar.{Spells};
 ghost use Rattle.zvt_grammar.specs.Reading.{padded};
 ghost use Rattle.zvt_journal.specs.Text.{IsSettled};
-ghost use Rattle.zvt_kept.specs.KeptTill.{KeepsSome, Orders, Recorded, Takes};
+ghost use Rattle.zvt_kept.specs.KeptTill.{Adds, KeepsSome, Orders, Recorded, Takes};
 ghost use Rattle.zvt_kept.specs.Masking.{masked};
-ghost use Rattle.zvt_kept.specs.Records.{IsSpelledOrder, heard, lost, ordered};
+ghost use Rattle.zvt_kept.specs.Records.{IsSpelledOrder, heard, kept_in, lost, opening, ordered};
 ghost use Rattle.zvt_till.specs.Hearing.{heard_as};
 ghost use Rattle.zvt_till.specs.Line.{Answers as IsAnswer};
 ghost use Rattle.zvt_till.specs.Refusals.{refusal};
 ghost use Rattle.zvt_till.specs.Sending.{reply_to};
 ghost use Rattle.zvt_till.specs.Till.{facts_of};
 
-use crate::records::{put_heard, put_lost, put_order};
+use crate::records::{put_heard, put_lost, put_opening, put_order};
 use crate::refusal::KeptRefusal;
 use std::alloc::Global;
 use zvt_apdu::{ApduView, Brief, MAX_BRIEF_LEN};
+use zvt_bcd::Currency;
 use zvt_journal::{Device, DeviceError, Journal};
 use zvt_stream::Answers;
 use zvt_text::Text;
@@ -121,6 +122,22 @@ fn keep_heard<D: Device>(
 {
     let mut text = Text::new(alloc);
     put_heard(&mut text, message.bytes(), answers)?;
+    journal.append(text.bytes())
+}
+
+/// Makes the opening of a journal durable.
+pub(crate) fn keep_opening<D: Device>(
+    alloc: Global,
+    journal: &mut Journal<D>,
+    currency: Currency,
+) -> Result<(), DeviceError>
+    requires { IsSettled (D.seen journal.old.device) (D.may_leave journal.old.device) journal.old.gate }
+    ensures adds { Adds D.seen D.may_leave D.moment D.left_since D.faults (opening currency) journal.old.device journal.new.device journal.new.gate result }
+    ensures gate { OnErr result (journal.new.gate ≡ journal.old.gate) }
+    ensures kept { kept_in (opening currency) ≡ Some [] }
+{
+    let mut text = Text::new(alloc);
+    put_opening(&mut text, currency)?;
     journal.append(text.bytes())
 }
 

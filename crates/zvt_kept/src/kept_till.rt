@@ -1,8 +1,7 @@
 //! A till whose orders and messages are in its journal before anything that follows from them leaves it.
 ghost use Rattle.std.specs.Prelude.{◌≡◌};
 
-use crate::keeping::{keep_lost, take_message, take_order};
-use crate::records::put_opening;
+use crate::keeping::{keep_lost, keep_opening, take_message, take_order};
 use crate::recovery::{RecoveryError, recover};
 use crate::refusal::KeptRefusal;
 use std::alloc::{AllocError, Global};
@@ -10,7 +9,6 @@ use std::marker::Model;
 use zvt_apdu::ApduView;
 use zvt_journal::{Device, DeviceError, Journal};
 use zvt_stream::{Answers, Machine};
-use zvt_text::Text;
 use zvt_till::{Order, Outgoing, Till, TillSettings};
 
 /// A till and its journal.
@@ -25,6 +23,13 @@ pub struct KeptTill<D: Device> {
     failure: Option<DeviceError>,
 }
 
+/// Why no journal was begun, and its device.
+#[derive(Drop)]
+pub struct Unbegun<D: Device> {
+    pub device: D,
+    pub why: DeviceError,
+}
+
 impl<D: Device> Model for KeptTill<D> {
     ghost use Rattle.std.specs.Prelude.{◌≡◌, is_some};
     ghost use Rattle.zvt_kept.specs.KeptTill.{KeptValue, IsKept};
@@ -37,37 +42,47 @@ impl<D: Device> Model for KeptTill<D> {
 }
 
 impl<D: Device + Drop> KeptTill<D> {
-    ghost use Rattle.std.specs.Prelude.{◌∷◌, [], Err, List, None, length, IfOk, MatchResult};
+    ghost use Rattle.std.specs.Prelude.{◌∷◌, [], Err, List, None, length, IfErr, IfOk, MatchResult};
     ghost use Rattle.zvt_journal.specs.Text.{recovered};
     ghost use Rattle.zvt_kept.specs.Logs.{StandsFor};
     ghost use Rattle.zvt_kept.specs.Recovery.{IsRecovered, Recovers};
     ghost use Rattle.zvt_till.specs.declared.happenings.Happening.{Happening};
     ghost use Rattle.zvt_journal.specs.Text.{IsSettled};
-    ghost use Rattle.zvt_kept.specs.KeptTill.{Keeps};
+    ghost use Rattle.zvt_kept.specs.KeptTill.{Begins, HasCause, Keeps};
     ghost use Rattle.zvt_till.specs.Settings.{settings_of};
     ghost use Rattle.zvt_till.specs.Till.{new_till};
     ghost use Rattle.zvt_till.specs.declared.happenings.Happening.TheVariants.{Connected};
 
     /// Begins a journal on a device without records, which `zvt_journal::open` left at rest: its opening is durable then. The
     /// till is new, and its line is down.
+    ///
+    /// After an error the device has no record, or the opening; opening it again says which. `Full` never comes.
     pub fn create(
         alloc: Global,
         settings: &TillSettings,
         device: D,
-    ) -> Result<KeptTill<D>, DeviceError>
+    ) -> Result<KeptTill<D>, Unbegun<D>>
         requires { IsSettled (D.seen device) (D.may_leave device) 0 }
         ensures till { IfOk result (λ kept. kept.standing.till.state ≡ new_till (settings_of settings.now)) }
         ensures whole { IfOk result (λ kept. kept.failure ≡ None) }
+        // A crash at any moment leaves no record, or the opening, in a file that opening repairs.
+        ensures any_moment { MatchResult result
+            (λ kept. Begins D.seen D.may_leave D.moment D.left_since D.faults settings.now.currency device kept.standing.device)
+            (λ unbegun. Begins D.seen D.may_leave D.moment D.left_since D.faults settings.now.currency device unbegun.device) }
+        ensures cause { IfErr result (λ unbegun. HasCause unbegun.why (D.faults device) (D.faults unbegun.device) 0) }
         ensures log { IfOk result (λ kept. Keeps (settings_of settings.now) (Connected ∷ []) (D.seen kept.standing.device) (D.may_leave kept.standing.device) kept.standing.gate kept.standing.till.state) }
     {
-        let mut text = Text::new(alloc);
-        put_opening(&mut text, settings.currency)?;
         let mut journal = Journal {
             alloc,
             device,
             gate: 0,
         };
-        journal.append(text.bytes())?;
+        if let Err(why) = keep_opening(alloc, &mut journal, settings.currency) {
+            return Err(Unbegun {
+                device: journal.device,
+                why,
+            });
+        }
         let till = Till::new(alloc, settings.password, settings.config, settings.currency);
         Ok(KeptTill {
             till,
