@@ -1,10 +1,7 @@
 -- What a crash leaves of a journal over many orders and lines.
 use Rattle.std.proofs.Common.{◌≡◌, ⊎_elim, inl, inr, ℕ, Bool, true, false, List, [], ◌∷◌, ◌++◌, map, Option, None, Result, Ok, Err, refl, sym, ap, subst, ◌∙◌, append_assoc}
 use Rattle.std.proofs.lemmas.List.{append-nil}
-use Rattle.zvt_stream.specs.LineRun.{Reported}
 use Rattle.zvt_stream.specs.StreamState.{StreamState}
-use Rattle.zvt_stream.specs.declared.line.LineFault.{LineFault}
-use Rattle.zvt_stream.specs.declared.line.LineFault.TheVariants.{Read, Write, Ended, Turns, Malformed, Memory, Stopped}
 use Rattle.zvt_till.specs.declared.happenings.Happening.{Happening}
 use Rattle.zvt_till.specs.declared.happenings.Happening.TheVariants.{Connected, Sent as SentOut, Lost}
 use Rattle.zvt_till.specs.declared.orders.Order.{Order}
@@ -26,6 +23,7 @@ use Rattle.zvt_kept.specs.declared.run.KeptFault.TheVariants.{Order as OrderFaul
 use Rattle.zvt_kept.proofs.Logged.{keeps_lost, weaker}
 use Rattle.zvt_kept.proofs.Made.{records_are_kept}
 use Rattle.zvt_kept.proofs.Outlived.{at_first, failed_alike, failed_by, not_both, quiet}
+use Rattle.zvt_kept.proofs.Over.{loses_by}
 use Rattle.zvt_kept.proofs.RunsOutlived.{after_messages, after_order, heard_before}
 use Rattle.zvt_kept.proofs.Steps.{taken_up}
 
@@ -52,15 +50,6 @@ module _ {D : Type 0} (seen : D → List ℕ) (may_leave : D → List ℕ → Ty
   abbrev Loses : KeptValue D → KeptValue D → Type 0
   Loses = LosesLine seen may_leave moment left_since faults
 
-  loses_by : (fault : LineFault) (middle new : KeptValue D) → Reported Loses Loses fault middle new → Loses middle new
-  loses_by Read middle new r = r
-  loses_by (Ended have) middle new r = r
-  loses_by Turns middle new r = r
-  loses_by (Malformed place why) middle new r = r
-  loses_by Memory middle new r = r
-  loses_by Write middle new r = r
-  loses_by Stopped middle new r = r
-
   lost_log : (settings : Settings) (log : List Happening) (old new : KeptValue D) → Loses old new → HasLog seen may_leave moment left_since faults settings log old.standing → HasLog seen may_leave moment left_since faults settings log new.standing
   lost_log settings log old new l has =
       let d = old.standing.device in
@@ -76,9 +65,9 @@ module _ {D : Type 0} (seen : D → List ℕ) (may_leave : D → List ℕ → Ty
   refused_down order state down none = not_both state.line_up (taken_up state order none) down
 
   stuck_run : (order : Order) (old new : KeptValue D) → old.standing.till.state.line_up ≡ false → Did seen may_leave moment left_since faults (runs order) old new → new ≡ old
-  stuck_run order old new down did = by_result did.6 did.7
+  stuck_run order old new down did = by_result did.9 did.10
     where
-      by_result : (result : Result Outcome KeptFault) → RanKept seen may_leave moment left_since faults order did.0 did.1 old new did.2 did.3 did.4 did.5 result → new ≡ old
+      by_result : (result : Result Outcome KeptFault) → RanKept seen may_leave moment left_since faults order did.0 did.1 old new did.2 did.3 did.4 did.5 did.6 did.7 did.8 result → new ≡ old
       by_result (Ok outcome) ran = absurd (refused_down order old.standing.till.state down ran.sends.ordered.taken)
       by_result (Err (OrderFault why)) ran = ran.1
       by_result (Err JournalFault) ran = ⊎_elim (λ lost. absurd (refused_down order old.standing.till.state down lost.0.taken)) (λ broke. absurd (refused_down order old.standing.till.state down broke.3.ordered.taken)) ran.3
@@ -126,14 +115,14 @@ module _ {D : Type 0} (seen : D → List ℕ) (may_leave : D → List ℕ → Ty
     lost_after : (settings : Settings) (log : List Happening) (middle new : KeptValue D) → Loses middle new → (has_failed middle ≡ false → HasLog seen may_leave moment left_since faults settings log middle.standing) → has_failed new ≡ false → HasLog seen may_leave moment left_since faults settings log new.standing
     lost_after settings log middle new l has whole = lost_log settings log middle new l (has (sym (failed_alike new middle l.3) ∙ whole))
 
-    run_outlived : (settings : Settings) (log : List Happening) (order : Order) (old new : KeptValue D) (before after : StreamState) (coming left first last : Option (List ℕ)) (result : Result Outcome KeptFault)
-        → HasLog seen may_leave moment left_since faults settings log old.standing → RanKept seen may_leave moment left_since faults order before after old new coming left first last result → Outlived settings log (runs order) old new
-    run_outlived settings log order old new before after coming left first last (Ok outcome) has ran =
+    run_outlived : (settings : Settings) (log : List Happening) (order : Order) (old new : KeptValue D) (before after : StreamState) (coming left first last : Option (List ℕ)) (turns reads_before reads_after : ℕ) (result : Result Outcome KeptFault)
+        → HasLog seen may_leave moment left_since faults settings log old.standing → RanKept seen may_leave moment left_since faults order before after old new coming left first last turns reads_before reads_after result → Outlived settings log (runs order) old new
+    run_outlived settings log order old new before after coming left first last turns reads_before reads_after (Ok outcome) has ran =
         let heard = ran.pumped.course.heard in
         let all = after_messages seen may_leave moment left_since faults only_now settings log order ran.sends.outgoing old ran.sent_till new heard.messages heard.answers has ran.sends.ordered heard.heard in
         record { happened = SentOut (sent_as settings.currency order) ∷ map hears heard.messages; by = inr (heard.messages, refl); leaves = all.0; then = all.1 }
-    run_outlived settings log order old new before after coming left first last (Err (OrderFault why)) has ran = unchanged settings log (runs order) old new (inl refl) has ran.1
-    run_outlived settings log order old new before after coming left first last (Err JournalFault) has ran = ⊎_elim
+    run_outlived settings log order old new before after coming left first last turns reads_before reads_after (Err (OrderFault why)) has ran = unchanged settings log (runs order) old new (inl refl) has ran.1
+    run_outlived settings log order old new before after coming left first last turns reads_before reads_after (Err JournalFault) has ran = ⊎_elim
         (λ lost. record {
           happened = SentOut (sent_as settings.currency order) ∷ [];
           by = inr ([], refl);
@@ -145,7 +134,7 @@ module _ {D : Type 0} (seen : D → List ℕ) (may_leave : D → List ℕ → Ty
         let all = after_messages seen may_leave moment left_since faults only_now settings log order broke.3.outgoing old broke.0 new heard.messages heard.answers has broke.3.ordered heard.heard in
         record { happened = SentOut (sent_as settings.currency order) ∷ map hears heard.messages; by = inr (heard.messages, refl); leaves = all.0; then = all.1 })
         ran.3
-    run_outlived settings log order old new before after coming left first last (Err (LineBroke fault)) has ran = ⊎_elim
+    run_outlived settings log order old new before after coming left first last turns reads_before reads_after (Err (LineBroke fault)) has ran = ⊎_elim
         (λ unsent. record {
           happened = SentOut (sent_as settings.currency order) ∷ [];
           by = inr ([], refl);
@@ -157,7 +146,7 @@ module _ {D : Type 0} (seen : D → List ℕ) (may_leave : D → List ℕ → Ty
         let middle = broke.2 in
         let h = heard_before (Hears seen may_leave moment left_since faults) fault before after broke.4.read broke.4.written broke.0 middle broke.4.breaks in
         let all = after_messages seen may_leave moment left_since faults only_now settings log order broke.3.outgoing old broke.0 middle h.0 h.1 has broke.3.ordered h.2 in
-        let gone = loses_by fault middle new broke.5 in
+        let gone = loses_by seen may_leave moment left_since faults fault middle new broke.5 in
         record {
           happened = SentOut (sent_as settings.currency order) ∷ map hears h.0;
           by = inr (h.0, refl);
@@ -198,7 +187,7 @@ module _ {D : Type 0} (seen : D → List ℕ) (may_leave : D → List ℕ → Ty
         c
 
     call_outlived : (settings : Settings) (log : List Happening) (step : KeptStep) (old new : KeptValue D) → HasLog seen may_leave moment left_since faults settings log old.standing → Did seen may_leave moment left_since faults step old new → Outlived settings log step old new
-    call_outlived settings log (runs order) old new has did = run_outlived settings log order old new did.0 did.1 did.2 did.3 did.4 did.5 did.6 has did.7
+    call_outlived settings log (runs order) old new has did = run_outlived settings log order old new did.0 did.1 did.2 did.3 did.4 did.5 did.6 did.7 did.8 did.9 has did.10
     call_outlived settings log connects old new has did = connect_outlived settings log old new did.0 has did.1
     call_outlived settings log loses old new has did = record {
       happened = [];

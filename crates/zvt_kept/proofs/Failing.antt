@@ -24,6 +24,23 @@ module _ {D : Type 0} (seen : D → List ℕ) (may_leave : D → List ℕ → Ty
   earlier Failed old mid new later cause = omega (arith, later, cause)
   earlier Full old mid new later cause = cause
 
+  -- a till whose journal failed as it heard these has no line
+  pub failed_down : (old new : KeptValue D) (messages : List Message) (answers : List Answered) → HearsAll (Hears seen may_leave moment left_since faults) old messages answers new
+      → has_failed old ≡ false → has_failed new ≡ true → new.standing.till.state.line_up ≡ false
+  failed_down old new [] [] h whole failed = absurd (not_both (has_failed old) (subst (λ (k : KeptValue D). has_failed k ≡ true) (sym h) failed) whole)
+  failed_down old new (m ∷ messages) (a ∷ answers) h whole failed = ⊎_elim
+      (λ still. failed_down h.0 new messages answers h.2 (ap (λ (k : KeptValue D). has_failed k) still.1 ∙ whole) failed)
+      (λ more. ⊎_elim
+      (λ kept. failed_down h.0 new messages answers h.2 (failed_alike h.0 old kept.0 ∙ whole) failed)
+      (λ lost.
+      let down = ap (λ s. s.line_up) lost.3.lost.0 in
+      let same : new ≡ h.0 = deaf seen may_leave moment left_since faults h.0 new messages answers down h.2 in
+      ap (λ (k : KeptValue D). k.standing.till.state.line_up) same ∙ down)
+      more)
+      h.1
+  failed_down old new [] (a ∷ answers) h whole failed = absurd h
+  failed_down old new (m ∷ messages) [] h whole failed = absurd h
+
   hearings : (old new : KeptValue D) (messages : List Message) (answers : List Answered) → HearsAll (Hears seen may_leave moment left_since faults) old messages answers new → Alike old new ⊎ Fails old new
   hearings old new [] [] h = inl (subst (λ (k : KeptValue D). Alike old k) h (refl, omega arith))
   hearings old new (m ∷ messages) (a ∷ answers) h =

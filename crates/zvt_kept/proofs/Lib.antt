@@ -11,6 +11,8 @@ mod Made
 mod Numbers
 mod Opened
 mod Outlived
+mod Over
+mod Places
 mod ReadLines
 mod Recovered
 mod Relived

@@ -79,16 +79,16 @@ module _ {D : Type 0} (seen : D → List ℕ) (may_leave : D → List ℕ → Ty
         )
 
     pub runs_outlive : RunsOutlive seen may_leave moment left_since faults
-    runs_outlive settings log order before after old new coming left first last (Ok outcome) has ran =
+    runs_outlive settings log order before after old new coming left first last turns reads_before reads_after (Ok outcome) has ran =
         let heard = ran.pumped.course.heard in
         (heard.messages, (after_messages settings log order ran.sends.outgoing old ran.sent_till new heard.messages heard.answers has ran.sends.ordered heard.heard).0)
-    runs_outlive settings log order before after old new coming left first last (Err (OrderFault why)) has ran =
+    runs_outlive settings log order before after old new coming left first last turns reads_before reads_after (Err (OrderFault why)) has ran =
         ([], subst (λ (k : KeptValue D). Left settings log order old.standing.device k.standing.device []) (sym ran.1) (quiet seen may_leave moment left_since faults only_now settings log (SentOut (sent_as settings.currency order) ∷ []) old.standing has))
-    runs_outlive settings log order before after old new coming left first last (Err JournalFault) has ran = ⊎_elim
+    runs_outlive settings log order before after old new coming left first last turns reads_before reads_after (Err JournalFault) has ran = ⊎_elim
         (λ lost. ([], after_order settings log order old.standing.device new.standing.device [] (lost.0.outlives settings log has)))
         (λ broke. let heard = broke.4.course.heard in (heard.messages, (after_messages settings log order broke.3.outgoing old broke.0 new heard.messages heard.answers has broke.3.ordered heard.heard).0))
         ran.3
-    runs_outlive settings log order before after old new coming left first last (Err (LineBroke fault)) has ran = ⊎_elim
+    runs_outlive settings log order before after old new coming left first last turns reads_before reads_after (Err (LineBroke fault)) has ran = ⊎_elim
         (λ unsent. ([], subst (λ (d : D). Left settings log order old.standing.device d []) (sym unsent.4.1) (after_order settings log order old.standing.device unsent.2.standing.device [] (unsent.3.outlives settings log has))))
         (λ broke.
         let middle = broke.2 in

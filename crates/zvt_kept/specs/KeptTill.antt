@@ -1,5 +1,5 @@
 -- A till and its journal, and what each of their steps makes durable.
-use Rattle.std.specs.Prelude.{◌≡◌, ◌⊎◌, ◌<◌, ◌≤◌, ◌^◌, ℕ, Bool, true, false, cond, List, [], ◌∷◌, ◌++◌, Option, Some, None, is_some, Result, Ok, Err, IfOk, IfErr}
+use Rattle.std.specs.Prelude.{◌≡◌, ◌⊎◌, ◌<◌, ◌≤◌, ◌^◌, ℕ, ◌+◌, Bool, true, false, cond, List, [], ◌∷◌, ◌++◌, Option, Some, None, is_some, Result, Ok, Err, IfOk, IfErr}
 use Rattle.zvt_apdu.specs.Message.{Message}
 use Rattle.zvt_stream.specs.Answered.{Answered}
 use Rattle.zvt_till.specs.declared.happenings.Happening.{Happening}
@@ -7,7 +7,7 @@ use Rattle.zvt_till.specs.declared.happenings.Happening.TheVariants.{Connected, 
 use Rattle.zvt_till.specs.declared.orders.Order.{Order}
 use Rattle.zvt_till.specs.declared.orders.Outgoing.{Outgoing}
 use Rattle.zvt_till.specs.Events.{hears}
-use Rattle.zvt_till.specs.Line.{till_hears, till_loses}
+use Rattle.zvt_till.specs.Line.{till_hears, till_loses, till_rests}
 use Rattle.zvt_till.specs.Numbers.{numbers_begun}
 use Rattle.zvt_till.specs.Refusals.{refusal, sent_as}
 use Rattle.zvt_till.specs.Sending.{Settings, message_of}
@@ -35,6 +35,10 @@ pub record KeptValue (D : Type 0) : Type 0 where
   pub standing : Standing D
   -- why the journal failed, if it did
   pub failure : Option DeviceError
+
+-- a till with its journal rests where no order runs
+abbrev pub kept_rests : {D : Type 0} → KeptValue D → Bool
+kept_rests kept = till_rests kept.standing.till
 
 abbrev pub has_failed : {D : Type 0} → KeptValue D → Bool
 has_failed kept = is_some kept.failure
@@ -129,6 +133,7 @@ module _ {D : Type 0} (seen : D → List ℕ) (may_leave : D → List ℕ → Ty
     pub taken : refusal (facts_of old.till.state) order ≡ None
     pub message : message_of old.till.state.settings old.till.state.book order ≡ Some outgoing
     pub runs : new.till.state ≡ accept old.till.state order
+    pub room : old.till.spare ≤ new.till.spare
     pub numbers : new.till.numbers ≡ numbers_begun old.till.numbers order
     pub logs : Logs (order_sent order) old new
     pub outlives : Outlives (order_sent order) old new
@@ -139,6 +144,7 @@ module _ {D : Type 0} (seen : D → List ℕ) (may_leave : D → List ℕ → Ty
     pub cause : FailsOnlyBy why old new
     pub taken : refusal (facts_of old.till.state) order ≡ None
     pub lost : new.till.state ≡ step (accept old.till.state order) Lost
+    pub room : old.till.spare ≤ new.till.spare + 1
     pub numbers : new.till.numbers ≡ numbers_begun old.till.numbers order
     pub outlives : Outlives (order_sent order) old new
 

@@ -72,8 +72,8 @@ module _ {D : Type 0} (seen : D → List ℕ) (may_leave : D → List ℕ → Ty
   -- ones of the messages that were read.
   abbrev pub RunsOutlive : Type 0
   RunsOutlive =
-      (settings : Settings) (log : List Happening) (order : Order) (before after : StreamState) (old new : KeptValue D) (coming left first last : Option (List ℕ)) (result : Result Outcome KeptFault)
-      → HasLog seen may_leave moment left_since faults settings log old.standing → RanKept seen may_leave moment left_since faults order before after old new coming left first last result
+      (settings : Settings) (log : List Happening) (order : Order) (before after : StreamState) (old new : KeptValue D) (coming left first last : Option (List ℕ)) (turns reads_before reads_after : ℕ) (result : Result Outcome KeptFault)
+      → HasLog seen may_leave moment left_since faults settings log old.standing → RanKept seen may_leave moment left_since faults order before after old new coming left first last turns reads_before reads_after result
       → (messages : List Message) × LeavesOnly moment left_since old.standing.device new.standing.device (IsBetween settings.currency log (SentOut (sent_as settings.currency order) ∷ map hears messages))
 
   -- ---- many orders
@@ -81,7 +81,7 @@ module _ {D : Type 0} (seen : D → List ℕ) (may_leave : D → List ℕ → Ty
   -- what a till with its journal did, by one of its calls
   abbrev pub Did : KeptStep → (old new : KeptValue D) → Type 0
   Did (runs order) old new =
-      (before after : StreamState) × (coming left first last : Option (List ℕ)) × (result : Result Outcome KeptFault) × RanKept seen may_leave moment left_since faults order before after old new coming left first last result
+      (before after : StreamState) × (coming left first last : Option (List ℕ)) × (turns reads_before reads_after : ℕ) × (result : Result Outcome KeptFault) × RanKept seen may_leave moment left_since faults order before after old new coming left first last turns reads_before reads_after result
   Did connects old new = (result : Result Unit DeviceError) × Connects seen may_leave moment left_since faults old new result
   Did loses old new = LosesLine seen may_leave moment left_since faults old new
 

@@ -1,6 +1,6 @@
 -- Both ends of a line, turn after turn, where the till keeps its book.
 use Rattle.std.proofs.Common.{◌≡◌, ℕ, zero, suc, ◌+◌, ◌<◌, true, false, List, Option, Some, None, ap₂, refl, sym, ◌∙◌, subst, add-one, inl, inr}
-use Rattle.zvt_kept.specs.KeptTill.{Hears, KeptValue, LosesLine, has_failed}
+use Rattle.zvt_kept.specs.KeptTill.{Hears, KeptValue, LosesLine, has_failed, kept_rests}
 use Rattle.zvt_kept.specs.declared.run.KeptFault.TheVariants as kept
 use Rattle.zvt_kept.proofs.Known.{known_kept}
 use Rattle.zvt_stream.specs.Turns.{Ends, LineState, Waited, line_ends, line_state}
@@ -15,7 +15,7 @@ use Rattle.zvt_term.specs.declared.served.Served.{Served}
 use Rattle.zvt_term.specs.declared.turns.Verdict.{Verdict}
 use Rattle.zvt_session.specs.declared.arguments.Step.{Step}
 use Rattle.zvt_session.specs.BothEnds.{Line, ended_of}
-use Rattle.zvt_session.specs.BothKept.{AlternatesKept, BeginsKept, BreaksOffKept, ComesKept, FailsKept, UnderwayKept, kept_rests}
+use Rattle.zvt_session.specs.BothKept.{AlternatesKept, BeginsKept, BreaksOffKept, ComesKept, FailsKept, UnderwayKept}
 use Rattle.zvt_session.specs.Kept.{run_fault_of}
 use Rattle.zvt_session.specs.Runs.{Standing}
 use Rattle.zvt_session.specs.Steps.{order_of}

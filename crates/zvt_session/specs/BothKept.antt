@@ -1,14 +1,13 @@
 -- Both ends of a line, which take turns, where the till keeps its book in a journal.
 use Rattle.std.specs.Prelude.{◌≡◌, ◌⊎◌, ℕ, zero, suc, ◌<◌, Bool, true, false, List, Some, None, Result, Ok, Err}
 use Rattle.zvt_journal.specs.declared.device.DeviceError.{DeviceError}
-use Rattle.zvt_kept.specs.KeptTill.{Hears, KeptValue, LosesLine, OrderLost, Ordered, has_failed}
+use Rattle.zvt_kept.specs.KeptTill.{Hears, KeptValue, LosesLine, OrderLost, Ordered, has_failed, kept_rests}
 use Rattle.zvt_kept.specs.declared.run.KeptFault.{KeptFault}
 use Rattle.zvt_kept.specs.declared.run.KeptFault.TheVariants as kept
 use Rattle.zvt_stream.specs.Apdus.{Spells}
 use Rattle.zvt_stream.specs.declared.line.LineFault.{LineFault}
 use Rattle.zvt_stream.specs.declared.line.LineFault.TheVariants.{Turns, Write}
 use Rattle.zvt_till.specs.Events.{message_out}
-use Rattle.zvt_till.specs.Line.{till_rests}
 use Rattle.zvt_till.specs.Till.{facts_of}
 use Rattle.zvt_till.specs.View.{IsRefusedAs}
 use Rattle.zvt_till.specs.declared.line.RunFault.{RunFault}
@@ -22,10 +21,6 @@ use Rattle.zvt_session.specs.Kept.{run_fault_of}
 use Rattle.zvt_session.specs.LineEnd.{EndState, ReadsNothing, Turn, TurnBreaks, Wrote}
 use Rattle.zvt_session.specs.Runs.{Standing, standing}
 use Rattle.zvt_session.specs.Steps.{order_of, verdict_of}
-
--- a till with its journal rests where no order runs
-abbrev pub kept_rests : {D : Type 0} → KeptValue D → Bool
-kept_rests kept = till_rests kept.standing.till
 
 -- the terminal has its verdict, and does nothing
 pub record DecidedKept (step : Step) (before after : Line) : Type 0 where

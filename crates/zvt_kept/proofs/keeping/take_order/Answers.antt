@@ -7,6 +7,7 @@ use Rattle.zvt_kept.specs.Records.{ordered}
 use Rattle.zvt_kept.specs.KeptTill.{Standing, order_sent}
 use Rattle.zvt_kept.proofs.Logged.{outlives}
 use Rattle.zvt_kept.proofs.Made.{records_are_kept}
+use Rattle.zvt_kept.proofs.Places.{takes_one}
 use Rattle.zvt_kept.proofs.Steps.{logs_one, order_follows, taken_up}
 use Rattle.zvt_kept.proofs.keeping.take_order.Goals as goal
 
@@ -29,6 +30,7 @@ returns-in-Ok-keep_order g c =
       taken = took.taken;
       message = took.sent;
       runs = took.runs;
+      room = took.room;
       numbers = took.numbers;
       logs = logs_one V.seen V.may_leave V.moment V.left_since V.faults old new (ordered order) kept.added (λ settings. SentOut (sent_as settings.currency order)) (taken_up state order took.taken) (λ settings. refl) (order_follows order state took.taken)
           (λ settings. took.runs ∙ sym (step-order settings.currency state order)) kept.is (λ settings. refl) kept.adds.durable.0 kept.adds.durable.1;
@@ -47,6 +49,7 @@ returns-in-Err-keep_order g c =
       cause = kept.adds.cause;
       taken = c.in-Ok.ensures.taken;
       lost = c.lost.ensures.state ∙ ap (λ s. step s Lost) c.in-Ok.ensures.runs;
+      room = takes_one c.args.till.now c.order.new.self c.lost.new.self c.in-Ok.ensures.room c.lost.ensures.room;
       numbers = c.lost.ensures.numbers ∙ c.in-Ok.ensures.numbers;
       outlives = outlives records_are_kept V.seen V.may_leave V.moment V.left_since V.faults old new (ordered order) kept.added (order_sent V.seen V.may_leave V.moment V.left_since V.faults order) kept.is (λ settings. refl) kept.adds.leaves;
     }
