@@ -181,7 +181,7 @@ module _ {D : Type 0} (seen : D → List ℕ) (may_leave : D → List ℕ → Ty
         (λ broke. record {
           happened = Lost ∷ Connected ∷ [];
           by = inr refl;
-          leaves = new_line settings log old.standing.device new.standing.device (broke.4 settings log has);
+          leaves = new_line settings log old.standing.device new.standing.device (broke.5 settings log has);
           then = λ whole. absurd (not_both (has_failed new) (failed_by new why broke.1) whole);
         })
         c

@@ -26,7 +26,7 @@ module _ {D : Type 0} (seen : D → List ℕ) (may_leave : D → List ℕ → Ty
   -- nothing was written, for want of memory
   pub unadded : (device : D) (gate : ℕ) (added : List ℕ) (result : Result Unit DeviceError) → IsErrAnd result (λ why. why ≡ Memory)
       → ((file : List ℕ) → left_since device (moment device) file → may_leave device file) → IsSettled (seen device) (may_leave device) gate
-      → Adds seen may_leave moment left_since faults added device device gate result
+      → Adds seen may_leave moment left_since faults added device device gate gate result
   unadded device gate added (Ok done) err only_now settled = absurd err
   unadded device gate added (Err why) err only_now settled = record {
     durable = tt;
@@ -35,11 +35,12 @@ module _ {D : Type 0} (seen : D → List ℕ) (may_leave : D → List ℕ → Ty
         repairable_at_rest (recovered (seen device)) (recovered_whole (seen device)) gate settled.at_gate file (at ∙ settled.rest) (ap recovered at));
     later = omega arith;
     cause = subst (λ e. HasCause e (faults device) (faults device) gate) (sym err) tt;
+    stays = refl;
   }
 
   pub unrecorded : (device : D) (gate : ℕ) (one : Kept) (added : List ℕ) (result : Result Unit DeviceError) → IsErrAnd result (λ why. why ≡ Memory) → IsRecordOf one added
       → ((file : List ℕ) → left_since device (moment device) file → may_leave device file) → IsSettled (seen device) (may_leave device) gate
-      → Recorded seen may_leave moment left_since faults one device device gate result
+      → Recorded seen may_leave moment left_since faults one device device gate gate result
   unrecorded device gate one added result err is only_now settled = record { added = added; is = is; adds = unadded device gate added result err only_now settled }
 
   -- the cause of an error of an append
@@ -57,13 +58,14 @@ module _ {D : Type 0} (seen : D → List ℕ) (may_leave : D → List ℕ → Ty
       → OnOk result (IsSettled (seen new) (may_leave new) gate) → OnOk result (recovered (seen new) ≡ recovered (seen old) ++ text)
       → LeavesOnly moment left_since old new (IsWithOrWithout (recovered (seen old)) text) → LeavesOnly moment left_since old new IsRepairable
       → faults old ≤ faults new → (IsErrOf result Failed → faults old < faults new) → (IsErrOf result Full → (2 ^ 60 ≤ gate_before) ⊎ (2 ^ 18 < length text)) → OnErr result (gate ≡ gate_before)
-      → Adds seen may_leave moment left_since faults text old new gate result
+      → Adds seen may_leave moment left_since faults text old new gate_before gate result
   text_added old new gate_before gate text result short settled more leaves repairable later failed full stays = record {
     durable = both result more settled;
     leaves = leaves;
     repairable = repairable;
     later = later;
     cause = caused (faults old) (faults new) gate_before gate (length text) result short failed full stays;
+    stays = stays;
   }
     where
       both : (r : Result Unit DeviceError) → OnOk r (recovered (seen new) ≡ recovered (seen old) ++ text) → OnOk r (IsSettled (seen new) (may_leave new) gate)
@@ -76,7 +78,7 @@ module _ {D : Type 0} (seen : D → List ℕ) (may_leave : D → List ℕ → Ty
       → OnOk result (IsSettled (seen new) (may_leave new) gate) → OnOk result (recovered (seen new) ≡ recovered (seen old) ++ text)
       → LeavesOnly moment left_since old new (IsWithOrWithout (recovered (seen old)) text) → LeavesOnly moment left_since old new IsRepairable
       → faults old ≤ faults new → (IsErrOf result Failed → faults old < faults new) → (IsErrOf result Full → (2 ^ 60 ≤ gate_before) ⊎ (2 ^ 18 < length text)) → OnErr result (gate ≡ gate_before)
-      → Recorded seen may_leave moment left_since faults one old new gate result
+      → Recorded seen may_leave moment left_since faults one old new gate_before gate result
   appended old new gate_before gate one added text result same is short settled more leaves repairable later failed full stays = record {
     added = text;
     is = subst (IsRecordOf one) (sym same) is;

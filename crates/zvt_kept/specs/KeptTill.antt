@@ -1,5 +1,5 @@
 -- A till and its journal, and what each of their steps makes durable.
-use Rattle.std.specs.Prelude.{◌≡◌, ◌⊎◌, ◌<◌, ◌≤◌, ◌^◌, ℕ, ◌+◌, Bool, true, false, cond, List, [], ◌∷◌, ◌++◌, Option, Some, None, is_some, Result, Ok, Err, IfOk, IfErr}
+use Rattle.std.specs.Prelude.{◌≡◌, ◌⊎◌, ◌<◌, ◌≤◌, ◌^◌, ℕ, ◌+◌, Bool, true, false, cond, List, [], ◌∷◌, ◌++◌, Option, Some, None, is_some, Result, Ok, Err, IfOk, IfErr, OnErr}
 use Rattle.zvt_apdu.specs.Message.{Message}
 use Rattle.zvt_stream.specs.Answered.{Answered}
 use Rattle.zvt_till.specs.declared.happenings.Happening.{Happening}
@@ -83,18 +83,20 @@ HasCause Memory before after gate = Unit {0}
 module _ {D : Type 0} (seen : D → List ℕ) (may_leave : D → List ℕ → Type 0) (moment : D → ℕ) (left_since : D → ℕ → List ℕ → Type 0) (faults : D → ℕ) where
   -- A text was to be made durable. A crash at any moment leaves the text before, with this one or without, in a file that opening
   -- repairs.
-  pub record Adds (added : List ℕ) (old new : D) (gate : ℕ) (result : Result Unit DeviceError) : Type 0 where
+  pub record Adds (added : List ℕ) (old new : D) (gate_before gate : ℕ) (result : Result Unit DeviceError) : Type 0 where
     pub durable : IfOk result (λ _. (recovered (seen new) ≡ recovered (seen old) ++ added) × IsSettled (seen new) (may_leave new) gate)
     pub leaves : LeavesOnly moment left_since old new (IsWithOrWithout (recovered (seen old)) added)
     pub repairable : LeavesOnly moment left_since old new IsRepairable
     pub later : faults old ≤ faults new
     pub cause : IfErr result (λ why. HasCause why (faults old) (faults new) gate)
+    -- the gate, which is how many bytes the journal has, stays after an error
+    pub stays : OnErr result (gate ≡ gate_before)
 
   -- A record was to be made durable.
-  pub record Recorded (one : Kept) (old new : D) (gate : ℕ) (result : Result Unit DeviceError) : Type 0 where
+  pub record Recorded (one : Kept) (old new : D) (gate_before gate : ℕ) (result : Result Unit DeviceError) : Type 0 where
     pub added : List ℕ
     pub is : IsRecordOf one added
-    pub adds : Adds added old new gate result
+    pub adds : Adds added old new gate_before gate result
 
   -- A journal was to begin on a device without records, which became the other. A crash at any moment leaves no record, or the
   -- opening, in a file that opening repairs.
@@ -142,6 +144,7 @@ module _ {D : Type 0} (seen : D → List ℕ) (may_leave : D → List ℕ → Ty
   -- An order was taken, and the journal failed. The till is told as of a lost line.
   pub record OrderLost (order : Order) (why : DeviceError) (old new : Standing D) : Type 0 where
     pub cause : FailsOnlyBy why old new
+    pub stays : new.gate ≡ old.gate
     pub taken : refusal (facts_of old.till.state) order ≡ None
     pub lost : new.till.state ≡ step (accept old.till.state order) Lost
     pub room : old.till.spare ≤ new.till.spare + 1
@@ -164,6 +167,7 @@ module _ {D : Type 0} (seen : D → List ℕ) (may_leave : D → List ℕ → Ty
   -- The journal failed as a message came. The till is told as of a lost line.
   pub record MessageLost (message : Message) (why : DeviceError) (old new : Standing D) : Type 0 where
     pub cause : FailsOnlyBy why old new
+    pub stays : new.gate ≡ old.gate
     pub up : old.till.state.line_up ≡ true
     pub lost : till_loses old.till new.till
     pub outlives : Outlives (message_heard message) old new
@@ -200,4 +204,4 @@ module _ {D : Type 0} (seen : D → List ℕ) (may_leave : D → List ℕ → Ty
   Connects old new (Err why) =
       ((has_failed old ≡ true) × (why ≡ Failed) × (new ≡ old))
       ⊎ ((has_failed old ≡ false) × (new.failure ≡ Some why) × (new.standing.till ≡ old.standing.till) × FailsOnlyBy why old.standing new.standing
-      × Outlives line_changed old.standing new.standing)
+      × (new.standing.gate ≡ old.standing.gate) × Outlives line_changed old.standing new.standing)

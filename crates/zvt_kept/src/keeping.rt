@@ -1,5 +1,5 @@
 //! The steps of a till, each of them in its journal first.
-ghost use Rattle.std.specs.Prelude.{◌≡◌, ◌≤◌, [], List, OnErr, Some, ℕ, length, true};
+ghost use Rattle.std.specs.Prelude.{◌≡◌, ◌≤◌, [], List, Some, ℕ, length, true};
 ghost use Rattle.zvt_apdu.specs.Grammar.{Spells};
 ghost use Rattle.zvt_grammar.specs.Reading.{padded};
 ghost use Rattle.zvt_journal.specs.Text.{IsSettled};
@@ -100,7 +100,7 @@ fn keep_order<D: Device>(
 ) -> Result<(), DeviceError>
     requires settled { IsSettled (D.seen journal.old.device) (D.may_leave journal.old.device) journal.old.gate }
     requires spelled { IsSpelledOrder order.now }
-    ensures { Recorded D.seen D.may_leave D.moment D.left_since D.faults (ordered order.now) journal.old.device journal.new.device journal.new.gate result }
+    ensures { Recorded D.seen D.may_leave D.moment D.left_since D.faults (ordered order.now) journal.old.device journal.new.device journal.old.gate journal.new.gate result }
 {
     let mut buffer = [0; MAX_BRIEF_LEN];
     let size = masked(outgoing).put(&mut buffer);
@@ -118,7 +118,7 @@ fn keep_heard<D: Device>(
 ) -> Result<(), DeviceError>
     requires settled { IsSettled (D.seen journal.old.device) (D.may_leave journal.old.device) journal.old.gate }
     requires few { length answers.now ≤ 32 }
-    ensures { (bytes : List ℕ) × ∥ Spells padded message.now bytes ∥₁ × Recorded D.seen D.may_leave D.moment D.left_since D.faults (heard bytes) journal.old.device journal.new.device journal.new.gate result }
+    ensures { (bytes : List ℕ) × ∥ Spells padded message.now bytes ∥₁ × Recorded D.seen D.may_leave D.moment D.left_since D.faults (heard bytes) journal.old.device journal.new.device journal.old.gate journal.new.gate result }
 {
     let mut text = Text::new(alloc);
     put_heard(&mut text, message.bytes(), answers)?;
@@ -132,8 +132,7 @@ pub(crate) fn keep_opening<D: Device>(
     currency: Currency,
 ) -> Result<(), DeviceError>
     requires { IsSettled (D.seen journal.old.device) (D.may_leave journal.old.device) journal.old.gate }
-    ensures adds { Adds D.seen D.may_leave D.moment D.left_since D.faults (opening currency) journal.old.device journal.new.device journal.new.gate result }
-    ensures gate { OnErr result (journal.new.gate ≡ journal.old.gate) }
+    ensures adds { Adds D.seen D.may_leave D.moment D.left_since D.faults (opening currency) journal.old.device journal.new.device journal.old.gate journal.new.gate result }
     ensures kept { kept_in (opening currency) ≡ Some [] }
 {
     let mut text = Text::new(alloc);
@@ -147,7 +146,7 @@ pub(crate) fn keep_lost<D: Device>(
     journal: &mut Journal<D>,
 ) -> Result<(), DeviceError>
     requires { IsSettled (D.seen journal.old.device) (D.may_leave journal.old.device) journal.old.gate }
-    ensures { Recorded D.seen D.may_leave D.moment D.left_since D.faults lost journal.old.device journal.new.device journal.new.gate result }
+    ensures { Recorded D.seen D.may_leave D.moment D.left_since D.faults lost journal.old.device journal.new.device journal.old.gate journal.new.gate result }
 {
     let mut text = Text::new(alloc);
     put_lost(&mut text)?;

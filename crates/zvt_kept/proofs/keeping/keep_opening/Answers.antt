@@ -19,6 +19,6 @@ returns-clause-adds g c =
     let old = c.args.journal.now in
     let new = c.append.new.self in
     let text = text_is c.bytes.result.now c.new-text.result _ (c.bytes.ensures ∙ c.in_ok-put_opening.ensures.written) c.new-text.ensures in
-    subst (λ (t : List ℕ). Adds g.D.Device.seen g.D.Device.may_leave g.D.Device.moment g.D.Device.left_since g.D.Device.faults t old.device new.device new.gate c.append.result) text
+    subst (λ (t : List ℕ). Adds g.D.Device.seen g.D.Device.may_leave g.D.Device.moment g.D.Device.left_since g.D.Device.faults t old.device new.device old.gate new.gate c.append.result) text
     (text_added g.D.Device.seen g.D.Device.may_leave g.D.Device.moment g.D.Device.left_since g.D.Device.faults old.device new.device old.gate new.gate c.bytes.result.now c.append.result (subst (λ (t : List ℕ). length t ≤ 2 ^ 18) (sym text) c.put_opening.ensures.short)
     c.append.ensures.settled c.append.ensures.acknowledged c.append.ensures.any_moment c.append.ensures.repairable c.append.ensures.faults c.append.ensures.failed c.append.ensures.full c.append.ensures.gate)

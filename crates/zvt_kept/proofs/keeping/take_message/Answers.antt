@@ -41,6 +41,7 @@ returns-in-Err g c =
     let kept = c.in-Err.ensures in
     record {
       cause = kept.2.adds.cause;
+      stays = kept.2.adds.stays;
       up = c.requires.up;
       lost = (c.lost.ensures.state, c.lost.ensures.room, c.lost.ensures.numbers);
       outlives = outlives records_are_kept V.seen V.may_leave V.moment V.left_since V.faults old new (heard kept.0) kept.2.added (message_heard V.seen V.may_leave V.moment V.left_since V.faults m) kept.2.is (λ settings. (m, kept.1, refl)) kept.2.adds.leaves;

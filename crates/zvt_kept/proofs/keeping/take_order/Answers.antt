@@ -47,6 +47,7 @@ returns-in-Err-keep_order g c =
     let kept = c.in-Err-keep_order.ensures in
     record {
       cause = kept.adds.cause;
+      stays = kept.adds.stays;
       taken = c.in-Ok.ensures.taken;
       lost = c.lost.ensures.state ∙ ap (λ s. step s Lost) c.in-Ok.ensures.runs;
       room = takes_one c.args.till.now c.order.new.self c.lost.new.self c.in-Ok.ensures.room c.lost.ensures.room;

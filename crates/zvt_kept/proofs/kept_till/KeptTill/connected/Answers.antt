@@ -14,8 +14,8 @@ returns-in-Err g c =
     let new : Standing g.row.D.Denot = record { till = k.till; device = c.keep_lost.new.journal.device; gate = c.keep_lost.new.journal.gate } in
     let kept = c.keep_lost.ensures in
     inr
-    (subst (λ (v : KeptValue g.row.D.Denot). (has_failed v ≡ false) × (Some c.in-Err.why ≡ Some c.in-Err.why) × (k.till ≡ v.standing.till) × FailsOnlyBy V.seen V.may_leave V.moment V.left_since V.faults c.in-Err.why v.standing new × Outlives V.seen V.may_leave V.moment V.left_since V.faults (line_changed V.seen V.may_leave V.moment V.left_since V.faults) v.standing new) c.self.view_is
-    (sym c.is_some.ensures ∙ c.if-is_some.false, refl, refl, c.in-Err.ensures.adds.cause, outlives records_are_kept V.seen V.may_leave V.moment V.left_since V.faults old new lost kept.added (line_changed V.seen V.may_leave V.moment V.left_since V.faults) kept.is (λ settings. refl) kept.adds.leaves))
+    (subst (λ (v : KeptValue g.row.D.Denot). (has_failed v ≡ false) × (Some c.in-Err.why ≡ Some c.in-Err.why) × (k.till ≡ v.standing.till) × FailsOnlyBy V.seen V.may_leave V.moment V.left_since V.faults c.in-Err.why v.standing new × (new.gate ≡ v.standing.gate) × Outlives V.seen V.may_leave V.moment V.left_since V.faults (line_changed V.seen V.may_leave V.moment V.left_since V.faults) v.standing new) c.self.view_is
+    (sym c.is_some.ensures ∙ c.if-is_some.false, refl, refl, c.in-Err.ensures.adds.cause, c.in-Err.ensures.adds.stays, outlives records_are_kept V.seen V.may_leave V.moment V.left_since V.faults old new lost kept.added (line_changed V.seen V.may_leave V.moment V.left_since V.faults) kept.is (λ settings. refl) kept.adds.leaves))
 
 pub invariant_of-self-2 : goal.invariant_of-self-2
 invariant_of-self-2 g c =

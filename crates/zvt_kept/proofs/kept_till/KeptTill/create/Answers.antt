@@ -21,7 +21,7 @@ returns-in-Err-clause-any_moment g c =
 pub returns-in-Err-clause-cause : goal.returns-in-Err-clause-cause
 returns-in-Err-clause-cause g c =
     let V = g.D.Device in
-    subst (λ (n : ℕ). HasCause c.in-Err.why (V.faults c.args.device) (V.faults c.keep_opening.new.journal.device) n) c.in-Err.ensures.gate c.in-Err.ensures.adds.cause
+    subst (λ (n : ℕ). HasCause c.in-Err.why (V.faults c.args.device) (V.faults c.keep_opening.new.journal.device) n) c.in-Err.ensures.adds.stays c.in-Err.ensures.adds.cause
 
 pub returns-clause-any_moment : goal.returns-clause-any_moment
 returns-clause-any_moment g c =
