@@ -107,7 +107,9 @@ fn empty(alloc: Global) -> Result<Memory, Fail>
 fn an_order_and_its_answers_are_kept(rt: HostRuntime) -> Result<(), Fail> {
     let alloc = rt.alloc();
     let settings = TillSettings::default();
-    let mut kept = KeptTill::create(alloc, &settings, empty(alloc)?)?;
+    let mut kept = KeptTill::create(alloc, &settings, empty(alloc)?).map_err(
+        |unbegun| unbegun.why,
+    )?;
     assert!(rt; kept.connected(alloc).is_ok());
     let mut end = Endpoint {
         reader: Over::new(REGISTERED.as_slice()),

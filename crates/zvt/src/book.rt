@@ -244,8 +244,8 @@ fn begun(
 {
     match KeptTill::create(rt.alloc(), settings, device) {
         Ok(kept) => Ok(Ok(kept)),
-        Err(error) => {
-            let status = of_device(error);
+        Err(unbegun) => {
+            let status = of_device(unbegun.why);
             let what = if status == MEMORY {
                 "out of memory"
             } else {

@@ -1,5 +1,5 @@
 //! Records of text lines, and the gate that makes each of them count at once.
-ghost use Rattle.std.specs.Prelude.{◌≡◌, All, ◌↔◌, ◌⊎◌, ◌+◌, ◌<◌, ◌≤◌, ◌^◌, ◌++◌, [], ◌∷◌, List, ℕ, length, drop, IfOk, OnOk, IsErrOf, IsTrue};
+ghost use Rattle.std.specs.Prelude.{◌≡◌, All, ◌↔◌, ◌⊎◌, ◌+◌, ◌<◌, ◌≤◌, ◌^◌, ◌++◌, [], ◌∷◌, List, ℕ, length, drop, IfOk, OnErr, OnOk, IsErrOf, IsTrue};
 ghost use Rattle.zvt_journal.specs.Device.{Only, LeavesOnly};
 ghost use Rattle.zvt_journal.specs.Files.{IsRepairable, IsRepairableAsBefore};
 ghost use Rattle.zvt_journal.specs.Text.{whole, begins_marked, recovered, IsRecord, IsSettled, IsWithOrWithout, IsAsBefore, joined, HasFirst, LinesAreRecovered, RecoveredIsLines};
@@ -48,6 +48,8 @@ impl<D: Device> Journal<D> {
         // It doesn't give up by itself.
         ensures failed { IsErrOf result DeviceError.Failed → D.faults self.old.device < D.faults self.new.device }
         ensures full { IsErrOf result DeviceError.Full → (2 ^ 60 ≤ self.old.gate) ⊎ (2 ^ 18 < length entry.now) }
+        ensures faults { D.faults self.old.device ≤ D.faults self.new.device }
+        ensures gate { OnErr result (self.new.gate ≡ self.old.gate) }
     {
         if self.gate >= MAX_JOURNAL_LEN || entry.len() > MAX_RECORD_LEN {
             return Err(DeviceError::Full);

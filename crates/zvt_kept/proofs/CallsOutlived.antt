@@ -1,10 +1,7 @@
 -- What a crash leaves of a journal over many orders and lines.
 use Rattle.std.proofs.Common.{◌≡◌, ⊎_elim, inl, inr, ℕ, Bool, true, false, List, [], ◌∷◌, ◌++◌, map, Option, None, Result, Ok, Err, refl, sym, ap, subst, ◌∙◌, append_assoc}
 use Rattle.std.proofs.lemmas.List.{append-nil}
-use Rattle.zvt_stream.specs.LineRun.{Reported}
 use Rattle.zvt_stream.specs.StreamState.{StreamState}
-use Rattle.zvt_stream.specs.declared.line.LineFault.{LineFault}
-use Rattle.zvt_stream.specs.declared.line.LineFault.TheVariants.{Read, Write, Ended, Turns, Malformed, Memory, Stopped}
 use Rattle.zvt_till.specs.declared.happenings.Happening.{Happening}
 use Rattle.zvt_till.specs.declared.happenings.Happening.TheVariants.{Connected, Sent as SentOut, Lost}
 use Rattle.zvt_till.specs.declared.orders.Order.{Order}
@@ -17,7 +14,7 @@ use Rattle.zvt_journal.specs.Device.{LeavesOnly}
 use Rattle.zvt_journal.specs.Text.{recovered}
 use Rattle.zvt_journal.specs.declared.device.DeviceError.{DeviceError}
 use Rattle.zvt_journal.proofs.Moments.{and_then}
-use Rattle.zvt_kept.specs.KeptTill.{Connects, HasLog, Hears, IsKept, Keeps, KeptValue, LeavesLogs, LosesLine}
+use Rattle.zvt_kept.specs.KeptTill.{Connects, HasLog, Hears, IsKept, Keeps, KeptValue, LeavesLogs, LosesLine, has_failed}
 use Rattle.zvt_kept.specs.Logs.{StandsFor}
 use Rattle.zvt_kept.specs.Outliving.{CallsOutlive, Did, DidAll, HappenInAll, HappensIn, IsBetween, KeptStep, connects, loses, runs}
 use Rattle.zvt_kept.specs.Runs.{RanKept}
@@ -25,7 +22,8 @@ use Rattle.zvt_kept.specs.declared.run.KeptFault.{KeptFault}
 use Rattle.zvt_kept.specs.declared.run.KeptFault.TheVariants.{Order as OrderFault, Journal as JournalFault, Line as LineBroke}
 use Rattle.zvt_kept.proofs.Logged.{keeps_lost, weaker}
 use Rattle.zvt_kept.proofs.Made.{records_are_kept}
-use Rattle.zvt_kept.proofs.Outlived.{at_first, not_both, quiet}
+use Rattle.zvt_kept.proofs.Outlived.{at_first, failed_alike, failed_by, not_both, quiet}
+use Rattle.zvt_kept.proofs.Over.{loses_by}
 use Rattle.zvt_kept.proofs.RunsOutlived.{after_messages, after_order, heard_before}
 use Rattle.zvt_kept.proofs.Steps.{taken_up}
 
@@ -48,20 +46,11 @@ all_before currency first happened later file b = record {
   recorded = subst (λ l. StandsFor currency (recovered file) l) (append_assoc first happened b.part) b.recorded;
 }
 
-module _ {D : Type 0} (seen : D → List ℕ) (may_leave : D → List ℕ → Type 0) (moment : D → ℕ) (left_since : D → ℕ → List ℕ → Type 0) where
+module _ {D : Type 0} (seen : D → List ℕ) (may_leave : D → List ℕ → Type 0) (moment : D → ℕ) (left_since : D → ℕ → List ℕ → Type 0) (faults : D → ℕ) where
   abbrev Loses : KeptValue D → KeptValue D → Type 0
-  Loses = LosesLine seen may_leave moment left_since
+  Loses = LosesLine seen may_leave moment left_since faults
 
-  loses_by : (fault : LineFault) (middle new : KeptValue D) → Reported Loses Loses fault middle new → Loses middle new
-  loses_by Read middle new r = r
-  loses_by (Ended have) middle new r = r
-  loses_by Turns middle new r = r
-  loses_by (Malformed place why) middle new r = r
-  loses_by Memory middle new r = r
-  loses_by Write middle new r = r
-  loses_by Stopped middle new r = r
-
-  lost_log : (settings : Settings) (log : List Happening) (old new : KeptValue D) → Loses old new → HasLog seen may_leave moment left_since settings log old.standing → HasLog seen may_leave moment left_since settings log new.standing
+  lost_log : (settings : Settings) (log : List Happening) (old new : KeptValue D) → Loses old new → HasLog seen may_leave moment left_since faults settings log old.standing → HasLog seen may_leave moment left_since faults settings log new.standing
   lost_log settings log old new l has =
       let d = old.standing.device in
       let g = old.standing.gate in
@@ -75,31 +64,31 @@ module _ {D : Type 0} (seen : D → List ℕ) (may_leave : D → List ℕ → Ty
   refused_down : (order : Order) (state : TillState) → state.line_up ≡ false → refusal (facts_of state) order ≡ None → ⊥
   refused_down order state down none = not_both state.line_up (taken_up state order none) down
 
-  stuck_run : (order : Order) (old new : KeptValue D) → old.standing.till.state.line_up ≡ false → Did seen may_leave moment left_since (runs order) old new → new ≡ old
-  stuck_run order old new down did = by_result did.6 did.7
+  stuck_run : (order : Order) (old new : KeptValue D) → old.standing.till.state.line_up ≡ false → Did seen may_leave moment left_since faults (runs order) old new → new ≡ old
+  stuck_run order old new down did = by_result did.9 did.10
     where
-      by_result : (result : Result Outcome KeptFault) → RanKept seen may_leave moment left_since order did.0 did.1 old new did.2 did.3 did.4 did.5 result → new ≡ old
+      by_result : (result : Result Outcome KeptFault) → RanKept seen may_leave moment left_since faults order did.0 did.1 old new did.2 did.3 did.4 did.5 did.6 did.7 did.8 result → new ≡ old
       by_result (Ok outcome) ran = absurd (refused_down order old.standing.till.state down ran.sends.ordered.taken)
       by_result (Err (OrderFault why)) ran = ran.1
-      by_result (Err JournalFault) ran = ⊎_elim (λ lost. absurd (refused_down order old.standing.till.state down lost.0.taken)) (λ broke. absurd (refused_down order old.standing.till.state down broke.3.ordered.taken)) ran.1
+      by_result (Err JournalFault) ran = ⊎_elim (λ lost. absurd (refused_down order old.standing.till.state down lost.0.taken)) (λ broke. absurd (refused_down order old.standing.till.state down broke.3.ordered.taken)) ran.3
       by_result (Err (LineBroke fault)) ran = ⊎_elim (λ unsent. absurd (refused_down order old.standing.till.state down unsent.3.taken)) (λ broke. absurd (refused_down order old.standing.till.state down broke.3.ordered.taken)) ran
 
   -- a till whose journal failed leaves its file alone
-  stuck : (step : KeptStep) (old new : KeptValue D) → old.failed ≡ true → old.standing.till.state.line_up ≡ false → Did seen may_leave moment left_since step old new
-      → (new.failed ≡ true) × (new.standing.device ≡ old.standing.device)
+  stuck : (step : KeptStep) (old new : KeptValue D) → has_failed old ≡ true → old.standing.till.state.line_up ≡ false → Did seen may_leave moment left_since faults step old new
+      → (has_failed new ≡ true) × (new.standing.device ≡ old.standing.device)
   stuck (runs order) old new failed down did =
       let same = stuck_run order old new down did in
-      (ap (λ (k : KeptValue D). k.failed) same ∙ failed, ap (λ (k : KeptValue D). k.standing.device) same)
+      (ap (λ (k : KeptValue D). has_failed k) same ∙ failed, ap (λ (k : KeptValue D). k.standing.device) same)
   stuck connects old new failed down did = by_result did.0 did.1
     where
-      by_result : (result : Result Unit DeviceError) → Connects seen may_leave moment left_since old new result → (new.failed ≡ true) × (new.standing.device ≡ old.standing.device)
-      by_result (Ok done) c = ⊎_elim (λ still. absurd (not_both old.standing.till.state.line_up still.0 down)) (λ line. absurd (not_both old.failed failed line.0)) c
-      by_result (Err why) c = ⊎_elim (λ still. (ap (λ (k : KeptValue D). k.failed) still.1 ∙ failed, ap (λ (k : KeptValue D). k.standing.device) still.1)) (λ broke. absurd (not_both old.failed failed broke.0)) c
-  stuck loses old new failed down did = (did.3 ∙ failed, did.1)
+      by_result : (result : Result Unit DeviceError) → Connects seen may_leave moment left_since faults old new result → (has_failed new ≡ true) × (new.standing.device ≡ old.standing.device)
+      by_result (Ok done) c = ⊎_elim (λ still. absurd (not_both old.standing.till.state.line_up still.0 down)) (λ line. absurd (not_both (has_failed old) failed line.0)) c
+      by_result (Err why) c = ⊎_elim (λ still. (ap (λ (k : KeptValue D). has_failed k) still.2 ∙ failed, ap (λ (k : KeptValue D). k.standing.device) still.2)) (λ broke. absurd (not_both (has_failed old) failed broke.0)) c
+  stuck loses old new failed down did = (failed_alike new old did.3 ∙ failed, did.1)
 
-  all_stuck : (steps : List KeptStep) (old new : KeptValue D) → old.failed ≡ true → DidAll seen may_leave moment left_since steps old new
-      → (new.failed ≡ true) × (new.standing.device ≡ old.standing.device)
-  all_stuck [] old new failed did = (ap (λ (k : KeptValue D). k.failed) (sym did) ∙ failed, ap (λ (k : KeptValue D). k.standing.device) (sym did))
+  all_stuck : (steps : List KeptStep) (old new : KeptValue D) → has_failed old ≡ true → DidAll seen may_leave moment left_since faults steps old new
+      → (has_failed new ≡ true) × (new.standing.device ≡ old.standing.device)
+  all_stuck [] old new failed did = (ap (λ (k : KeptValue D). has_failed k) (sym did) ∙ failed, ap (λ (k : KeptValue D). k.standing.device) (sym did))
   all_stuck (step ∷ more) old new failed did =
       let S = old.standing in
       let down : S.till.state.line_up ≡ false = subst (λ b. IsKept b (seen S.device) (may_leave S.device) S.gate S.till.state) failed did.0 in
@@ -113,51 +102,51 @@ module _ {D : Type 0} (seen : D → List ℕ) (may_leave : D → List ℕ → Ty
       pub happened : List Happening
       pub by : HappensIn settings.currency step happened
       pub leaves : LeavesOnly moment left_since old.standing.device new.standing.device (IsBetween settings.currency log happened)
-      pub then : new.failed ≡ false → HasLog seen may_leave moment left_since settings (log ++ happened) new.standing
+      pub then : has_failed new ≡ false → HasLog seen may_leave moment left_since faults settings (log ++ happened) new.standing
 
-    unchanged : (settings : Settings) (log : List Happening) (step : KeptStep) (old new : KeptValue D) → HappensIn settings.currency step [] → HasLog seen may_leave moment left_since settings log old.standing → new ≡ old → Outlived settings log step old new
+    unchanged : (settings : Settings) (log : List Happening) (step : KeptStep) (old new : KeptValue D) → HappensIn settings.currency step [] → HasLog seen may_leave moment left_since faults settings log old.standing → new ≡ old → Outlived settings log step old new
     unchanged settings log step old new none has same = record {
       happened = [];
       by = none;
-      leaves = subst (λ (k : KeptValue D). LeavesOnly moment left_since old.standing.device k.standing.device (IsBetween settings.currency log [])) (sym same) (quiet seen may_leave moment left_since only_now settings log [] old.standing has);
-      then = λ whole. subst (λ l. HasLog seen may_leave moment left_since settings l new.standing) (sym (append-nil log)) (subst (λ (k : KeptValue D). HasLog seen may_leave moment left_since settings log k.standing) (sym same) has);
+      leaves = subst (λ (k : KeptValue D). LeavesOnly moment left_since old.standing.device k.standing.device (IsBetween settings.currency log [])) (sym same) (quiet seen may_leave moment left_since faults only_now settings log [] old.standing has);
+      then = λ whole. subst (λ l. HasLog seen may_leave moment left_since faults settings l new.standing) (sym (append-nil log)) (subst (λ (k : KeptValue D). HasLog seen may_leave moment left_since faults settings log k.standing) (sym same) has);
     }
 
-    lost_after : (settings : Settings) (log : List Happening) (middle new : KeptValue D) → Loses middle new → (middle.failed ≡ false → HasLog seen may_leave moment left_since settings log middle.standing) → new.failed ≡ false → HasLog seen may_leave moment left_since settings log new.standing
-    lost_after settings log middle new l has whole = lost_log settings log middle new l (has (sym l.3 ∙ whole))
+    lost_after : (settings : Settings) (log : List Happening) (middle new : KeptValue D) → Loses middle new → (has_failed middle ≡ false → HasLog seen may_leave moment left_since faults settings log middle.standing) → has_failed new ≡ false → HasLog seen may_leave moment left_since faults settings log new.standing
+    lost_after settings log middle new l has whole = lost_log settings log middle new l (has (sym (failed_alike new middle l.3) ∙ whole))
 
-    run_outlived : (settings : Settings) (log : List Happening) (order : Order) (old new : KeptValue D) (before after : StreamState) (coming left first last : Option (List ℕ)) (result : Result Outcome KeptFault)
-        → HasLog seen may_leave moment left_since settings log old.standing → RanKept seen may_leave moment left_since order before after old new coming left first last result → Outlived settings log (runs order) old new
-    run_outlived settings log order old new before after coming left first last (Ok outcome) has ran =
+    run_outlived : (settings : Settings) (log : List Happening) (order : Order) (old new : KeptValue D) (before after : StreamState) (coming left first last : Option (List ℕ)) (turns reads_before reads_after : ℕ) (result : Result Outcome KeptFault)
+        → HasLog seen may_leave moment left_since faults settings log old.standing → RanKept seen may_leave moment left_since faults order before after old new coming left first last turns reads_before reads_after result → Outlived settings log (runs order) old new
+    run_outlived settings log order old new before after coming left first last turns reads_before reads_after (Ok outcome) has ran =
         let heard = ran.pumped.course.heard in
-        let all = after_messages seen may_leave moment left_since only_now settings log order ran.sends.outgoing old ran.sent_till new heard.messages heard.answers has ran.sends.ordered heard.heard in
+        let all = after_messages seen may_leave moment left_since faults only_now settings log order ran.sends.outgoing old ran.sent_till new heard.messages heard.answers has ran.sends.ordered heard.heard in
         record { happened = SentOut (sent_as settings.currency order) ∷ map hears heard.messages; by = inr (heard.messages, refl); leaves = all.0; then = all.1 }
-    run_outlived settings log order old new before after coming left first last (Err (OrderFault why)) has ran = unchanged settings log (runs order) old new (inl refl) has ran.1
-    run_outlived settings log order old new before after coming left first last (Err JournalFault) has ran = ⊎_elim
+    run_outlived settings log order old new before after coming left first last turns reads_before reads_after (Err (OrderFault why)) has ran = unchanged settings log (runs order) old new (inl refl) has ran.1
+    run_outlived settings log order old new before after coming left first last turns reads_before reads_after (Err JournalFault) has ran = ⊎_elim
         (λ lost. record {
           happened = SentOut (sent_as settings.currency order) ∷ [];
           by = inr ([], refl);
-          leaves = after_order seen may_leave moment left_since only_now settings log order old.standing.device new.standing.device [] (lost.0.outlives settings log has);
-          then = λ whole. absurd (not_both new.failed ran.0 whole);
+          leaves = after_order seen may_leave moment left_since faults only_now settings log order old.standing.device new.standing.device [] (lost.0.outlives settings log has);
+          then = λ whole. absurd (not_both (has_failed new) (failed_by new ran.0 ran.1) whole);
         })
         (λ broke.
         let heard = broke.4.course.heard in
-        let all = after_messages seen may_leave moment left_since only_now settings log order broke.3.outgoing old broke.0 new heard.messages heard.answers has broke.3.ordered heard.heard in
+        let all = after_messages seen may_leave moment left_since faults only_now settings log order broke.3.outgoing old broke.0 new heard.messages heard.answers has broke.3.ordered heard.heard in
         record { happened = SentOut (sent_as settings.currency order) ∷ map hears heard.messages; by = inr (heard.messages, refl); leaves = all.0; then = all.1 })
-        ran.1
-    run_outlived settings log order old new before after coming left first last (Err (LineBroke fault)) has ran = ⊎_elim
+        ran.3
+    run_outlived settings log order old new before after coming left first last turns reads_before reads_after (Err (LineBroke fault)) has ran = ⊎_elim
         (λ unsent. record {
           happened = SentOut (sent_as settings.currency order) ∷ [];
           by = inr ([], refl);
           leaves = subst (λ (d : D). LeavesOnly moment left_since old.standing.device d (IsBetween settings.currency log (SentOut (sent_as settings.currency order) ∷ []))) (sym unsent.4.1)
-              (after_order seen may_leave moment left_since only_now settings log order old.standing.device unsent.2.standing.device [] (unsent.3.outlives settings log has));
+              (after_order seen may_leave moment left_since faults only_now settings log order old.standing.device unsent.2.standing.device [] (unsent.3.outlives settings log has));
           then = lost_after settings (log ++ SentOut (sent_as settings.currency order) ∷ []) unsent.2 new unsent.4 (λ whole. unsent.3.logs settings log has);
         })
         (λ broke.
         let middle = broke.2 in
-        let h = heard_before (Hears seen may_leave moment left_since) fault before after broke.4.read broke.4.written broke.0 middle broke.4.breaks in
-        let all = after_messages seen may_leave moment left_since only_now settings log order broke.3.outgoing old broke.0 middle h.0 h.1 has broke.3.ordered h.2 in
-        let gone = loses_by fault middle new broke.5 in
+        let h = heard_before (Hears seen may_leave moment left_since faults) fault before after broke.4.read broke.4.written broke.0 middle broke.4.breaks in
+        let all = after_messages seen may_leave moment left_since faults only_now settings log order broke.3.outgoing old broke.0 middle h.0 h.1 has broke.3.ordered h.2 in
+        let gone = loses_by seen may_leave moment left_since faults fault middle new broke.5 in
         record {
           happened = SentOut (sent_as settings.currency order) ∷ map hears h.0;
           by = inr (h.0, refl);
@@ -174,10 +163,10 @@ module _ {D : Type 0} (seen : D → List ℕ) (may_leave : D → List ℕ → Ty
 
     new_line : (settings : Settings) (log : List Happening) (old new : D) → LeavesOnly moment left_since old new (LeavesLogs settings log (Lost ∷ Connected ∷ [])) → LeavesOnly moment left_since old new (IsBetween settings.currency log (Lost ∷ Connected ∷ []))
     new_line settings log old new leaves =
-        weaker records_are_kept seen may_leave moment left_since old new (LeavesLogs settings log (Lost ∷ Connected ∷ [])) (IsBetween settings.currency log (Lost ∷ Connected ∷ [])) leaves (λ file. all_or_none settings log (Lost ∷ Connected ∷ []) file)
+        weaker records_are_kept seen may_leave moment left_since faults old new (LeavesLogs settings log (Lost ∷ Connected ∷ [])) (IsBetween settings.currency log (Lost ∷ Connected ∷ [])) leaves (λ file. all_or_none settings log (Lost ∷ Connected ∷ []) file)
 
     connect_outlived : (settings : Settings) (log : List Happening) (old new : KeptValue D) (result : Result Unit DeviceError)
-        → HasLog seen may_leave moment left_since settings log old.standing → Connects seen may_leave moment left_since old new result → Outlived settings log connects old new
+        → HasLog seen may_leave moment left_since faults settings log old.standing → Connects seen may_leave moment left_since faults old new result → Outlived settings log connects old new
     connect_outlived settings log old new (Ok done) has c = ⊎_elim
         (λ still. unchanged settings log connects old new (inl refl) has still.1)
         (λ line. record {
@@ -188,23 +177,23 @@ module _ {D : Type 0} (seen : D → List ℕ) (may_leave : D → List ℕ → Ty
         })
         c
     connect_outlived settings log old new (Err why) has c = ⊎_elim
-        (λ still. unchanged settings log connects old new (inl refl) has still.1)
+        (λ still. unchanged settings log connects old new (inl refl) has still.2)
         (λ broke. record {
           happened = Lost ∷ Connected ∷ [];
           by = inr refl;
-          leaves = new_line settings log old.standing.device new.standing.device (broke.3 settings log has);
-          then = λ whole. absurd (not_both new.failed broke.1 whole);
+          leaves = new_line settings log old.standing.device new.standing.device (broke.5 settings log has);
+          then = λ whole. absurd (not_both (has_failed new) (failed_by new why broke.1) whole);
         })
         c
 
-    call_outlived : (settings : Settings) (log : List Happening) (step : KeptStep) (old new : KeptValue D) → HasLog seen may_leave moment left_since settings log old.standing → Did seen may_leave moment left_since step old new → Outlived settings log step old new
-    call_outlived settings log (runs order) old new has did = run_outlived settings log order old new did.0 did.1 did.2 did.3 did.4 did.5 did.6 has did.7
+    call_outlived : (settings : Settings) (log : List Happening) (step : KeptStep) (old new : KeptValue D) → HasLog seen may_leave moment left_since faults settings log old.standing → Did seen may_leave moment left_since faults step old new → Outlived settings log step old new
+    call_outlived settings log (runs order) old new has did = run_outlived settings log order old new did.0 did.1 did.2 did.3 did.4 did.5 did.6 did.7 did.8 did.9 has did.10
     call_outlived settings log connects old new has did = connect_outlived settings log old new did.0 has did.1
     call_outlived settings log loses old new has did = record {
       happened = [];
       by = refl;
-      leaves = subst (λ (d : D). LeavesOnly moment left_since old.standing.device d (IsBetween settings.currency log [])) (sym did.1) (quiet seen may_leave moment left_since only_now settings log [] old.standing has);
-      then = λ whole. subst (λ l. HasLog seen may_leave moment left_since settings l new.standing) (sym (append-nil log)) (lost_log settings log old new did has);
+      leaves = subst (λ (d : D). LeavesOnly moment left_since old.standing.device d (IsBetween settings.currency log [])) (sym did.1) (quiet seen may_leave moment left_since faults only_now settings log [] old.standing has);
+      then = λ whole. subst (λ l. HasLog seen may_leave moment left_since faults settings l new.standing) (sym (append-nil log)) (lost_log settings log old new did has);
     }
 
     -- ---- calls one after another
@@ -213,7 +202,7 @@ module _ {D : Type 0} (seen : D → List ℕ) (may_leave : D → List ℕ → Ty
     AllLeft settings log steps old new =
         (happened : List Happening) × HappenInAll settings.currency steps happened
         × LeavesOnly moment left_since old.standing.device new.standing.device (IsBetween settings.currency log happened)
-        × (new.failed ≡ false → HasLog seen may_leave moment left_since settings (log ++ happened) new.standing)
+        × (has_failed new ≡ false → HasLog seen may_leave moment left_since faults settings (log ++ happened) new.standing)
 
     none_happened : (currency : ℕ) (steps : List KeptStep) → HappenInAll currency steps []
     none_happened currency [] = refl
@@ -221,32 +210,32 @@ module _ {D : Type 0} (seen : D → List ℕ) (may_leave : D → List ℕ → Ty
     none_happened currency (connects ∷ more) = ([], [], inl refl, none_happened currency more, refl)
     none_happened currency (loses ∷ more) = ([], [], refl, none_happened currency more, refl)
 
-    one_and_more : (settings : Settings) (log : List Happening) (step : KeptStep) (more : List KeptStep) (old mid new : KeptValue D) (failed : Bool) → mid.failed ≡ failed → (one : Outlived settings log step old mid)
-        → DidAll seen may_leave moment left_since more mid new → (mid.failed ≡ false → AllLeft settings (log ++ one.happened) more mid new) → AllLeft settings log (step ∷ more) old new
+    one_and_more : (settings : Settings) (log : List Happening) (step : KeptStep) (more : List KeptStep) (old mid new : KeptValue D) (failed : Bool) → has_failed mid ≡ failed → (one : Outlived settings log step old mid)
+        → DidAll seen may_leave moment left_since faults more mid new → (has_failed mid ≡ false → AllLeft settings (log ++ one.happened) more mid new) → AllLeft settings log (step ∷ more) old new
     one_and_more settings log step more old mid new false whole one did rest =
         let r = rest whole in (
           one.happened ++ r.0,
           (one.happened, r.0, one.by, r.1, refl),
           and_then moment left_since old.standing.device mid.standing.device new.standing.device (IsBetween settings.currency log (one.happened ++ r.0)) (IsBetween settings.currency (log ++ one.happened) r.0)
-              (weaker records_are_kept seen may_leave moment left_since old.standing.device mid.standing.device (IsBetween settings.currency log one.happened) (IsBetween settings.currency log (one.happened ++ r.0)) one.leaves (λ file. more_later settings.currency log one.happened r.0 file))
+              (weaker records_are_kept seen may_leave moment left_since faults old.standing.device mid.standing.device (IsBetween settings.currency log one.happened) (IsBetween settings.currency log (one.happened ++ r.0)) one.leaves (λ file. more_later settings.currency log one.happened r.0 file))
               r.2 (λ file. all_before settings.currency log one.happened r.0 file),
-          λ unfailed. subst (λ l. HasLog seen may_leave moment left_since settings l new.standing) (append_assoc log one.happened r.0) (r.3 unfailed),
+          λ unfailed. subst (λ l. HasLog seen may_leave moment left_since faults settings l new.standing) (append_assoc log one.happened r.0) (r.3 unfailed),
         )
     one_and_more settings log step more old mid new true failed one did rest =
         let end = all_stuck more mid new failed did in (
           one.happened,
           (one.happened, [], one.by, none_happened settings.currency more, sym (append-nil one.happened)),
           subst (λ (d : D). LeavesOnly moment left_since old.standing.device d (IsBetween settings.currency log one.happened)) (sym end.1) one.leaves,
-          λ unfailed. absurd (not_both new.failed end.0 unfailed),
+          λ unfailed. absurd (not_both (has_failed new) end.0 unfailed),
         )
 
-    pub calls_outlive : CallsOutlive seen may_leave moment left_since
+    pub calls_outlive : CallsOutlive seen may_leave moment left_since faults
     calls_outlive settings log [] old new has whole did = (
       [],
       refl,
-      subst (λ (k : KeptValue D). LeavesOnly moment left_since old.standing.device k.standing.device (IsBetween settings.currency log [])) did (quiet seen may_leave moment left_since only_now settings log [] old.standing has),
-      λ unfailed. subst (λ l. HasLog seen may_leave moment left_since settings l new.standing) (sym (append-nil log)) (subst (λ (k : KeptValue D). HasLog seen may_leave moment left_since settings log k.standing) did has),
+      subst (λ (k : KeptValue D). LeavesOnly moment left_since old.standing.device k.standing.device (IsBetween settings.currency log [])) did (quiet seen may_leave moment left_since faults only_now settings log [] old.standing has),
+      λ unfailed. subst (λ l. HasLog seen may_leave moment left_since faults settings l new.standing) (sym (append-nil log)) (subst (λ (k : KeptValue D). HasLog seen may_leave moment left_since faults settings log k.standing) did has),
     )
     calls_outlive settings log (step ∷ more) old new has whole did =
         let one = call_outlived settings log step old did.1 has did.2 in
-        one_and_more settings log step more old did.1 new did.1.failed refl one did.3 (λ unfailed. calls_outlive settings (log ++ one.happened) more did.1 new (one.then unfailed) unfailed did.3)
+        one_and_more settings log step more old did.1 new (has_failed did.1) refl one did.3 (λ unfailed. calls_outlive settings (log ++ one.happened) more did.1 new (one.then unfailed) unfailed did.3)

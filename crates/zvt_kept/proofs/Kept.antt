@@ -1,35 +1,86 @@
 -- A record made durable.
-use Rattle.std.proofs.Common.{◌≡◌, inl, ℕ, List, [], ◌++◌, sym, ap, subst, ◌∙◌}
-use Rattle.std.specs.Prelude.{Result, Ok, Err, OnOk}
-use Rattle.std.specs.Result.{IsErr}
+use Rattle.std.proofs.Common.{◌≡◌, ◌⊎◌, ⊎_elim, inl, ℕ, ◌^◌, ◌<◌, ◌≤◌, List, [], ◌++◌, length, refl, sym, ap, subst, ◌∙◌, arith}
+use Rattle.std.specs.Prelude.{Result, Ok, Err, IfErr, IfOk, IsErrAnd, IsErrOf, OnErr, OnOk}
 use Rattle.zvt_journal.specs.Device.{LeavesOnly}
 use Rattle.zvt_journal.specs.Text.{recovered, IsSettled, IsWithOrWithout}
 use Rattle.zvt_journal.specs.declared.device.DeviceError.{DeviceError}
+use Rattle.zvt_journal.specs.declared.device.DeviceError.TheVariants.{Memory, Failed, Full}
+use Rattle.zvt_journal.specs.Files.{IsRepairable}
+use Rattle.zvt_journal.proofs.Lines.{recovered_whole}
 use Rattle.zvt_journal.proofs.Moments.{started}
+use Rattle.zvt_journal.proofs.Repairable.{repairable_at_rest}
 use Rattle.zvt_kept.specs.Records.{Kept, IsRecordOf}
-use Rattle.zvt_kept.specs.KeptTill.{Recorded}
+use Rattle.zvt_kept.specs.KeptTill.{Adds, HasCause, Recorded}
 
 -- a text that was begun anew
 pub text_is : (new start added : List ℕ) → new ≡ start ++ added → start ≡ [] → new ≡ added
 text_is new start added grown none = grown ∙ ap (λ l. l ++ added) none
 
-module _ {D : Type 0} (seen : D → List ℕ) (may_leave : D → List ℕ → Type 0) (moment : D → ℕ) (left_since : D → ℕ → List ℕ → Type 0) where
+module _ {D : Type 0} (seen : D → List ℕ) (may_leave : D → List ℕ → Type 0) (moment : D → ℕ) (left_since : D → ℕ → List ℕ → Type 0) (faults : D → ℕ) where
   -- nothing was written
   pub nothing_left : (device : D) (gate : ℕ) (added : List ℕ) → ((file : List ℕ) → left_since device (moment device) file → may_leave device file)
       → IsSettled (seen device) (may_leave device) gate → LeavesOnly moment left_since device device (IsWithOrWithout (recovered (seen device)) added)
   nothing_left device gate added only_now settled =
       started moment left_since device (IsWithOrWithout (recovered (seen device)) added) (λ file left. inl (ap recovered (settled.durable file (only_now file left))))
 
-  pub unrecorded : (device : D) (gate : ℕ) (one : Kept) (added : List ℕ) (result : Result Unit DeviceError) → IsErr result → IsRecordOf one added
+  -- nothing was written, for want of memory
+  pub unadded : (device : D) (gate : ℕ) (added : List ℕ) (result : Result Unit DeviceError) → IsErrAnd result (λ why. why ≡ Memory)
       → ((file : List ℕ) → left_since device (moment device) file → may_leave device file) → IsSettled (seen device) (may_leave device) gate
-      → Recorded seen may_leave moment left_since one device device gate result
-  unrecorded device gate one added (Ok done) err is only_now settled = absurd cc
-  unrecorded device gate one added (Err why) err is only_now settled = record { added = added; is = is; durable = tt; leaves = nothing_left device gate added only_now settled }
+      → Adds seen may_leave moment left_since faults added device device gate gate result
+  unadded device gate added (Ok done) err only_now settled = absurd err
+  unadded device gate added (Err why) err only_now settled = record {
+    durable = tt;
+    leaves = nothing_left device gate added only_now settled;
+    repairable = started moment left_since device IsRepairable (λ file left. let at = settled.durable file (only_now file left) in
+        repairable_at_rest (recovered (seen device)) (recovered_whole (seen device)) gate settled.at_gate file (at ∙ settled.rest) (ap recovered at));
+    later = omega arith;
+    cause = subst (λ e. HasCause e (faults device) (faults device) gate) (sym err) tt;
+    stays = refl;
+  }
 
-  -- what was appended
-  pub appended : (old new : D) (gate : ℕ) (one : Kept) (added text : List ℕ) (result : Result Unit DeviceError) → text ≡ added → IsRecordOf one added
+  pub unrecorded : (device : D) (gate : ℕ) (one : Kept) (added : List ℕ) (result : Result Unit DeviceError) → IsErrAnd result (λ why. why ≡ Memory) → IsRecordOf one added
+      → ((file : List ℕ) → left_since device (moment device) file → may_leave device file) → IsSettled (seen device) (may_leave device) gate
+      → Recorded seen may_leave moment left_since faults one device device gate gate result
+  unrecorded device gate one added result err is only_now settled = record { added = added; is = is; adds = unadded device gate added result err only_now settled }
+
+  -- the cause of an error of an append
+  caused : (before after gate_before gate size : ℕ) (result : Result Unit DeviceError) → size ≤ 2 ^ 18
+      → (IsErrOf result Failed → before < after) → (IsErrOf result Full → (2 ^ 60 ≤ gate_before) ⊎ (2 ^ 18 < size)) → OnErr result (gate ≡ gate_before)
+      → IfErr result (λ why. HasCause why before after gate)
+  caused before after gate_before gate size (Ok done) short failed full same = tt
+  caused before after gate_before gate size (Err Memory) short failed full same = tt
+  caused before after gate_before gate size (Err Failed) short failed full same = failed refl
+  caused before after gate_before gate size (Err Full) short failed full same =
+      ⊎_elim (λ most. subst (λ n. 2 ^ 60 ≤ n) (sym same) most) (λ long. absurd (omega (arith, long, short))) (full refl)
+
+  -- a text that was appended
+  pub text_added : (old new : D) (gate_before gate : ℕ) (text : List ℕ) (result : Result Unit DeviceError) → length text ≤ 2 ^ 18
       → OnOk result (IsSettled (seen new) (may_leave new) gate) → OnOk result (recovered (seen new) ≡ recovered (seen old) ++ text)
-      → LeavesOnly moment left_since old new (IsWithOrWithout (recovered (seen old)) text)
-      → Recorded seen may_leave moment left_since one old new gate result
-  appended old new gate one added text (Ok done) same is settled more leaves = record { added = text; is = subst (IsRecordOf one) (sym same) is; durable = (more, settled); leaves = leaves }
-  appended old new gate one added text (Err why) same is settled more leaves = record { added = text; is = subst (IsRecordOf one) (sym same) is; durable = tt; leaves = leaves }
+      → LeavesOnly moment left_since old new (IsWithOrWithout (recovered (seen old)) text) → LeavesOnly moment left_since old new IsRepairable
+      → faults old ≤ faults new → (IsErrOf result Failed → faults old < faults new) → (IsErrOf result Full → (2 ^ 60 ≤ gate_before) ⊎ (2 ^ 18 < length text)) → OnErr result (gate ≡ gate_before)
+      → Adds seen may_leave moment left_since faults text old new gate_before gate result
+  text_added old new gate_before gate text result short settled more leaves repairable later failed full stays = record {
+    durable = both result more settled;
+    leaves = leaves;
+    repairable = repairable;
+    later = later;
+    cause = caused (faults old) (faults new) gate_before gate (length text) result short failed full stays;
+    stays = stays;
+  }
+    where
+      both : (r : Result Unit DeviceError) → OnOk r (recovered (seen new) ≡ recovered (seen old) ++ text) → OnOk r (IsSettled (seen new) (may_leave new) gate)
+          → IfOk r (λ _. (recovered (seen new) ≡ recovered (seen old) ++ text) × IsSettled (seen new) (may_leave new) gate)
+      both (Ok done) more settled = (more, settled)
+      both (Err why) more settled = tt
+
+  -- a record that was appended
+  pub appended : (old new : D) (gate_before gate : ℕ) (one : Kept) (added text : List ℕ) (result : Result Unit DeviceError) → text ≡ added → IsRecordOf one added → length added ≤ 2 ^ 18
+      → OnOk result (IsSettled (seen new) (may_leave new) gate) → OnOk result (recovered (seen new) ≡ recovered (seen old) ++ text)
+      → LeavesOnly moment left_since old new (IsWithOrWithout (recovered (seen old)) text) → LeavesOnly moment left_since old new IsRepairable
+      → faults old ≤ faults new → (IsErrOf result Failed → faults old < faults new) → (IsErrOf result Full → (2 ^ 60 ≤ gate_before) ⊎ (2 ^ 18 < length text)) → OnErr result (gate ≡ gate_before)
+      → Recorded seen may_leave moment left_since faults one old new gate_before gate result
+  appended old new gate_before gate one added text result same is short settled more leaves repairable later failed full stays = record {
+    added = text;
+    is = subst (IsRecordOf one) (sym same) is;
+    adds = text_added old new gate_before gate text result (subst (λ (t : List ℕ). length t ≤ 2 ^ 18) (sym same) short) settled more leaves repairable later failed full stays;
+  }

@@ -13,17 +13,17 @@ use Rattle.zvt_kept.specs.KeptTill.{KeptValue}
 known_lost : (old new : TillValue) → till_loses old new → IsKnown old.state → IsKnown new.state
 known_lost old new lost k = λ none. (reported-over faults.Read old new lost k).2
 
-module _ {D : Type 0} (seen : D → List ℕ) (may_leave : D → List ℕ → Type 0) (moment : D → ℕ) (left_since : D → ℕ → List ℕ → Type 0) where
-  known_step : (old new : KeptValue D) (m : Message) (a : Answered) → kept.Hears seen may_leave moment left_since old m a new → IsKnown old.standing.till.state → IsKnown new.standing.till.state
+module _ {D : Type 0} (seen : D → List ℕ) (may_leave : D → List ℕ → Type 0) (moment : D → ℕ) (left_since : D → ℕ → List ℕ → Type 0) (faults : D → ℕ) where
+  known_step : (old new : KeptValue D) (m : Message) (a : Answered) → kept.Hears seen may_leave moment left_since faults old m a new → IsKnown old.standing.till.state → IsKnown new.standing.till.state
   known_step old new m a h k = ⊎_elim
       (λ still. subst (λ (v : KeptValue D). IsKnown v.standing.till.state) (sym still.1) k)
       (λ more. ⊎_elim
       (λ heard. known-heard old.standing.till new.standing.till (m ∷ []) (a ∷ []) (new.standing.till, heard.1.heard, refl) k)
-      (λ lost. known_lost old.standing.till new.standing.till lost.2.lost k)
+      (λ lost. known_lost old.standing.till new.standing.till lost.3.lost k)
       more)
       h
 
-  pub known_kept : (old new : KeptValue D) (messages : List Message) (answers : List Answered) → Hears (kept.Hears seen may_leave moment left_since) old messages answers new
+  pub known_kept : (old new : KeptValue D) (messages : List Message) (answers : List Answered) → Hears (kept.Hears seen may_leave moment left_since faults) old messages answers new
       → IsKnown old.standing.till.state → IsKnown new.standing.till.state
   known_kept old new [] [] h k = subst (λ (v : KeptValue D). IsKnown v.standing.till.state) h k
   known_kept old new (m ∷ messages) (a ∷ answers) h k = known_kept h.0 new messages answers h.2 (known_step old h.0 m a h.1 k)

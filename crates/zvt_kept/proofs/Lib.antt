@@ -2,6 +2,7 @@ mod Begun
 mod Bytes
 mod CallsOutlived
 mod Crashed
+mod Failing
 mod Kept
 pub mod Known
 mod LineLemmas
@@ -10,11 +11,14 @@ mod Made
 mod Numbers
 mod Opened
 mod Outlived
+mod Over
+mod Places
 mod ReadLines
 mod Recovered
 mod Relived
 mod Rows
 mod RunsOutlived
 mod Sent
+mod Short
 mod Steps
 mod WordLemmas

@@ -52,7 +52,7 @@ module _ (records_are_kept : RecordsAreKept) where
 
   -- ---- a crash at any moment
 
-  module _ {D : Type 0} (seen : D → List ℕ) (may_leave : D → List ℕ → Type 0) (moment : D → ℕ) (left_since : D → ℕ → List ℕ → Type 0) where
+  module _ {D : Type 0} (seen : D → List ℕ) (may_leave : D → List ℕ → Type 0) (moment : D → ℕ) (left_since : D → ℕ → List ℕ → Type 0) (faults : D → ℕ) where
     pub weaker : (old new : D) (P Q : List ℕ → Type 0) → LeavesOnly moment left_since old new P → ((file : List ℕ) → P file → Q file) → LeavesOnly moment left_since old new Q
     weaker old new P Q leaves so = record {
       later = leaves.later;
@@ -63,7 +63,7 @@ module _ (records_are_kept : RecordsAreKept) where
     pub outlives : (old new : Standing D) (one : Kept) (added : List ℕ) (happened : Settings → List Happening)
         → IsRecordOf one added → ((settings : Settings) → Happens settings.currency one (happened settings))
         → LeavesOnly moment left_since old.device new.device (IsWithOrWithout (recovered (seen old.device)) added)
-        → Outlives seen may_leave moment left_since happened old new
+        → Outlives seen may_leave moment left_since faults happened old new
     outlives old new one added happened is h leaves settings log has =
         weaker old.device new.device (IsWithOrWithout (recovered (seen old.device)) added) (LeavesLogs settings log (happened settings)) leaves
         (λ file. leaves_logs settings (seen old.device) log one added (happened settings) has.recorded is (h settings) file)

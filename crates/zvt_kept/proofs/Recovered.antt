@@ -162,7 +162,7 @@ recovered_till settings text log state up (Err (Line number)) line s t r = logs_
 recovered_till settings text log state up (Err (Record number)) line s t r = logs_are_recovered settings text log (Err (Record number)) s (prefix_from settings [] log (unless_up up) t.0) r
 recovered_till settings text log state up (Err Memory) line s t r = tt
 
-module _ {D : Type 0} (seen : D → List ℕ) (may_leave : D → List ℕ → Type 0) (moment : D → ℕ) (left_since : D → ℕ → List ℕ → Type 0) where
-  pub tills_are_recovered : TillsAreRecovered seen may_leave moment left_since
+module _ {D : Type 0} (seen : D → List ℕ) (may_leave : D → List ℕ → Type 0) (moment : D → ℕ) (left_since : D → ℕ → List ℕ → Type 0) (faults : D → ℕ) where
+  pub tills_are_recovered : TillsAreRecovered seen may_leave moment left_since faults
   tills_are_recovered settings log kept result has r =
       recovered_till settings (recovered (seen kept.standing.device)) log kept.standing.till.state kept.standing.till.state.line_up result refl has.recorded has.stands r

@@ -35,7 +35,7 @@ order_follows order state taken settings log t =
 pub heard_follows : (state : TillState) → state.line_up ≡ true → (settings : Settings) (log : List Happening) → Stands settings log state → (facts_in log).line_up ≡ true
 heard_follows state up settings log t = sym (line_is settings log state t) ∙ up
 
-module _ {D : Type 0} (seen : D → List ℕ) (may_leave : D → List ℕ → Type 0) (moment : D → ℕ) (left_since : D → ℕ → List ℕ → Type 0) where
+module _ {D : Type 0} (seen : D → List ℕ) (may_leave : D → List ℕ → Type 0) (moment : D → ℕ) (left_since : D → ℕ → List ℕ → Type 0) (faults : D → ℕ) where
   -- what happens on a line that is up and doesn't end it
   pub logs_one : (old new : Standing D) (one : Kept) (added : List ℕ) (h : Settings → Happening) → old.till.state.line_up ≡ true
       → ((settings : Settings) → line_after true (h settings) ≡ true)
@@ -43,7 +43,7 @@ module _ {D : Type 0} (seen : D → List ℕ) (may_leave : D → List ℕ → Ty
       → ((settings : Settings) → new.till.state ≡ step old.till.state (h settings))
       → IsRecordOf one added → ((settings : Settings) → Happens settings.currency one (h settings ∷ []))
       → recovered (seen new.device) ≡ recovered (seen old.device) ++ added → IsSettled (seen new.device) (may_leave new.device) new.gate
-      → Logs seen may_leave moment left_since (λ settings. h settings ∷ []) old new
+      → Logs seen may_leave moment left_since faults (λ settings. h settings ∷ []) old new
   logs_one old new one added h up stays can goes is happens more settled settings log has = record {
     settled = settled;
     recorded = subst (λ text. StandsFor settings.currency text (log ++ h settings ∷ [])) (sym more) (stands_more records_are_kept settings.currency (seen old.device) log one added (h settings ∷ []) has.recorded is (happens settings));
@@ -54,7 +54,7 @@ module _ {D : Type 0} (seen : D → List ℕ) (may_leave : D → List ℕ → Ty
   pub logs_line : (old new : Standing D) (one : Kept) (added : List ℕ) → old.till.state.line_up ≡ false → new.till.state ≡ step old.till.state Connected
       → IsRecordOf one added → ((settings : Settings) → Happens settings.currency one (Lost ∷ Connected ∷ []))
       → recovered (seen new.device) ≡ recovered (seen old.device) ++ added → IsSettled (seen new.device) (may_leave new.device) new.gate
-      → Logs seen may_leave moment left_since (λ settings. Lost ∷ Connected ∷ []) old new
+      → Logs seen may_leave moment left_since faults (λ settings. Lost ∷ Connected ∷ []) old new
   logs_line old new one added down goes is happens more settled settings log has = record {
     settled = settled;
     recorded = subst (λ text. StandsFor settings.currency text (log ++ Lost ∷ Connected ∷ [])) (sym more) (stands_more records_are_kept settings.currency (seen old.device) log one added (Lost ∷ Connected ∷ []) has.recorded is (happens settings));
@@ -63,7 +63,7 @@ module _ {D : Type 0} (seen : D → List ℕ) (may_leave : D → List ℕ → Ty
 
   -- ---- what the journal keeps afterwards
 
-  pub kept_on : (failed : Bool) (happened : Settings → List Happening) (old new : Standing D) → failed ≡ false → Logs seen may_leave moment left_since happened old new
+  pub kept_on : (failed : Bool) (happened : Settings → List Happening) (old new : Standing D) → failed ≡ false → Logs seen may_leave moment left_since faults happened old new
       → IsKept failed (seen old.device) (may_leave old.device) old.gate old.till.state → IsKept failed (seen new.device) (may_leave new.device) new.gate new.till.state
   kept_on true happened old new whole logs k = absurd cc
   kept_on false happened old new whole logs k =

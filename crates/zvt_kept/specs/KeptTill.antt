@@ -1,5 +1,5 @@
 -- A till and its journal, and what each of their steps makes durable.
-use Rattle.std.specs.Prelude.{◌≡◌, ◌⊎◌, ℕ, Bool, true, false, cond, List, [], ◌∷◌, ◌++◌, Some, None, Result, Ok, Err, IfOk}
+use Rattle.std.specs.Prelude.{◌≡◌, ◌⊎◌, ◌<◌, ◌≤◌, ◌^◌, ℕ, ◌+◌, Bool, true, false, cond, List, [], ◌∷◌, ◌++◌, Option, Some, None, is_some, Result, Ok, Err, IfOk, IfErr, OnErr}
 use Rattle.zvt_apdu.specs.Message.{Message}
 use Rattle.zvt_stream.specs.Answered.{Answered}
 use Rattle.zvt_till.specs.declared.happenings.Happening.{Happening}
@@ -7,7 +7,7 @@ use Rattle.zvt_till.specs.declared.happenings.Happening.TheVariants.{Connected, 
 use Rattle.zvt_till.specs.declared.orders.Order.{Order}
 use Rattle.zvt_till.specs.declared.orders.Outgoing.{Outgoing}
 use Rattle.zvt_till.specs.Events.{hears}
-use Rattle.zvt_till.specs.Line.{till_hears, till_loses}
+use Rattle.zvt_till.specs.Line.{till_hears, till_loses, till_rests}
 use Rattle.zvt_till.specs.Numbers.{numbers_begun}
 use Rattle.zvt_till.specs.Refusals.{refusal, sent_as}
 use Rattle.zvt_till.specs.Sending.{Settings, message_of}
@@ -16,8 +16,10 @@ use Rattle.zvt_till.specs.TillHistory.{Stands}
 use Rattle.zvt_till.specs.View.{TillValue, IsRefusedAs}
 use Rattle.zvt_journal.specs.Text.{recovered, IsSettled, IsWithOrWithout}
 use Rattle.zvt_journal.specs.Device.{LeavesOnly}
+use Rattle.zvt_journal.specs.Files.{IsRepairable}
 use Rattle.zvt_journal.specs.declared.device.DeviceError.{DeviceError}
-use Rattle.zvt_kept.specs.Records.{Kept, IsRecordOf}
+use Rattle.zvt_journal.specs.declared.device.DeviceError.TheVariants.{Memory, Failed, Full}
+use Rattle.zvt_kept.specs.Records.{Kept, IsRecordOf, opening}
 use Rattle.zvt_kept.specs.Logs.{StandsFor}
 use Rattle.zvt_kept.specs.declared.refusal.KeptRefusal.{KeptRefusal}
 use Rattle.zvt_kept.specs.declared.refusal.KeptRefusal.TheVariants.{Order as OrderRefused, Journal as JournalFailed}
@@ -31,7 +33,15 @@ pub record Standing (D : Type 0) : Type 0 where
 -- what contracts see of a till with its journal
 pub record KeptValue (D : Type 0) : Type 0 where
   pub standing : Standing D
-  pub failed : Bool
+  -- why the journal failed, if it did
+  pub failure : Option DeviceError
+
+-- a till with its journal rests where no order runs
+abbrev pub kept_rests : {D : Type 0} → KeptValue D → Bool
+kept_rests kept = till_rests kept.standing.till
+
+abbrev pub has_failed : {D : Type 0} → KeptValue D → Bool
+has_failed kept = is_some kept.failure
 
 -- what a till has lived through beside its journal's log: the loss of its line, while that is down
 abbrev pub unless_up : Bool → List Happening
@@ -57,19 +67,46 @@ abbrev pub LeavesLogs : Settings → (before happened : List Happening) → List
 LeavesLogs settings before happened file =
     StandsFor settings.currency (recovered file) before ⊎ StandsFor settings.currency (recovered file) (before ++ happened)
 
--- whether the journal has failed after an order was answered so
-abbrev pub failed_after : {A : Type 0} → Bool → Result A KeptRefusal → Bool
-failed_after before (Ok a) = before
-failed_after before (Err (OrderRefused why)) = before
-failed_after before (Err (JournalFailed why)) = true
+-- why the journal has failed, if it did, after an order was answered so
+abbrev pub failure_after : {A : Type 0} → Option DeviceError → Result A KeptRefusal → Option DeviceError
+failure_after before (Ok a) = before
+failure_after before (Err (OrderRefused why)) = before
+failure_after before (Err (JournalFailed why)) = Some why
 
-module _ {D : Type 0} (seen : D → List ℕ) (may_leave : D → List ℕ → Type 0) (moment : D → ℕ) (left_since : D → ℕ → List ℕ → Type 0) where
-  -- A record was to be made durable. A crash at any moment leaves the text before, with the record or without.
-  pub record Recorded (one : Kept) (old new : D) (gate : ℕ) (result : Result Unit DeviceError) : Type 0 where
-    pub added : List ℕ
-    pub is : IsRecordOf one added
+-- The cause of a record that was not made durable: the disk failed once more, or the journal has 2^60 bytes. Nothing is said of
+-- memory, which may always be refused.
+abbrev pub HasCause : DeviceError → (faults_before faults_after gate : ℕ) → Type 0
+HasCause Failed before after gate = before < after
+HasCause Full before after gate = 2 ^ 60 ≤ gate
+HasCause Memory before after gate = Unit {0}
+
+module _ {D : Type 0} (seen : D → List ℕ) (may_leave : D → List ℕ → Type 0) (moment : D → ℕ) (left_since : D → ℕ → List ℕ → Type 0) (faults : D → ℕ) where
+  -- A text was to be made durable. A crash at any moment leaves the text before, with this one or without, in a file that opening
+  -- repairs.
+  pub record Adds (added : List ℕ) (old new : D) (gate_before gate : ℕ) (result : Result Unit DeviceError) : Type 0 where
     pub durable : IfOk result (λ _. (recovered (seen new) ≡ recovered (seen old) ++ added) × IsSettled (seen new) (may_leave new) gate)
     pub leaves : LeavesOnly moment left_since old new (IsWithOrWithout (recovered (seen old)) added)
+    pub repairable : LeavesOnly moment left_since old new IsRepairable
+    pub later : faults old ≤ faults new
+    pub cause : IfErr result (λ why. HasCause why (faults old) (faults new) gate)
+    -- the gate, which is how many bytes the journal has, stays after an error
+    pub stays : OnErr result (gate ≡ gate_before)
+
+  -- A record was to be made durable.
+  pub record Recorded (one : Kept) (old new : D) (gate_before gate : ℕ) (result : Result Unit DeviceError) : Type 0 where
+    pub added : List ℕ
+    pub is : IsRecordOf one added
+    pub adds : Adds added old new gate_before gate result
+
+  -- A journal was to begin on a device without records, which became the other. A crash at any moment leaves no record, or the
+  -- opening, in a file that opening repairs.
+  pub record Begins (currency : ℕ) (old new : D) : Type 0 where
+    pub leaves : LeavesOnly moment left_since old new (IsWithOrWithout [] (opening currency))
+    pub repairable : LeavesOnly moment left_since old new IsRepairable
+
+  -- The journal fails only by a fault of its disk between the two, or by its bound.
+  abbrev pub FailsOnlyBy : DeviceError → (old new : Standing D) → Type 0
+  FailsOnlyBy why old new = HasCause why (faults old.device) (faults new.device) new.gate
 
   -- the journal keeps this log of the till
   abbrev pub HasLog : Settings → List Happening → Standing D → Type 0
@@ -98,21 +135,26 @@ module _ {D : Type 0} (seen : D → List ℕ) (may_leave : D → List ℕ → Ty
     pub taken : refusal (facts_of old.till.state) order ≡ None
     pub message : message_of old.till.state.settings old.till.state.book order ≡ Some outgoing
     pub runs : new.till.state ≡ accept old.till.state order
+    pub room : old.till.spare ≤ new.till.spare
     pub numbers : new.till.numbers ≡ numbers_begun old.till.numbers order
     pub logs : Logs (order_sent order) old new
     pub outlives : Outlives (order_sent order) old new
+    pub later : faults old.device ≤ faults new.device
 
   -- An order was taken, and the journal failed. The till is told as of a lost line.
-  pub record OrderLost (order : Order) (old new : Standing D) : Type 0 where
+  pub record OrderLost (order : Order) (why : DeviceError) (old new : Standing D) : Type 0 where
+    pub cause : FailsOnlyBy why old new
+    pub stays : new.gate ≡ old.gate
     pub taken : refusal (facts_of old.till.state) order ≡ None
     pub lost : new.till.state ≡ step (accept old.till.state order) Lost
+    pub room : old.till.spare ≤ new.till.spare + 1
     pub numbers : new.till.numbers ≡ numbers_begun old.till.numbers order
     pub outlives : Outlives (order_sent order) old new
 
   abbrev pub Orders : Order → (old new : Standing D) → Result Outgoing KeptRefusal → Type 0
   Orders order old new (Ok outgoing) = Ordered order outgoing old new
   Orders order old new (Err (OrderRefused why)) = IsRefusedAs (facts_of old.till.state) old.till.spare order why × (new ≡ old)
-  Orders order old new (Err (JournalFailed why)) = OrderLost order old new
+  Orders order old new (Err (JournalFailed why)) = OrderLost order why old new
 
   -- A message was heard by a till whose line is up, and its record is durable.
   pub record HeardKept (message : Message) (answered : Answered) (old new : Standing D) : Type 0 where
@@ -120,16 +162,19 @@ module _ {D : Type 0} (seen : D → List ℕ) (may_leave : D → List ℕ → Ty
     pub heard : till_hears old.till message answered new.till
     pub logs : Logs (message_heard message) old new
     pub outlives : Outlives (message_heard message) old new
+    pub later : faults old.device ≤ faults new.device
 
   -- The journal failed as a message came. The till is told as of a lost line.
-  pub record MessageLost (message : Message) (old new : Standing D) : Type 0 where
+  pub record MessageLost (message : Message) (why : DeviceError) (old new : Standing D) : Type 0 where
+    pub cause : FailsOnlyBy why old new
+    pub stays : new.gate ≡ old.gate
     pub up : old.till.state.line_up ≡ true
     pub lost : till_loses old.till new.till
     pub outlives : Outlives (message_heard message) old new
 
   abbrev pub Takes : Message → (old new : Standing D) → Result Answered DeviceError → Type 0
   Takes message old new (Ok answered) = HeardKept message answered old new
-  Takes message old new (Err why) = MessageLost message old new
+  Takes message old new (Err why) = MessageLost message why old new
 
   abbrev pub no_answer : Answered
   no_answer = record { bytes = []; count = 0 }
@@ -138,12 +183,12 @@ module _ {D : Type 0} (seen : D → List ℕ) (may_leave : D → List ℕ → Ty
   abbrev pub Hears : KeptValue D → Message → Answered → KeptValue D → Type 0
   Hears old message answered new =
       ((old.standing.till.state.line_up ≡ false) × (new ≡ old) × (answered ≡ no_answer))
-      ⊎ ((new.failed ≡ old.failed) × HeardKept message answered old.standing new.standing)
-      ⊎ ((new.failed ≡ true) × (answered ≡ no_answer) × MessageLost message old.standing new.standing)
+      ⊎ ((new.failure ≡ old.failure) × HeardKept message answered old.standing new.standing)
+      ⊎ ((why : DeviceError) × (new.failure ≡ Some why) × (answered ≡ no_answer) × MessageLost message why old.standing new.standing)
 
   -- A line was lost. The journal says so when the next one is up.
   abbrev pub LosesLine : (old new : KeptValue D) → Type 0
-  LosesLine old new = till_loses old.standing.till new.standing.till × (new.standing.device ≡ old.standing.device) × (new.standing.gate ≡ old.standing.gate) × (new.failed ≡ old.failed)
+  LosesLine old new = till_loses old.standing.till new.standing.till × (new.standing.device ≡ old.standing.device) × (new.standing.gate ≡ old.standing.gate) × (new.failure ≡ old.failure)
 
   -- A line is up, and that an earlier one was lost is durable.
   pub record NewLine (old new : Standing D) : Type 0 where
@@ -151,10 +196,12 @@ module _ {D : Type 0} (seen : D → List ℕ) (may_leave : D → List ℕ → Ty
     pub numbers : new.till.numbers ≡ old.till.numbers
     pub logs : Logs line_changed old new
     pub outlives : Outlives line_changed old new
+    pub later : faults old.device ≤ faults new.device
 
   -- Whether a line is up, and that an earlier one was lost is durable. Once the journal failed nothing changes.
   abbrev pub Connects : (old new : KeptValue D) → Result Unit DeviceError → Type 0
-  Connects old new (Ok done) = ((old.standing.till.state.line_up ≡ true) × (new ≡ old)) ⊎ ((old.failed ≡ false) × (new.failed ≡ false) × NewLine old.standing new.standing)
+  Connects old new (Ok done) = ((old.standing.till.state.line_up ≡ true) × (new ≡ old)) ⊎ ((has_failed old ≡ false) × (has_failed new ≡ false) × NewLine old.standing new.standing)
   Connects old new (Err why) =
-      ((old.failed ≡ true) × (new ≡ old))
-      ⊎ ((old.failed ≡ false) × (new.failed ≡ true) × (new.standing.till ≡ old.standing.till) × Outlives line_changed old.standing new.standing)
+      ((has_failed old ≡ true) × (why ≡ Failed) × (new ≡ old))
+      ⊎ ((has_failed old ≡ false) × (new.failure ≡ Some why) × (new.standing.till ≡ old.standing.till) × FailsOnlyBy why old.standing new.standing
+      × (new.standing.gate ≡ old.standing.gate) × Outlives line_changed old.standing new.standing)

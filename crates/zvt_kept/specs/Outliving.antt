@@ -19,7 +19,7 @@ use Rattle.zvt_journal.specs.declared.device.DeviceError.{DeviceError}
 use Rattle.zvt_journal.specs.Text.{recovered}
 use Rattle.zvt_kept.specs.Logs.{StandsFor}
 use Rattle.zvt_kept.specs.Recovery.{Recovers}
-use Rattle.zvt_kept.specs.KeptTill.{Connects, HasLog, Hears, IsKept, KeptValue, LosesLine}
+use Rattle.zvt_kept.specs.KeptTill.{Connects, HasLog, Hears, IsKept, KeptValue, LosesLine, has_failed}
 use Rattle.zvt_kept.specs.Runs.{RanKept}
 use Rattle.zvt_kept.specs.declared.run.KeptFault.{KeptFault}
 use Rattle.zvt_kept.specs.declared.recovery.RecoveryError.{RecoveryError}
@@ -57,23 +57,23 @@ IsLostTill state (Err Opening) = ⊥
 IsLostTill state (Err (Line number)) = ⊥
 IsLostTill state (Err (Record number)) = ⊥
 
-module _ {D : Type 0} (seen : D → List ℕ) (may_leave : D → List ℕ → Type 0) (moment : D → ℕ) (left_since : D → ℕ → List ℕ → Type 0) where
+module _ {D : Type 0} (seen : D → List ℕ) (may_leave : D → List ℕ → Type 0) (moment : D → ℕ) (left_since : D → ℕ → List ℕ → Type 0) (faults : D → ℕ) where
   -- A till whose line is up hears messages. A crash at any moment leaves a journal of the till's log and some first ones of
   -- these messages; and of all of them at the end, where the journal did not fail.
   abbrev pub HearingsOutlive : Type 0
   HearingsOutlive =
       (settings : Settings) (log : List Happening) (old new : KeptValue D) (messages : List Message) (answers : List Answered)
-      → HasLog seen may_leave moment left_since settings log old.standing → old.standing.till.state.line_up ≡ true
-      → HearsAll (Hears seen may_leave moment left_since) old messages answers new
+      → HasLog seen may_leave moment left_since faults settings log old.standing → old.standing.till.state.line_up ≡ true
+      → HearsAll (Hears seen may_leave moment left_since faults) old messages answers new
       → LeavesOnly moment left_since old.standing.device new.standing.device (IsBetween settings.currency log (map hears messages))
-      × (new.failed ≡ false → HasLog seen may_leave moment left_since settings (log ++ map hears messages) new.standing)
+      × (has_failed new ≡ false → HasLog seen may_leave moment left_since faults settings (log ++ map hears messages) new.standing)
 
   -- A till runs an order. A crash at any moment leaves a journal of the till's log, with the order perhaps, and then some first
   -- ones of the messages that were read.
   abbrev pub RunsOutlive : Type 0
   RunsOutlive =
-      (settings : Settings) (log : List Happening) (order : Order) (before after : StreamState) (old new : KeptValue D) (coming left first last : Option (List ℕ)) (result : Result Outcome KeptFault)
-      → HasLog seen may_leave moment left_since settings log old.standing → RanKept seen may_leave moment left_since order before after old new coming left first last result
+      (settings : Settings) (log : List Happening) (order : Order) (before after : StreamState) (old new : KeptValue D) (coming left first last : Option (List ℕ)) (turns reads_before reads_after : ℕ) (result : Result Outcome KeptFault)
+      → HasLog seen may_leave moment left_since faults settings log old.standing → RanKept seen may_leave moment left_since faults order before after old new coming left first last turns reads_before reads_after result
       → (messages : List Message) × LeavesOnly moment left_since old.standing.device new.standing.device (IsBetween settings.currency log (SentOut (sent_as settings.currency order) ∷ map hears messages))
 
   -- ---- many orders
@@ -81,31 +81,31 @@ module _ {D : Type 0} (seen : D → List ℕ) (may_leave : D → List ℕ → Ty
   -- what a till with its journal did, by one of its calls
   abbrev pub Did : KeptStep → (old new : KeptValue D) → Type 0
   Did (runs order) old new =
-      (before after : StreamState) × (coming left first last : Option (List ℕ)) × (result : Result Outcome KeptFault) × RanKept seen may_leave moment left_since order before after old new coming left first last result
-  Did connects old new = (result : Result Unit DeviceError) × Connects seen may_leave moment left_since old new result
-  Did loses old new = LosesLine seen may_leave moment left_since old new
+      (before after : StreamState) × (coming left first last : Option (List ℕ)) × (turns reads_before reads_after : ℕ) × (result : Result Outcome KeptFault) × RanKept seen may_leave moment left_since faults order before after old new coming left first last turns reads_before reads_after result
+  Did connects old new = (result : Result Unit DeviceError) × Connects seen may_leave moment left_since faults old new result
+  Did loses old new = LosesLine seen may_leave moment left_since faults old new
 
   -- the calls one after another, each of a till with its journal
   abbrev pub DidAll : List KeptStep → (old new : KeptValue D) → Type 0
   DidAll [] old new = old ≡ new
   DidAll (step ∷ more) old new =
-      IsKept old.failed (seen old.standing.device) (may_leave old.standing.device) old.standing.gate old.standing.till.state × (middle : KeptValue D) × Did step old middle × DidAll more middle new
+      IsKept (has_failed old) (seen old.standing.device) (may_leave old.standing.device) old.standing.gate old.standing.till.state × (middle : KeptValue D) × Did step old middle × DidAll more middle new
 
   -- However many orders and lines: a crash at any moment leaves a journal of the till's log and a prefix of what happened by
   -- these calls; and of all of it at the end, where the journal did not fail.
   abbrev pub CallsOutlive : Type 0
   CallsOutlive =
       (settings : Settings) (log : List Happening) (steps : List KeptStep) (old new : KeptValue D)
-      → HasLog seen may_leave moment left_since settings log old.standing → old.failed ≡ false → DidAll steps old new
+      → HasLog seen may_leave moment left_since faults settings log old.standing → has_failed old ≡ false → DidAll steps old new
       → (happened : List Happening) × HappenInAll settings.currency steps happened
       × LeavesOnly moment left_since old.standing.device new.standing.device (IsBetween settings.currency log happened)
-      × (new.failed ≡ false → HasLog seen may_leave moment left_since settings (log ++ happened) new.standing)
+      × (has_failed new ≡ false → HasLog seen may_leave moment left_since faults settings (log ++ happened) new.standing)
 
   -- What a till with its journal is, recovery finds: the same till, whose line was lost; or memory was refused.
   abbrev pub TillsAreRecovered : Type 0
   TillsAreRecovered =
       (settings : Settings) (log : List Happening) (kept : KeptValue D) (result : Result TillValue RecoveryError)
-      → HasLog seen may_leave moment left_since settings log kept.standing → Recovers settings (recovered (seen kept.standing.device)) result → IsLostTill kept.standing.till.state result
+      → HasLog seen may_leave moment left_since faults settings log kept.standing → Recovers settings (recovered (seen kept.standing.device)) result → IsLostTill kept.standing.till.state result
 
 -- Recovery gave the till of this log, whose line was lost; or memory was refused.
 abbrev pub IsRecoveredAs : Settings → List Happening → Result TillValue RecoveryError → Type 0

@@ -1,21 +1,22 @@
 //! The steps of a till, each of them in its journal first.
-ghost use Rattle.std.specs.Prelude.{◌≡◌, List, ℕ, true};
+ghost use Rattle.std.specs.Prelude.{◌≡◌, ◌≤◌, [], List, Some, ℕ, length, true};
 ghost use Rattle.zvt_apdu.specs.Grammar.{Spells};
 ghost use Rattle.zvt_grammar.specs.Reading.{padded};
 ghost use Rattle.zvt_journal.specs.Text.{IsSettled};
-ghost use Rattle.zvt_kept.specs.KeptTill.{KeepsSome, Orders, Recorded, Takes};
+ghost use Rattle.zvt_kept.specs.KeptTill.{Adds, KeepsSome, Orders, Recorded, Takes};
 ghost use Rattle.zvt_kept.specs.Masking.{masked};
-ghost use Rattle.zvt_kept.specs.Records.{IsSpelledOrder, heard, lost, ordered};
+ghost use Rattle.zvt_kept.specs.Records.{IsSpelledOrder, heard, kept_in, lost, opening, ordered};
 ghost use Rattle.zvt_till.specs.Hearing.{heard_as};
 ghost use Rattle.zvt_till.specs.Line.{Answers as IsAnswer};
 ghost use Rattle.zvt_till.specs.Refusals.{refusal};
 ghost use Rattle.zvt_till.specs.Sending.{reply_to};
 ghost use Rattle.zvt_till.specs.Till.{facts_of};
 
-use crate::records::{put_heard, put_lost, put_order};
+use crate::records::{put_heard, put_lost, put_opening, put_order};
 use crate::refusal::KeptRefusal;
 use std::alloc::Global;
 use zvt_apdu::{ApduView, Brief, MAX_BRIEF_LEN};
+use zvt_bcd::Currency;
 use zvt_journal::{Device, DeviceError, Journal};
 use zvt_stream::Answers;
 use zvt_text::Text;
@@ -29,7 +30,7 @@ pub(crate) fn take_order<D: Device>(
     order: Order,
 ) -> Result<Outgoing, KeptRefusal>
     requires { till.old.state.line_up ≡ true → KeepsSome (D.seen journal.old.device) (D.may_leave journal.old.device) journal.old.gate till.old.state }
-    ensures { Orders D.seen D.may_leave D.moment D.left_since order
+    ensures { Orders D.seen D.may_leave D.moment D.left_since D.faults order
         (record { till = till.old; device = journal.old.device; gate = journal.old.gate })
         (record { till = till.new; device = journal.new.device; gate = journal.new.gate }) result }
 {
@@ -56,7 +57,7 @@ pub(crate) fn take_message<D: Device>(
 ) -> Result<Answers, DeviceError>
     requires up { till.old.state.line_up ≡ true }
     requires kept { KeepsSome (D.seen journal.old.device) (D.may_leave journal.old.device) journal.old.gate till.old.state }
-    ensures { Takes D.seen D.may_leave D.moment D.left_since apdu.now
+    ensures { Takes D.seen D.may_leave D.moment D.left_since D.faults apdu.now
         (record { till = till.old; device = journal.old.device; gate = journal.old.gate })
         (record { till = till.new; device = journal.new.device; gate = journal.new.gate }) result }
 {
@@ -99,7 +100,7 @@ fn keep_order<D: Device>(
 ) -> Result<(), DeviceError>
     requires settled { IsSettled (D.seen journal.old.device) (D.may_leave journal.old.device) journal.old.gate }
     requires spelled { IsSpelledOrder order.now }
-    ensures { Recorded D.seen D.may_leave D.moment D.left_since (ordered order.now) journal.old.device journal.new.device journal.new.gate result }
+    ensures { Recorded D.seen D.may_leave D.moment D.left_since D.faults (ordered order.now) journal.old.device journal.new.device journal.old.gate journal.new.gate result }
 {
     let mut buffer = [0; MAX_BRIEF_LEN];
     let size = masked(outgoing).put(&mut buffer);
@@ -116,10 +117,26 @@ fn keep_heard<D: Device>(
     answers: &[u8],
 ) -> Result<(), DeviceError>
     requires settled { IsSettled (D.seen journal.old.device) (D.may_leave journal.old.device) journal.old.gate }
-    ensures { (bytes : List ℕ) × ∥ Spells padded message.now bytes ∥₁ × Recorded D.seen D.may_leave D.moment D.left_since (heard bytes) journal.old.device journal.new.device journal.new.gate result }
+    requires few { length answers.now ≤ 32 }
+    ensures { (bytes : List ℕ) × ∥ Spells padded message.now bytes ∥₁ × Recorded D.seen D.may_leave D.moment D.left_since D.faults (heard bytes) journal.old.device journal.new.device journal.old.gate journal.new.gate result }
 {
     let mut text = Text::new(alloc);
     put_heard(&mut text, message.bytes(), answers)?;
+    journal.append(text.bytes())
+}
+
+/// Makes the opening of a journal durable.
+pub(crate) fn keep_opening<D: Device>(
+    alloc: Global,
+    journal: &mut Journal<D>,
+    currency: Currency,
+) -> Result<(), DeviceError>
+    requires { IsSettled (D.seen journal.old.device) (D.may_leave journal.old.device) journal.old.gate }
+    ensures adds { Adds D.seen D.may_leave D.moment D.left_since D.faults (opening currency) journal.old.device journal.new.device journal.old.gate journal.new.gate result }
+    ensures kept { kept_in (opening currency) ≡ Some [] }
+{
+    let mut text = Text::new(alloc);
+    put_opening(&mut text, currency)?;
     journal.append(text.bytes())
 }
 
@@ -129,7 +146,7 @@ pub(crate) fn keep_lost<D: Device>(
     journal: &mut Journal<D>,
 ) -> Result<(), DeviceError>
     requires { IsSettled (D.seen journal.old.device) (D.may_leave journal.old.device) journal.old.gate }
-    ensures { Recorded D.seen D.may_leave D.moment D.left_since lost journal.old.device journal.new.device journal.new.gate result }
+    ensures { Recorded D.seen D.may_leave D.moment D.left_since D.faults lost journal.old.device journal.new.device journal.old.gate journal.new.gate result }
 {
     let mut text = Text::new(alloc);
     put_lost(&mut text)?;
@@ -162,7 +179,8 @@ fn masked(outgoing: &Outgoing) -> Outgoing
 
 /// The bytes with which a till answers this at once, while its line is up.
 pub fn answers_to(heard: &Heard) -> Answers
-    ensures { IsAnswer (reply_to heard.now) result }
+    ensures answers { IsAnswer (reply_to heard.now) result }
+    ensures few { length result.bytes ≤ 32 }
 {
     let mut answers = Answers::new();
     if let Some(outgoing) = reply_to(heard) {

@@ -1,8 +1,7 @@
 //! A till whose orders and messages are in its journal before anything that follows from them leaves it.
 ghost use Rattle.std.specs.Prelude.{◌≡◌};
 
-use crate::keeping::{keep_lost, take_message, take_order};
-use crate::records::put_opening;
+use crate::keeping::{keep_lost, keep_opening, take_message, take_order};
 use crate::recovery::{RecoveryError, recover};
 use crate::refusal::KeptRefusal;
 use std::alloc::{AllocError, Global};
@@ -10,7 +9,6 @@ use std::marker::Model;
 use zvt_apdu::ApduView;
 use zvt_journal::{Device, DeviceError, Journal};
 use zvt_stream::{Answers, Machine};
-use zvt_text::Text;
 use zvt_till::{Order, Outgoing, Till, TillSettings};
 
 /// A till and its journal.
@@ -21,58 +19,75 @@ use zvt_till::{Order, Outgoing, Till, TillSettings};
 pub struct KeptTill<D: Device> {
     till: Till,
     journal: Journal<D>,
-    /// Whether the journal failed.
-    failed: bool,
+    /// Why the journal failed, if it did.
+    failure: Option<DeviceError>,
+}
+
+/// Why no journal was begun, and its device.
+#[derive(Drop)]
+pub struct Unbegun<D: Device> {
+    pub device: D,
+    pub why: DeviceError,
 }
 
 impl<D: Device> Model for KeptTill<D> {
-    ghost use Rattle.std.specs.Prelude.{◌≡◌};
+    ghost use Rattle.std.specs.Prelude.{◌≡◌, is_some};
     ghost use Rattle.zvt_kept.specs.KeptTill.{KeptValue, IsKept};
 
     ghost Value = { KeptValue D };
 
-    ghost view = { λ k. record { standing = record { till = k.till; device = k.journal.device; gate = k.journal.gate }; failed = k.failed } };
+    ghost view = { λ k. record { standing = record { till = k.till; device = k.journal.device; gate = k.journal.gate }; failure = k.failure } };
 
-    ghost invariant = { λ k. IsKept k.failed (D.seen k.journal.device) (D.may_leave k.journal.device) k.journal.gate k.till.state };
+    ghost invariant = { λ k. IsKept (is_some k.failure) (D.seen k.journal.device) (D.may_leave k.journal.device) k.journal.gate k.till.state };
 }
 
 impl<D: Device + Drop> KeptTill<D> {
-    ghost use Rattle.std.specs.Prelude.{◌∷◌, [], Err, List, false, length, IfOk, MatchResult};
+    ghost use Rattle.std.specs.Prelude.{◌∷◌, [], Err, List, None, length, IfErr, IfOk, MatchResult};
     ghost use Rattle.zvt_journal.specs.Text.{recovered};
     ghost use Rattle.zvt_kept.specs.Logs.{StandsFor};
     ghost use Rattle.zvt_kept.specs.Recovery.{IsRecovered, Recovers};
     ghost use Rattle.zvt_till.specs.declared.happenings.Happening.{Happening};
     ghost use Rattle.zvt_journal.specs.Text.{IsSettled};
-    ghost use Rattle.zvt_kept.specs.KeptTill.{Keeps};
+    ghost use Rattle.zvt_kept.specs.KeptTill.{Begins, HasCause, Keeps};
     ghost use Rattle.zvt_till.specs.Settings.{settings_of};
     ghost use Rattle.zvt_till.specs.Till.{new_till};
     ghost use Rattle.zvt_till.specs.declared.happenings.Happening.TheVariants.{Connected};
 
     /// Begins a journal on a device without records, which `zvt_journal::open` left at rest: its opening is durable then. The
     /// till is new, and its line is down.
+    ///
+    /// After an error the device has no record, or the opening; opening it again says which. `Full` never comes.
     pub fn create(
         alloc: Global,
         settings: &TillSettings,
         device: D,
-    ) -> Result<KeptTill<D>, DeviceError>
+    ) -> Result<KeptTill<D>, Unbegun<D>>
         requires { IsSettled (D.seen device) (D.may_leave device) 0 }
         ensures till { IfOk result (λ kept. kept.standing.till.state ≡ new_till (settings_of settings.now)) }
-        ensures whole { IfOk result (λ kept. kept.failed ≡ false) }
+        ensures whole { IfOk result (λ kept. kept.failure ≡ None) }
+        // A crash at any moment leaves no record, or the opening, in a file that opening repairs.
+        ensures any_moment { MatchResult result
+            (λ kept. Begins D.seen D.may_leave D.moment D.left_since D.faults settings.now.currency device kept.standing.device)
+            (λ unbegun. Begins D.seen D.may_leave D.moment D.left_since D.faults settings.now.currency device unbegun.device) }
+        ensures cause { IfErr result (λ unbegun. HasCause unbegun.why (D.faults device) (D.faults unbegun.device) 0) }
         ensures log { IfOk result (λ kept. Keeps (settings_of settings.now) (Connected ∷ []) (D.seen kept.standing.device) (D.may_leave kept.standing.device) kept.standing.gate kept.standing.till.state) }
     {
-        let mut text = Text::new(alloc);
-        put_opening(&mut text, settings.currency)?;
         let mut journal = Journal {
             alloc,
             device,
             gate: 0,
         };
-        journal.append(text.bytes())?;
+        if let Err(why) = keep_opening(alloc, &mut journal, settings.currency) {
+            return Err(Unbegun {
+                device: journal.device,
+                why,
+            });
+        }
         let till = Till::new(alloc, settings.password, settings.config, settings.currency);
         Ok(KeptTill {
             till,
             journal,
-            failed: false,
+            failure: None,
         })
     }
 
@@ -89,7 +104,7 @@ impl<D: Device + Drop> KeptTill<D> {
         requires settled { IsSettled (D.seen device) (D.may_leave device) (length text.now) }
         ensures till { MatchResult result (λ kept. IsRecovered (settings_of settings.now) text.now kept.standing.till.state) (λ why. Recovers (settings_of settings.now) text.now (Err why)) }
         ensures device { IfOk result (λ kept. (kept.standing.device ≡ device) × (kept.standing.gate ≡ length text.now)) }
-        ensures whole { IfOk result (λ kept. kept.failed ≡ false) }
+        ensures whole { IfOk result (λ kept. kept.failure ≡ None) }
         ensures log { IfOk result (λ kept. (log : List Happening) → StandsFor settings.now.currency text.now log → Keeps (settings_of settings.now) log (D.seen device) (D.may_leave device) (length text.now) kept.standing.till.state) }
     {
         let till = recover(alloc, settings, text)?;
@@ -101,18 +116,19 @@ impl<D: Device + Drop> KeptTill<D> {
         Ok(KeptTill {
             till,
             journal,
-            failed: false,
+            failure: None,
         })
     }
 }
 
 impl<D: Device> KeptTill<D> {
-    ghost use Rattle.zvt_kept.specs.KeptTill.{IsKept, Orders, Connects, LosesLine, failed_after};
+    ghost use Rattle.std.specs.Prelude.{None, OnOk};
+    ghost use Rattle.zvt_kept.specs.KeptTill.{IsKept, Orders, Connects, LosesLine, failure_after, has_failed};
 
     /// The till, to look at.
     pub fn till(&self) -> &Till
         ensures till { result.now ≡ self.now.standing.till }
-        ensures kept { IsKept self.now.failed (D.seen self.now.standing.device) (D.may_leave self.now.standing.device) self.now.standing.gate self.now.standing.till.state }
+        ensures kept { IsKept (has_failed self.now) (D.seen self.now.standing.device) (D.may_leave self.now.standing.device) self.now.standing.gate self.now.standing.till.state }
     {
         &self.till
     }
@@ -126,21 +142,29 @@ impl<D: Device> KeptTill<D> {
 
     /// Whether the journal failed. The till's line is down then, and stays so.
     pub fn has_failed(&self) -> bool
-        ensures { result ≡ self.now.failed }
+        ensures { result ≡ has_failed self.now }
     {
-        self.failed
+        self.failure.is_some()
+    }
+
+    /// Why the journal failed, if it did.
+    pub fn failure(&self) -> Option<DeviceError>
+        ensures { result ≡ self.now.failure }
+    {
+        self.failure
     }
 
     /// Gives the till an order, and answers the message to send. The order's record is durable then.
     pub fn order(&mut self, alloc: Global, order: Order) -> Result<Outgoing, KeptRefusal>
-        ensures orders { Orders D.seen D.may_leave D.moment D.left_since order self.old.standing self.new.standing result }
-        ensures failed { self.new.failed ≡ failed_after self.old.failed result }
+        ensures orders { Orders D.seen D.may_leave D.moment D.left_since D.faults order self.old.standing self.new.standing result }
+        ensures failure { self.new.failure ≡ failure_after self.old.failure result }
+        ensures whole { OnOk result (self.new.failure ≡ None) }
     {
         match take_order(alloc, &mut self.till, &mut self.journal, order) {
             Ok(outgoing) => Ok(outgoing),
             Err(KeptRefusal::Order(why)) => Err(KeptRefusal::Order(why)),
             Err(KeptRefusal::Journal(why)) => {
-                self.failed = true;
+                self.failure = Some(why);
                 Err(KeptRefusal::Journal(why))
             }
         }
@@ -148,16 +172,16 @@ impl<D: Device> KeptTill<D> {
 
     /// The line is up. A record says that an earlier line was lost. Nothing changes where the line is up.
     pub fn connected(&mut self, alloc: Global) -> Result<(), DeviceError>
-        ensures { Connects D.seen D.may_leave D.moment D.left_since self.old self.new result }
+        ensures { Connects D.seen D.may_leave D.moment D.left_since D.faults self.old self.new result }
     {
-        if self.failed {
+        if self.failure.is_some() {
             return Err(DeviceError::Failed);
         }
         if self.till.line_up() {
             return Ok(());
         }
         if let Err(why) = keep_lost(alloc, &mut self.journal) {
-            self.failed = true;
+            self.failure = Some(why);
             return Err(why);
         }
         self.till.connected();
@@ -166,7 +190,7 @@ impl<D: Device> KeptTill<D> {
 
     /// The line was lost. The journal is written when the next line is up.
     fn line_lost(&mut self)
-        ensures { LosesLine D.seen D.may_leave D.moment D.left_since self.old self.new }
+        ensures { LosesLine D.seen D.may_leave D.moment D.left_since D.faults self.old self.new }
     {
         let _ = self.till.lost();
     }
@@ -179,11 +203,11 @@ impl<D: Device> Machine for KeptTill<D> {
     ghost use Rattle.zvt_kept.specs.KeptTill.{Hears, LosesLine};
     ghost use Rattle.zvt_till.specs.Line.{till_rests};
 
-    ghost hears = { λ old message answered new. Hears D.seen D.may_leave D.moment D.left_since old message answered new };
+    ghost hears = { λ old message answered new. Hears D.seen D.may_leave D.moment D.left_since D.faults old message answered new };
 
-    ghost loses = { λ old new. LosesLine D.seen D.may_leave D.moment D.left_since old new };
+    ghost loses = { λ old new. LosesLine D.seen D.may_leave D.moment D.left_since D.faults old new };
 
-    ghost malforms = { λ old new. LosesLine D.seen D.may_leave D.moment D.left_since old new };
+    ghost malforms = { λ old new. LosesLine D.seen D.may_leave D.moment D.left_since D.faults old new };
 
     ghost is_resting = { λ k. till_rests k.standing.till };
 
@@ -195,8 +219,8 @@ impl<D: Device> Machine for KeptTill<D> {
         }
         match take_message(alloc, &mut self.till, &mut self.journal, apdu) {
             Ok(answers) => Ok(answers),
-            Err(_) => {
-                self.failed = true;
+            Err(why) => {
+                self.failure = Some(why);
                 Ok(Answers::new())
             }
         }

@@ -30,24 +30,24 @@ pub fn logs_are_recovered()
 
 /// While a till hears messages, a crash at any moment leaves a journal of its log and of some first ones of them.
 pub fn hearings_outlive<D: Device>()
-    ensures { HearingsOutlive D.seen D.may_leave D.moment D.left_since }
+    ensures { HearingsOutlive D.seen D.may_leave D.moment D.left_since D.faults }
 {}
 
 /// While a till runs an order, a crash at any moment leaves a journal of its log, perhaps of the order, and then of some first
 /// ones of the messages that were read.
 pub fn runs_outlive<D: Device>()
-    ensures { RunsOutlive D.seen D.may_leave D.moment D.left_since }
+    ensures { RunsOutlive D.seen D.may_leave D.moment D.left_since D.faults }
 {}
 
 /// Over many orders and lines, a crash at any moment leaves a journal of the till's log and a prefix of what happened. At the
 /// end it is of all that happened, if the journal did not fail.
 pub fn calls_outlive<D: Device>()
-    ensures { CallsOutlive D.seen D.may_leave D.moment D.left_since }
+    ensures { CallsOutlive D.seen D.may_leave D.moment D.left_since D.faults }
 {}
 
 /// Of a till whose journal did not fail, recovery finds the same till, whose line was lost, unless memory is refused.
 pub fn tills_are_recovered<D: Device>()
-    ensures { TillsAreRecovered D.seen D.may_leave D.moment D.left_since }
+    ensures { TillsAreRecovered D.seen D.may_leave D.moment D.left_since D.faults }
 {}
 
 /// Both ends of a line, with crashes of the till and recovery from its journal, are as with a lost line for each crash. So

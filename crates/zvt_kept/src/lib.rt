@@ -16,7 +16,7 @@ mod run;
 mod words;
 
 pub use keeping::answers_to;
-pub use kept_till::KeptTill;
+pub use kept_till::{KeptTill, Unbegun};
 pub use laws::{
     calls_outlive, crashes_are_losses, hearings_outlive, logs_are_one, logs_are_recovered,
     opening_is_taken, records_are_kept, runs_outlive, tills_are_recovered,

@@ -1,5 +1,5 @@
 //! The text of records.
-ghost use Rattle.std.specs.Prelude.{◌≡◌, ◌++◌, ◌<◌, [], ◌∷◌, Some, decimal, length};
+ghost use Rattle.std.specs.Prelude.{◌≡◌, ◌++◌, ◌<◌, ◌≤◌, ◌^◌, [], ◌∷◌, Some, decimal, length};
 ghost use Rattle.zvt_journal.specs.Text.{IsRecord};
 ghost use Rattle.zvt_kept.specs.Reading.{Extends};
 ghost use Rattle.zvt_kept.specs.Records.{IsRecordOf, IsSpelledOrder, heard, heard_record, kept_in, ordered, lost_record, one_or_none, opening, order_record, order_words, sent_lines};
@@ -25,6 +25,7 @@ pub fn put_opening(text: &mut Text, currency: Currency) -> Result<(), AllocError
     ensures written { Extends result text.old text.new (opening currency) }
     ensures taken { IsRecord (opening currency) }
     ensures kept { kept_in (opening currency) ≡ Some [] }
+    ensures short { length (opening currency) ≤ 2 ^ 18 }
 {
     put_numbered(text, b"# zvt journal 1, currency ", currency.get())
 }

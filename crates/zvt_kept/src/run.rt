@@ -1,6 +1,7 @@
 //! One order of a till with its journal, from end to end.
-ghost use Rattle.std.specs.Prelude.{◌≡◌, ◌≤◌, ◌+◌, IfOk, IfErr, OnOk};
-ghost use Rattle.zvt_kept.specs.Runs.{RanKept};
+ghost use Rattle.std.specs.Prelude.{◌≡◌, ◌≤◌, ◌+◌, IfErr, IsErrOf, MatchResult};
+ghost use Rattle.zvt_kept.specs.Runs.{IsOver, RanKept, reads_failed, writes_failed};
+ghost use Rattle.zvt_stream.specs.StreamState.{IsReserved};
 
 use crate::kept_till::KeptTill;
 use crate::refusal::KeptRefusal;
@@ -26,7 +27,8 @@ pub enum KeptFault {
 /// Gives the till an order, and pumps the line until no order runs, for at most `turns` turns of one read each.
 ///
 /// The order is in the journal before its first byte is sent. Each message is in the journal before the till hears it, so
-/// before its answer is sent, and before its outcome is returned. It returns what became of the order.
+/// before its answer is sent, and before its outcome is returned. It returns what became of the order. Over a stream that was
+/// made by `Stream::reserved` no line breaks for want of memory.
 pub fn run_order_kept<R: Source, W: Sink, D: Device>(
     alloc: Global,
     end: &mut Endpoint<R, W>,
@@ -34,9 +36,18 @@ pub fn run_order_kept<R: Source, W: Sink, D: Device>(
     order: Order,
     turns: u64,
 ) -> Result<Outcome, KeptFault>
-    ensures ran { RanKept D.seen D.may_leave D.moment D.left_since order end.old.stream end.new.stream kept.old kept.new
-        (R.remaining end.old.reader) (R.remaining end.new.reader) (W.written end.old.writer) (W.written end.new.writer) result }
+    ensures ran { RanKept D.seen D.may_leave D.moment D.left_since D.faults order end.old.stream end.new.stream kept.old kept.new
+        (R.remaining end.old.reader) (R.remaining end.new.reader) (W.written end.old.writer) (W.written end.new.writer) turns (R.reads end.old.reader) (R.reads end.new.reader) result }
+    // However it goes, it takes the place of one payment at most.
+    ensures room { kept.old.standing.till.spare ≤ kept.new.standing.till.spare + 1 }
+    // Once the journal failed or the line broke it is known what became of the order.
+    ensures over { IfErr result (λ fault. IsOver fault kept.new.standing.till.state) }
     ensures reads { R.reads end.new.reader ≤ R.reads end.old.reader + turns }
+    ensures frugal { IsReserved end.old.stream → IsErrOf result (KeptFault.Line LineFault.Memory) → ⊥ }
+    ensures reader_failures { MatchResult result (λ _. R.failures end.new.reader ≡ R.failures end.old.reader)
+        (λ fault. R.failures end.new.reader ≡ R.failures end.old.reader + reads_failed fault) }
+    ensures writer_failures { MatchResult result (λ _. W.failures end.new.writer ≡ W.failures end.old.writer)
+        (λ fault. W.failures end.new.writer ≡ W.failures end.old.writer + writes_failed fault) }
 {
     let outgoing = match kept.order(alloc, order) {
         Ok(outgoing) => outgoing,

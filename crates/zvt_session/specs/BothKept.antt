@@ -1,13 +1,13 @@
 -- Both ends of a line, which take turns, where the till keeps its book in a journal.
-use Rattle.std.specs.Prelude.{◌≡◌, ◌⊎◌, ℕ, zero, suc, ◌<◌, Bool, true, false, List, Some, Result, Ok, Err}
-use Rattle.zvt_kept.specs.KeptTill.{Hears, KeptValue, LosesLine, OrderLost, Ordered}
+use Rattle.std.specs.Prelude.{◌≡◌, ◌⊎◌, ℕ, zero, suc, ◌<◌, Bool, true, false, List, Some, None, Result, Ok, Err}
+use Rattle.zvt_journal.specs.declared.device.DeviceError.{DeviceError}
+use Rattle.zvt_kept.specs.KeptTill.{Hears, KeptValue, LosesLine, OrderLost, Ordered, has_failed, kept_rests}
 use Rattle.zvt_kept.specs.declared.run.KeptFault.{KeptFault}
 use Rattle.zvt_kept.specs.declared.run.KeptFault.TheVariants as kept
 use Rattle.zvt_stream.specs.Apdus.{Spells}
 use Rattle.zvt_stream.specs.declared.line.LineFault.{LineFault}
 use Rattle.zvt_stream.specs.declared.line.LineFault.TheVariants.{Turns, Write}
 use Rattle.zvt_till.specs.Events.{message_out}
-use Rattle.zvt_till.specs.Line.{till_rests}
 use Rattle.zvt_till.specs.Till.{facts_of}
 use Rattle.zvt_till.specs.View.{IsRefusedAs}
 use Rattle.zvt_till.specs.declared.line.RunFault.{RunFault}
@@ -22,24 +22,21 @@ use Rattle.zvt_session.specs.LineEnd.{EndState, ReadsNothing, Turn, TurnBreaks, 
 use Rattle.zvt_session.specs.Runs.{Standing, standing}
 use Rattle.zvt_session.specs.Steps.{order_of, verdict_of}
 
--- a till with its journal rests where no order runs
-abbrev pub kept_rests : {D : Type 0} → KeptValue D → Bool
-kept_rests kept = till_rests kept.standing.till
-
 -- the terminal has its verdict, and does nothing
 pub record DecidedKept (step : Step) (before after : Line) : Type 0 where
   pub terminal_end : after.terminal_end ≡ before.terminal_end
   pub served : after.served ≡ record { terminal = before.served.terminal; verdict = verdict_of step }
 
-module _ {D : Type 0} (seen : D → List ℕ) (may_leave : D → List ℕ → Type 0) (moment : D → ℕ) (left_since : D → ℕ → List ℕ → Type 0) where
+module _ {D : Type 0} (seen : D → List ℕ) (may_leave : D → List ℕ → Type 0) (moment : D → ℕ) (left_since : D → ℕ → List ℕ → Type 0) (faults : D → ℕ) where
   -- ---- an order
 
   -- the order's record was made durable, and then its message written
   pub record WritesKept (order : Order) (before : EndState) (old : KeptValue D) (after : EndState) (new : KeptValue D) : Type 0 where
     pub outgoing : Outgoing
     pub bytes : List ℕ
-    pub ordered : Ordered seen may_leave moment left_since order outgoing old.standing new.standing
-    pub whole : new.failed ≡ old.failed
+    pub ordered : Ordered seen may_leave moment left_since faults order outgoing old.standing new.standing
+    pub same : new.failure ≡ old.failure
+    pub whole : new.failure ≡ None
     pub spelled : Spells (message_out outgoing) bytes
     pub wrote : Wrote bytes before after
 
@@ -50,8 +47,9 @@ module _ {D : Type 0} (seen : D → List ℕ) (may_leave : D → List ℕ → Ty
 
   -- the journal failed, and nothing was written
   pub record LostKept (order : Order) (before : EndState) (old : KeptValue D) (after : EndState) (new : KeptValue D) : Type 0 where
-    pub lost : OrderLost seen may_leave moment left_since order old.standing new.standing
-    pub failed : new.failed ≡ true
+    pub why : DeviceError
+    pub lost : OrderLost seen may_leave moment left_since faults order why old.standing new.standing
+    pub failed : new.failure ≡ Some why
     pub same_end : after ≡ before
 
   -- the order's record was made durable, and its message could not be written
@@ -59,8 +57,8 @@ module _ {D : Type 0} (seen : D → List ℕ) (may_leave : D → List ℕ → Ty
     pub outgoing : Outgoing
     pub sent_till : KeptValue D
     pub is_write : fault ≡ Write
-    pub ordered : Ordered seen may_leave moment left_since order outgoing old.standing sent_till.standing
-    pub loses : LosesLine seen may_leave moment left_since sent_till new
+    pub ordered : Ordered seen may_leave moment left_since faults order outgoing old.standing sent_till.standing
+    pub loses : LosesLine seen may_leave moment left_since faults sent_till new
     pub reads_nothing : ReadsNothing before after
 
   -- why an order was not sent
@@ -74,21 +72,21 @@ module _ {D : Type 0} (seen : D → List ℕ) (may_leave : D → List ℕ → Ty
   -- the terminal's turn, then the till's
   pub record AlternatesKept (old new : Standing Line (KeptValue D)) : Type 0 where
     pub terminal : Turn served_hears never old.line.terminal_end old.line.served new.line.terminal_end new.line.served
-    pub till : Turn (Hears seen may_leave moment left_since) kept_rests old.line.till_end old.till new.line.till_end new.till
+    pub till : Turn (Hears seen may_leave moment left_since faults) kept_rests old.line.till_end old.till new.line.till_end new.till
 
   -- The terminal's turn broke, and the till lost its line; or the till's turn after it broke.
   abbrev pub BreaksOffKept : LineFault → (old new : Standing Line (KeptValue D)) → Type 0
   BreaksOffKept fault old new =
       (TurnBreaks served_hears never served_loses served_loses fault old.line.terminal_end old.line.served new.line.terminal_end new.line.served
-      × (new.line.till_end ≡ old.line.till_end) × LosesLine seen may_leave moment left_since old.till new.till)
+      × (new.line.till_end ≡ old.line.till_end) × LosesLine seen may_leave moment left_since faults old.till new.till)
       ⊎ (Turn served_hears never old.line.terminal_end old.line.served new.line.terminal_end new.line.served
-      × TurnBreaks (Hears seen may_leave moment left_since) kept_rests (LosesLine seen may_leave moment left_since) (LosesLine seen may_leave moment left_since) fault old.line.till_end old.till new.line.till_end new.till)
+      × TurnBreaks (Hears seen may_leave moment left_since faults) kept_rests (LosesLine seen may_leave moment left_since faults) (LosesLine seen may_leave moment left_since faults) fault old.line.till_end old.till new.line.till_end new.till)
 
   -- that many alternations, after none of which the journal had failed or the till rested
   abbrev pub AlternationsKept : ℕ → (old new : Standing Line (KeptValue D)) → Type 0
   AlternationsKept zero old new = old ≡ new
   AlternationsKept (suc n) old new =
-      (middle : Standing Line (KeptValue D)) × AlternationsKept n old middle × AlternatesKept middle new × (new.till.failed ≡ false) × (kept_rests new.till ≡ false)
+      (middle : Standing Line (KeptValue D)) × AlternationsKept n old middle × AlternatesKept middle new × (has_failed new.till ≡ false) × (kept_rests new.till ≡ false)
 
   -- ---- a step
 
@@ -121,14 +119,14 @@ module _ {D : Type 0} (seen : D → List ℕ) (may_leave : D → List ℕ → Ty
   -- The till rests after an alternation, the first after which it does, and this became of the order.
   pub record ComesKept (step : Step) (outcome : Outcome) (old new : Standing Line (KeptValue D)) : Type 0 where
     pub at_last : AtLast step old new
-    pub whole : new.till.failed ≡ false
+    pub whole : has_failed new.till ≡ false
     pub rests : kept_rests new.till ≡ true
     pub came : new.till.standing.till.state.last_outcome ≡ Some outcome
 
   -- the journal failed in an alternation
   pub record JournalFails (step : Step) (result : RunFault) (old new : Standing Line (KeptValue D)) : Type 0 where
     pub at_last : AtLast step old new
-    pub failed : new.till.failed ≡ true
+    pub failed : has_failed new.till ≡ true
     pub is : result ≡ run_fault_of kept.Journal
 
   -- the line broke in an alternation
@@ -146,7 +144,7 @@ module _ {D : Type 0} (seen : D → List ℕ) (may_leave : D → List ℕ → Ty
     pub middle : Standing Line (KeptValue D)
     pub underway : UnderwayKept step 1000 old middle
     pub same_line : new.line ≡ middle.line
-    pub loses : LosesLine seen may_leave moment left_since middle.till new.till
+    pub loses : LosesLine seen may_leave moment left_since faults middle.till new.till
     pub is : result ≡ run_fault_of (kept.Line Turns)
 
   abbrev pub FailsKept : Step → RunFault → (old new : Standing Line (KeptValue D)) → Type 0

@@ -1,10 +1,10 @@
 -- Runs of a till that keeps its book in a journal.
-use Rattle.std.specs.Prelude.{◌≡◌, ◌⊎◌, ◌≤◌, ◌+◌, ℕ, List, Option, Result, Ok, Err}
+use Rattle.std.specs.Prelude.{◌≡◌, ◌⊎◌, ◌≤◌, ◌+◌, ℕ, List, Option, Result, Ok, Err, IfErr, MatchResult}
 use Rattle.std.specs.Io.KnownBytes.{Keeps}
 use Rattle.zvt_journal.specs.declared.device.DeviceError.{DeviceError}
 use Rattle.zvt_session.specs.declared.plans.StepOptions.{StepOptions}
-use Rattle.zvt_kept.specs.KeptTill.{KeptValue}
-use Rattle.zvt_kept.specs.Runs.{RanKept}
+use Rattle.zvt_kept.specs.KeptTill.{KeptValue, has_failed}
+use Rattle.zvt_kept.specs.Runs.{IsOver, RanKept, reads_failed, writes_failed}
 use Rattle.zvt_kept.specs.declared.run.KeptFault.{KeptFault}
 use Rattle.zvt_kept.specs.declared.run.KeptFault.TheVariants as kept
 use Rattle.zvt_stream.specs.declared.line.LineFault.TheVariants as line
@@ -37,12 +37,15 @@ abbrev pub step_result : Result Outcome KeptFault → Result Outcome RunFault
 step_result (Ok outcome) = Ok outcome
 step_result (Err fault) = Err (run_fault_of fault)
 
-module _ {D : Type 0} (seen : D → List ℕ) (may_leave : D → List ℕ → Type 0) (moment : D → ℕ) (left_since : D → ℕ → List ℕ → Type 0) where
+module _ {D : Type 0} (seen : D → List ℕ) (may_leave : D → List ℕ → Type 0) (moment : D → ℕ) (left_since : D → ℕ → List ℕ → Type 0) (faults : D → ℕ) where
   -- What becomes of a step: what the terminal elsewhere decides of it is its own.
   pub record MakesThereKept (before : EndState) (old : KeptValue D) (step : Step) (result : Result Outcome RunFault) (after : EndState) (new : KeptValue D) : Type 0 where
     pub ended : Result Outcome KeptFault
-    pub ran : RanKept seen may_leave moment left_since (order_of step) before.stream after.stream old new before.coming after.coming before.written after.written ended
+    pub ran : RanKept seen may_leave moment left_since faults (order_of step) before.stream after.stream old new before.coming after.coming before.written after.written 100000 before.reads after.reads ended
     pub reads : after.reads ≤ before.reads + 100000
+    pub over : IfErr ended (λ fault. IsOver fault new.standing.till.state)
+    pub failed_reads : MatchResult ended (λ _. after.failed_reads ≡ before.failed_reads) (λ fault. after.failed_reads ≡ before.failed_reads + reads_failed fault)
+    pub failed_writes : MatchResult ended (λ _. after.failed_writes ≡ before.failed_writes) (λ fault. after.failed_writes ≡ before.failed_writes + writes_failed fault)
     pub is : result ≡ step_result ended
 
 -- ---- runs
@@ -57,7 +60,7 @@ module _ {L D : Type 0} (connects : KeptValue D → KeptValue D → Result Unit 
     pub begun : begins before
     pub up : connects old connected (Ok tt)
     pub answers : Answers till_of makes options (λ notes. Reported notes new.standing.till.state.book) plan (standing before connected) (standing after new) first last ended
-    pub is : result ≡ by_book new.failed ended
+    pub is : result ≡ by_book (has_failed new) ended
 
   -- The journal failed before a step. Nothing was sent, written or reported.
   pub record NoLine (old new : KeptValue D) (first last : Option (List ℕ)) (Quiet : Type 0) (result : Result Unit EndFault) : Type 0 where

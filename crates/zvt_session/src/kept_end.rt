@@ -24,7 +24,7 @@ impl<R: Source, W: Sink, D: Device> StepLine<KeptTill<D>> for Endpoint<R, W> {
     ghost use Rattle.zvt_session.specs.LineEnd.{end_state};
     ghost use Rattle.zvt_session.specs.Kept.{MakesThereKept};
 
-    ghost makes = { λ old till step result new left. MakesThereKept D.seen D.may_leave D.moment D.left_since (end_state old.stream (R.remaining old.reader) (W.written old.writer) (R.reads old.reader) (R.failures old.reader) (W.failures old.writer)) till step result (end_state new.stream (R.remaining new.reader) (W.written new.writer) (R.reads new.reader) (R.failures new.reader) (W.failures new.writer)) left };
+    ghost makes = { λ old till step result new left. MakesThereKept D.seen D.may_leave D.moment D.left_since D.faults (end_state old.stream (R.remaining old.reader) (W.written old.writer) (R.reads old.reader) (R.failures old.reader) (W.failures old.writer)) till step result (end_state new.stream (R.remaining new.reader) (W.written new.writer) (R.reads new.reader) (R.failures new.reader) (W.failures new.writer)) left };
 
     fn make(
         &mut self,
@@ -53,7 +53,7 @@ pub fn run_till_end_kept<R: Source, W: Sink, D: Device, T: Sink, E: Sink>(
     report: &mut E,
 ) -> Result<(), EndFault>
     requires { end.old.stream ≡ start_in end.old.stream.reading }
-    ensures run { AnswersBook (Connects D.seen D.may_leave D.moment D.left_since) (MakesThereKept D.seen D.may_leave D.moment D.left_since) (BeginsThere end.old.stream.reading) steps.now.options steps.now.plan.now kept.old kept.new (T.written writer.old) (T.written writer.new)
+    ensures run { AnswersBook (Connects D.seen D.may_leave D.moment D.left_since D.faults) (MakesThereKept D.seen D.may_leave D.moment D.left_since D.faults) (BeginsThere end.old.stream.reading) steps.now.options steps.now.plan.now kept.old kept.new (T.written writer.old) (T.written writer.new)
         (ReportsRun (E.written report.old) (E.written report.new) (E.failures report.old) (E.failures report.new)) (ReportsNothing (E.written report.old) (E.written report.new) (E.failures report.old) (E.failures report.new)) result }
     ensures write { result ≡ Err EndFault.Write → T.failures writer.old < T.failures writer.new }
 {

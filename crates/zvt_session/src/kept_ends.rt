@@ -30,8 +30,8 @@ fn send_kept<A: LineEnd, D: Device>(
     order: Order,
 ) -> Result<(), KeptFault>
     ensures { MatchResult result
-        (λ _. WritesKept D.seen D.may_leave D.moment D.left_since order (A.state end.old) kept.old (A.state end.new) kept.new)
-        (λ fault. NotSentKept D.seen D.may_leave D.moment D.left_since fault order (A.state end.old) kept.old (A.state end.new) kept.new) }
+        (λ _. WritesKept D.seen D.may_leave D.moment D.left_since D.faults order (A.state end.old) kept.old (A.state end.new) kept.new)
+        (λ fault. NotSentKept D.seen D.may_leave D.moment D.left_since D.faults fault order (A.state end.old) kept.old (A.state end.new) kept.new) }
 {
     let outgoing = match kept.order(alloc, order) {
         Ok(outgoing) => outgoing,
@@ -55,8 +55,8 @@ impl<A: LineEnd, B: LineEnd> BothEnds<A, B> {
         kept: &mut KeptTill<D>,
     ) -> Result<(), LineFault>
         ensures { MatchResult result
-            (λ _. AlternatesKept D.seen D.may_leave D.moment D.left_since (standing (line_of A.state B.state self.old) kept.old) (standing (line_of A.state B.state self.new) kept.new))
-            (λ fault. BreaksOffKept D.seen D.may_leave D.moment D.left_since fault (standing (line_of A.state B.state self.old) kept.old) (standing (line_of A.state B.state self.new) kept.new)) }
+            (λ _. AlternatesKept D.seen D.may_leave D.moment D.left_since D.faults (standing (line_of A.state B.state self.old) kept.old) (standing (line_of A.state B.state self.new) kept.new))
+            (λ fault. BreaksOffKept D.seen D.may_leave D.moment D.left_since D.faults fault (standing (line_of A.state B.state self.old) kept.old) (standing (line_of A.state B.state self.new) kept.new)) }
     {
         if let Err(fault) = self.terminal.turn(alloc, &mut self.served) {
             kept.lost();
@@ -70,7 +70,7 @@ impl<A: LineEnd, B: LineEnd, D: Device> StepLine<KeptTill<D>> for BothEnds<A, B>
     ghost use Rattle.zvt_session.specs.BothEnds.{line_of};
     ghost use Rattle.zvt_session.specs.BothKept.{MakesHereKept};
 
-    ghost makes = { λ old till step result new left. MakesHereKept D.seen D.may_leave D.moment D.left_since (line_of A.state B.state old) till step result (line_of A.state B.state new) left };
+    ghost makes = { λ old till step result new left. MakesHereKept D.seen D.may_leave D.moment D.left_since D.faults (line_of A.state B.state old) till step result (line_of A.state B.state new) left };
 
     fn make(
         &mut self,
@@ -112,7 +112,7 @@ pub fn run_both_ends_kept<A: LineEnd, B: LineEnd, D: Device, T: Sink, E: Sink>(
     report: &mut E,
 ) -> Result<(), EndFault>
     requires { BeginsHere (line_of A.state B.state line.old) }
-    ensures run { AnswersBook (Connects D.seen D.may_leave D.moment D.left_since) (MakesHereKept D.seen D.may_leave D.moment D.left_since) BeginsHere steps.now.options steps.now.plan.now kept.old kept.new (T.written writer.old) (T.written writer.new)
+    ensures run { AnswersBook (Connects D.seen D.may_leave D.moment D.left_since D.faults) (MakesHereKept D.seen D.may_leave D.moment D.left_since D.faults) BeginsHere steps.now.options steps.now.plan.now kept.old kept.new (T.written writer.old) (T.written writer.new)
         (ReportsRun (E.written report.old) (E.written report.new) (E.failures report.old) (E.failures report.new)) (ReportsNothing (E.written report.old) (E.written report.new) (E.failures report.old) (E.failures report.new)) result }
     ensures write { result ≡ Err EndFault.Write → T.failures writer.old < T.failures writer.new }
 {

@@ -38,7 +38,7 @@ pub(crate) fn run_kept_steps<L: StepLine<KeptTill<D>>, D: Device, T: Sink, E: Si
     writer: &mut T,
     report: &mut E,
 ) -> Result<(), EndFault>
-    ensures run { AnswersBook (Connects D.seen D.may_leave D.moment D.left_since) L.makes (λ begun. begun ≡ line.old) steps.now.options steps.now.plan.now kept.old kept.new (T.written writer.old) (T.written writer.new)
+    ensures run { AnswersBook (Connects D.seen D.may_leave D.moment D.left_since D.faults) L.makes (λ begun. begun ≡ line.old) steps.now.options steps.now.plan.now kept.old kept.new (T.written writer.old) (T.written writer.new)
         (ReportsRun (E.written report.old) (E.written report.new) (E.failures report.old) (E.failures report.new)) (ReportsNothing (E.written report.old) (E.written report.new) (E.failures report.old) (E.failures report.new)) result }
     ensures write { result ≡ Err EndFault.Write → T.failures writer.old < T.failures writer.new }
 {

@@ -40,7 +40,7 @@ where
     D: Device,
     W: Sink,
     E: Sink,
-    ensures run { AnswersBookRun (Connects D.seen D.may_leave D.moment D.left_since) (MakesThereKept D.seen D.may_leave D.moment D.left_since) (BeginsThere (reading_of run.now.lengths)) run.now.options run.now.plan.now kept.old kept.new (W.written writer.old) (W.written writer.new)
+    ensures run { AnswersBookRun (Connects D.seen D.may_leave D.moment D.left_since D.faults) (MakesThereKept D.seen D.may_leave D.moment D.left_since D.faults) (BeginsThere (reading_of run.now.lengths)) run.now.options run.now.plan.now kept.old kept.new (W.written writer.old) (W.written writer.new)
         (ReportsRun (E.written report.old) (E.written report.new) (E.failures report.old) (E.failures report.new)) (ReportsNothing (E.written report.old) (E.written report.new) (E.failures report.old) (E.failures report.new)) result }
     ensures write { result ≡ Err EndFault.Write → W.failures writer.old < W.failures writer.new }
 {
@@ -73,7 +73,7 @@ where
     D: Device,
     W: Sink,
     E: Sink,
-    ensures run { AnswersBookRun (Connects D.seen D.may_leave D.moment D.left_since) (MakesHereKept D.seen D.may_leave D.moment D.left_since) BeginsHere run.now.options run.now.plan.now kept.old kept.new (W.written writer.old) (W.written writer.new)
+    ensures run { AnswersBookRun (Connects D.seen D.may_leave D.moment D.left_since D.faults) (MakesHereKept D.seen D.may_leave D.moment D.left_since D.faults) BeginsHere run.now.options run.now.plan.now kept.old kept.new (W.written writer.old) (W.written writer.new)
         (ReportsRun (E.written report.old) (E.written report.new) (E.failures report.old) (E.failures report.new)) (ReportsNothing (E.written report.old) (E.written report.new) (E.failures report.old) (E.failures report.new)) result }
     ensures write { result ≡ Err EndFault.Write → W.failures writer.old < W.failures writer.new }
 {

@@ -28,6 +28,6 @@ returns-in-Ok c =
     let answered = c.answers_to-answers.result in
     let text : c.bytes-in-Ok.result.now ≡ heard_record bytes c.bytes.result.now = c.bytes-in-Ok.ensures ∙ anew c.put_heard.new.text c.new-text.result _ c.in-Ok.ensures.written c.new-text.ensures in
     heard_whole message c.zvt_scan.new.answer.size answered found says
-    (subst (λ (h : Heard). IsAnswer (reply_to h) answered) meant c.answers_to-answers.ensures)
+    (subst (λ (h : Heard). IsAnswer (reply_to h) answered) meant c.answers_to-answers.ensures.answers)
     (subst (λ (answers : List ℕ). IsRecordOf (heard bytes) (heard_record bytes answers)) c.bytes.ensures (c.put_heard.ensures.kept (has_bytes c.args.bytes.now message c.zvt_scan.new.answer.size found)))
     (subst (λ (record_text : List ℕ). Written record_text c.put.result c.args.buffer.now c.put.new.buffer) (text ∙ ap (heard_record bytes) c.bytes.ensures) c.put.ensures)

@@ -7,6 +7,7 @@ use Rattle.zvt_kept.specs.Records.{ordered}
 use Rattle.zvt_kept.specs.KeptTill.{Standing, order_sent}
 use Rattle.zvt_kept.proofs.Logged.{outlives}
 use Rattle.zvt_kept.proofs.Made.{records_are_kept}
+use Rattle.zvt_kept.proofs.Places.{takes_one}
 use Rattle.zvt_kept.proofs.Steps.{logs_one, order_follows, taken_up}
 use Rattle.zvt_kept.proofs.keeping.take_order.Goals as goal
 
@@ -29,10 +30,12 @@ returns-in-Ok-keep_order g c =
       taken = took.taken;
       message = took.sent;
       runs = took.runs;
+      room = took.room;
       numbers = took.numbers;
-      logs = logs_one V.seen V.may_leave V.moment V.left_since old new (ordered order) kept.added (λ settings. SentOut (sent_as settings.currency order)) (taken_up state order took.taken) (λ settings. refl) (order_follows order state took.taken)
-          (λ settings. took.runs ∙ sym (step-order settings.currency state order)) kept.is (λ settings. refl) kept.durable.0 kept.durable.1;
-      outlives = outlives records_are_kept V.seen V.may_leave V.moment V.left_since old new (ordered order) kept.added (order_sent V.seen V.may_leave V.moment V.left_since order) kept.is (λ settings. refl) kept.leaves;
+      logs = logs_one V.seen V.may_leave V.moment V.left_since V.faults old new (ordered order) kept.added (λ settings. SentOut (sent_as settings.currency order)) (taken_up state order took.taken) (λ settings. refl) (order_follows order state took.taken)
+          (λ settings. took.runs ∙ sym (step-order settings.currency state order)) kept.is (λ settings. refl) kept.adds.durable.0 kept.adds.durable.1;
+      outlives = outlives records_are_kept V.seen V.may_leave V.moment V.left_since V.faults old new (ordered order) kept.added (order_sent V.seen V.may_leave V.moment V.left_since V.faults order) kept.is (λ settings. refl) kept.adds.leaves;
+      later = kept.adds.later;
     }
 
 pub returns-in-Err-keep_order : goal.returns-in-Err-keep_order
@@ -41,10 +44,13 @@ returns-in-Err-keep_order g c =
     let order = c.args.order in
     let old : Standing g.row.D.Denot = record { till = c.args.till.now; device = c.args.journal.now.device; gate = c.args.journal.now.gate } in
     let new : Standing g.row.D.Denot = record { till = c.lost.new.self; device = c.keep_order.new.journal.device; gate = c.keep_order.new.journal.gate } in
-    let kept = c.keep_order.ensures in
+    let kept = c.in-Err-keep_order.ensures in
     record {
+      cause = kept.adds.cause;
+      stays = kept.adds.stays;
       taken = c.in-Ok.ensures.taken;
       lost = c.lost.ensures.state ∙ ap (λ s. step s Lost) c.in-Ok.ensures.runs;
+      room = takes_one c.args.till.now c.order.new.self c.lost.new.self c.in-Ok.ensures.room c.lost.ensures.room;
       numbers = c.lost.ensures.numbers ∙ c.in-Ok.ensures.numbers;
-      outlives = outlives records_are_kept V.seen V.may_leave V.moment V.left_since old new (ordered order) kept.added (order_sent V.seen V.may_leave V.moment V.left_since order) kept.is (λ settings. refl) kept.leaves;
+      outlives = outlives records_are_kept V.seen V.may_leave V.moment V.left_since V.faults old new (ordered order) kept.added (order_sent V.seen V.may_leave V.moment V.left_since V.faults order) kept.is (λ settings. refl) kept.adds.leaves;
     }

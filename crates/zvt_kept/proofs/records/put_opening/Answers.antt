@@ -1,5 +1,6 @@
 use Rattle.std.proofs.Common.{◌≤◌, subst}
 use Rattle.zvt_kept.proofs.Made.{opening_is_taken}
+use Rattle.zvt_kept.proofs.Short.{opening_short}
 use Rattle.zvt_kept.proofs.records.put_opening.Goals as goal
 
 pub returns-clause-written : goal.returns-clause-written
@@ -10,3 +11,6 @@ returns-clause-taken c = (opening_is_taken c.args.currency (subst (λ n. n ≤ 9
 
 pub returns-clause-kept : goal.returns-clause-kept
 returns-clause-kept c = (opening_is_taken c.args.currency (subst (λ n. n ≤ 9999) c.get.ensures.value c.get.ensures.most)).0
+
+pub returns-clause-short : goal.returns-clause-short
+returns-clause-short c = opening_short c.args.currency (subst (λ n. n ≤ 9999) c.get.ensures.value c.get.ensures.most)

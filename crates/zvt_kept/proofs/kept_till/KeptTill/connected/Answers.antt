@@ -1,6 +1,6 @@
-use Rattle.std.proofs.Common.{◌≡◌, true, false, inr, refl, sym, ◌∙◌, subst}
+use Rattle.std.proofs.Common.{◌≡◌, Some, is_some, false, inr, refl, sym, ◌∙◌, subst}
 use Rattle.zvt_kept.specs.Records.{lost}
-use Rattle.zvt_kept.specs.KeptTill.{KeptValue, NewLine, Outlives, Standing, line_changed}
+use Rattle.zvt_kept.specs.KeptTill.{FailsOnlyBy, KeptValue, NewLine, Outlives, Standing, has_failed, line_changed}
 use Rattle.zvt_kept.proofs.Logged.{outlives}
 use Rattle.zvt_kept.proofs.Made.{records_are_kept}
 use Rattle.zvt_kept.proofs.Steps.{kept_on, logs_line}
@@ -14,8 +14,8 @@ returns-in-Err g c =
     let new : Standing g.row.D.Denot = record { till = k.till; device = c.keep_lost.new.journal.device; gate = c.keep_lost.new.journal.gate } in
     let kept = c.keep_lost.ensures in
     inr
-    (subst (λ (v : KeptValue g.row.D.Denot). (v.failed ≡ false) × (true ≡ true) × (k.till ≡ v.standing.till) × Outlives V.seen V.may_leave V.moment V.left_since (line_changed V.seen V.may_leave V.moment V.left_since) v.standing new) c.self.view_is
-    (c.if-self.false, refl, refl, outlives records_are_kept V.seen V.may_leave V.moment V.left_since old new lost kept.added (line_changed V.seen V.may_leave V.moment V.left_since) kept.is (λ settings. refl) kept.leaves))
+    (subst (λ (v : KeptValue g.row.D.Denot). (has_failed v ≡ false) × (Some c.in-Err.why ≡ Some c.in-Err.why) × (k.till ≡ v.standing.till) × FailsOnlyBy V.seen V.may_leave V.moment V.left_since V.faults c.in-Err.why v.standing new × (new.gate ≡ v.standing.gate) × Outlives V.seen V.may_leave V.moment V.left_since V.faults (line_changed V.seen V.may_leave V.moment V.left_since V.faults) v.standing new) c.self.view_is
+    (sym c.is_some.ensures ∙ c.if-is_some.false, refl, refl, c.in-Err.ensures.adds.cause, c.in-Err.ensures.adds.stays, outlives records_are_kept V.seen V.may_leave V.moment V.left_since V.faults old new lost kept.added (line_changed V.seen V.may_leave V.moment V.left_since V.faults) kept.is (λ settings. refl) kept.adds.leaves))
 
 pub invariant_of-self-2 : goal.invariant_of-self-2
 invariant_of-self-2 g c =
@@ -25,8 +25,8 @@ invariant_of-self-2 g c =
     let new : Standing g.row.D.Denot = record { till = c.connected.new.self; device = c.keep_lost.new.journal.device; gate = c.keep_lost.new.journal.gate } in
     let kept = c.in_default.ensures in
     let down = sym c.line_up.ensures ∙ c.if-line_up.false in
-    kept_on V.seen V.may_leave V.moment V.left_since k.failed (line_changed V.seen V.may_leave V.moment V.left_since) old new c.if-self.false
-    (logs_line V.seen V.may_leave V.moment V.left_since old new lost kept.added down c.connected.ensures.state kept.is (λ settings. refl) kept.durable.0 kept.durable.1) c.self.invariant
+    kept_on V.seen V.may_leave V.moment V.left_since V.faults (is_some k.failure) (line_changed V.seen V.may_leave V.moment V.left_since V.faults) old new (sym c.is_some.ensures ∙ c.if-is_some.false)
+    (logs_line V.seen V.may_leave V.moment V.left_since V.faults old new lost kept.added down c.connected.ensures.state kept.is (λ settings. refl) kept.adds.durable.0 kept.adds.durable.1) c.self.invariant
 
 pub returns : goal.returns
 returns g c =
@@ -36,12 +36,13 @@ returns g c =
     let new : Standing g.row.D.Denot = record { till = c.connected.new.self; device = c.keep_lost.new.journal.device; gate = c.keep_lost.new.journal.gate } in
     let kept = c.in_default.ensures in
     let down = sym c.line_up.ensures ∙ c.if-line_up.false in
-    let made : NewLine V.seen V.may_leave V.moment V.left_since old new = record {
+    let made : NewLine V.seen V.may_leave V.moment V.left_since V.faults old new = record {
       state = c.connected.ensures.state;
       numbers = c.connected.ensures.numbers;
-      logs = logs_line V.seen V.may_leave V.moment V.left_since old new lost kept.added down c.connected.ensures.state kept.is (λ settings. refl) kept.durable.0 kept.durable.1;
-      outlives = outlives records_are_kept V.seen V.may_leave V.moment V.left_since old new lost kept.added (line_changed V.seen V.may_leave V.moment V.left_since) kept.is (λ settings. refl) kept.leaves;
+      logs = logs_line V.seen V.may_leave V.moment V.left_since V.faults old new lost kept.added down c.connected.ensures.state kept.is (λ settings. refl) kept.adds.durable.0 kept.adds.durable.1;
+      outlives = outlives records_are_kept V.seen V.may_leave V.moment V.left_since V.faults old new lost kept.added (line_changed V.seen V.may_leave V.moment V.left_since V.faults) kept.is (λ settings. refl) kept.adds.leaves;
+      later = kept.adds.later;
     } in
     inr
-    (subst (λ (v : KeptValue g.row.D.Denot). (v.failed ≡ false) × (k.failed ≡ false) × NewLine V.seen V.may_leave V.moment V.left_since v.standing new) c.self.view_is
-    (c.if-self.false, c.if-self.false, made))
+    (subst (λ (v : KeptValue g.row.D.Denot). (has_failed v ≡ false) × (is_some k.failure ≡ false) × NewLine V.seen V.may_leave V.moment V.left_since V.faults v.standing new) c.self.view_is
+    (sym c.is_some.ensures ∙ c.if-is_some.false, sym c.is_some.ensures ∙ c.if-is_some.false, made))

@@ -1,5 +1,6 @@
-use Rattle.std.proofs.Common.{rules}
+use Rattle.std.proofs.Common.{is_some, rules}
 use Rattle.zvt_kept.specs.KeptTill.{Standing, order_sent}
+use Rattle.zvt_kept.proofs.Failing.{unfailed}
 use Rattle.zvt_kept.proofs.Steps.{kept_on, taken_up, up_whole}
 use Rattle.zvt_kept.proofs.kept_till.KeptTill.order.Goals as goal
 
@@ -10,8 +11,16 @@ invariant_of-self g c =
     let old : Standing g.row.D.Denot = record { till = k.till; device = k.journal.device; gate = k.journal.gate } in
     let new : Standing g.row.D.Denot = record { till = c.take_order.new.till; device = c.take_order.new.journal.device; gate = c.take_order.new.journal.gate } in
     let took = c.in-Ok.ensures in
-    kept_on V.seen V.may_leave V.moment V.left_since k.failed (order_sent V.seen V.may_leave V.moment V.left_since c.args.order) old new
-    (up_whole V.seen V.may_leave V.moment V.left_since k.failed old (taken_up k.till.state c.args.order took.taken) c.self.invariant) took.logs c.self.invariant
+    kept_on V.seen V.may_leave V.moment V.left_since V.faults (is_some k.failure) (order_sent V.seen V.may_leave V.moment V.left_since V.faults c.args.order) old new
+    (up_whole V.seen V.may_leave V.moment V.left_since V.faults (is_some k.failure) old (taken_up k.till.state c.args.order took.taken) c.self.invariant) took.logs c.self.invariant
 
-pub returns-in-Err-Journal-clause-failed : goal.returns-in-Err-Journal-clause-failed
-returns-in-Err-Journal-clause-failed g c = search rules
+pub returns-in-Err-Journal-clause-failure : goal.returns-in-Err-Journal-clause-failure
+returns-in-Err-Journal-clause-failure g c = search rules
+
+-- an order is taken on a line that is up alone
+pub returns-in-Ok-clause-whole : goal.returns-in-Ok-clause-whole
+returns-in-Ok-clause-whole g c =
+    let V = g.D.Device in
+    let k = c.self.inside in
+    let old : Standing g.row.D.Denot = record { till = k.till; device = k.journal.device; gate = k.journal.gate } in
+    unfailed k.failure (up_whole V.seen V.may_leave V.moment V.left_since V.faults (is_some k.failure) old (taken_up k.till.state c.args.order c.in-Ok.ensures.taken) c.self.invariant)

@@ -1,0 +1,72 @@
+-- Each record of a till is short enough for a journal.
+use Rattle.std.proofs.Common.{◌≡◌, ℕ, ◌+◌, ◌*◌, ◌^◌, ◌≤◌, List, [], ◌∷◌, ◌++◌, length, take, arith, length-append, lit<}
+use Rattle.std.specs.Prelude.{codes, decimal}
+use Rattle.std.proofs.lemmas.Fmt.{length-decimal-le}
+use Rattle.std.proofs.lemmas.List.{length-take}
+use Rattle.hex.specs.Hex.{encode_upper, upper_digits}
+use Rattle.hex.proofs.HexLemmas.{length-encode_with}
+use Rattle.zvt_till.specs.declared.orders.Order.{Order}
+use Rattle.zvt_till.specs.declared.orders.Order.TheVariants.{Register, Pay, Reverse, CloseDay, Cancel}
+use Rattle.zvt_kept.specs.Records.{IsSpelledOrder, heard_line, heard_record, lost_record, one_or_none, opening, order_line, order_record, order_words, sent_line, sent_lines}
+
+pub few_taken : (n : ℕ) (bytes : List ℕ) → n ≤ 32 → length (take n bytes) ≤ 32
+few_taken n bytes few = let taken = length-take n bytes in omega (arith, taken, few)
+
+-- a word, and then a text that ends in a line feed
+line_length : (word text : List ℕ) → length (word ++ text ++ 10 ∷ []) ≡ length word + length text + 1
+line_length word text =
+    let outer = length-append (word ++ text) (10 ∷ []) in
+    let inner = length-append word text in
+    omega (arith, outer, inner)
+
+hex_length : (bytes : List ℕ) → length (encode_upper bytes) ≡ 2 * length bytes
+hex_length bytes = length-encode_with upper_digits bytes
+
+sent_length : (bytes : List ℕ) → length (sent_lines (one_or_none bytes)) ≤ 2 * length bytes + 3
+sent_length [] = omega arith
+sent_length (byte ∷ bytes) =
+    let line = line_length (codes "> ") (encode_upper (byte ∷ bytes)) in
+    let hex = hex_length (byte ∷ bytes) in
+    let whole = length-append (sent_line (byte ∷ bytes)) [] in
+    omega (arith, line, hex, whole)
+
+pub heard_short : (message answers : List ℕ) → length message ≤ 65540 → length answers ≤ 32 → length (heard_record message answers) ≤ 2 ^ 18
+heard_short message answers few fewer =
+    let line = line_length (codes "< ") (encode_upper message) in
+    let hex = hex_length message in
+    let sent = sent_length answers in
+    let whole = length-append (heard_line message) (sent_lines (one_or_none answers)) in
+    omega (arith, line, hex, sent, whole, few, fewer)
+
+number_length : (n : ℕ) → n ≤ 999999999999 → length (decimal n) ≤ 12
+number_length n most = length-decimal-le 12 n (lit< tt) (omega (arith, most)) (omega (arith, most))
+
+words_length : (order : Order) → IsSpelledOrder order → length (order_words order) ≤ 20
+words_length Register spelled = omega arith
+words_length (Pay amount) spelled =
+    let words = length-append (codes "pay ") (decimal amount) in
+    let number = number_length amount spelled.1 in
+    omega (arith, words, number)
+words_length (Reverse entry) spelled =
+    let words = length-append (codes "reverse ") (decimal (entry + 1)) in
+    let number = number_length (entry + 1) (omega (arith, spelled)) in
+    omega (arith, words, number)
+words_length CloseDay spelled = omega arith
+words_length Cancel spelled = omega arith
+
+pub order_short : (order : Order) (sent : List ℕ) → IsSpelledOrder order → length sent ≤ 32 → length (order_record order sent) ≤ 2 ^ 18
+order_short order sent spelled few =
+    let words = words_length order spelled in
+    let line = line_length (codes "# ") (order_words order) in
+    let bytes = sent_length sent in
+    let whole = length-append (order_line order) (sent_lines (one_or_none sent)) in
+    omega (arith, words, line, bytes, whole, few)
+
+pub opening_short : (currency : ℕ) → currency ≤ 9999 → length (opening currency) ≤ 2 ^ 18
+opening_short currency most =
+    let line = line_length (codes "# zvt journal 1, currency ") (decimal currency) in
+    let number = number_length currency (omega (arith, most)) in
+    omega (arith, line, number)
+
+pub lost_short : length lost_record ≤ 2 ^ 18
+lost_short = omega arith
