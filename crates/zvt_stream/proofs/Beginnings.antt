@@ -6,7 +6,7 @@ use Rattle.zvt_apdu.specs.Message.{Message, ack}
 use Rattle.zvt_apdu.specs.Grammar.{IsFrameLength}
 use Rattle.zvt_apdu.specs.Grammar as grammar
 use Rattle.zvt_apdu.proofs.Writing.{two_control}
-use Rattle.zvt_stream.specs.Apdus.{Spells, Alive, AliveIn, Unfinished, UnfinishedIn, Spelled, SpelledIn}
+use Rattle.zvt_stream.specs.Apdus.{Alive, AliveIn, Unfinished, UnfinishedIn, Spelled, SpelledIn}
 
 pub spelled_more_in : (r : Reading) (ms : List Message) (bytes rest more : List ℕ) → SpelledIn r bytes ms rest → SpelledIn r (bytes ++ more) ms (rest ++ more)
 spelled_more_in r = cuts.spelled_more (grammar.Spells r)
@@ -58,11 +58,5 @@ spelled_append = spelled_append_in shortest
 pub prefix_alive : (prefix rest : List ℕ) → Alive (prefix ++ rest) → Alive prefix
 prefix_alive = prefix_alive_in shortest
 
-pub message_bounds : (m : Message) (bytes : List ℕ) → Spells m bytes → (2 < length bytes) × (length bytes ≤ 65540)
-message_bounds = bounds_in shortest
-
 pub nothing_begun : Unfinished []
 nothing_begun = nothing_in shortest
-
-pub unfinished_few : (bytes : List ℕ) → Unfinished bytes → length bytes < 65540
-unfinished_few = few_in shortest

@@ -85,17 +85,6 @@ name_digits r n left depth x some f is outer b e (o, le, a) =
     let positive : 0 < n = omega (arith, (sane_shape x (Digits n) is).0) in
     (f, (o, (positive, over), field_more r left (left - 1) b x IsEmpty (FieldContent true n) a (λ s z. (x, [], [], n, one_byte x s z, head, omega arith, All-nil IsDigitPair)) (one_less left (omega (arith, some)))))
 
--- room for what is after it
-pub fixed_room : (r : Reading) (n left x : ℕ) → fault r name (left - 1) x ≡ None → shape_of x ≡ Some (Fixed n) → (0 < n) × (n ≤ left - 1)
-fixed_room r n left x f is =
-    let over = fits_over n (left - 1) (passed (fits n (left - 1)) DoesNotFit None (name_fits r x (left - 1) (Fixed n) f is)).0 in
-    (omega (arith, (sane_shape x (Fixed n) is).0), omega (arith, over.1))
-
-pub digits_room : (r : Reading) (n left x : ℕ) → fault r name (left - 1) x ≡ None → shape_of x ≡ Some (Digits n) → (0 < n) × (n ≤ left - 1)
-digits_room r n left x f is =
-    let over = fits_over n (left - 1) (passed (fits n (left - 1)) DoesNotFit None (name_fits r x (left - 1) (Digits n) f is)).0 in
-    (omega (arith, (sane_shape x (Digits n) is).0), omega (arith, over.1))
-
 pub name_ll : (r : Reading) (left depth x : ℕ) → 2 ≤ left → fault r name (left - 1) x ≡ None → shape_of x ≡ Some Ll → Judges r stage.Name left depth x (Ok (Within (stage.Digit 1 0) (left - 1)))
 name_ll r left depth x some f is outer b e (o, le, a) =
     let enough = leb-true 2 (left - 1) (passed (nat_le 2 (left - 1)) DoesNotFit None (name_fits r x (left - 1) Ll f is)).0 in

@@ -1,6 +1,6 @@
 -- The bytes before the fields, and data without fields.
 use Rattle.std.proofs.Common.{◌≡◌, ◌≢◌, ℕ, ◌+◌, ◌*◌, ◌-◌, ◌<◌, ◌≤◌, ◌==◌, Bool, true, false, Option, Some, None, Result, Ok, Err, List, [], ◌∷◌, ◌++◌, length, refl, sym, ◌∙◌, ap, subst, arith, length-append, suc, zero}
-use Rattle.std.proofs.lemmas.Bool.{cond-true, cond-false, eq-eqb, ne_eqb, le-leb, lt-leb, false≢true}
+use Rattle.std.proofs.lemmas.Bool.{cond-false, ne_eqb, le-leb, false≢true}
 use Rattle.std.proofs.lemmas.List.{append-nil}
 use Rattle.zvt_grammar.specs.declared.why.Why.{Why}
 use Rattle.zvt_grammar.specs.declared.why.Why.TheVariants.{DoesNotFit, NotShortest}
@@ -78,11 +78,6 @@ module _ (r : Reading) (high low n : ℕ) (l : Layout) (e : l ≡ layout_of high
     ),
   )
 
--- lengths
-pub size_long : (r : Reading) (high low left depth x : ℕ) → x ≡ 0xFF → Judges r (stage.FirstSize high low) left depth x (Ok (Within (stage.LowSize high low) left))
-size_long r high low left depth x is outer b d (o, w, h, l) =
-    (cond-true (x == 0xFF) None (check (can_fill (layout_of high low x) x) DoesNotFit None) (eq-eqb x 0xFF is), (o, ap (λ (s : List ℕ). s ++ x ∷ []) w ∙ ap (λ (y : ℕ). high ∷ low ∷ y ∷ []) is, h, l))
-
 leads_at : (r : Reading) (move : Move) (outer b : List ℕ) → outer ≡ [] → Leads r move [] b → Leads r move outer b
 leads_at r move outer b e h = subst (λ (o : List ℕ). Leads r move o b) (sym e) h
 
@@ -99,10 +94,6 @@ size_short r high low left depth x n result is lt ne h = by_number (subst (λ (m
         by_result (Ok move) (fills, f) outer b d (o, w, hs, ls) =
             (tests ∙ ap (λ (t : Bool). check t DoesNotFit None) fills, leads_at r move outer (b ++ x ∷ []) o (f (x ∷ []) (b ++ x ∷ []) (hs, ls) (omega (arith, lt, ne), refl) (ap (λ (s : List ℕ). s ++ x ∷ []) w)))
         by_result (Err why) (same, fails) outer b d p = tests ∙ ap (λ (t : Bool). check t DoesNotFit None) fails ∙ ap (λ (y : Why). Some y) (sym same)
-
-pub size_padded : (r : Reading) (high low size_low left depth x : ℕ) → 256 * x + size_low < least r 255 → Judges r (stage.HighSize high low size_low) left depth x (Err NotShortest)
-size_padded r high low s left depth x less outer b d p =
-    ap (λ (t : Bool). check t NotShortest (check (can_fill (layout_of high low (256 * x + s)) (256 * x + s)) DoesNotFit None)) (lt-leb (least r 255) (256 * x + s) less)
 
 pub size_high : (r : Reading) (high low size_low left depth x n : ℕ) (result : Result Move Why) → n ≡ 256 * x + size_low → x < 256 → least r 255 ≤ n → BeginsData r high low n result → Judges r (stage.HighSize high low size_low) left depth x result
 size_high r high low s left depth x n result is lt le h = by_result result (subst (λ (m : ℕ). BeginsData r high low m result) is h)

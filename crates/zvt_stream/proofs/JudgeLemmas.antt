@@ -24,7 +24,7 @@ use Rattle.zvt_stream.specs.declared.judge.DecodeRun.TheVariants as run
 use Rattle.zvt_stream.specs.declared.judge.Judged.{Judged}
 use Rattle.zvt_stream.specs.declared.judge.Judged.TheVariants.{Open, Ended}
 use Rattle.zvt_stream.specs.DecoderState.{IsFull, depth_of, Level, Between, Where, role_of}
-use Rattle.zvt_stream.specs.Moves.{IsReady, Judges, Keeps, Leads, at_in, at_part, leads_to, move_of, opens, outer_of}
+use Rattle.zvt_stream.specs.Moves.{Judges, Keeps, Leads, at_in, at_part, leads_to, move_of, opens, outer_of}
 use Rattle.zvt_stream.specs.declared.head.Head.{Head}
 use Rattle.zvt_stream.specs.declared.head.Head.TheVariants.{Two}
 use Rattle.zvt_stream.specs.Head.{head_of}
@@ -89,23 +89,6 @@ pub depth_is : (outer : List ℕ) → length outer - 1 ≡ depth_of outer
 depth_is [] = omega arith
 depth_is (k ∷ []) = omega arith
 depth_is (k ∷ j ∷ ks) = omega (arith, depth_is (j ∷ ks))
-
--- numbers of a part
-pub ready : (r : Reading) (at : At) (left : ℕ) (outer b : List ℕ) → Where r at left outer b → IsReady at left
-ready r stage.FirstControl left outer b h = tt
-ready r (stage.SecondControl high) left outer b h = tt
-ready r (stage.FirstSize high low) left outer b h = tt
-ready r (stage.LowSize high low) left outer b h = tt
-ready r (stage.HighSize high low s) left outer b h = tt
-ready r stage.Payload left outer b h = h.1
-ready r (stage.Head free digits) left outer b h = (h.1, h.2)
-ready r stage.Name left outer b h = h.1
-ready r (stage.Digit more before) left outer b h = h.1
-ready r (stage.Content digits more) left outer b h = (h.1.0, omega (arith, h.1.1.1))
-ready r (stage.Container at) left outer b h = h.1
-ready r (stage.Tag at) left outer b h = h.1
-ready r (stage.Length nests at) left outer b h = h.1
-ready r (stage.Object more) left outer b h = (h.1.0, omega (arith, h.1.1.1))
 
 -- a byte whose tests pass leaves the bytes alive
 pub passes : (r : Reading) (at : At) (left x : ℕ) (outer b : List ℕ) → x < 256 → AliveIn r b → Where r at left outer b → fault r (role_of at left (depth_of outer)) x ≡ None → AliveIn r (b ++ x ∷ [])

@@ -7,7 +7,6 @@ use Rattle.zvt_grammar.specs.Reading.{Reading}
 use Rattle.zvt_apdu.specs.Message.{Message}
 use Rattle.zvt_apdu.specs.Grammar.{Spells}
 use Rattle.zvt_stream.specs.Apdus.{NoneWholeIn, UnfinishedIn, SpelledIn, IsRefusedIn}
-use Rattle.zvt_grammar.specs.declared.why.Why.{Why}
 use Rattle.zvt_stream.specs.declared.stream.Fed.TheVariants as fed
 use Rattle.zvt_stream.specs.declared.line.LineFault.{LineFault}
 use Rattle.zvt_stream.specs.declared.line.LineFault.TheVariants as faults
@@ -15,7 +14,7 @@ use Rattle.zvt_stream.specs.StreamState.{StreamState}
 use Rattle.zvt_stream.specs.Feeds.{Feeds}
 use Rattle.zvt_stream.specs.Answered.{Answered, bytes_of}
 use Rattle.zvt_stream.specs.Hearing.{Hears, Heard}
-use Rattle.zvt_stream.specs.LineRun.{Course, Breaks, Pumped, Broken, IsPieceFault}
+use Rattle.zvt_stream.specs.LineRun.{Course, Breaks, Pumped, Broken}
 use Rattle.zvt_stream.specs.Replies.{Replies, Unanswered}
 use Rattle.zvt_io.proofs.KnownLemmas.{appends_more}
 use Rattle.zvt_stream.proofs.HearingLemmas.{appends_none, consumes_none, consumes_more, heard_none, heard_longer, heard_then, heard_one, hears_append, bytes_append}
@@ -67,18 +66,6 @@ going_ends {step = step} {before = before} {after = after} {piece = piece} {rest
     let heard : Heard before.reading step (before.held ++ piece) old end.held new going.written sent = subst H (sym f.1.0) going.heard in
     record { heard = heard; cut = record { spelled = heard.spelled; none_whole = subst N (sym f.1.0) (subst (λ (r : Reading). NoneWholeIn r (after.held ++ rest)) going.reads_alike f.0.none_whole) }; same = f.1.1 ∙ sym runs ∙ going.same; reads_alike = f.2 ∙ going.reads_alike; still = going.still }
 
--- the rest was refused
-pub going_refused : {S : Type 0} {step : S → Message → Answered → S → Type 0} {before after : StreamState} {piece rest : List ℕ} {old new : S} {first last : Option (List ℕ)} {sent : Bool} (place : ℕ) (why : Why) (end : StreamState) → (going : Going step before piece after rest old new first last sent) → Feeds after rest (fed.Refused place why) end → Breaks step (faults.Malformed place why) before piece end old new going.written
-going_refused {after = after} {rest = rest} {sent = sent} place why end going f = (sent, after.held ++ rest, going.heard, subst (λ (r : Reading). IsRefusedIn r (after.held ++ rest) place why) going.reads_alike f.0, f.2)
-
--- the rest was not taken
-pub going_memory : {S : Type 0} {step : S → Message → Answered → S → Type 0} {before after : StreamState} {piece rest : List ℕ} {old new : S} {first last : Option (List ℕ)} {sent : Bool} (end : StreamState) → (going : Going step before piece after rest old new first last sent) → Breaks step faults.Memory before piece end old new going.written
-going_memory {after = after} {rest = rest} {sent = sent} end going = (sent, after.held ++ rest, going.heard)
-
--- the stream had refused before
-pub going_stopped : {S : Type 0} {step : S → Message → Answered → S → Type 0} {before after : StreamState} {piece rest : List ℕ} {old new : S} {first last : Option (List ℕ)} {sent : Bool} (end : StreamState) → (going : Going step before piece after rest old new first last sent) → after.stopped ≡ true → Breaks step faults.Stopped before piece end old new going.written
-going_stopped end going e = let b = sym going.same ∙ e in let h = going.still b in (b, h.0, h.1)
-
 -- a message was not heard, or its answers were not written whole
 pub going_unanswered : {S : Type 0} {step : S → Message → Answered → S → Type 0} {before after : StreamState} {piece rest : List ℕ} {old middle : S} {first now : Option (List ℕ)} {sent : Bool} (apdu : Message) (taken : ℕ) (fresh : StreamState) (new : S) (last : Option (List ℕ)) (fault : LineFault) → Going step before piece after rest old middle first now sent → Feeds after rest (fed.Message apdu taken) fresh → Unanswered step fault middle apdu new now last → (written : List ℕ) × Appends first last written × Breaks step fault before piece fresh old new written
 going_unanswered {S = S} {step = step} {before = before} {after = after} {piece = piece} {rest = rest} {old = old} {middle = middle} {first = first} {now = now} {sent = sent} apdu taken fresh new last faults.Memory going f u =
@@ -106,15 +93,6 @@ going_unanswered apdu taken fresh new last (faults.Ended have) going f u = absur
 going_unanswered apdu taken fresh new last faults.Turns going f u = absurd u
 going_unanswered apdu taken fresh new last (faults.Malformed place why) going f u = absurd u
 going_unanswered apdu taken fresh new last faults.Stopped going f u = absurd u
-
-pub unanswered_kind : {S : Type 0} (step : S → Message → Answered → S → Type 0) (fault : LineFault) (old : S) (apdu : Message) (new : S) (before after : Option (List ℕ)) → Unanswered step fault old apdu new before after → IsPieceFault fault
-unanswered_kind step faults.Memory old apdu new before after u = tt
-unanswered_kind step faults.Write old apdu new before after u = tt
-unanswered_kind step faults.Read old apdu new before after u = absurd u
-unanswered_kind step (faults.Ended have) old apdu new before after u = absurd u
-unanswered_kind step faults.Turns old apdu new before after u = absurd u
-unanswered_kind step (faults.Malformed place why) old apdu new before after u = absurd u
-unanswered_kind step faults.Stopped old apdu new before after u = absurd u
 
 pub not_stopped : (b : Bool) → (b ≡ true → ⊥) → b ≡ false
 not_stopped true never = absurd (never refl)
@@ -208,7 +186,3 @@ broken_more {end = end} {new = new} {coming = coming} {then = then} {left = left
   breaks = breaks_more fault end new q.read q.written p.course q.breaks;
   ended = q.ended;
 }
-
--- all turns were made
-pub broken_turns : {S : Type 0} {step : S → Message → Answered → S → Type 0} {before after : StreamState} {old new : S} {coming left first last : Option (List ℕ)} {sent : Bool} → Pumped step before after old new coming left first last sent → Broken step faults.Turns before after old new coming left first last
-broken_turns {sent = sent} p = record { read = p.read; written = p.written; consumed = p.consumed; appended = p.appended; breaks = (sent, p.course); ended = tt }

@@ -117,24 +117,17 @@ impl Progress {
                         bytes: &buffer[..count],
                         undecoded: &[],
                     };
-                    let counted = self.sides.feed_piece(listener, device, &at, piece)?;
-                    tally.messages += counted.messages;
-                    tally.bad += counted.bad;
+                    let own = self.sides.feed_piece(listener, device, &at, piece)?;
+                    tally.messages += own.messages;
+                    tally.bad += own.bad;
                     rest = after;
                 }
                 None => {
                     let (line, after) = next_line(rest);
                     let read = read_line(&mut buffer, line);
-                    let counted = emit_line(
-                        listener,
-                        device,
-                        options,
-                        &mut self.sides,
-                        number,
-                        read,
-                    )?;
-                    tally.messages += counted.messages;
-                    tally.bad += counted.bad;
+                    let own = emit_line(listener, device, options, &mut self.sides, number, read)?;
+                    tally.messages += own.messages;
+                    tally.bad += own.bad;
                     rest = after;
                 }
             }
