@@ -11,6 +11,7 @@ text. The objects of docs/JSON.md are among those that are seen. Each line is he
 has jsonschema. The status is 1 where anything differs. It takes seconds.
 """
 import contextlib
+import itertools
 import json
 import os
 import pathlib
@@ -105,8 +106,8 @@ def hold_vectors(chance):
 
 # ---- the book of a till
 
-def entry_object(entry):
-    booked = {"amount": entry.amount, "trace": entry.trace}
+def entry_object(number, entry):
+    booked = {"amount": entry.amount, "number": number, "trace": entry.trace}
     if entry.receipt is not None:
         booked["receipt"] = entry.receipt.hex().upper()
     if entry.reversed:
@@ -119,7 +120,7 @@ def entry_object(entry):
 
 
 def book_objects(book):
-    yield from map(entry_object, book.entries)
+    yield from itertools.starmap(entry_object, enumerate(book.entries, 1))
     yield from ({"unclear": {"amount": amount, "cause": cause}} for amount, cause in book.unclear)
     yield {"total": book.total()}
 

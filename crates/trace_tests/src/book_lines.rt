@@ -18,11 +18,11 @@ unclear 500 NoStatus
 total 1834
 "#;
 
-const OBJECTS: &str = r#"{"booked":{"amount":1000,"receipt":"0001","trace":1}}
-{"booked":{"amount":200,"receipt":"0012","reversed":true,"trace":2}}
-{"booked":{"amount":30,"receipt":"0003","reversal_unclear":"Line","trace":3}}
-{"booked":{"amount":4,"trace":4}}
-{"booked":{"amount":800,"receipt":"9999","taken_back":true,"trace":5}}
+const OBJECTS: &str = r#"{"booked":{"amount":1000,"number":1,"receipt":"0001","trace":1}}
+{"booked":{"amount":200,"number":2,"receipt":"0012","reversed":true,"trace":2}}
+{"booked":{"amount":30,"number":3,"receipt":"0003","reversal_unclear":"Line","trace":3}}
+{"booked":{"amount":4,"number":4,"trace":4}}
+{"booked":{"amount":800,"number":5,"receipt":"9999","taken_back":true,"trace":5}}
 {"unclear":{"amount":500,"cause":"NoStatus"}}
 {"total":1834}
 "#;

@@ -1,6 +1,8 @@
 -- The text of a line of a book is that of its value.
-use Rattle.std.proofs.Common.{◌≡◌, ℕ, Bool, true, false, List, [], ◌∷◌, ◌++◌, Option, Some, None, Result, OnOk, codes, refl, sym, ◌∙◌, ap, subst, append_assoc}
+use Rattle.std.proofs.Common.{◌≡◌, ℕ, Bool, true, false, List, [], ◌∷◌, ◌++◌, Option, Some, None, Result, OnOk, codes, refl, sym, ◌∙◌, ap, subst, append_assoc, append-nil, arith, length, ◌+◌}
 use Rattle.std.specs.Fmt.{decimal}
+use Rattle.std.specs.List.{enumerate_from, flat_map}
+use Rattle.std.proofs.lemmas.Grind.{flat_map-append}
 use Rattle.std.specs.declared.alloc.AllocError.{AllocError}
 use Rattle.json.specs.Print.{escape, escape_byte}
 use Rattle.serde_json.specs.Data.{object, Members, no_members, member}
@@ -14,7 +16,7 @@ use Rattle.zvt_till.specs.declared.entries.Entry.{Entry}
 use Rattle.zvt_till.specs.declared.outcomes.Cause.{Cause}
 use Rattle.zvt_till.specs.declared.outcomes.Cause.TheVariants.{NoStatus, Conflict, AmountDiffers, NoTrace, TraceUsed, AbortAfterApproval, Line, Malformed, Unfinished, WrongCurrency}
 use Rattle.zvt_session.proofs.Parts.{three_parts}
-use Rattle.zvt_session.specs.BookObjects.{amount_part, entry_json, entry_value, receipt_part, reversals_part, reversed_part, taken_back_part, trace_part, unclear_json, unclear_reversal_part, unclear_value, with_receipt, with_reversals, with_reversed, with_taken_back, with_unclear_reversal}
+use Rattle.zvt_session.specs.BookObjects.{entries_json, entry_json, entry_value, number_part, receipt_part, reversals_part, reversed_part, taken_back_part, trace_part, unclear_json, unclear_reversal_part, unclear_value, with_receipt, with_reversals, with_reversed, with_taken_back, with_unclear_reversal}
 
 cause_plain : (c : Cause) → escape (cause_name c) ≡ cause_name c
 unfolding escape_byte
@@ -74,15 +76,16 @@ trace_said : (trace : ℕ) → trace_part trace ≡ members_text true (trace_mem
 unfolding escape_byte
 trace_said trace = simp append_assoc
 
--- an entry, by its amount and the members after it
-around : (amount : ℕ) (later : Members) → amount_part amount ++ (members_text true later ++ codes "}\n") ≡ line_text (object (member (codes "booked") (object (member (codes "amount") (count_value amount) later)) no_members))
+-- an entry, by its amount, its number and the members after them
+around : (amount number : ℕ) (later : Members) → number_part amount number ++ (members_text true later ++ codes "}\n")
+    ≡ line_text (object (member (codes "booked") (object (member (codes "amount") (count_value amount) (member (codes "number") (count_value number) later))) no_members))
 unfolding escape_byte
-around amount later = simp append_assoc
+around amount number later = simp append_assoc
 
-pub entry_said : (entry : Entry) → entry_json entry ≡ line_text (entry_value entry)
+pub entry_said : (number : ℕ) (entry : Entry) → entry_json number entry ≡ line_text (entry_value number entry)
 unfolding entry_json
-entry_said entry =
-    let amount = amount_part entry.amount in
+entry_said number entry =
+    let amount = number_part entry.amount number in
     let receipt = receipt_part entry.receipt in
     let reversals = reversals_part entry.reversed entry.doubt in
     let trace = trace_part entry.trace in
@@ -95,7 +98,7 @@ entry_said entry =
     let second : receipt ++ (reversals ++ trace) ≡ members_text true later ++ codes "}\n" =
     ap (λ (l : List ℕ). receipt ++ l) third ∙ sym (append_assoc receipt (members_text true late) (codes "}\n"))
     ∙ ap (λ (l : List ℕ). l ++ codes "}\n") (receipt_said entry.receipt late) in
-    append_assoc (amount ++ receipt) reversals trace ∙ append_assoc amount receipt (reversals ++ trace) ∙ ap (λ (l : List ℕ). amount ++ l) second ∙ around entry.amount later
+    append_assoc (amount ++ receipt) reversals trace ∙ append_assoc amount receipt (reversals ++ trace) ∙ ap (λ (l : List ℕ). amount ++ l) second ∙ around entry.amount number later
 
 unclear_escaped : (amount : ℕ) (cause : Cause)
     → codes "{\"unclear\":{\"amount\":" ++ (decimal amount ++ (codes ",\"cause\":\"" ++ (escape (cause_name cause) ++ codes "\"}}\n")))
@@ -108,6 +111,20 @@ unfolding unclear_json
 unclear_said row =
     ap (λ (l : List ℕ). codes "{\"unclear\":{\"amount\":" ++ (decimal row.0 ++ (codes ",\"cause\":\"" ++ (l ++ codes "\"}}\n")))) (sym (cause_plain row.1))
     ∙ unclear_escaped row.0 row.1
+
+-- ---- entries one after another
+
+enumerate_last : (n : ℕ) (book : List Entry) (entry : Entry) → enumerate_from n (book ++ entry ∷ []) ≡ enumerate_from n book ++ (n + length book, entry) ∷ []
+enumerate_last n [] entry = ap (λ (k : ℕ). (k, entry) ∷ []) (omega arith)
+enumerate_last n (first ∷ book) entry =
+    ap (λ (l : List (ℕ × Entry)). (n, first) ∷ l) (enumerate_last (n + 1) book entry ∙ ap (λ (k : ℕ). enumerate_from (n + 1) book ++ (k, entry) ∷ []) (omega arith))
+
+-- one entry more is written
+pub entries_more : (book : List Entry) (entry : Entry) → entries_json (book ++ entry ∷ []) ≡ entries_json book ++ line_text (entry_value (1 + length book) entry)
+entries_more book entry =
+    ap (flat_map (λ (it : ℕ × Entry). line_text (entry_value it.0 it.1))) (enumerate_last 1 book entry)
+    ∙ flat_map-append (λ (it : ℕ × Entry). line_text (entry_value it.0 it.1)) (enumerate_from 1 book) ((1 + length book, entry) ∷ [])
+    ∙ ap (λ (l : List ℕ). entries_json book ++ l) (append-nil (line_text (entry_value (1 + length book) entry)))
 
 -- ---- what is added one after another
 

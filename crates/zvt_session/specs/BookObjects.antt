@@ -1,7 +1,7 @@
 -- A till's book as JSON. The members of an object come in the order of their names.
 use Rattle.std.specs.Prelude.{◌≡◌, ℕ, Bool, true, false, List, [], ◌∷◌, ◌++◌, Option, Some, None, codes, refl}
 use Rattle.std.specs.Fmt.{decimal, digits}
-use Rattle.std.specs.List.{flat_map}
+use Rattle.std.specs.List.{enumerate_from, flat_map}
 use Rattle.hex.specs.Hex.{encode_upper, encode_with}
 use Rattle.json.specs.Print.{escape, escape_byte}
 use Rattle.serde_json.specs.Data.{Data, string, boolean, object, Members, no_members, member}
@@ -45,13 +45,14 @@ with_taken_back TakenBack later = member (codes "taken_back") (boolean true) lat
 abbrev pub with_reversals : Bool → Doubt → Members → Members
 with_reversals reversed doubt later = with_unclear_reversal doubt (with_reversed reversed (with_taken_back doubt later))
 
-abbrev pub payment_value : Entry → Data
-payment_value entry =
-    object (member (codes "amount") (count_value entry.amount)
-    (with_receipt entry.receipt (with_reversals entry.reversed entry.doubt (member (codes "trace") (count_value entry.trace) no_members))))
+abbrev pub payment_value : (number : ℕ) → Entry → Data
+payment_value number entry =
+    object (member (codes "amount") (count_value entry.amount) (member (codes "number") (count_value number)
+    (with_receipt entry.receipt (with_reversals entry.reversed entry.doubt (member (codes "trace") (count_value entry.trace) no_members)))))
 
-abbrev pub entry_value : Entry → Data
-entry_value entry = object (member (codes "booked") (payment_value entry) no_members)
+-- an entry, and its number in the book, by which it is reversed
+abbrev pub entry_value : (number : ℕ) → Entry → Data
+entry_value number entry = object (member (codes "booked") (payment_value number entry) no_members)
 
 abbrev pub doubt_value : ℕ × Cause → Data
 doubt_value row = object (member (codes "amount") (count_value row.0) (member (codes "cause") (string (cause_name row.1)) no_members))
@@ -60,8 +61,9 @@ doubt_value row = object (member (codes "amount") (count_value row.0) (member (c
 abbrev pub unclear_value : ℕ × Cause → Data
 unclear_value row = object (member (codes "unclear") (doubt_value row) no_members)
 
+-- the entries, numbered from 1
 abbrev pub entries_json : List Entry → List ℕ
-entries_json book = flat_map (λ entry. line_text (entry_value entry)) book
+entries_json book = flat_map (λ entry. line_text (entry_value entry.0 entry.1)) (enumerate_from 1 book)
 
 abbrev pub unclears_json : List (ℕ × Cause) → List ℕ
 unclears_json unclear = flat_map (λ row. line_text (unclear_value row)) unclear
@@ -81,34 +83,38 @@ book_lines Json state = book_json state
 abbrev entry_of : Option (List ℕ) → Bool → Doubt → Entry
 entry_of receipt reversed doubt = record { amount = 1000; trace = 1; receipt = receipt; reversed = reversed; doubt = doubt }
 
-no_reversal : line_text (entry_value (entry_of (Some (0x00 ∷ 0x01 ∷ [])) false No)) ≡ codes "{\"booked\":{\"amount\":1000,\"receipt\":\"0001\",\"trace\":1}}\n"
+no_reversal : line_text (entry_value 1 (entry_of (Some (0x00 ∷ 0x01 ∷ [])) false No)) ≡ codes "{\"booked\":{\"amount\":1000,\"number\":1,\"receipt\":\"0001\",\"trace\":1}}\n"
 unfolding digits escape_byte encode_with
 no_reversal = refl
 
-no_receipt : line_text (entry_value (entry_of None false No)) ≡ codes "{\"booked\":{\"amount\":1000,\"trace\":1}}\n"
+no_receipt : line_text (entry_value 1 (entry_of None false No)) ≡ codes "{\"booked\":{\"amount\":1000,\"number\":1,\"trace\":1}}\n"
 unfolding digits escape_byte
 no_receipt = refl
 
-was_reversed : line_text (entry_value (entry_of None true No)) ≡ codes "{\"booked\":{\"amount\":1000,\"reversed\":true,\"trace\":1}}\n"
+was_reversed : line_text (entry_value 1 (entry_of None true No)) ≡ codes "{\"booked\":{\"amount\":1000,\"number\":1,\"reversed\":true,\"trace\":1}}\n"
 unfolding digits escape_byte
 was_reversed = refl
 
-an_unclear_reversal : line_text (entry_value (entry_of None false (Unclear NoStatus))) ≡ codes "{\"booked\":{\"amount\":1000,\"reversal_unclear\":\"NoStatus\",\"trace\":1}}\n"
+an_unclear_reversal : line_text (entry_value 1 (entry_of None false (Unclear NoStatus))) ≡ codes "{\"booked\":{\"amount\":1000,\"number\":1,\"reversal_unclear\":\"NoStatus\",\"trace\":1}}\n"
 unfolding digits escape_byte
 an_unclear_reversal = refl
 
-was_taken_back : line_text (entry_value (entry_of None false TakenBack)) ≡ codes "{\"booked\":{\"amount\":1000,\"taken_back\":true,\"trace\":1}}\n"
+was_taken_back : line_text (entry_value 1 (entry_of None false TakenBack)) ≡ codes "{\"booked\":{\"amount\":1000,\"number\":1,\"taken_back\":true,\"trace\":1}}\n"
 unfolding digits escape_byte
 was_taken_back = refl
 
 -- a reversal was completed, and a later one is unclear
-another_reversal : line_text (entry_value (entry_of None true (Unclear NoStatus))) ≡ codes "{\"booked\":{\"amount\":1000,\"reversal_unclear\":\"NoStatus\",\"reversed\":true,\"trace\":1}}\n"
+another_reversal : line_text (entry_value 1 (entry_of None true (Unclear NoStatus))) ≡ codes "{\"booked\":{\"amount\":1000,\"number\":1,\"reversal_unclear\":\"NoStatus\",\"reversed\":true,\"trace\":1}}\n"
 unfolding digits escape_byte
 another_reversal = refl
 
 an_unclear_payment : line_text (unclear_value (500, NoStatus)) ≡ codes "{\"unclear\":{\"amount\":500,\"cause\":\"NoStatus\"}}\n"
 unfolding digits escape_byte
 an_unclear_payment = refl
+
+two_entries : entries_json (entry_of None false No ∷ entry_of None false No ∷ []) ≡ codes "{\"booked\":{\"amount\":1000,\"number\":1,\"trace\":1}}\n{\"booked\":{\"amount\":1000,\"number\":2,\"trace\":1}}\n"
+unfolding digits escape_byte
+two_entries = refl
 
 -- ---- the same texts, as they are written
 
@@ -133,16 +139,16 @@ taken_back_part TakenBack = codes ",\"taken_back\":true"
 abbrev pub reversals_part : Bool → Doubt → List ℕ
 reversals_part reversed doubt = unclear_reversal_part doubt ++ reversed_part reversed ++ taken_back_part doubt
 
--- up to the amount
-abbrev pub amount_part : ℕ → List ℕ
-amount_part amount = codes "{\"booked\":{\"amount\":" ++ decimal amount
+-- up to the number
+abbrev pub number_part : (amount number : ℕ) → List ℕ
+number_part amount number = codes "{\"booked\":{\"amount\":" ++ decimal amount ++ codes ",\"number\":" ++ decimal number
 
 -- from the trace number on
 abbrev pub trace_part : ℕ → List ℕ
 trace_part trace = codes ",\"trace\":" ++ decimal trace ++ codes "}}\n"
 
-unfoldable pub entry_json : Entry → List ℕ
-entry_json entry = amount_part entry.amount ++ receipt_part entry.receipt ++ reversals_part entry.reversed entry.doubt ++ trace_part entry.trace
+unfoldable pub entry_json : (number : ℕ) → Entry → List ℕ
+entry_json number entry = number_part entry.amount number ++ receipt_part entry.receipt ++ reversals_part entry.reversed entry.doubt ++ trace_part entry.trace
 
 unfoldable pub unclear_json : ℕ × Cause → List ℕ
 unclear_json row = codes "{\"unclear\":{\"amount\":" ++ (decimal row.0 ++ (codes ",\"cause\":\"" ++ (cause_name row.1 ++ codes "\"}}\n")))

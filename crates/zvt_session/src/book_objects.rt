@@ -4,7 +4,7 @@ ghost use Rattle.hex.specs.Hex.{encode_upper};
 ghost use Rattle.json.specs.Print.{escape};
 ghost use Rattle.zvt_json.specs.Strings.{line_text};
 ghost use Rattle.zvt_text.specs.Writing.{Adds};
-ghost use Rattle.zvt_session.specs.BookObjects.{amount_part, book_json, entries_json, entry_json, entry_value, receipt_part, reversals_part, reversed_part, taken_back_part, trace_part, unclear_json, unclear_reversal_part, unclear_value, unclears_json};
+ghost use Rattle.zvt_session.specs.BookObjects.{book_json, entries_json, entry_json, entry_value, number_part, receipt_part, reversals_part, reversed_part, taken_back_part, trace_part, unclear_json, unclear_reversal_part, unclear_value, unclears_json};
 
 use crate::objects::say_total_object;
 use std::alloc::AllocError;
@@ -12,7 +12,7 @@ use zvt_bcd::{Amount, Trace};
 use zvt_text::Text;
 use zvt_till::{Cause, Doubt, Entry, Till};
 
-/// An object for each entry with what became of its reversals, then for each payment of which it is not known whether it
+/// An object for each entry with its number and what became of its reversals, then for each payment of which it is not known whether it
 /// happened, and at last for the sum of the entries that were not reversed.
 pub(crate) fn say_objects(text: &mut Text, till: &Till) -> Result<(), AllocError>
     ensures { OnOk result (text.new ≡ text.old ++ book_json till.now.state) }
@@ -22,12 +22,12 @@ pub(crate) fn say_objects(text: &mut Text, till: &Till) -> Result<(), AllocError
     say_total_object(text, till.total())
 }
 
-/// The lines of these entries.
+/// The lines of these entries, numbered from 1.
 fn say_entries(text: &mut Text, book: &[Entry]) -> Result<(), AllocError>
     ensures { OnOk result (text.new ≡ text.old ++ entries_json book.now) }
 {
-    for entry in book {
-        say_entry(text, entry)?;
+    for (at, entry) in book.iter().enumerate() {
+        say_entry(text, at + 1, entry)?;
     }
     Ok(())
 }
@@ -42,12 +42,12 @@ fn say_unclear(text: &mut Text, unclear: &[(Amount, Cause)]) -> Result<(), Alloc
     Ok(())
 }
 
-/// The line of an entry.
+/// The line of the entry with this number.
 #[tactic(auto, using(crate::proofs::BookObjects::entry_said))]
-fn say_entry(text: &mut Text, entry: &Entry) -> Result<(), AllocError>
-    ensures { OnOk result (text.new ≡ text.old ++ line_text (entry_value entry.now)) }
+fn say_entry(text: &mut Text, number: usize, entry: &Entry) -> Result<(), AllocError>
+    ensures { OnOk result (text.new ≡ text.old ++ line_text (entry_value number entry.now)) }
 {
-    write_entry(text, entry)
+    write_entry(text, number, entry)
 }
 
 /// The line of a payment of which it is not known whether it happened.
@@ -60,21 +60,23 @@ fn say_unclear_row(text: &mut Text, row: &(Amount, Cause)) -> Result<(), AllocEr
 
 /// Writes the line of an entry, part by part.
 #[tactic(auto, unfolding(crate::specs::BookObjects::entry_json))]
-fn write_entry(text: &mut Text, entry: &Entry) -> Result<(), AllocError>
-    ensures { OnOk result (text.new ≡ text.old ++ entry_json entry.now) }
+fn write_entry(text: &mut Text, number: usize, entry: &Entry) -> Result<(), AllocError>
+    ensures { OnOk result (text.new ≡ text.old ++ entry_json number entry.now) }
 {
-    say_amount(text, entry.amount)?;
+    say_number(text, entry.amount, number)?;
     say_receipt(text, entry.receipt)?;
     say_reversals(text, entry.reversed, entry.doubt)?;
     say_trace(text, entry.trace)
 }
 
-/// The line of an entry up to its amount.
-fn say_amount(text: &mut Text, amount: Amount) -> Result<(), AllocError>
-    ensures { OnOk result (text.new ≡ text.old ++ amount_part amount) }
+/// The line of an entry up to its number.
+fn say_number(text: &mut Text, amount: Amount, number: usize) -> Result<(), AllocError>
+    ensures { OnOk result (text.new ≡ text.old ++ number_part amount number) }
 {
     text.word(b"{\"booked\":{\"amount\":")?;
-    text.number(amount.get())
+    text.number(amount.get())?;
+    text.word(b",\"number\":")?;
+    text.number(number)
 }
 
 /// The receipt number, where the payment has one.
