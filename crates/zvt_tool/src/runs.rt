@@ -2,7 +2,7 @@
 ghost use Rattle.std.specs.Prelude.{◌≡◌, ◌<◌, ◌≤◌, Err, map, None};
 ghost use Rattle.zvt_grammar.specs.Lengths.{reading_of};
 ghost use Rattle.zvt_session.specs.BothEnds.{BeginsHere, MakesHereBy};
-ghost use Rattle.zvt_session.specs.Reporting.{ReportsNothing, ReportsReversals};
+ghost use Rattle.zvt_session.specs.Reporting.{ReportsNothing, ReportsRun};
 ghost use Rattle.zvt_session.specs.TillEnd.{BeginsThere, MakesThere};
 ghost use Rattle.zvt_session.specs.declared.arguments.Ends.TheVariants.{Both, Till};
 ghost use Rattle.zvt_tcp.specs.OverTcp.{AnswersRun};
@@ -65,7 +65,7 @@ where
     R: Net<Listener = TcpListener, Stream = TcpStream>,
     W: Sink,
     ensures run { MakesWords Both (map (λ word. word.now) steps.now) (W.written writer.old) (W.written writer.new)
-        (λ plan answer. AnswersRun MakesHereBy BeginsHere run_settings plain plan (W.written writer.old) (W.written writer.new) (ReportsReversals None None 0 0) (ReportsNothing None None 0 0) answer) result }
+        (λ plan answer. AnswersRun MakesHereBy BeginsHere run_settings plain plan (W.written writer.old) (W.written writer.new) (ReportsRun None None 0 0) (ReportsNothing None None 0 0) answer) result }
     ensures write { result ≡ Err ToolFault.Write → W.failures writer.old < W.failures writer.new }
 {
     let planned = match plan(alloc, Ends::Both, steps) {
@@ -97,7 +97,7 @@ where
     R: Net<Listener = TcpListener, Stream = TcpStream>,
     W: Sink,
     ensures run { MakesWords Till (map (λ word. word.now) steps.now) (W.written writer.old) (W.written writer.new)
-        (λ plan answer. AnswersRun MakesThere (BeginsThere (reading_of (lengths_by loose))) run_settings plain plan (W.written writer.old) (W.written writer.new) (ReportsReversals None None 0 0) (ReportsNothing None None 0 0) answer) result }
+        (λ plan answer. AnswersRun MakesThere (BeginsThere (reading_of (lengths_by loose))) run_settings plain plan (W.written writer.old) (W.written writer.new) (ReportsRun None None 0 0) (ReportsNothing None None 0 0) answer) result }
     ensures write { result ≡ Err ToolFault.Write → W.failures writer.old < W.failures writer.new }
 {
     let planned = match plan(alloc, Ends::Till, steps) {
