@@ -114,8 +114,11 @@ reverse:1 -> unclear Line
 total 1234
 "#;
 
+/// What is reported once the reversal was made, and at the end of the run.
 const REPORTED: &str =
-    "zvt: reverse:1 is unclear (Line): the terminal may have reversed the payment or not: check its journal before you refund the amount\n";
+    "zvt: reverse:1 of the payment of 1234 (trace 000017 receipt 0005) is unclear (Line: the connection was lost). The terminal named no trace or receipt number. It may have been taken back or not: look at the terminal's journal before you refund the amount
+zvt: reverse:1 is unclear (Line): the terminal may have reversed the payment or not: check its journal before you refund the amount
+";
 
 #[test]
 fn a_reversal_whose_line_breaks_is_reported(rt: HostRuntime) -> Result<(), Fail> {

@@ -38,104 +38,104 @@ const ONE_RECORDS: &str =
 /// What the first line of a book says before the number of its currency.
 const OPENING: [u8; 26] = *b"# zvt journal 1, currency ";
 
-/// What came of showing a book.
-#[derive(Clone, Copy)]
-struct Shown {
-    status: u8,
-    /// The book's currency, where it has a record.
+/// What several books come to, as far as they were written.
+#[derive(Drop)]
+struct Listing {
+    sum: Sum,
+    /// The currency of the last book that has a record.
     currency: Option<Currency>,
-    /// The book's total, where it was written.
-    total: Option<u64>,
+    /// Whether two books are kept in different currencies.
+    is_mixed: bool,
     /// Whether nothing more can be written.
     is_output_lost: bool,
 }
 
-impl Shown {
-    /// Nothing was written.
-    fn early(status: u8) -> Shown {
-        Shown {
-            status,
+impl Listing {
+    /// No book was written yet, of so many.
+    fn new(books: usize) -> Listing {
+        Listing {
+            sum: Sum::new(books),
             currency: None,
-            total: None,
+            is_mixed: false,
             is_output_lost: false,
         }
+    }
+
+    /// One more book was written, of this currency if it has a record, with this total.
+    fn add(&mut self, currency: Option<Currency>, total: u64) {
+        self.sum.add(u128::from(total));
+        let Some(currency) = currency else {
+            return;
+        };
+        if let Some(before) = self.currency {
+            self.is_mixed = self.is_mixed || before != currency;
+        }
+        self.currency = Some(currency);
     }
 }
 
 /// Writes what the books in these files have in this form, and answers the highest exit status. Of several, each line names its
 /// file, and the sum of the totals comes last.
 pub fn show(rt: &HostRuntime, paths: &[&str], form: Form) -> io::Result<u8> {
+    let mut listing = Listing::new(paths.len());
     match paths {
-        [path] => Ok(show_one(rt, path, form, false)?.status),
-        _ => show_all(rt, paths, form),
+        [path] => show_one(rt, Input::new(path, false), path, form, &mut listing),
+        _ => show_all(rt, paths, form, &mut listing),
     }
 }
 
 /// Writes one book after another, and the sum of their totals.
-fn show_all(rt: &HostRuntime, paths: &[&str], form: Form) -> io::Result<u8> {
-    let mut sum = Sum::new(paths.len());
-    let mut currency = None;
-    let mut is_mixed = false;
+fn show_all(rt: &HostRuntime, paths: &[&str], form: Form, listing: &mut Listing) -> io::Result<u8> {
     let mut status = DONE;
     for path in paths {
-        let shown = show_one(rt, path, form, true)?;
-        status = status.max(shown.status);
-        if shown.is_output_lost {
+        let shown = show_one(rt, Input::new(path, true), path, form, listing)?;
+        status = status.max(shown);
+        if listing.is_output_lost {
             return Ok(status);
         }
-        is_mixed = is_mixed || differ(currency, shown.currency);
-        currency = shown.currency.or(currency);
-        if let Some(total) = shown.total {
-            sum.add(u128::from(total));
-        }
     }
-    if is_mixed {
+    if listing.is_mixed {
         report(rt, MIXED)?;
         return Ok(status);
     }
-    Ok(status.max(write_sum(rt, form, &sum)?))
+    Ok(status.max(write_sum(rt, form, &listing.sum)?))
 }
 
-/// Whether these are two currencies.
-fn differ(one: Option<Currency>, other: Option<Currency>) -> bool {
-    matches!((one, other), (Some(one), Some(other)) if one != other)
-}
-
-/// Writes what the book in this file has. The null device, as one of several, is a book without a record.
-fn show_one(rt: &HostRuntime, path: &str, form: Form, is_labelled: bool) -> io::Result<Shown> {
-    let input = Input::new(path, is_labelled);
+/// Writes what the book in this file has, and answers the exit status. The null device, as one of several, is a book without a
+/// record.
+fn show_one(
+    rt: &HostRuntime,
+    input: Input<'_>,
+    path: &str,
+    form: Form,
+    listing: &mut Listing,
+) -> io::Result<u8> {
     let text = if input.is_null_device() {
         Vec::new(rt.alloc())
     } else {
         match read_book(rt, rt.alloc(), path) {
             Ok(text) => text,
-            Err(error) => return Ok(Shown::early(unread(rt, path, &error)?)),
+            Err(error) => return unread(rt, path, &error),
         }
     };
     let till = match till_of(rt, text.as_slice()) {
         Ok(till) => till,
-        Err(error) => return Ok(Shown::early(unrecovered(rt, path, error)?)),
+        Err(error) => return unrecovered(rt, path, error),
     };
     let Ok(output) = input.output(rt.alloc(), form, io::writer(rt)) else {
-        return Ok(Shown::early(finish_run(rt, false, Err(EndFault::Memory))?));
+        return finish_run(rt, false, Err(EndFault::Memory));
     };
     let mut writer = Over::new(output);
     let answer = match write_book(rt.alloc(), form, &till, &mut writer) {
         Err(EndFault::Write) if writer.inner.out_of_memory => Err(EndFault::Memory),
         answer => answer,
     };
-    let is_output_lost = matches!(answer, Err(EndFault::Write));
-    let total = if answer.is_ok() {
-        Some(till.total())
-    } else {
-        None
-    };
-    Ok(Shown {
-        status: finish_run(rt, writer.inner.broken_pipe, answer)?,
-        currency: currency_of(text.as_slice()),
-        total,
-        is_output_lost,
-    })
+    match &answer {
+        Ok(()) => listing.add(currency_of(text.as_slice()), till.total()),
+        Err(EndFault::Write) => listing.is_output_lost = true,
+        Err(_) => {}
+    }
+    finish_run(rt, writer.inner.broken_pipe, answer)
 }
 
 /// Writes the whole records of the book in the one file that is named as a trace, and answers the exit status.

@@ -1,5 +1,5 @@
 //! The runs of either end of a line, as the command line asks for them.
-ghost use Rattle.std.specs.Prelude.{◌≤◌, ◌↔◌, IfOk, IsNone};
+ghost use Rattle.std.specs.Prelude.{◌≤◌};
 
 use crate::finish::{finish_plan, finish_run};
 use crate::one_file::report_one_file;
@@ -203,9 +203,7 @@ fn opened(
     rt: &HostRuntime,
     path: Option<&str>,
     settings: &TillSettings,
-) -> io::Result<Result<Option<KeptTill<FileDevice>>, u8>>
-    ensures asked { IfOk result (λ found. IfOk found (λ kept. IsNone kept ↔ IsNone path)) }
-{
+) -> io::Result<Result<Option<KeptTill<FileDevice>>, u8>> {
     let Some(path) = path else {
         return Ok(Ok(None));
     };

@@ -137,7 +137,7 @@ fn cut_torn(file: &File, before: &mut File, size: u64) -> io::Result<usize> {
     before.read_exact(last)?;
     let cut = torn(last).len();
     if cut > 0 {
-        file.set_len(size - cut as u64)?;
+        file.set_len(size.saturating_sub(cut as u64))?;
     }
     Ok(cut)
 }
