@@ -98,7 +98,7 @@ impl Auditor {
         }
     }
 
-    /// What came is no message.
+    /// Observes bytes that are no message.
     #[inline(never)]
     fn malform(&mut self, line: u64) -> Result<(), AllocError>
         ensures { OnOk result (BecomesBy self.old (Malformed ∷ []) line self.new) }

@@ -5,7 +5,7 @@ ghost use Rattle.zvt_audit.specs.declared.currencies.NamedCurrency.TheVariants.{
 
 use zvt_bcd::Currency;
 
-/// What the registrations of the till say of their currency.
+/// The currencies of the till's registrations.
 #[derive(Clone, Copy)]
 pub(crate) enum NamedCurrency {
     /// None names a currency.

@@ -1,4 +1,4 @@
-//! The lines of a trace at which its payments ended.
+//! Remembers at which line of the trace each payment ended.
 ghost use Rattle.std.specs.Prelude.{◌≡◌, [], OnOk};
 ghost use Rattle.zvt_audit.specs.Ends.{can_end, lines_of, with_end, with_ends};
 
@@ -26,7 +26,7 @@ impl Ends {
         }
     }
 
-    /// Notices what has ended at this line, by which the books became these.
+    /// Notices what ended at this line, given the books before and after it.
     #[inline(never)]
     pub(crate) fn notice(&mut self, books: &Bookkeeping, line: u64) -> Result<(), AllocError>
         ensures { OnOk result (lines_of self.new ≡ with_ends (lines_of self.old) books.now line) }

@@ -20,8 +20,8 @@ const CHUNK: usize = 65_536;
 
 /// Writes the books of a trace, as [`audit_trace`] does, once the trace has come to its end.
 ///
-/// The trace may have any length; a line has at most as many bytes as a trace in memory. Nothing is written where a line can't be read or is too long, where a read fails, and
-/// where there is too little memory.
+/// The trace may have any length; a line has at most as many bytes as a trace in memory. Writes nothing if a line
+/// can't be read or is too long, or if a read or an allocation fails.
 ///
 /// [`audit_trace`]: crate::audit_trace
 pub fn follow_audit<R: Source, W: Sink>(

@@ -6,7 +6,7 @@ use std::alloc::AllocError;
 use zvt_json::Form;
 use zvt_text::Text;
 
-/// What the audits of several traces, or the books of several tills, come to together.
+/// The sum of the audits of several traces, or of the books of several tills.
 #[derive(Clone, Copy, Debug, PartialEq, Eq)]
 pub struct Sum {
     /// The sum of their totals, in the smallest unit of the currency.
@@ -18,7 +18,7 @@ pub struct Sum {
 }
 
 impl Sum {
-    /// No file was read yet, of so many.
+    /// Starts at nothing, with none of the given number of files read.
     pub fn new(files: usize) -> Sum
         ensures { (result.total ≡ 0) × (result.audited ≡ 0) × (result.files ≡ files) }
     {

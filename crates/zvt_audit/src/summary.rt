@@ -21,7 +21,7 @@ use zvt_text::Text;
 use zvt_till::{Bookkeeping, Happening};
 use zvt_trace::{Scope, Tally, TraceFault, walk};
 
-/// What an audit found besides the books.
+/// Findings of an audit apart from the books.
 #[derive(Clone, Copy, Debug, PartialEq, Eq)]
 pub struct AuditSummary {
     pub tally: Tally,
@@ -33,16 +33,15 @@ pub struct AuditSummary {
     pub swapped: bool,
 }
 
-/// Writes the books of the trace in this form. A line represents each payment that was completed. Then one represents each
-/// of which it is not known whether it happened. Last comes the sum of the former, in the smallest unit of the currency.
-/// Payments that were taken back count too. The trace may have such lengths.
+/// Writes the books of the trace: one line per completed payment, then one per unclear payment, then the total of the
+/// completed ones in the smallest unit of the currency. Payments that were taken back count too. The trace may have
+/// such lengths.
 ///
-/// The till's orders and the terminal's messages are judged as a till's log that begins with its connection. Where bytes
-/// of either side are refused, neither is read until the connection is lost. A stream that is refused or cut off counts as
-/// bad.
+/// The till's orders and the terminal's messages are judged as a till's log that begins with its connection. After
+/// refused bytes of either side, neither side is read until the connection is lost. A stream that is refused or cut
+/// off counts as bad.
 ///
-/// The text is written once, at the end. Nothing is written where a line can't be read, and where there is too little
-/// memory.
+/// Writes the text once, at the end. Writes nothing if a line can't be read or an allocation fails.
 pub fn audit_trace<W: Sink>(
     alloc: Global,
     form: Form,

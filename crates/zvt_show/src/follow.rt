@@ -50,7 +50,7 @@ pub fn follow_trace<R: Source, W: Sink>(
     Err(TraceFault::TooLong)
 }
 
-/// Writes the text of a trace turn by turn: at each turn that of the lines which end in a chunk.
+/// Prints a growing trace in turns: each turn prints the lines that end in the new chunk.
 #[derive(Drop)]
 pub struct Follower {
     pages: Pages,
@@ -58,7 +58,7 @@ pub struct Follower {
 }
 
 impl Follower {
-    /// A follower that has read nothing.
+    /// Creates a follower that has read nothing.
     pub fn new(alloc: Global, style: Style, scope: Scope, lengths: Lengths) -> Follower
         ensures written { (held : Option (List ℕ)) → HasWritten (reading_of lengths) scope style [] held held result }
         ensures following { IsFollowing result }
@@ -82,7 +82,7 @@ impl Follower {
         answer
     }
 
-    /// Writes the text of a last line without a line feed, and of what is cut off.
+    /// Writes the text of a last line without a line feed, and of messages that are cut off.
     pub fn finish<W: Sink>(self, writer: &mut W) -> Result<Tally, TraceFault>
         requires following { IsFollowing self }
         ensures writes { (r : Reading) (scope : Scope) (style : Style) (bytes : List ℕ) (first : Option (List ℕ)) → HasWritten r scope style bytes first (W.written writer.old) self → AnswersLinesBy r scope style (lines bytes) first (W.written writer.new) result }

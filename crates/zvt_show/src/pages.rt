@@ -17,9 +17,8 @@ use zvt_trace::{Listener, ListenerError, Scope, Tally, TraceEvent, TraceFault, w
 /// The size from which a block of text is written.
 const BLOCK: usize = 65_536;
 
-/// Writes the text of a trace in this style: the text of each message, and of what becomes of its side and of the line. It
-/// goes out in blocks, the last one also where the walk fails. In the styles `Json` and `JsonReceipts` each line of the text is
-/// one JSON value.
+/// Writes the text of a trace: each message, and each refusal, cut and loss. Output goes out in blocks; the last block
+/// is written even if the walk fails. In the styles `Json` and `JsonReceipts` each line of the text is one JSON value.
 ///
 /// A refusal leaves as much unread as the scope says. The trace may have such lengths. In the style `Join` each whole message is written in its one strict spelling. A stream
 /// that is refused or cut off counts as bad.

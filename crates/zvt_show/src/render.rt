@@ -48,7 +48,7 @@ impl Style {
     }
 }
 
-/// Adds the text of an event that is at a line of the trace. Where memory is refused the text stays as it is.
+/// Appends the text of an event at a line of the trace. If an allocation fails, the text does not change.
 #[inline(always)]
 pub(crate) fn render_event(
     text: &mut Text,

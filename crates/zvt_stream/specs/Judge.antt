@@ -1,5 +1,5 @@
 -- The judge as its callers see it, and what it answers.
-use Rattle.std.specs.Prelude.{◌≡◌, ℕ, ◌+◌, ◌<◌, ◌≤◌, suc, zero, Option, Some, None, Result, Ok, Err, List, [], ◌∷◌, ◌++◌, length, min, take}
+use Rattle.std.specs.Prelude.{◌≡◌, Bool, true, false, ℕ, ◌+◌, ◌<◌, ◌≤◌, suc, zero, Option, Some, None, Result, Ok, Err, List, [], ◌∷◌, ◌++◌, length, min, take}
 use Rattle.zvt_grammar.specs.declared.why.Why.{Why}
 use Rattle.zvt_grammar.specs.Reading.{Reading, shortest}
 use Rattle.zvt_apdu.specs.Message.{Message}
@@ -139,6 +139,16 @@ unfilled (suc left) outer = Some (suc left, outer)
 abbrev pub Closes : (left : ℕ) → (old new : List ℕ) → Option ℕ → Type 0
 Closes left old new None = (unfilled left old ≡ None) × (new ≡ [])
 Closes left old new (Some n) = unfilled left old ≡ Some (n, new)
+
+-- Few bytes play this part.
+abbrev pub is_rare : Part → Bool
+is_rare part.LowSize = true
+is_rare part.HighSize = true
+is_rare part.Head = true
+is_rare part.Container = true
+is_rare part.Tag = true
+is_rare part.Length = true
+is_rare _ = false
 
 -- Where a message begins.
 abbrev pub beginning : Goes

@@ -17,7 +17,7 @@ pub const MAX_APDU_LEN: usize = 65_540;
 /// The capacity for the first bytes.
 const FIRST_CAPACITY: usize = 64;
 
-/// The bytes of an unfinished message. They can be borrowed only where they have become a whole one.
+/// The bytes of an unfinished message. They can be borrowed only once the message is complete.
 #[derive(Drop)]
 pub struct Held {
     /// The bytes, and the capacity after them.
@@ -56,8 +56,8 @@ impl Held {
         Ok(Held { room, size: 0 })
     }
 
-    /// Makes the capacity enough for that many more bytes, or for the rest of the longest message. Where memory is refused
-    /// nothing changes.
+    /// Reserves capacity for the given number of bytes, or for the rest of the longest message if that is less. If the
+    /// allocation fails, nothing changes.
     #[inline(always)]
     pub fn reserve_for(&mut self, more: usize) -> Result<(), AllocError>
         requires { length self.old.bytes ≤ 65540 }
@@ -74,7 +74,7 @@ impl Held {
         grow(&mut self.room, least)
     }
 
-    /// Appends a byte. Where memory is refused nothing changes.
+    /// Appends a byte. If the allocation fails, nothing changes.
     pub fn add(&mut self, byte: u8) -> Result<(), AllocError>
         ensures ok { OnOk result (self.new.bytes ≡ self.old.bytes ++ byte ∷ []) }
         ensures err { OnErr result (self.new.bytes ≡ self.old.bytes) }
@@ -84,7 +84,7 @@ impl Held {
         self.add_all(&[byte])
     }
 
-    /// Appends bytes. Where memory is refused nothing changes.
+    /// Appends bytes. If the allocation fails, nothing changes.
     pub fn add_all(&mut self, bytes: &[u8]) -> Result<(), AllocError>
         ensures ok { OnOk result (self.new.bytes ≡ self.old.bytes ++ bytes.now) }
         ensures err { OnErr result (self.new.bytes ≡ self.old.bytes) }
@@ -101,7 +101,7 @@ impl Held {
         Ok(())
     }
 
-    /// Judges bytes that follow those that are held, and keeps them: all, or up to the end of a message, or none.
+    /// Judges the bytes that follow the held ones and keeps them: all, those up to the end of a message, or none.
     #[inline(always)]
     pub fn judge(&mut self, judge: &mut Judge, steps: &mut Steps, piece: &[u8]) -> DecodeRun
         requires stands { StandsFor judge.old self.old.bytes }
@@ -166,7 +166,7 @@ impl Held {
     }
 }
 
-/// Raises the capacity to `least` bytes, and to at least twice what it was.
+/// Raises the capacity to at least `least` bytes, and at least doubles it.
 #[cold]
 fn grow(room: &mut Vec<u8>, least: usize) -> Result<(), AllocError>
     requires { length room.old.items < least }

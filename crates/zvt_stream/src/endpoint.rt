@@ -2,15 +2,15 @@
 
 use crate::stream::Stream;
 
-/// One end of a line: the devices that its bytes pass, and the stream that finds the messages in what is read.
+/// One end of a connection: its reader, its writer, and the stream that assembles messages from the bytes read.
 ///
-/// [`pump`](crate::pump) reads, hears and answers over its parts. A line that broke is given up: a new one has a new endpoint.
+/// [`pump`](crate::pump) works on these parts. Create a new endpoint for a new connection.
 #[derive(Drop)]
 pub struct Endpoint<R, W> {
     /// The device that brings what the other end sends.
     pub reader: R,
-    /// The device that takes what this end sends.
+    /// Sends the bytes of this end.
     pub writer: W,
-    /// The stream that is fed with what was read.
+    /// Assembles messages from the bytes read.
     pub stream: Stream,
 }

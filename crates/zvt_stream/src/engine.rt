@@ -1,4 +1,4 @@
-//! The line engine: reads, hears and answers.
+//! The engine of a line: reads messages, lets a machine process them, and writes its replies.
 
 ghost use Rattle.std.specs.Prelude.{◌≡◌, ◌≢◌, ℕ, ◌+◌, ◌<◌, ◌≤◌, Bool, false, true, List, [], ◌++◌, IfOk, IfErr, IsOk, IsSome, Some, OnOk, OnErr, MatchResult, length};
 ghost use Rattle.std.specs.Result.{IsErrOf};
@@ -18,7 +18,7 @@ use std::alloc::Global;
 use zvt_apdu::{ApduView, view};
 use zvt_io::{Sink, Source};
 
-/// Writes all the bytes. Its only fault is `Write`, where the writer counted a failure. It is reported to no machine.
+/// Writes all the bytes. The only possible fault is `Write`. No machine is notified of it; that is up to the caller.
 pub fn send<W: Sink>(writer: &mut W, bytes: &[u8]) -> Result<(), LineFault>
     ensures bytes { IfOk result (λ _. Appends (W.written writer.old) (W.written writer.new) bytes.now) }
     ensures err { IfErr result (λ fault. fault ≡ LineFault.Write) }
@@ -168,15 +168,16 @@ fn run_turns<R: Source, W: Sink, M: Machine>(
     Err(LineFault::Turns)
 }
 
-/// Makes turns until the line has come to where it is to go, `turns` at most. A turn is one read of at most 1,024 bytes.
-/// The machine hears each message that ends in them, in order, and its answers are written before the next is heard.
-/// Under `Until::Rest` a machine that rests ends the run before the first turn.
+/// Drives a machine over a connection until the condition `until` holds.
 ///
-/// A fault is first reported to the machine, once: by `malformed` for `Malformed` and `Stopped`, by `lost` for the
-/// others. `Read` and `Write` come only where the reader or the writer counted a failure. After `Read`, `Ended`, `Turns`
-/// and `Malformed` all whole messages were heard and answered. After `Write` and `Memory` a prefix of them was, and
-/// after `Stopped` none was. `Memory` never comes where the machine wants none and the stream was made by
-/// `Stream::reserved`.
+/// In each turn, `pump` reads at most 1,024 bytes, passes every message that they complete to the machine, in order, and
+/// writes its answers before it passes on the next message. Fails with `Turns` after `turns` reads. With `Until::Rest`, a
+/// machine that is already at rest returns immediately, without reading.
+///
+/// Before a fault is returned, the machine is notified once: by `malformed` of `Malformed` and `Stopped`, by `lost` of any
+/// other. `Read` and `Write` mean that the reader or the writer counted a failure. After `Read`, `Ended`, `Turns` and
+/// `Malformed`, every complete message was heard and answered; after `Write` and `Memory`, the first few of them; after
+/// `Stopped`, none. `Memory` is impossible with a stream from `Stream::reserved` and a machine that does not allocate.
 pub fn pump<R: Source, W: Sink, M: Machine>(
     alloc: Global,
     reader: &mut R,

@@ -1,21 +1,20 @@
 //! The judge of a line's bytes: `Judge::step` looks at each of them once, and it alone counts.
 //!
-//! The functions of a run and of a step are `#[inline(always)]`: no byte costs a call. `bench/throughput` counts the
+//! The functions of a run and of a step are `#[inline(always)]`: no byte costs a call. The compiler drops that from a
+//! function that becomes too large, so the bytes of rare parts are judged apart. `bench/throughput` counts the
 //! instructions for a byte.
 
-ghost use Rattle.std.specs.Prelude.{◌≡◌, ℕ, ◌+◌, ◌<◌, ◌≤◌, List, [], ◌++◌, Ok, length, reverse, take};
-ghost use Rattle.zvt_grammar.specs.Reading.{Reading, padded, shortest};
+ghost use Rattle.std.specs.Prelude.{◌≡◌, ℕ, ◌+◌, ◌≤◌, List, [], ◌++◌, length, take};
+ghost use Rattle.zvt_grammar.specs.Reading.{padded, shortest};
 ghost use Rattle.zvt_grammar.specs.Lengths.{reading_of};
-ghost use Rattle.zvt_stream.specs.DecoderState.{Between};
 ghost use Rattle.zvt_stream.specs.Head.{head_of};
-ghost use Rattle.zvt_stream.specs.Moves.{outer_of, opens};
-ghost use Rattle.zvt_stream.specs.Judge.{start, beginning, Advances, IsJudge, StandsFor, HasLevelsIn, Stepped, Ran, HasRoomFor, kept_by, taken_by, judged_of, state_of, Closes, Follows, Settles};
+ghost use Rattle.zvt_stream.specs.Judge.{start, beginning, Advances, IsJudge, StandsFor, HasLevelsIn, Stepped, Ran, HasRoomFor, kept_by, taken_by, judged_of, state_of};
 
+use crate::advance::{follow, rare_step};
 use crate::head::Head;
 use crate::transitions::{
-    Goes, Levels, Part, Transition, judge_container, judge_count, judge_digits, judge_field,
-    judge_first_size, judge_free, judge_head, judge_high_size, judge_low_size,
-    judge_object_content, judge_object_length, judge_object_tag, judge_payload,
+    Goes, Levels, Part, judge_count, judge_digits, judge_field, judge_first_size, judge_free,
+    judge_object_content, judge_payload,
 };
 use arrayvec::ArrayVec;
 use std::marker::Model;
@@ -40,7 +39,7 @@ impl Steps {
     }
 }
 
-/// What a judged byte leaves.
+/// Result of judging a byte.
 #[derive(Clone, Copy)]
 pub enum Judged {
     /// The bytes begin a message and hold none.
@@ -49,7 +48,7 @@ pub enum Judged {
     Ended,
 }
 
-/// What judged bytes leave.
+/// Result of judging bytes.
 #[derive(Clone, Copy)]
 pub enum DecodeRun {
     /// All were judged, and they begin a message and hold none.
@@ -172,8 +171,19 @@ impl Judge {
         ensures judged { (bytes : List ℕ) → StandsFor self.old bytes → Stepped self.old.reading bytes byte result self.new }
         ensures count { judged_of steps.new ≡ judged_of steps.old + 1 }
     {
-        match step(self.lengths, &mut self.goes, &mut self.levels, steps, byte) {
-            Ok(Judged::Open) => Ok(Judged::Open),
+        let mut now = self.goes;
+        match step(
+            self.lengths,
+            &mut now,
+            &mut self.goes,
+            &mut self.levels,
+            steps,
+            byte,
+        ) {
+            Ok(Judged::Open) => {
+                self.goes = now;
+                Ok(Judged::Open)
+            }
             Ok(Judged::Ended) => {
                 self.goes = beginning();
                 Ok(Judged::Ended)
@@ -206,7 +216,7 @@ impl Judge {
     }
 }
 
-/// Where a message begins.
+/// Returns the state at the start of a message.
 #[inline(always)]
 fn beginning() -> Goes
     ensures { result ≡ beginning }
@@ -218,8 +228,8 @@ fn beginning() -> Goes
     }
 }
 
-/// Judges bytes one after another, up to the end of a message, and writes each to the room. Where it goes on is kept in a
-/// copy, which takes no memory: of each field, since a copy of the whole has the padding too.
+/// Judges bytes one after another, up to the end of a message, and writes each to the room. The state is copied field
+/// by field so that it stays in registers: a copy of the whole struct would include its padding.
 #[inline(always)]
 fn run(
     lengths: Lengths,
@@ -244,7 +254,7 @@ fn run(
     'bytes: while taken < bytes.len() {
         let byte = bytes[taken];
         room[taken] = byte;
-        match step(lengths, &mut now, levels, steps, byte) {
+        match step(lengths, &mut now, goes, levels, steps, byte) {
             Ok(Judged::Open) => {}
             Ok(Judged::Ended) => {
                 *goes = beginning();
@@ -264,11 +274,12 @@ fn run(
     DecodeRun::Open
 }
 
-/// Judges the next byte, and counts it.
+/// Judges the next byte, and counts it. A byte of a rare part is judged in `kept`: a call would keep `goes` in memory.
 #[inline(always)]
 fn step(
     lengths: Lengths,
     goes: &mut Goes,
+    kept: &mut Goes,
     levels: &mut Levels,
     steps: &mut Steps,
     byte: u8,
@@ -313,90 +324,19 @@ fn step(
             let moved = judge_first_size(goes, levels, byte);
             follow(goes, levels, moved)
         }
-        Part::LowSize => {
-            let moved = judge_low_size(goes, levels, byte);
-            follow(goes, levels, moved)
-        }
-        Part::HighSize => {
-            let moved = judge_high_size(goes, levels, byte, lengths);
-            follow(goes, levels, moved)
-        }
-        Part::Head => {
-            let moved = judge_head(goes, levels, byte);
-            follow(goes, levels, moved)
-        }
         Part::Digit => {
             let moved = judge_count(goes, levels, byte);
             follow(goes, levels, moved)
         }
-        Part::Container => {
-            let moved = judge_container(goes, levels, byte, lengths);
-            follow(goes, levels, moved)
-        }
-        Part::Tag => {
-            let depth = levels.outer.len().saturating_sub(1);
-            let moved = judge_object_tag(goes, levels, depth, byte, lengths);
-            follow(goes, levels, moved)
-        }
-        Part::Length => {
-            let moved = judge_object_length(goes, levels, byte, lengths);
-            follow(goes, levels, moved)
+        _ => {
+            kept.part = goes.part;
+            kept.more = goes.more;
+            kept.left = goes.left;
+            let judged = rare_step(lengths, kept, levels, byte);
+            goes.part = kept.part;
+            goes.more = kept.more;
+            goes.left = kept.left;
+            judged
         }
     }
-}
-
-/// Goes where a byte after the control bytes leads.
-#[inline(always)]
-fn follow(
-    goes: &mut Goes,
-    levels: &mut Levels,
-    moved: Result<Transition, Why>,
-) -> Result<Judged, Why>
-    requires { (trailing : ℕ) → moved ≡ Ok (opens trailing) → length levels.old.outer.items < 7 }
-    ensures { (r : Reading) (bytes : List ℕ) → Follows r moved goes.old levels.old result goes.new levels.new bytes }
-{
-    match moved {
-        Ok(Transition::Within) => Ok(Judged::Open),
-        Ok(Transition::Ends) => Ok(settle(goes, levels)),
-        Ok(Transition::Opens { trailing }) => {
-            levels.outer.push(trailing);
-            Ok(settle(goes, levels))
-        }
-        Err(why) => Err(why),
-    }
-}
-
-/// Goes on in the innermost level that has bytes to come, or answers that the message has ended.
-#[inline(always)]
-fn settle(goes: &mut Goes, levels: &mut Levels) -> Judged
-    ensures { (r : Reading) (bytes : List ℕ) → Between r goes.old.left (outer_of levels.old) bytes → Settles r levels.old goes.new levels.new bytes result }
-{
-    match close(goes.left, &mut levels.outer) {
-        Some(left) => {
-            goes.left = left;
-            if levels.outer.len() == 1 {
-                goes.part = Part::Name;
-                return Judged::Open;
-            }
-            goes.part = Part::Tag;
-            levels.tag = TagAt::First;
-            Judged::Open
-        }
-        None => Judged::Ended,
-    }
-}
-
-/// Leaves the levels that are full: how many bytes are to come of the innermost other one, or none where all are full.
-#[inline(always)]
-fn close(left: usize, outer: &mut ArrayVec<usize, 7>) -> Option<usize>
-    ensures { Closes left (reverse outer.old.items) (reverse outer.new.items) result }
-{
-    let mut open = left;
-    while open == 0 {
-        match outer.pop() {
-            Some(trailing) => open = trailing,
-            None => return None,
-        }
-    }
-    Some(open)
 }

@@ -1,20 +1,22 @@
-//! What holds of every stream, each the contract of a function that does nothing.
+//! Laws of every stream. Each is the contract of an empty function.
 
 ghost use Rattle.zvt_stream.specs.Cutting.{AnyCutting, AnyRefusal};
 ghost use Rattle.zvt_stream.specs.Judge.{JudgesStand};
 
-/// However a line is cut into pieces, the messages are those of the cut of its bytes, and what is held is the rest.
+/// However the input is cut into chunks, the stream finds the messages of the whole input, and holds the bytes after
+/// them.
 pub fn any_cutting()
     ensures { AnyCutting }
 {}
 
-/// However a line is cut into pieces, what is refused is the rest of its bytes, with the rest's place and reason.
+/// However a line is cut into chunks, the stream refuses the bytes after the last message at the same place and for
+/// the same reason.
 pub fn any_refusal()
     ensures { AnyRefusal }
 {}
 
-/// What a judge says of the bytes that it represents is their position by the grammar of messages: the same part of the
-/// next byte, and as many open levels.
+/// A judge's state is the position of its bytes in the grammar of messages: the role of the next byte, and the number
+/// of open levels.
 pub fn judges_stand()
     ensures { JudgesStand }
 {}

@@ -1,6 +1,7 @@
-//! Messages out of pieces of a line, and a machine that hears and answers them.
+//! Assembles messages from the chunks of a line, and runs a machine that receives and answers them.
 #![tactic(auto)]
 
+mod advance;
 mod buffer;
 mod endpoint;
 mod engine;

@@ -1,4 +1,4 @@
-//! Machines, their answers, and what becomes of a line.
+//! Machines, their replies, and the results of a line.
 
 ghost use Rattle.std.specs.Prelude.{◌≡◌, ◌≢◌, ℕ, ◌+◌, ◌<◌, ◌≤◌, Bool, [], ◌++◌, IfOk, IsOk, OnErr, false, length};
 ghost use Rattle.zvt_apdu.specs.Message.{Message};
@@ -68,7 +68,8 @@ impl Answers {
     }
 }
 
-/// A machine that hears messages and answers them.
+/// One end of the protocol, independent of any device: receives one message at a time and returns the answers to
+/// send.
 pub trait Machine {
     /// From the first state, hearing the message gives these answers and leads to the second.
     ghost hears: { Self → Message → Answered → Self → Type 0 };
@@ -95,7 +96,8 @@ pub trait Machine {
     fn resting(&self) -> bool
         ensures { result ≡ is_resting self.now };
 
-    /// The connection was lost: it ended, a device failed, memory was refused, or all turns were made.
+    /// Notifies the machine that the connection is gone: it was closed, a device or an allocation failed, or the
+    /// limit on reads was reached.
     fn lost(&mut self)
         ensures { loses self.old self.new };
 
@@ -104,7 +106,7 @@ pub trait Machine {
         ensures { malforms self.old self.new };
 }
 
-/// Where a run of the line ends.
+/// When [`pump`](crate::pump) stops.
 #[derive(Clone, Copy, Drop)]
 pub enum Until {
     /// The machine rests.

@@ -22,19 +22,19 @@ use std::marker::Model;
 use zvt_apdu::{Apdu, ApduView, scan_message, view};
 use zvt_grammar::{Lengths, Scan, Why};
 
-/// What a piece gave.
+/// The result of feeding a piece of input to a [`Stream`].
 #[derive(Drop)]
 pub enum Fed {
-    /// A message ended after the first `taken` bytes of the piece. The caller feeds the rest of it.
+    /// A complete message. It ends with the first `taken` bytes of the piece; feed the remaining bytes to continue.
     Message { apdu: Apdu, taken: usize },
     /// The whole piece was taken, and no message ended in it.
     More,
-    /// No message begins with the bytes up to and with the one at `place`, which is counted from 0 at the first byte of
-    /// the message. The stream takes nothing more.
+    /// The input is invalid: no message starts with the bytes up to and including the one at `place`, an offset from
+    /// the start of the message. The stream accepts no further input.
     Refused { place: usize, why: Why },
 }
 
-/// What a piece gave, where the stream lends its message.
+/// Result of a chunk; the stream lends the message.
 #[derive(Clone, Copy, Debug, Drop, PartialEq, Eq)]
 pub enum FedView {
     /// A message ended after the first `taken` bytes of the piece, and `Stream::lent` shows it. The caller feeds the rest
@@ -51,7 +51,8 @@ pub enum FedView {
 pub enum FeedError {
     /// Earlier bytes were refused.
     Stopped,
-    /// Memory was refused. Nothing changed but that no message is borrowed now, and the same piece may be fed again.
+    /// An allocation failed. No input was consumed, so the same piece can be fed again. A message lent by an earlier
+    /// call is no longer available.
     Memory,
 }
 
@@ -65,17 +66,16 @@ impl From<AllocError> for FeedError {
     }
 }
 
-/// The stream ended within a message, of which it had `have` bytes.
+/// The stream ended inside a message, after `have` of its bytes.
 #[derive(Clone, Copy, Debug, Drop, PartialEq, Eq)]
 pub struct Truncated {
     pub have: usize,
 }
 
-/// One direction of a line: the bytes of its unfinished message and what they leave open, or those of a whole message
-/// that is borrowed.
+/// Reassembles the messages of one direction of a connection from pieces of any size.
 ///
-/// Call `feed_view` where each message is read before the next feed. It lends the message and builds nothing. Call `feed`
-/// where a message is to outlive the next feed. It builds an owned `Apdu`, which takes memory.
+/// Use [`feed_view`](Stream::feed_view) if you are done with each message before the next call: it lends the message
+/// without copying it. Use [`feed`](Stream::feed) to get an owned `Apdu`, which allocates.
 #[derive(Drop)]
 pub struct Stream {
     pub(crate) held: Held,
@@ -115,7 +115,7 @@ impl Stream {
         }
     }
 
-    /// A stream at the start of a line, which takes each length in any form that holds it.
+    /// Creates a stream for a new connection that also accepts padded lengths.
     pub fn loose(alloc: Global) -> Stream
         ensures { result ≡ start_in padded }
     {
@@ -138,7 +138,8 @@ impl Stream {
         }
     }
 
-    /// A stream at the start of a line, with room for the longest message: `feed_view` never asks it for memory.
+    /// Creates a stream for a new connection and allocates room for the longest message in advance, so that
+    /// `feed_view` never fails for lack of memory.
     pub fn reserved(alloc: Global) -> Result<Stream, AllocError>
         ensures new { IfOk result (λ stream. Holds [] stream × (stream.lent ≡ None)) }
         ensures reserved { IfOk result (λ stream. IsReserved stream) }
@@ -154,7 +155,7 @@ impl Stream {
         })
     }
 
-    /// The message that the last feed found, where that was a `feed_view`: until the next feed.
+    /// Returns the message found by the last feed, if that was a `feed_view`. The next feed ends the loan.
     pub fn lent(&self) -> Option<ApduView<'_>>
         ensures { result ≡ self.now.lent }
     {
@@ -189,8 +190,8 @@ impl Stream {
         }
     }
 
-    /// Takes bytes of the piece up to the end of a message, or all of it where none ends. A refusal is answered in the
-    /// feed that brings the fatal byte, and each later feed answers `Stopped`.
+    /// Consumes input up to the end of the next message, or the whole piece if no message ends in it. Invalid input is
+    /// reported by the call that contains the offending byte; every later call returns `Stopped`.
     ///
     /// Each byte is judged once. The message is built of the bytes that are held.
     pub fn feed(&mut self, alloc: Global, piece: &[u8]) -> Result<Fed, FeedError>
@@ -262,7 +263,8 @@ impl Stream {
         }
     }
 
-    /// Whether the stream may end here: Err where bytes of an unfinished message are held. After a refusal it is Ok.
+    /// Checks that the input does not end in the middle of a message. Always succeeds after a refusal, because the
+    /// stream then holds no bytes.
     pub fn finish(&self) -> Result<(), Truncated>
         ensures { MatchResult result (λ _. self.now.held ≡ []) (λ truncated. (0 < truncated.have) × (truncated.have ≡ length self.now.held)) }
     {
@@ -272,8 +274,8 @@ impl Stream {
         }
     }
 
-    /// How many bytes of the unfinished message are held: fewer than the 65,540 of the longest message, none after a
-    /// refusal, and none where a message is borrowed.
+    /// Returns the number of bytes held of an incomplete message, at most 65,539. It is 0 after a refusal and while a
+    /// message is lent.
     pub fn held(&self) -> usize
         ensures count { result ≡ length self.now.held }
         ensures unfinished { UnfinishedIn self.now.reading self.now.held }
@@ -291,8 +293,8 @@ impl Stream {
         self.judge.head()
     }
 
-    /// How many levels are open: none where nothing is held, else the frame, the fields, and containers and objects in
-    /// one another.
+    /// Returns the number of open levels: 0 if the stream holds no bytes, otherwise the frame, the fields, and nested
+    /// containers and objects.
     pub fn levels(&self) -> usize
         ensures none { self.now.held ≡ [] → result ≡ 0 }
         ensures some { 0 < length self.now.held → HasLevelsIn self.now.reading self.now.held result }

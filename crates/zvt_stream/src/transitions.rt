@@ -1,4 +1,4 @@
-//! What one byte leads to.
+//! Transitions by one byte.
 //!
 //! Each transition is `#[inline(always)]`: a step becomes one function, and no byte costs a call.
 
@@ -16,7 +16,7 @@ use zvt_field::judge::{judge_bmp, judge_content_byte, judge_digit};
 use zvt_grammar::{Lengths, Why};
 use zvt_tlv::{LengthAt, LengthNext, TagAt, TagNext, judge_length, judge_tag};
 
-/// What part the next byte plays.
+/// Role of the next byte.
 #[derive(Clone, Copy)]
 pub(crate) enum Part {
     FirstControl,
@@ -46,7 +46,7 @@ pub(crate) enum Part {
     Object,
 }
 
-/// Where a message goes on: what nearly each byte changes.
+/// Position in a message: the part of the state that almost every byte changes.
 #[derive(Clone, Copy)]
 pub(crate) struct Goes {
     /// The part that the next byte plays.
@@ -58,7 +58,8 @@ pub(crate) struct Goes {
     pub(crate) left: usize,
 }
 
-/// What few bytes change: the open levels, and what the tests of the next byte need to know of the bytes before it.
+/// The part of the state that few bytes change: the open levels, and what the tests of the next byte need to know
+/// about earlier bytes.
 #[derive(Drop)]
 pub(crate) struct Levels {
     /// The control bytes that were judged.
@@ -74,7 +75,7 @@ pub(crate) struct Levels {
     pub(crate) outer: ArrayVec<usize, 7>,
 }
 
-/// What a byte leads to.
+/// Result of a byte.
 #[derive(Clone, Copy)]
 pub(crate) enum Transition {
     /// Another byte of the same item.
@@ -160,7 +161,7 @@ fn begin_data(goes: &mut Goes, levels: &mut Levels, size: usize) -> Result<Trans
     Ok(Transition::Within)
 }
 
-#[inline(always)]
+#[inline]
 pub(crate) fn judge_payload(goes: &mut Goes) -> Result<Transition, Why>
     requires { 0 < goes.old.left }
     ensures { (levels : Levels) (r : Reading) (depth byte : ℕ) → byte < 256 → Judges r at.Payload goes.old.left depth byte (leads_to result goes.new levels) }
@@ -237,7 +238,7 @@ pub(crate) fn judge_field(
     }
 }
 
-#[inline(always)]
+#[inline]
 pub(crate) fn judge_count(goes: &mut Goes, levels: &mut Levels, byte: u8) -> Result<Transition, Why>
     requires { HasDigits goes.old.more levels.old.number goes.old.left }
     ensures judges { (r : Reading) (depth : ℕ) → Judges r (at.Digit goes.old.more levels.old.number) goes.old.left depth byte (leads_to result goes.new levels.new) }
@@ -260,7 +261,7 @@ pub(crate) fn judge_count(goes: &mut Goes, levels: &mut Levels, byte: u8) -> Res
 }
 
 /// A byte of a field's content of any value.
-#[inline(always)]
+#[inline]
 pub(crate) fn judge_free(goes: &mut Goes) -> Result<Transition, Why>
     requires { IsReady (at.Content false goes.old.more) goes.old.left }
     ensures { (levels : Levels) (r : Reading) (depth byte : ℕ) → byte < 256 → Judges r (at.Content false goes.old.more) goes.old.left depth byte (leads_to result goes.new levels) }
@@ -275,7 +276,7 @@ pub(crate) fn judge_free(goes: &mut Goes) -> Result<Transition, Why>
 }
 
 /// A byte of a field's content of digits.
-#[inline(always)]
+#[inline]
 pub(crate) fn judge_digits(goes: &mut Goes, byte: u8) -> Result<Transition, Why>
     requires { IsReady (at.Content true goes.old.more) goes.old.left }
     ensures { (levels : Levels) (r : Reading) (depth : ℕ) → Judges r (at.Content true goes.old.more) goes.old.left depth byte (leads_to result goes.new levels) }
@@ -378,7 +379,7 @@ pub(crate) fn judge_object_length(
     }
 }
 
-#[inline(always)]
+#[inline]
 pub(crate) fn judge_object_content(goes: &mut Goes) -> Result<Transition, Why>
     requires { IsReady (at.Object goes.old.more) goes.old.left }
     ensures { (levels : Levels) (r : Reading) (depth byte : ℕ) → byte < 256 → Judges r (at.Object goes.old.more) goes.old.left depth byte (leads_to result goes.new levels) }

@@ -18,8 +18,8 @@ use zvt_grammar::Lengths;
 /// The most bytes of a trace that comes chunk by chunk.
 const MOST: u64 = 1 << 62;
 
-/// A walk over a trace that comes chunk by chunk. All that the whole lines say is emitted at once; the bytes of a line that
-/// has begun are held until it ends.
+/// Walks over a trace that arrives in chunks. Emits the events of each complete line at once, and holds the bytes of
+/// an unfinished line.
 #[derive(Drop)]
 pub struct Walker {
     progress: Progress,
@@ -27,7 +27,7 @@ pub struct Walker {
 }
 
 impl Walker {
-    /// A walker that has read nothing. Its streams take such lengths.
+    /// Creates a walker that has read nothing. Its streams accept lengths in this form.
     pub fn new(alloc: Global, scope: Scope, lengths: Lengths) -> Walker
         ensures read { HasRead (reading_of lengths) scope [] [] result }
         ensures ready { IsReady result }
@@ -40,9 +40,10 @@ impl Walker {
         }
     }
 
-    /// Emits all events of the lines that end in this chunk, and holds the bytes of a line that has begun.
+    /// Emits all events of the lines that end in this chunk, and holds the bytes of an unfinished line.
     ///
-    /// A line is too long where it has more bytes than a trace in memory may have. After a fault the walker is of no use.
+    /// A line is too long if it has more bytes than a trace in memory may have. After a fault, do not use the walker
+    /// again.
     pub fn feed<D, L: Listener<D>>(
         &mut self,
         listener: &mut L,
@@ -73,7 +74,8 @@ impl Walker {
         }
     }
 
-    /// Emits what is left: the events of a last line without a line feed, and what is cut off. Answers the tally.
+    /// Ends the trace: emits the events of a last line without a line feed, and of incomplete messages. Returns the
+    /// tally.
     pub fn finish<D, L: Listener<D>>(
         self,
         listener: &mut L,

@@ -63,7 +63,7 @@ pub(crate) fn emit_message<D, L: Listener<D>>(
     listener.hear(device, at.line, &trace_event)
 }
 
-/// Emits that the message of a side is refused at that place, of which these last bytes have come now.
+/// Emits that the message of a side is refused at this byte. `bytes` is the part of it that arrived last.
 #[cold]
 #[inline(never)]
 pub(crate) fn emit_refusal<D, L: Listener<D>>(
@@ -107,7 +107,7 @@ pub(crate) fn emit_unread<D, L: Listener<D>>(
     listener.hear(device, at.line, &TraceEvent::Unread { from })
 }
 
-/// Emits that the side is read on, where no byte of a refused message is left, and answers whether it is.
+/// If no byte of a refused message is left, emits that reading resumes. Returns whether it does.
 #[cold]
 #[inline(never)]
 pub(crate) fn emit_resumed<D, L: Listener<D>>(
@@ -135,7 +135,7 @@ pub(crate) fn emit_resumed<D, L: Listener<D>>(
     }
 }
 
-/// Emits that the message of that side is cut off, if it holds one, and answers how many are.
+/// If this side holds an unfinished message, emits that it is cut off. Returns 1 in that case, otherwise 0.
 #[cold]
 #[inline(never)]
 pub(crate) fn emit_truncation<D, L: Listener<D>>(

@@ -5,7 +5,7 @@ use zvt_apdu::ApduView;
 use zvt_grammar::{Lengths, Why};
 use zvt_stream::Head;
 
-/// Where a message can't go on, and why.
+/// The index at which a message is refused, and the reason.
 #[derive(Clone, Copy)]
 pub struct Refusal {
     /// The control bytes of the message, as far as they have come.
@@ -17,7 +17,7 @@ pub struct Refusal {
     pub why: Why,
 }
 
-/// What a trace says at one of its lines.
+/// An event at a line of a trace.
 #[derive(Drop)]
 pub enum TraceEvent<'a> {
     /// A whole message, and its bytes: with such lengths a spelling of it.
@@ -36,7 +36,7 @@ pub enum TraceEvent<'a> {
     Unread {
         from: Direction,
     },
-    /// The side is read on after a refused message, which announced a size of so many bytes.
+    /// Reading resumes after an invalid message, which was skipped by its announced size of `size` bytes.
     Resumed {
         from: Direction,
         size: usize,

@@ -27,7 +27,7 @@ impl Tally {
     }
 }
 
-/// What is wrong with a line of a trace.
+/// The fault of a line of a trace.
 #[derive(Clone, Copy, Debug, PartialEq, Eq)]
 pub enum TraceLineError {
     /// It is no piece, no comment and no loss.
@@ -52,7 +52,7 @@ impl fmt::Display for TraceLineError {
     }
 }
 
-/// Why a command on a trace ended early. What earlier lines of the trace caused to be written stays written.
+/// The reason why a command on a trace ended early. Output for earlier lines has already been written.
 #[derive(Debug, Drop, Error)]
 pub enum TraceFault {
     /// A line of the trace, counted from 1, can't be read.

@@ -69,7 +69,7 @@ impl Heard {
         }
     }
 
-    /// These events and those of the bytes after them.
+    /// Appends the events of further bytes.
     #[inline(always)]
     fn then(self, later: Heard) -> Heard
         requires messages { self.tally.messages + later.tally.messages < 18446744073709551616 }
@@ -100,8 +100,8 @@ pub(crate) struct Hearing {
     pub(crate) stopped: bool,
 }
 
-/// Emits what comes next of these bytes of a side: a message, a refusal, or that the side is read on. It answers the bytes
-/// after that too. Most pieces end with a message.
+/// Emits the next event in these bytes of a side: a message, a refusal, or that reading resumes. Returns the bytes
+/// after it as well. Most chunks end with a message.
 #[inline(always)]
 fn feed_next<'b, D, L: Listener<D>>(
     listener: &mut L,

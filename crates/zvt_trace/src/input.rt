@@ -52,7 +52,7 @@ fn read_piece<R: Source>(
     Ok(taken)
 }
 
-/// Reads a chunk of a trace into the buffer, and answers how many bytes came: 0 at the end.
+/// Reads a chunk of a trace into the buffer and returns the number of bytes, which is 0 at the end.
 pub fn read_chunk<R: Source>(reader: &mut R, buffer: &mut [u8]) -> Result<usize, TraceFault>
     requires { 0 < length buffer.old }
     ensures chunk { ReadsChunk (R.remaining reader.old) (R.remaining reader.new) result buffer.new }

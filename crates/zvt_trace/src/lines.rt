@@ -18,7 +18,7 @@ pub fn next_line(rest: &[u8]) -> (&[u8], &[u8])
     }
 }
 
-/// Where the first line feed stands.
+/// Returns the index of the first line feed.
 #[inline(always)]
 pub(crate) fn newline(bytes: &[u8]) -> Option<usize>
     ensures place { result ≡ position (λ byte. byte == 10) bytes.now }

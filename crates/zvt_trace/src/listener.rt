@@ -7,7 +7,7 @@ use crate::event::TraceEvent;
 use std::alloc::AllocError;
 use zvt_io::Failed;
 
-/// What a refusal leaves unread.
+/// How much input to skip after an invalid message.
 #[derive(Clone, Copy, Debug, PartialEq, Eq)]
 pub enum Scope {
     /// The refused message alone, by the size that it announces. Its side is read on after it.

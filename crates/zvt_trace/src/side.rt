@@ -1,4 +1,4 @@
-//! What is read of one side of the line.
+//! Reads one side of a line.
 ghost use Rattle.std.specs.Prelude.{◌≡◌, ◌++◌, [], ℕ, List, length, suc};
 ghost use Rattle.zvt_grammar.specs.Lengths.{reading_of};
 ghost use Rattle.zvt_stream.specs.Head.{head_of};
@@ -72,7 +72,7 @@ impl Opening {
     }
 }
 
-/// What is not read of a side.
+/// The part of a side that is not read.
 #[derive(Clone, Copy, PartialEq, Eq)]
 pub(crate) enum Skipped {
     /// All is read.
@@ -101,7 +101,8 @@ impl Skipped {
     }
 }
 
-/// The reader of one side of the line: its stream, the first bytes of the message that it holds, and what is skipped.
+/// The reader of one side of the line: its stream, the first bytes of the message that it holds, and the part that it
+/// skips.
 #[derive(Drop)]
 pub(crate) struct SideReader {
     pub(crate) stream: Stream,
@@ -138,7 +139,8 @@ impl SideReader {
         self.skipped == Skipped::Everything
     }
 
-    /// Skips what the scope says after a refusal at that place of the message, of which these last bytes have come now.
+    /// Begins to skip as the scope demands, after a refusal at this index of the message, whose last part these bytes
+    /// are.
     #[cold]
     #[inline(never)]
     pub(crate) fn refuse(&mut self, scope: Scope, bytes: &[u8], place: usize)
@@ -149,7 +151,7 @@ impl SideReader {
         self.skipped = Skipped::after(scope, self.opening.announced(), place);
     }
 
-    /// Skips what is to be skipped of these bytes, and answers those after it.
+    /// Skips the bytes that are to be skipped and returns the rest.
     #[cold]
     #[inline(never)]
     pub(crate) fn skip<'b>(&mut self, bytes: &'b [u8]) -> &'b [u8]

@@ -7,8 +7,8 @@ ghost use Rattle.zvt_trace.specs.Spelled.{AreHex, IsDigit, after_bytes, spells, 
 use hex::FromHexError;
 use std::alloc::{AllocError, Global};
 
-/// Reads bytes into the buffer until it is full or the text ends, and answers how many, and the text after them. It answers
-/// nothing where the text spells no bytes so far.
+/// Reads bytes into the buffer until it is full or the text ends. Returns the number of bytes and the remaining text,
+/// or `None` if the text up to there is not hexadecimal.
 #[inline(always)]
 pub(crate) fn read<'t>(text: &'t [u8], buffer: &mut [u8]) -> Option<(usize, &'t [u8])>
     ensures read { MatchOption result (spells (without_spaces text.now) ≡ None) (λ read. after_bytes (take read.0 buffer.new) (spells (without_spaces read.1.now)) ≡ spells (without_spaces text.now)) }
@@ -119,7 +119,8 @@ fn skip_spaces(text: &[u8]) -> &[u8]
     rest
 }
 
-/// The byte of two digits, and for what are none a number above 255: so both are tested at once.
+/// Returns the byte given by two digits, or a number above 255 if one of them is not a digit, so that one test covers
+/// both.
 #[inline(always)]
 fn pair(high: u8, low: u8) -> u32
     ensures { result ≡ worth high * 16 + worth low }
@@ -127,7 +128,7 @@ fn pair(high: u8, low: u8) -> u32
     VALUES[high as usize] * 16 + VALUES[low as usize]
 }
 
-/// The value of a digit, and for what is none a number above 15.
+/// Returns the value of a digit, or a number above 15 for any other character.
 #[inline(always)]
 fn value(digit: u8) -> u32
     ensures { IsDigit digit result }

@@ -16,19 +16,18 @@ use crate::emit::{PieceAt, WalkOptions, emit_truncation, emit_unread};
 use crate::event::TraceEvent;
 use crate::fault::{Tally, TraceFault, TraceLineError};
 use crate::feed::{Piece, feed_side};
-use crate::line::{CHUNK, Plain, TraceLine, plain_piece, read_line};
-use crate::lines::next_line;
+use crate::line::{CHUNK, TraceLine, first_line};
 use crate::listener::{Listener, ListenerError, Scope};
 use crate::side::SideReader;
 use std::alloc::Global;
 use zvt_grammar::Lengths;
 
-/// Emits all that the trace says to the listener, line by line, and what is cut off at its end. Its streams take such
-/// lengths.
+/// Reads a trace line by line and passes each event to the listener, including messages that are cut off by its end.
+/// `lengths` selects strict or padded lengths.
 ///
-/// No event comes of a line that can't be read, and none of the lines after it. A stream that is refused or cut off counts
-/// as bad. Where the walk fails, the listener has heard all events of the lines before, and some first events of the line
-/// that was being read.
+/// Stops at the first line that is not valid, without an event for it. Returns the number of messages and of bad streams,
+/// which have invalid or incomplete messages. If the walk fails, the listener has heard every event of the lines before,
+/// and the first few of the current line.
 pub fn walk<D, L: Listener<D>>(
     listener: &mut L,
     device: &mut D,
@@ -45,8 +44,7 @@ pub fn walk<D, L: Listener<D>>(
     progress.finish(listener, device)
 }
 
-/// What a walk has read of a trace: both sides as they are now, the number of the last line, the tally of all lines, and how
-/// many bytes they took.
+/// The state of a walk: both sides, the number of the last line, the tally of all lines, and their size in bytes.
 #[derive(Drop)]
 pub(crate) struct Progress {
     options: WalkOptions,
@@ -106,31 +104,11 @@ impl Progress {
         let mut rest = text;
         'lines: while !rest.is_empty() {
             number += 1;
-            match plain_piece(&mut buffer, rest) {
-                Some(Plain { from, count, after }) => {
-                    let at = PieceAt {
-                        line: number,
-                        from,
-                        options,
-                    };
-                    let piece = Piece {
-                        bytes: &buffer[..count],
-                        undecoded: &[],
-                    };
-                    let own = self.sides.feed_piece(listener, device, &at, piece)?;
-                    tally.messages += own.messages;
-                    tally.bad += own.bad;
-                    rest = after;
-                }
-                None => {
-                    let (line, after) = next_line(rest);
-                    let read = read_line(&mut buffer, line);
-                    let own = emit_line(listener, device, options, &mut self.sides, number, read)?;
-                    tally.messages += own.messages;
-                    tally.bad += own.bad;
-                    rest = after;
-                }
-            }
+            let (read, after) = first_line(&mut buffer, rest);
+            let own = emit_line(listener, device, options, &mut self.sides, number, read)?;
+            tally.messages += own.messages;
+            tally.bad += own.bad;
+            rest = after;
         }
         self.number = number;
         self.tally = tally;
@@ -155,8 +133,8 @@ impl Progress {
     }
 }
 
-/// Emits the events of the line of that number, where it could be read. Few lines are no piece in the plain form.
-#[inline(never)]
+/// Emits the events of the line with this number, if it could be read.
+#[inline]
 fn emit_line<D, L: Listener<D>>(
     listener: &mut L,
     device: &mut D,
@@ -201,7 +179,7 @@ impl BothSides {
     }
 
     /// Emits the events of the line of that number.
-    #[inline(always)]
+    #[inline]
     fn emit<D, L: Listener<D>>(
         &mut self,
         listener: &mut L,

@@ -1,7 +1,7 @@
 use Rattle.std.proofs.Common.{ℕ, ◌∙◌, List, ap, reverse, subst, sym}
 use Rattle.zvt_stream.specs.DecoderState.{Between}
 use Rattle.zvt_stream.proofs.JudgeLemmas.{pushed}
-use Rattle.zvt_stream.proofs.judge.follow.Goals as goal
+use Rattle.zvt_stream.proofs.advance.follow.Goals as goal
 
 pub returns-in-Ok-Opens : goal.returns-in-Ok-Opens
 returns-in-Ok-Opens c r b =

@@ -1,7 +1,7 @@
 use Rattle.std.proofs.Common.{arith, refl, reverse}
 use Rattle.std.proofs.lemmas.List.{length-reverse}
 use Rattle.zvt_stream.proofs.JudgeLemmas.{settled, ended, goes_on_fields, goes_on_objects}
-use Rattle.zvt_stream.proofs.judge.settle.Goals as goal
+use Rattle.zvt_stream.proofs.advance.settle.Goals as goal
 
 pub returns-then-len-eq1 : goal.returns-then-len-eq1
 returns-then-len-eq1 c r b h =
