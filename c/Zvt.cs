@@ -6,8 +6,8 @@
 //         Console.WriteLine(till.Pay(1000)); // paid, trace 000001, receipt 0001
 //     }
 //
-// The library keeps the till and its book; this class moves the bytes. Amounts are in the smallest unit of the currency. One
-// thread at a time uses a till. The system is Linux on x86-64, as for the library.
+// The library keeps the till and its book; this class transports the bytes. Amounts are in the smallest unit of the currency.
+// Only one thread at a time may use a till. Like the library, this needs Linux on x86-64.
 using System;
 using System.Collections.Generic;
 using System.IO;
@@ -21,17 +21,17 @@ namespace Zvt {
     /// <summary>How an order ended.</summary>
     public enum Ending { None, Registered, Paid, Declined, OrderRefused, Aborted, Unclear, Reversed, DayClosed }
 
-    /// <summary>Why a payment or a reversal is unclear: ask the terminal's journal, and book nothing by guess.</summary>
+    /// <summary>Why a payment or a reversal is unclear. Check the terminal's journal before you book or refund the amount.</summary>
     public enum Cause {
         NoStatus = 1, Conflict, AmountDiffers, NoTrace, TraceUsed, AbortAfterApproval, Line, Malformed, Unfinished, WrongCurrency
     }
 
-    /// <summary>What the reversals of a booked payment leave open. UnclearReversal: the last one took the payment back or not, and
-    /// nobody knows. Reverse it again when the line is back. TakenBack: the terminal said with the code B4 that it took it back
-    /// before.</summary>
+    /// <summary>What is in doubt about the reversal of a booked payment. UnclearReversal: the last reversal may have succeeded or
+    /// not. Reverse the payment again once you are connected. TakenBack: the terminal answered B4, because it had reversed the
+    /// payment before.</summary>
     public enum Doubt { No, UnclearReversal, TakenBack }
 
-    /// <summary>Why a call was refused; the till is as it was.</summary>
+    /// <summary>The reason why a call was refused. The till has not changed.</summary>
     public enum Status {
         NoTill = 2, NoMemory, NoRoom, Argument, Closed, Stopped,
         Offline = 10, NotRegistered, Busy, NothingToCancel, BookFull, UnknownEntry, AlreadyReversed, NoReceipt
@@ -42,31 +42,31 @@ namespace Zvt {
         internal RefusedException(uint status) : base(Words.Of((Status)status)) { Status = (Status)status; }
     }
 
-    /// <summary>The line ended, broke, fell silent or brought what is no message, and was given up. The outcome says how the
-    /// order ended by it: a payment or a reversal is unclear.</summary>
+    /// <summary>The connection ended, failed, timed out or sent invalid bytes, and was closed. The outcome is the result of the
+    /// order: a payment or a reversal is unclear.</summary>
     public sealed class LineException : IOException {
         public Outcome Outcome { get; }
         internal LineException(Outcome outcome, Exception cause) : base("the line is lost: " + outcome, cause) { Outcome = outcome; }
     }
 
-    /// <summary>A book that can't be opened or written. The till that had it sends nothing more: make a new one, which opens it
+    /// <summary>The book can't be opened or written. Its till sends nothing more: create a new till, which opens the book
     /// again.</summary>
     public sealed class BookException : IOException {
         internal BookException(string text, Exception cause = null) : base(text, cause) { }
     }
 
-    /// <summary>How an order ended. What it does not have is null.</summary>
+    /// <summary>The outcome of an order. Values that it does not have are null.</summary>
     public sealed class Outcome {
         public Ending Ending { get; }
-        /// <summary>The terminal's code, where it declined, refused or aborted.</summary>
+        /// <summary>The terminal's code, if it declined, refused or aborted the order.</summary>
         public int? Code { get; }
-        /// <summary>What the code means, where it has a meaning of its own.</summary>
+        /// <summary>The meaning of the code, if it has one.</summary>
         public string Meaning { get; }
-        /// <summary>Where the payment or the reversal is unclear.</summary>
+        /// <summary>The cause, if the payment or the reversal is unclear.</summary>
         public Cause? Cause { get; }
-        /// <summary>Where it is paid.</summary>
+        /// <summary>The trace number, if the payment is paid.</summary>
         public int? Trace { get; }
-        /// <summary>Where it is paid and the terminal gave one.</summary>
+        /// <summary>The receipt number, if the payment is paid and the terminal gave one.</summary>
         public int? Receipt { get; }
 
         internal Outcome(Native.Outcome from) {
@@ -82,7 +82,7 @@ namespace Zvt {
             if (Ending == Ending.Paid && from.has_receipt == 1) Receipt = (int)from.receipt;
         }
 
-        /// <summary>Whether the order ended by its line, and not by what the terminal said.</summary>
+        /// <summary>Whether the connection ended the order, rather than a message of the terminal.</summary>
         public bool IsByLine { get { return Cause == Zvt.Cause.Line || Cause == Zvt.Cause.Malformed; } }
 
         public override string ToString() {
@@ -91,16 +91,16 @@ namespace Zvt {
         }
     }
 
-    /// <summary>A payment that is booked, or one that is unclear for a cause.</summary>
+    /// <summary>A payment, either booked or unclear for a cause.</summary>
     public sealed class Entry {
         public long Amount { get; }
-        /// <summary>Of a booked payment.</summary>
+        /// <summary>The trace number of a booked payment.</summary>
         public int? Trace { get; }
-        /// <summary>Of a booked payment to which the terminal gave one.</summary>
+        /// <summary>The receipt number of a booked payment, if the terminal gave one.</summary>
         public int? Receipt { get; }
-        /// <summary>Whether a completed reversal took it back.</summary>
+        /// <summary>Whether a reversal of it was completed.</summary>
         public bool Reversed { get; }
-        /// <summary>Why the payment is unclear, or its last reversal; else null.</summary>
+        /// <summary>The cause of an unclear payment or reversal, otherwise null.</summary>
         public Cause? Cause { get; }
         public Doubt Doubt { get; }
 
@@ -121,7 +121,7 @@ namespace Zvt {
     }
 
     static class Words {
-        /// <summary>The words of a name: "unclear reversal" of UnclearReversal.</summary>
+        /// <summary>Splits a name into words: "unclear reversal" for UnclearReversal.</summary>
         public static string Of(object name) {
             var text = new StringBuilder();
             foreach (char letter in name.ToString()) text.Append(char.IsUpper(letter) && text.Length > 0 ? " " : "").Append(char.ToLowerInvariant(letter));
@@ -155,24 +155,24 @@ namespace Zvt {
         }
     }
 
-    /// <summary>What a till is made with.</summary>
+    /// <summary>The settings of a till.</summary>
     public sealed class Settings {
         int password, config = 0xBE, currency = 978;
         /// <summary>A number of up to six digits.</summary>
         public int Password { get { return password; } set { password = (int)Words.Whole(nameof(Password), value, 0, 999999); } }
         public int Config { get { return config; } set { config = (int)Words.Whole(nameof(Config), value, 0, 0xFF); } }
-        /// <summary>The number of ISO 4217: 978 is the euro.</summary>
+        /// <summary>The code of ISO 4217: 978 is the euro.</summary>
         public int Currency { get { return currency; } set { currency = (int)Words.Whole(nameof(Currency), value, 0, 9999); } }
-        /// <summary>The file in which the till keeps its book, through every end of the process; null for none.</summary>
+        /// <summary>The file in which the till keeps its book, which survives every end of the process. Null for none.</summary>
         public string Book { get; set; }
-        /// <summary>Takes the bytes of each print line, in the terminal's character set. What it throws waits for the order's
-        /// outcome.</summary>
+        /// <summary>Receives the bytes of each print line, in the terminal's character set. Its exceptions are postponed until the
+        /// order has ended.</summary>
         public Action<byte[]> PrintLine { get; set; }
-        /// <summary>Takes the text of each message of the terminal, as the program zvt shows it; what it throws waits, too.</summary>
+        /// <summary>Receives the text of each message of the terminal, as the program zvt shows it. Its exceptions are postponed, too.</summary>
         public Action<string> Heard { get; set; }
     }
 
-    /// <summary>A till, which keeps its book in a file where the settings name one.</summary>
+    /// <summary>A till. It keeps its book in a file if the settings name one.</summary>
     public sealed class Till : IDisposable {
         const int Room = 8 * 32, LineRoom = 65534, RecordRoom = 131200;
         readonly Native.TillHandle handle = new Native.TillHandle();
@@ -187,7 +187,7 @@ namespace Zvt {
         Exception raised;
         bool running;
 
-        /// <summary>Where the file of a book is there, the till goes on from it.</summary>
+        /// <summary>Creates a till. If the file of its book exists, the till continues from it.</summary>
         public Till(Settings settings = null) {
             settings = settings ?? new Settings();
             if (Native.zvt_abi() != Native.Abi) {
@@ -208,7 +208,7 @@ namespace Zvt {
             }
         }
 
-        /// <summary>The text of a print line in code page 437, which most terminals write, and which some systems lack.</summary>
+        /// <summary>Decodes a print line in code page 437, which most terminals use and some systems lack.</summary>
         public static string TextOfLine(byte[] line) {
             var text = new StringBuilder();
             foreach (var it in line) text.Append(it < 128 ? (char)it : CodePage437[it - 128]);
@@ -225,7 +225,7 @@ namespace Zvt {
             + "\u03B1\u00DF\u0393\u03C0\u03A3\u03C3\u00B5\u03C4\u03A6\u0398\u03A9\u03B4\u221E\u03C6\u03B5\u2229"
             + "\u2261\u00B1\u2265\u2264\u2320\u2321\u00F7\u2248\u00B0\u2219\u00B7\u221A\u207F\u00B2\u25A0\u00A0";
 
-        /// <summary>The version of the library, as 0.2.0.</summary>
+        /// <summary>The version of the library, such as 0.2.0.</summary>
         public static string Version {
             get {
                 var room = new byte[32];
@@ -233,12 +233,12 @@ namespace Zvt {
             }
         }
 
-        /// <summary>Makes the till that of the book, or begins the book.</summary>
+        /// <summary>Restores the till of the book, or creates the book.</summary>
         void Begin(Settings settings) {
             if (journal.Text.Length > 0) {
                 Native.zvt_till_recover(handle, journal.Text, Native.Size(journal.Text), out var answer);
                 string[] why = { "line {0} is not the first line of a journal of its currency", "line {0} is no line of a till's record",
-                    "record {0} can't follow from those before it" };
+                    "record {0} can't follow from those before it", "line {0} is not the check of its record: the file was changed or damaged" };
                 if (answer.status == (uint)Status.NoTill)
                     throw new BookException(settings.Book + " is no book of such a till: " + string.Format(why[answer.reason - 1], answer.place));
                 Check(answer.status);
@@ -250,7 +250,7 @@ namespace Zvt {
             }
         }
 
-        /// <summary>Gives the line and the till up. A book is complete on the disk before.</summary>
+        /// <summary>Closes the connection and frees the till. The book on the disk is already complete.</summary>
         public void Dispose() {
             RefuseWithin();
             line?.Dispose();
@@ -267,13 +267,13 @@ namespace Zvt {
             if (status != 0) throw new RefusedException(status);
         }
 
-        /// <summary>Opens a line by TCP; one that stood before is lost. The terminal may be silent for the time-out within an
-        /// order.</summary>
+        /// <summary>Connects by TCP, and closes an earlier connection. During an order the terminal may be silent for the
+        /// timeout.</summary>
         public void Connect(string host, int port, TimeSpan timeout) {
             Words.Whole(nameof(port), port, 1, 65535);
             Milliseconds(timeout);
             Disconnect();
-            // Each message goes out at once: without this the system may hold an acknowledgement back for 40 ms.
+            // Send each message at once: otherwise the system may delay an acknowledgement by 40 ms.
             var client = new TcpClient { NoDelay = true };
             try {
                 if (!client.ConnectAsync(host, port).Wait(timeout)) throw new IOException($"{host}:{port} does not answer");
@@ -287,7 +287,7 @@ namespace Zvt {
             }
         }
 
-        /// <summary>Takes a line that is up: it is closed with the till.</summary>
+        /// <summary>Takes over an open connection, which is closed with the till.</summary>
         public void Connect(Stream opened, TimeSpan timeout) {
             Milliseconds(timeout);
             Disconnect();
@@ -311,7 +311,7 @@ namespace Zvt {
                 throw new ArgumentOutOfRangeException(nameof(timeout), timeout, "timeout is from a millisecond to 24 days");
         }
 
-        /// <summary>Gives the line up.</summary>
+        /// <summary>Closes the connection.</summary>
         public void Disconnect() {
             RefuseWithin();
             GiveUp();
@@ -327,20 +327,20 @@ namespace Zvt {
 
         public Outcome Register() { return Run(Native.Register, 0, CancellationToken.None); }
 
-        /// <summary>Pays. Where the token asks for it, the till asks the terminal to cancel, and the terminal says what comes of
-        /// it.</summary>
+        /// <summary>Pays an amount. If the token requests it, the till asks the terminal to cancel the payment, and the terminal
+        /// decides.</summary>
         public Outcome Pay(long amount, CancellationToken cancel = default(CancellationToken)) {
             return Run(Native.Pay, Words.Whole(nameof(amount), amount, 1, 999999999999), cancel);
         }
 
-        /// <summary>Takes back the payment at that place of the book, from 0.</summary>
+        /// <summary>Reverses the payment at this index of the book, from 0.</summary>
         public Outcome Reverse(int place) { return Run(Native.Reverse, Words.Whole(nameof(place), place, 0, int.MaxValue), CancellationToken.None); }
 
         public Outcome CloseDay() { return Run(Native.CloseDay, 0, CancellationToken.None); }
 
-        /// <summary>One order from end to end. Throws a LineException where the order ended by the line, a BookException where the
-        /// book failed, a RefusedException where the library refuses it, and what a callback threw, once the order has
-        /// ended.</summary>
+        /// <summary>Runs an order to its end. Throws a LineException if the connection ended the order, a BookException if the book
+        /// failed, a RefusedException if the library refused the order, and, once the order has ended, the exception of a
+        /// callback.</summary>
         Outcome Run(uint order, long number, CancellationToken cancel) {
             RefuseWithin();
             var message = Order(order, number);
@@ -380,7 +380,7 @@ namespace Zvt {
             return part;
         }
 
-        /// <summary>Makes the order durable, and only then sends it.</summary>
+        /// <summary>Makes the order durable and then sends it.</summary>
         void KeepAndSend(uint order, long number, byte[] message) {
             if (journal != null) {
                 Native.zvt_record_order(order, (ulong)number, message, Native.Size(message), record, Native.Size(record), out var answer);
@@ -390,7 +390,7 @@ namespace Zvt {
             line.Flush();
         }
 
-        /// <summary>After an error the book may lack a record that the till lives through: this till adds no more to it.</summary>
+        /// <summary>After an error the book may lack a record that the till has processed, so this till stops writing it.</summary>
         void MakeDurable(Native.Answer answer) {
             if (answer.status != 0) journal.GiveUp();
             Check(answer.status);
@@ -401,7 +401,7 @@ namespace Zvt {
             if (step.outcome.kind != 0) outcome = new Outcome(step.outcome);
         }
 
-        /// <summary>Hears the terminal until the order has ended.</summary>
+        /// <summary>Reads from the terminal until the order has ended.</summary>
         void HearOut(CancellationToken cancel) {
             var room = new byte[4096];
             while (outcome == null) {
@@ -415,8 +415,8 @@ namespace Zvt {
             }
         }
 
-        /// <summary>Asks the terminal to cancel the payment: false where it has not acknowledged the payment yet, and it is to be
-        /// asked later.</summary>
+        /// <summary>Asks the terminal to cancel the payment. Returns false if the terminal has not acknowledged the payment yet: try
+        /// again later.</summary>
         bool Cancels() {
             byte[] message;
             try {
@@ -428,7 +428,7 @@ namespace Zvt {
             return true;
         }
 
-        /// <summary>Waits for a read: false where the payment is to be cancelled first.</summary>
+        /// <summary>Waits for bytes. Returns false if the payment is to be cancelled first.</summary>
         bool Ends(Task<int> reading, CancellationToken cancel) {
             try {
                 if (!reading.Wait((int)timeout.TotalMilliseconds, cancel)) throw new IOException("the terminal is silent");
@@ -440,8 +440,8 @@ namespace Zvt {
             }
         }
 
-        /// <summary>Feeds the messages that end in a piece, and sends what answers them. Where the line takes no answer, the rest
-        /// is heard all the same. Bytes that are no message come last: to a till that keeps a book they are a lost line.</summary>
+        /// <summary>Feeds the messages that end in a chunk, and sends the replies. If sending fails, still feeds the rest. Invalid
+        /// bytes come last: a till with a book treats them as a lost connection.</summary>
         void Hear(byte[] piece) {
             Exception broken = null;
             var all = new byte[unheard.Length + piece.Length];
@@ -463,8 +463,8 @@ namespace Zvt {
             if (broken != null) throw broken;
         }
 
-        /// <summary>The size of the record of the message that stands first, of a till that keeps a book; the answer says what
-        /// stands first.</summary>
+        /// <summary>Writes the record of the first message, if the till has a book. Returns the size of the record; the answer
+        /// describes the message.</summary>
         int First(out Native.Answer answer) {
             if (journal != null) return (int)Native.zvt_record_heard(unheard, Native.Size(unheard), record, Native.Size(record), out answer);
             Native.zvt_scan(unheard, Native.Size(unheard), out answer);
@@ -500,7 +500,7 @@ namespace Zvt {
             }
         }
 
-        /// <summary>What a callback throws waits until what the terminal sent is heard and answered; the first goes on.</summary>
+        /// <summary>Postpones the first exception of a callback until everything that the terminal sent is read and answered.</summary>
         void Tell(Action callback) {
             try {
                 callback();
@@ -514,7 +514,7 @@ namespace Zvt {
             return state;
         }
 
-        /// <summary>What the payments that no completed reversal took back come to.</summary>
+        /// <summary>The sum of the booked payments without a completed reversal.</summary>
         public long Total { get { return (long)State().total; } }
 
         public bool IsRegistered { get { return State().registered == 1; } }
@@ -527,10 +527,10 @@ namespace Zvt {
             }
         }
 
-        /// <summary>The payments that are booked.</summary>
+        /// <summary>The booked payments.</summary>
         public IReadOnlyList<Entry> Book { get { return Entries(State().booked, true); } }
 
-        /// <summary>The payments that are neither booked nor known not to be.</summary>
+        /// <summary>The unclear payments: the terminal may have booked them or not.</summary>
         public IReadOnlyList<Entry> Unclear { get { return Entries(State().unclear, false); } }
 
         Entry[] Entries(ulong count, bool booked) {
@@ -543,7 +543,7 @@ namespace Zvt {
             return entries;
         }
 
-        /// <summary>The places of the booked payments whose last reversal is unclear: reverse these again.</summary>
+        /// <summary>The indices of the booked payments whose last reversal is unclear. Reverse them again.</summary>
         public IReadOnlyList<int> UnclearReversals {
             get {
                 var book = Book;
@@ -554,8 +554,8 @@ namespace Zvt {
             }
         }
 
-        /// <summary>The bytes that the till is saved in: those of the till after its line was lost. They have the password in
-        /// clear.</summary>
+        /// <summary>Saves the till as bytes. They describe the till as it would be after losing its connection, and contain the
+        /// password in clear.</summary>
         public byte[] Save() {
             var room = new byte[0];
             while (true) {
@@ -566,7 +566,7 @@ namespace Zvt {
             }
         }
 
-        /// <summary>Makes this the till that the bytes were saved of. Its line is down then.</summary>
+        /// <summary>Restores the till from saved bytes. It is not connected afterwards.</summary>
         public void Load(byte[] saved) {
             if (journal != null) throw new InvalidOperationException("a till that keeps a book is that of its book, and of no save");
             Disconnect();
@@ -574,10 +574,10 @@ namespace Zvt {
         }
     }
 
-    /// <summary>The file of a book: text records, each of which is there whole or not at all, whenever the process ends. At rest the
-    /// file is its records and one line feed, the closed gate, which reads as an empty line. What it stands for is its whole lines up
-    /// to the first empty one. A record is added in two steps, each durable before the next: the record without its first byte after
-    /// the gate, with the next gate; and then the first byte over the gate.</summary>
+    /// <summary>The file of a book: text records, each of which is complete or absent, whenever the process ends. At rest the file is
+    /// its records and one line feed, the closed gate, which reads as an empty line. It stands for its complete lines up to the first
+    /// empty one. A record is appended in two steps, each durable before the next: the record without its first byte after the gate,
+    /// with the next gate; and then the first byte over the gate.</summary>
     sealed class Journal : IDisposable {
         static readonly byte[] Format = Encoding.ASCII.GetBytes("# zvt journal 1");
         const int OpeningRoom = 1 << 8, MostAfter = (1 << 18) + 1;
@@ -586,11 +586,11 @@ namespace Zvt {
         int file = -1;
         long gate;
         bool failed;
-        /// <summary>The records of the file as it was opened.</summary>
+        /// <summary>The records that the file had when it was opened.</summary>
         public byte[] Text { get; }
         readonly byte[] cut;
 
-        /// <summary>Opens the file, or makes it; nothing is written yet.</summary>
+        /// <summary>Opens the file, or creates it. Writes nothing yet.</summary>
         public Journal(string path) {
             this.path = path;
             try {
@@ -620,13 +620,13 @@ namespace Zvt {
             return new BookException($"cannot {what} the book {path}: {Marshal.PtrToStringAnsi(Native.strerror(Marshal.GetLastWin32Error()))}");
         }
 
-        /// <summary>The result of a call that answers -1 where it fails.</summary>
+        /// <summary>Checks the result of a call that returns -1 if it fails.</summary>
         long Done(long result, string what) {
             if (result < 0) throw Failure(what);
             return result;
         }
 
-        /// <summary>The file, which its owner alone may read where it is made.</summary>
+        /// <summary>Opens the file. If it is created, only its owner may read it.</summary>
         int OpenOrMake() {
             int made = Native.open(path, Native.O_RDWR | Native.O_CREAT | Native.O_EXCL | Native.O_CLOEXEC, 0x180);
             if (made >= 0) return made;
@@ -636,7 +636,7 @@ namespace Zvt {
             return (int)Done(Native.open(path, Native.O_RDWR | Native.O_CLOEXEC, 0), "open");
         }
 
-        /// <summary>The bytes of the file, all of them durable: after a kill, what a read returns need not be on the
+        /// <summary>Reads the file and makes its bytes durable: after a kill, bytes that a read returns need not be on the
         /// disk.</summary>
         byte[] Durable() {
             Done(Native.fsync(file), "open");
@@ -648,7 +648,7 @@ namespace Zvt {
             return held.ToArray();
         }
 
-        /// <summary>How many bytes of whole lines come before the first empty line, if the file of a book may hold these
+        /// <summary>Returns the size of the complete lines before the first empty one, if a book may have these
         /// bytes.</summary>
         int Accepted(byte[] held) {
             bool begun = held.Length <= 1 || held[0] == '\n' && held.Length <= OpeningRoom + 1;
@@ -665,11 +665,11 @@ namespace Zvt {
             return end;
         }
 
-        /// <summary>Makes the file one at rest. What is cut is at the end of the file of this name and .cut first.</summary>
+        /// <summary>Truncates the file to its records and closes the gate. First appends the removed bytes to the file of this name and .cut.</summary>
         public void Settle() {
             if (cut.Length > 0) KeepCut();
             SyncFolder();
-            // The cut is on the disk before a gate is written: after a torn gate what was there would count.
+            // The truncation is on the disk before a gate is written: after a torn gate, the removed bytes would count.
             Done(Native.ftruncate(file, gate), "open");
             Done(Native.fdatasync(file), "open");
             Write(Gate, gate, "open");

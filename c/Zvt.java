@@ -23,7 +23,7 @@ import java.util.function.BooleanSupplier;
 import java.util.function.Consumer;
 
 /**
- * The till of zvt.h for Java 8 and later, over libzvt and JNA. Copy this file, and put your package line at its top.
+ * The till of zvt.h for Java 8 and later, over libzvt and JNA. Copy this file into your project and add your package line at the top.
  *
  * <pre>
  * try (Zvt.Till till = new Zvt.Till(new Zvt.Settings().book(Paths.get("day.trace")))) {
@@ -33,13 +33,13 @@ import java.util.function.Consumer;
  * }
  * </pre>
  *
- * The library keeps the till and its book; this class moves the bytes. Amounts are in the smallest unit of the currency. One
- * thread at a time uses a till. The system is Linux on x86-64, as for the library.
+ * The library keeps the till and its book; this class transports the bytes. Amounts are in the smallest unit of the currency.
+ * Only one thread at a time may use a till. Like the library, this needs Linux on x86-64.
  */
 public final class Zvt {
     private Zvt() {}
 
-    /** The layouts and calls that this file is made for. */
+    /** Version of the struct layouts and calls that this file expects. */
     static final int ABI = 1;
     private static final int ROOM = 8 * 32, LINE_ROOM = 65534, RECORD_ROOM = 131200;
     private static final long MAX_AMOUNT = 999_999_999_999L;
@@ -47,21 +47,21 @@ public final class Zvt {
     /** How an order ended. */
     public enum Ending { NONE, REGISTERED, PAID, DECLINED, ORDER_REFUSED, ABORTED, UNCLEAR, REVERSED, DAY_CLOSED }
 
-    /** Why a payment or a reversal is unclear: ask the terminal's journal, and book nothing by guess. */
+    /** Why a payment or a reversal is unclear. Check the terminal's journal before you book or refund the amount. */
     public enum Cause {
         NO_STATUS, CONFLICT, AMOUNT_DIFFERS, NO_TRACE, TRACE_USED, ABORT_AFTER_APPROVAL, LINE, MALFORMED, UNFINISHED, WRONG_CURRENCY
     }
 
     /**
-     * What the reversals of a booked payment leave open. UNCLEAR_REVERSAL: the last one took the payment back or not, and nobody
-     * knows. Reverse it again when the line is back. TAKEN_BACK: the terminal said with the code B4 that it took it back before.
+     * What is in doubt about the reversal of a booked payment. UNCLEAR_REVERSAL: the last reversal may have succeeded or not. Reverse
+     * the payment again once you are connected. TAKEN_BACK: the terminal answered B4, because it had reversed the payment before.
      */
     public enum Doubt { NO, UNCLEAR_REVERSAL, TAKEN_BACK }
 
     private static final int OK = 0, MORE = 1, REFUSED = 2, CLOSED = 6, NOTHING_TO_CANCEL = 13;
     private static final int REGISTER = 1, PAY = 2, REVERSE = 3, CLOSE_DAY = 4, CANCEL = 5;
 
-    /** A call that the library refused; the till is as it was. The status is one of zvt.h's. */
+    /** The library refused a call. The till has not changed. The status is one of zvt.h. */
     public static final class RefusedException extends RuntimeException {
         private static final long serialVersionUID = 1;
         public final int status;
@@ -89,10 +89,10 @@ public final class Zvt {
         }
     }
 
-    /** The line ended, broke, fell silent or brought what is no message, and was given up. */
+    /** The connection ended, failed, timed out or sent invalid bytes, and was closed. */
     public static final class LineException extends IOException {
         private static final long serialVersionUID = 1;
-        /** How the order ended by it: a payment or a reversal is unclear. */
+        /** The outcome of the order: a payment or a reversal is unclear. */
         public final transient Outcome outcome;
 
         LineException(Outcome outcome, IOException cause) {
@@ -101,7 +101,7 @@ public final class Zvt {
         }
     }
 
-    /** A book that can't be opened or written. The till that had it sends nothing more: make a new one, which opens it again. */
+    /** The book can't be opened or written. Its till sends nothing more: create a new till, which opens the book again. */
     public static final class BookException extends IOException {
         private static final long serialVersionUID = 1;
 
@@ -110,16 +110,16 @@ public final class Zvt {
         }
     }
 
-    /** How an order ended. What it does not have is null. */
+    /** The outcome of an order. Values that it does not have are null. */
     public static final class Outcome {
         public final Ending ending;
-        /** The terminal's code, where it declined, refused or aborted. */
+        /** The terminal's code, if it declined, refused or aborted the order. */
         public final Integer code;
-        /** What the code means, where it has a meaning of its own. */
+        /** The meaning of the code, if it has one. */
         public final String meaning;
-        /** Where the payment or the reversal is unclear. */
+        /** The cause, if the payment or the reversal is unclear. */
         public final Cause cause;
-        /** Where it is paid; the receipt number only where the terminal gave one. */
+        /** The numbers of a paid payment; the receipt number only if the terminal gave one. */
         public final Integer trace, receipt;
 
         Outcome(OutcomeNumbers from, Calls calls) {
@@ -138,7 +138,7 @@ public final class Zvt {
             return size == 0 ? null : new String(room, 0, size, StandardCharsets.US_ASCII);
         }
 
-        /** Whether the order ended by its line, and not by what the terminal said. */
+        /** Whether the connection ended the order, rather than a message of the terminal. */
         public boolean isByLine() { return cause == Cause.LINE || cause == Cause.MALFORMED; }
 
         @Override public String toString() {
@@ -147,14 +147,14 @@ public final class Zvt {
         }
     }
 
-    /** A payment that is booked, or one that is unclear for a cause. */
+    /** A payment, either booked or unclear for a cause. */
     public static final class Entry {
         public final long amount;
-        /** Of a booked payment; the receipt number only where the terminal gave one. */
+        /** The numbers of a booked payment; the receipt number only if the terminal gave one. */
         public final Integer trace, receipt;
-        /** Whether a completed reversal took it back. */
+        /** Whether a reversal of it was completed. */
         public final boolean reversed;
-        /** Why the payment is unclear, or its last reversal; else null. */
+        /** The cause of an unclear payment or reversal, otherwise null. */
         public final Cause cause;
         public final Doubt doubt;
 
@@ -189,7 +189,7 @@ public final class Zvt {
         return number;
     }
 
-    /** What a till is made with. */
+    /** The settings of a till. */
     public static final class Settings {
         private String library = "libzvt.so.0";
         private int password = 0, config = 0xBE, currency = 978;
@@ -202,19 +202,19 @@ public final class Zvt {
         /** A number of up to six digits. */
         public Settings password(int number) { password = (int) whole("password", number, 0, 999_999); return this; }
         public Settings config(int bits) { config = (int) whole("config", bits, 0, 0xFF); return this; }
-        /** The number of ISO 4217: 978 is the euro. */
+        /** The code of ISO 4217: 978 is the euro. */
         public Settings currency(int number) { currency = (int) whole("currency", number, 0, 9999); return this; }
-        /** The file in which the till keeps its book, through every end of the process. */
+        /** The file in which the till keeps its book, which survives every end of the process. */
         public Settings book(Path file) { book = file; return this; }
-        /** Takes the bytes of each print line, in the terminal's character set. What it throws waits for the order's outcome. */
+        /** Receives the bytes of each print line, in the terminal's character set. Its exceptions wait for the order's outcome. */
         public Settings printLine(Consumer<byte[]> taker) { printLine = taker; return this; }
-        /** Takes the text of each message of the terminal, as the program zvt shows it; what it throws waits, too. */
+        /** Receives the text of each message of the terminal, as the program zvt shows it. Its exceptions wait, too. */
         public Settings heard(Consumer<String> taker) { heard = taker; return this; }
     }
 
-    /** A line to a terminal. */
+    /** A connection to a terminal. */
     public interface Line extends AutoCloseable {
-        /** Reads what comes within that time. -1 at the end of the line, 0 where nothing came. */
+        /** Reads bytes that arrive within this time. Returns -1 at the end of the connection, and 0 if nothing arrived. */
         int read(byte[] room, int milliseconds) throws IOException;
         void write(byte[] bytes) throws IOException;
         @Override void close();
@@ -225,7 +225,7 @@ public final class Zvt {
 
         TcpLine(String host, int port, int milliseconds) throws IOException {
             try {
-                // Each message goes out at once: without this the system may hold an acknowledgement back for 40 ms.
+                // Send each message at once: otherwise the system may delay an acknowledgement by 40 ms.
                 socket.setTcpNoDelay(true);
                 socket.connect(new InetSocketAddress(host, port), milliseconds);
             } catch (IOException error) {
@@ -251,12 +251,12 @@ public final class Zvt {
             try {
                 socket.close();
             } catch (IOException gone) {
-                // It is given up either way.
+                // It is closed in any case.
             }
         }
     }
 
-    /** The version of the library of that name or path, as 0.2.0. */
+    /** The version of the library with this name or path, such as 0.2.0. */
     public static String version(String library) {
         byte[] room = new byte[32];
         long size = open(library).zvt_version(room, new NativeLong(room.length)).longValue();
@@ -271,7 +271,7 @@ public final class Zvt {
         return calls;
     }
 
-    /** A till, which keeps its book in a file where the settings name one. */
+    /** A till. It keeps its book in a file if the settings name one. */
     public static final class Till implements AutoCloseable {
         private final Calls calls;
         private final Consumer<byte[]> printLine;
@@ -286,7 +286,7 @@ public final class Zvt {
         private Throwable raised;
         private boolean running, closed;
 
-        /** Where the file of a book is there, the till goes on from it. */
+        /** Creates a till. If the file of its book exists, the till continues from it. */
         public Till(Settings settings) throws BookException {
             calls = open(settings.library);
             printLine = settings.printLine;
@@ -322,19 +322,19 @@ public final class Zvt {
             }
         }
 
-        /** Makes the till that of the book's records. */
+        /** Restores the till from the book's records. */
         private void recover(Path path, byte[] records) throws BookException {
             Answer answer = new Answer();
             calls.zvt_till_recover(handle, records, new NativeLong(records.length), answer);
             if (answer.status == REFUSED) {
                 String[] why = {"line %d is not the first line of a journal of its currency", "line %d is no line of a till's record",
-                    "record %d can't follow from those before it"};
+                    "record %d can't follow from those before it", "line %d is not the check of its record: the file was changed or damaged"};
                 throw new BookException(path + " is no book of such a till: " + String.format(why[answer.reason - 1], answer.place), null);
             }
             check(answer.status);
         }
 
-        /** Gives the line and the till up. A book is complete on the disk before. */
+        /** Closes the connection and frees the till. The book on the disk is already complete. */
         @Override public void close() {
             refuseWithin();
             if (closed) {
@@ -366,7 +366,7 @@ public final class Zvt {
             }
         }
 
-        /** Opens a line by TCP; one that stood before is lost. The terminal may be silent for the time-out within an order. */
+        /** Connects by TCP, and closes an earlier connection. During an order the terminal may be silent for the timeout. */
         public void connect(String host, int port, Duration timeout) throws IOException {
             whole("port", port, 1, 65535);
             int milliseconds = (int) whole("timeout in milliseconds", timeout.toMillis(), 1, Integer.MAX_VALUE);
@@ -375,7 +375,7 @@ public final class Zvt {
             connect(new TcpLine(host, port, milliseconds), timeout);
         }
 
-        /** Takes a line that is up. */
+        /** Takes over an open connection. */
         public void connect(Line opened, Duration timeout) throws IOException {
             int milliseconds = (int) whole("timeout in milliseconds", timeout.toMillis(), 1, Integer.MAX_VALUE);
             refuseWithin();
@@ -396,7 +396,7 @@ public final class Zvt {
             unheard = new byte[0];
         }
 
-        /** Gives the line up. */
+        /** Closes the connection. */
         public void disconnect() {
             refuseWithin();
             giveUp();
@@ -417,20 +417,20 @@ public final class Zvt {
 
         public Outcome pay(long amount) throws IOException { return pay(amount, null); }
 
-        /** Pays. Five times a second the till asks whether to cancel the payment; the terminal says what comes of it. */
+        /** Pays an amount. Five times a second the till asks whether to cancel the payment; the terminal decides. */
         public Outcome pay(long amount, BooleanSupplier wantsCancel) throws IOException {
             return run(PAY, whole("amount", amount, 1, MAX_AMOUNT), wantsCancel);
         }
 
-        /** Takes back the payment at that place of the book, from 0. */
+        /** Reverses the payment at this index of the book, from 0. */
         public Outcome reverse(int place) throws IOException {
             return run(REVERSE, whole("place", place, 0, Integer.MAX_VALUE), null);
         }
 
         public Outcome closeDay() throws IOException { return run(CLOSE_DAY, 0, null); }
 
-        /** One order from end to end. Throws a LineException where the order ended by the line, a BookException where the book
-         * failed, a RefusedException where the library refuses it, and what a callback threw, once the order has ended. */
+        /** Runs an order to its end. Throws a LineException if the connection ended the order, a BookException if the book failed,
+         * a RefusedException if the library refused the order, and, once the order has ended, the exception of a callback. */
         private Outcome run(int order, long number, BooleanSupplier wantsCancel) throws IOException {
             refuseWithin();
             byte[] message = order(order, number);
@@ -472,7 +472,7 @@ public final class Zvt {
             return Arrays.copyOf(out, (int) step.send);
         }
 
-        /** Makes the order durable, and only then sends it. */
+        /** Makes the order durable and then sends it. */
         private void keepAndSend(int order, long number, byte[] message) throws IOException {
             if (book != null) {
                 Answer answer = new Answer();
@@ -490,7 +490,7 @@ public final class Zvt {
             book.append(record, (int) answer.size);
         }
 
-        /** The book may have a record that the till has not lived through, or lack one: this till adds no more to it. */
+        /** The book may have a record that the till has not processed, or lack one, so this till stops writing it. */
         private void giveBookUp() {
             if (book != null) {
                 book.giveUp();
@@ -503,7 +503,7 @@ public final class Zvt {
             }
         }
 
-        /** Hears the terminal until the order has ended. An Error of a callback gives the line up at once. */
+        /** Reads from the terminal until the order has ended. An Error of a callback closes the connection at once. */
         private void hearOut(BooleanSupplier wantsCancel) throws IOException {
             byte[] room = new byte[4096];
             long since = System.nanoTime();
@@ -529,7 +529,7 @@ public final class Zvt {
             }
         }
 
-        /** Asks the terminal to cancel the payment: false where it has not acknowledged the payment yet, and is to be asked later. */
+        /** Asks the terminal to cancel the payment. Returns false if it has not acknowledged the payment yet: try again later. */
         private boolean cancels() throws IOException {
             byte[] message;
             try {
@@ -550,7 +550,7 @@ public final class Zvt {
             return answer[0];
         }
 
-        /** Calls a callback. What it throws waits until what the terminal sent is heard and answered; the first goes on. */
+        /** Calls a callback. Its first exception waits until everything that the terminal sent is read and answered. */
         private void tell(Runnable callback) {
             try {
                 callback.run();
@@ -562,8 +562,8 @@ public final class Zvt {
         }
 
         /**
-         * Feeds the messages that end in a piece, and sends what answers them. Where the line takes no answer, the rest is heard
-         * all the same. Bytes that are no message come last: to a till that keeps a book they are a lost line.
+         * Feeds the messages that end in a chunk, and sends the replies. If sending fails, still feeds the rest. Invalid bytes come
+         * last: a till with a book treats them as a lost connection.
          */
         private void hear(byte[] piece) throws IOException {
             unheard = joined(unheard, piece);
@@ -597,7 +597,7 @@ public final class Zvt {
             }
         }
 
-        /** The size of the record of the message that stands first, of a till that keeps a book; the answer says what stands first. */
+        /** Writes the record of the first message, if the till has a book, and returns its size. The answer describes the message. */
         private int first(Answer answer) {
             if (book != null) {
                 return calls.zvt_record_heard(unheard, new NativeLong(unheard.length), record, new NativeLong(RECORD_ROOM), answer).intValue();
@@ -616,7 +616,7 @@ public final class Zvt {
             return new String(room, 0, size, StandardCharsets.US_ASCII);
         }
 
-        /** Feeds a message, and answers why the line took no answer, if it did not. */
+        /** Feeds a message. Returns the exception if sending the reply failed. */
         private IOException feed(byte[] piece, IOException earlier) throws IOException {
             IOException broken = earlier;
             while (piece.length > 0) {
@@ -650,7 +650,7 @@ public final class Zvt {
             return state;
         }
 
-        /** What the payments that no completed reversal took back come to. */
+        /** The sum of the booked payments without a completed reversal. */
         public long total() { return state().total; }
 
         public boolean isRegistered() { return state().registered == 1; }
@@ -661,10 +661,10 @@ public final class Zvt {
             return last.ending == Ending.NONE ? null : last;
         }
 
-        /** The payments that are booked. */
+        /** The booked payments. */
         public List<Entry> book() { return entries(state().booked, true); }
 
-        /** The payments that are neither booked nor known not to be. */
+        /** The unclear payments: the terminal may have booked them or not. */
         public List<Entry> unclear() { return entries(state().unclear, false); }
 
         private List<Entry> entries(long count, boolean booked) {
@@ -678,7 +678,7 @@ public final class Zvt {
             return entries;
         }
 
-        /** The places of the booked payments whose last reversal is unclear: reverse these again. */
+        /** The indices of the booked payments whose last reversal is unclear. Reverse them again. */
         public List<Integer> unclearReversals() {
             List<Entry> entries = book();
             List<Integer> places = new ArrayList<>();
@@ -690,7 +690,7 @@ public final class Zvt {
             return places;
         }
 
-        /** The bytes that the till is saved in: those of the till after its line was lost. They have the password in clear. */
+        /** Saves the till as bytes, as it would be after losing its connection. They contain the password in clear. */
         public byte[] save() {
             byte[] room = new byte[0];
             while (true) {
@@ -704,7 +704,7 @@ public final class Zvt {
             }
         }
 
-        /** Makes this the till that the bytes were saved of. Its line is down then. */
+        /** Restores the till from saved bytes. It is not connected afterwards. */
         public void load(byte[] saved) {
             if (book != null) {
                 throw new IllegalStateException("a till that keeps a book is that of its book, and of no save");
@@ -722,10 +722,10 @@ public final class Zvt {
     }
 
     /**
-     * The file of a book: text records, each of which is there whole or not at all, whenever the process ends.
+     * The file of a book: text records, each of which is complete or absent, whenever the process ends.
      *
-     * At rest the file is its records and one line feed, the closed gate, which reads as an empty line. What it stands for is its
-     * whole lines up to the first empty one. A record is added in two steps, each durable before the next: the record without its
+     * At rest the file is its records and one line feed, the closed gate, which reads as an empty line. It stands for its complete
+     * lines up to the first empty one. A record is appended in two steps, each durable before the next: the record without its
      * first byte after the gate, with the next gate; and then the first byte over the gate.
      */
     private static final class Book {
@@ -736,10 +736,10 @@ public final class Zvt {
         private final int file;
         private long gate;
         private boolean failed, closed;
-        /** The records of the file as it was opened, and what comes after them. */
+        /** The records that the file had when it was opened, and the bytes after them. */
         final byte[] text, cut;
 
-        /** Opens the file, or makes it; nothing is written yet. */
+        /** Opens the file, or creates it. Writes nothing yet. */
         Book(Path path) throws BookException {
             this.path = path;
             int opened = -1;
@@ -766,7 +766,7 @@ public final class Zvt {
             return POSIX.strerror(error.getErrorCode());
         }
 
-        /** The file, which its owner alone may read where it is made. */
+        /** Opens the file. If it is created, only its owner may read it. */
         private int openOrMake() throws BookException {
             try {
                 return POSIX.open(path.toString(), O_RDWR | O_CREAT | O_EXCL | O_CLOEXEC, 0600);
@@ -792,7 +792,7 @@ public final class Zvt {
             }
         }
 
-        /** The bytes of the file, all of them durable: after a kill, what a read returns need not be on the disk. */
+        /** Reads the file and makes its bytes durable: after a kill, bytes that a read returns need not be on the disk. */
         private static byte[] durable(int file) {
             POSIX.fsync(file);
             POSIX.posix_fadvise(file, 0, 0, POSIX_FADV_DONTNEED);
@@ -804,7 +804,7 @@ public final class Zvt {
             return held.toByteArray();
         }
 
-        /** How many bytes of whole lines come before the first empty line, if the file of a book may hold these bytes. */
+        /** Returns the size of the complete lines before the first empty one, if a book may have these bytes. */
         private int accepted(byte[] held) throws BookException {
             boolean begun = held.length <= 1 || held[0] == '\n' && held.length <= OPENING_ROOM + 1;
             if (!begun && !Arrays.equals(Arrays.copyOf(held, FORMAT.length), FORMAT)) {
@@ -821,7 +821,7 @@ public final class Zvt {
             return end;
         }
 
-        /** Makes the file one at rest. What is cut is at the end of the file of this name and .cut first. */
+        /** Truncates the file to its records and closes the gate. First appends the removed bytes to the file of this name and .cut. */
         void settle() throws BookException {
             try {
                 if (cut.length > 0) {
@@ -837,7 +837,7 @@ public final class Zvt {
                     }
                 }
                 syncFolder();
-                // The cut is on the disk before a gate is written: after a torn gate what was there would count.
+                // The truncation is on the disk before a gate is written: after a torn gate, the removed bytes would count.
                 POSIX.ftruncate(file, gate);
                 POSIX.fdatasync(file);
                 write(new byte[] {'\n'}, gate);
@@ -857,7 +857,7 @@ public final class Zvt {
             }
         }
 
-        /** Makes a record durable: the first so many bytes, whole lines, none of them empty. */
+        /** Makes a record durable. It is the given number of bytes: complete lines, none of them empty. */
         void append(byte[] record, int size) throws BookException {
             if (failed || closed) {
                 throw new BookException("the book failed before, and takes no record any more: open it anew", null);
@@ -914,7 +914,7 @@ public final class Zvt {
         String strerror(int number);
     }
 
-    /** The calls of zvt.h. */
+    /** The functions of zvt.h. */
     interface Calls extends Library {
         int zvt_abi();
         NativeLong zvt_version(byte[] room, NativeLong length);
@@ -939,7 +939,7 @@ public final class Zvt {
         void zvt_record_lost(byte[] room, NativeLong length, Answer answer);
     }
 
-    // The structs of zvt.h, by its names. JNA wants them public.
+    // The structs of zvt.h under their names. JNA requires them to be public.
 
     @Structure.FieldOrder({"size", "place", "reason", "status"})
     public static class Answer extends Structure {

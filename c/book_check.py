@@ -1,6 +1,7 @@
 """What zvt.py owes a shop whose till keeps a book: book_check.py LIBRARY BOOK. The texts of the books are written after
 docs/FORMAT.md, and not by the library. BOOK is that of two runs of journal_demo.c."""
 import errno
+import hashlib
 import os
 import sys
 import tempfile
@@ -9,11 +10,18 @@ import zvt
 import zvt_journal
 from till_check import ACK, APPROVED, DONE, LINE, PAID, REGISTERED, REVERSED, Terminal, goes_to, holds, loses_the_line, raises, thrower
 
+
+def checked(lines):
+    """A record: its lines, and their check."""
+    return f"{lines}#= {hashlib.sha256(lines.encode()).hexdigest()[:8].upper()}\n"
+
+
 OPENING = "# zvt journal 1, currency 978\n"
-REGISTER = "!\n# register\n> 060006000000BE0978\n< 800000\n< 060F00\n> 800000\n"
-PAY = "# pay 1234\n> 06010A04000000001234490978\n"
-APPROVAL, COMPLETION = f"< {APPROVED}\n> 800000\n", "< 060F00\n> 800000\n"
-PAYMENT = PAY + "< 800000\n" + APPROVAL + COMPLETION
+ACKNOWLEDGED, COMPLETION = checked("< 800000\n"), checked("< 060F00\n> 800000\n")
+REGISTER = checked("!\n") + checked("# register\n> 060006000000BE0978\n") + ACKNOWLEDGED + COMPLETION
+PAY = checked("# pay 1234\n> 06010A04000000001234490978\n")
+APPROVAL = checked(f"< {APPROVED}\n> 800000\n")
+PAYMENT = PAY + ACKNOWLEDGED + APPROVAL + COMPLETION
 BOOKED, UNCLEAR = zvt.Entry(1234, 17, 5), zvt.Entry(1234, cause=zvt.Cause.LINE)
 
 
@@ -79,7 +87,7 @@ def a_book_outlives_its_till():
         assert till.book() == [BOOKED] and till.unclear() == [] and till.journal.cut == b"" and not till.journal.created
         terminal.says(ACK + REVERSED + DONE)
         assert till.reverse(0).ending == zvt.Ending.REVERSED
-    text = OPENING + REGISTER + PAYMENT + REGISTER + "# reverse 1\n> 0630060000008700" + "05\n< 800000\n" + f"< {REVERSED}\n> 800000\n" + COMPLETION
+    text = OPENING + REGISTER + PAYMENT + REGISTER + checked("# reverse 1\n> 0630060000008700" + "05\n") + ACKNOWLEDGED + checked(f"< {REVERSED}\n> 800000\n") + COMPLETION
     assert shop.reads() == text + "\n", shop.reads()
     assert is_recovered(text, [BOOKED._replace(reversed=True)], [])
 
@@ -87,7 +95,7 @@ def a_book_outlives_its_till():
 def each_beginning_of_a_payment_is_unclear():
     before = OPENING + REGISTER
     assert is_recovered(before, [], [])
-    for text in (PAY, PAY + "< 800000\n", PAY + "< 800000\n" + APPROVAL):
+    for text in (PAY, PAY + ACKNOWLEDGED, PAY + ACKNOWLEDGED + APPROVAL):
         assert is_recovered(before + text, [], [UNCLEAR]), text
     assert is_recovered(before + PAYMENT, [BOOKED], [])
     # after the gate nothing counts
@@ -110,7 +118,7 @@ def records_are_durable_before_what_follows():
     till.journal.append, till._send = noted_append, noted_send
     terminal.says(PAID)
     till.pay(1234)
-    wanted = [PAY, "06010A04000000001234490978", "< 800000\n", APPROVAL, ACK, COMPLETION, ACK]
+    wanted = [PAY, "06010A04000000001234490978", ACKNOWLEDGED, APPROVAL, ACK, COMPLETION, ACK]
     assert events == wanted, events
 
 
@@ -120,7 +128,7 @@ def messages_that_come_in_pieces_are_whole_in_the_book():
     pieces = [bytes([byte]) for byte in bytes.fromhex(ACK + LINE + APPROVED + DONE)]
     till._receive = lambda: pieces.pop(0)
     assert till.pay(1234).ending == zvt.Ending.PAID
-    assert shop.reads() == OPENING + REGISTER + PAY + "< 800000\n" + f"< {LINE}\n> 800000\n" + APPROVAL + COMPLETION + "\n", shop.reads()
+    assert shop.reads() == OPENING + REGISTER + PAY + ACKNOWLEDGED + checked(f"< {LINE}\n> 800000\n") + APPROVAL + COMPLETION + "\n", shop.reads()
 
 
 def a_password_is_not_in_the_book():
@@ -146,7 +154,7 @@ def a_cancel_is_in_the_book():
         terminal.says("061E016C")
         return True
     assert till.pay(1234, wants_cancel=cancels).code == 0x6C
-    assert shop.reads().endswith(PAY + "< 800000\n# cancel\n> 06B000\n< 061E016C\n> 800000\n\n"), shop.reads()
+    assert shop.reads().endswith(PAY + ACKNOWLEDGED + checked("# cancel\n> 06B000\n") + checked("< 061E016C\n> 800000\n") + "\n"), shop.reads()
     till.close()
     assert is_recovered(shop.reads(), [], [])
 
@@ -156,7 +164,7 @@ def what_is_no_message_is_a_lost_line():
     till = shop.till_at(terminal)
     terminal.says(ACK + "040FFF0000")
     assert loses_the_line(lambda: till.pay(1234)).cause == zvt.Cause.LINE
-    assert shop.reads().endswith(PAY + "< 800000\n\n"), shop.reads()
+    assert shop.reads().endswith(PAY + ACKNOWLEDGED + "\n"), shop.reads()
     till.close()
     assert is_recovered(shop.reads(), [], [UNCLEAR])
 
@@ -302,5 +310,5 @@ def a_till_with_a_book_takes_no_save():
 
 if __name__ == "__main__":
     holds("book_check", [it for name, it in list(globals().items()) if callable(it) and getattr(it, "__module__", "") == "__main__"
-                         and name not in ("Shop", "refuses", "is_recovered")])
+                         and name not in ("Shop", "checked", "refuses", "is_recovered")])
     print("zvt.py: all books, their texts, crashes and full disks")

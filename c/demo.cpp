@@ -29,10 +29,14 @@ static void show_journal(const uint8_t *registered, size_t length) {
     again.recover(journal);
     for (const zvt_entry &entry : again.unclear())
         std::printf("unclear %" PRIu64 " for cause %u\n", entry.amount, entry.cause);
-    try {
-        again.recover(journal + "< 8\n");
-    } catch (const zvt::BadJournal &bad) {
-        std::printf("no journal: reason %u at %" PRIu64 "\n", bad.reason, bad.place);
+    std::string damaged = journal;
+    damaged.replace(damaged.find("# pay 1234"), 10, "# pay 1235");
+    for (const std::string &text : {journal + "< 8\n", damaged}) {
+        try {
+            again.recover(text);
+        } catch (const zvt::BadJournal &bad) {
+            std::printf("no journal: reason %u at %" PRIu64 "\n", bad.reason, bad.place);
+        }
     }
 }
 

@@ -64,6 +64,8 @@ fn show_journal() -> Result<(), Refused> {
     print!("{}", String::from_utf8_lossy(&journal));
     println!("{:?}", Till::recover(123456, 0xBE, 978, &journal).map(|mut till| till.unclear()));
     println!("{:?}", Till::recover(123456, 0xBE, 756, &journal).err());
+    let damaged = String::from_utf8_lossy(&journal).replace("# pay 1234", "# pay 1235");
+    println!("{:?}", Till::recover(123456, 0xBE, 978, damaged.as_bytes()).err());
     journal.extend(b"< 8\n");
     println!("{:?}, {:?}", Till::recover(0, 0xBE, 978, &journal).err(), record_heard(&[0x80]));
     Ok(())

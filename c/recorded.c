@@ -89,17 +89,17 @@ int main(void) {
     zvt_record_opening(0, room, 4, &a);
     if (a.status || a.size != strlen("# zvt journal 1, currency 0\n") || room[0] != 0xEE) return 3;
     zvt_record_lost(room, sizeof room, &a);
-    if (a.status || !is(a.size, "!\n")) return 4;
-    if (!is(order(ZVT_REGISTER, 0, registration, 9), "# register\n> 060006000000BE0978\n")) return 5;
-    if (!is(heard(ack, 3, 3), "< 800000\n") || !is(heard(done, 4, 3), "< 060F00\n> 800000\n")) return 6;
-    if (!is(order(ZVT_PAY, 1234, payment, 13), "# pay 1234\n> 06010A04000000001234490978\n")) return 7;
-    if (!is(heard(ack, 4, 3), "< 800000\n") || !is(heard(strange, 4, 4), "< 05010107\n> 848300\n")) return 8;
-    if (!is(heard(approved, 20, 19), "< 040F1027000400000000" "12340B000017870005\n> 800000\n") || !is(heard(done, 3, 3), "< 060F00\n> 800000\n")) return 9;
-    if (!is(order(ZVT_REVERSE, 0, reversal, 9), "# reverse 1\n> 063006000000870005\n")) return 10;
-    if (!is(heard(ack, 3, 3), "< 800000\n") || !is(heard(taken_back, 20, 20), "< 040F11270004000000001234" "0B00001837000017\n> 800000\n") || !is(heard(done, 3, 3), "< 060F00\n> 800000\n")) return 11;
-    if (!is(order(ZVT_CLOSE_DAY, 0, end_of_day, 6), "# close\n> 065003000000\n") || !is(heard(ack, 3, 3), "< 800000\n") || !is(heard(done, 3, 3), "< 060F00\n> 800000\n")) return 12;
-    if (!is(order(ZVT_PAY, 999999999999, payment, 13), "# pay 999999999999\n> 06010A04000000001234490978\n") || !is(heard(ack, 3, 3), "< 800000\n")) return 13;
-    if (!is(order(ZVT_CANCEL, 0, cancel, 3), "# cancel\n> 06B000\n")) return 14;
+    if (a.status || !is(a.size, "!\n#= 7DDCFDA1\n")) return 4;
+    if (!is(order(ZVT_REGISTER, 0, registration, 9), "# register\n> 060006000000BE0978\n#= BBBD54AC\n")) return 5;
+    if (!is(heard(ack, 3, 3), "< 800000\n#= 9A61F70B\n") || !is(heard(done, 4, 3), "< 060F00\n> 800000\n#= 07264E21\n")) return 6;
+    if (!is(order(ZVT_PAY, 1234, payment, 13), "# pay 1234\n> 06010A04000000001234490978\n#= A2BDB53A\n")) return 7;
+    if (!is(heard(ack, 4, 3), "< 800000\n#= 9A61F70B\n") || !is(heard(strange, 4, 4), "< 05010107\n> 848300\n#= 3CFFF074\n")) return 8;
+    if (!is(heard(approved, 20, 19), "< 040F1027000400000000" "12340B000017870005\n> 800000\n#= 22FB2581\n") || !is(heard(done, 3, 3), "< 060F00\n> 800000\n#= 07264E21\n")) return 9;
+    if (!is(order(ZVT_REVERSE, 0, reversal, 9), "# reverse 1\n> 063006000000870005\n#= 1C3698F8\n")) return 10;
+    if (!is(heard(ack, 3, 3), "< 800000\n#= 9A61F70B\n") || !is(heard(taken_back, 20, 20), "< 040F11270004000000001234" "0B00001837000017\n> 800000\n#= 728A8674\n") || !is(heard(done, 3, 3), "< 060F00\n> 800000\n#= 07264E21\n")) return 11;
+    if (!is(order(ZVT_CLOSE_DAY, 0, end_of_day, 6), "# close\n> 065003000000\n#= 28C1D3E3\n") || !is(heard(ack, 3, 3), "< 800000\n#= 9A61F70B\n") || !is(heard(done, 3, 3), "< 060F00\n> 800000\n#= 07264E21\n")) return 12;
+    if (!is(order(ZVT_PAY, 999999999999, payment, 13), "# pay 999999999999\n> 06010A04000000001234490978\n#= 5ECA635A\n") || !is(heard(ack, 3, 3), "< 800000\n#= 9A61F70B\n")) return 13;
+    if (!is(order(ZVT_CANCEL, 0, cancel, 3), "# cancel\n> 06B000\n#= 2BE4F364\n")) return 14;
     if (refused_order(0, 0, 3) != ZVT_ARGUMENT || refused_order(6, 0, 3) != ZVT_ARGUMENT || refused_order(ZVT_PAY, 0, 3) != ZVT_ARGUMENT) return 15;
     if (refused_order(ZVT_PAY, 1000000000000, 3) != ZVT_ARGUMENT || refused_order(ZVT_REVERSE, 10000, 9) != ZVT_ARGUMENT || refused_order(ZVT_PAY, 1, ZVT_ROOM + 1) != ZVT_ARGUMENT) return 16;
     if (zvt_record_heard(ack, 2, room, sizeof room, &a) || a.status != ZVT_MORE || a.size) return 17;
@@ -129,10 +129,10 @@ int main(void) {
         zvt_till_recover(&t, (const uint8_t *)journal, n, &a);
         if (journal[n - 1] == '\n' && a.status) return 30;
         if (a.status == ZVT_OK) taken++;
-        else if (a.status == ZVT_REFUSED && a.place == (a.reason == ZVT_WRONG_LINE ? lines : records) + 1) refused++;
+        else if (a.status == ZVT_REFUSED && a.place == (a.reason == ZVT_WRONG_RECORD ? records : lines) + 1) refused++;
         else return 31;
         if (journal[n] == '\n') lines++;
-        if (journal[n] == '\n' && line[0] != '>') records++;
+        if (journal[n] == '\n' && line[0] != '>' && line[1] != '=') records++;
         if (journal[n] == '\n') line = journal + n + 1;
     }
     /* texts that are no journal of this till */
@@ -148,16 +148,28 @@ int main(void) {
     if (zvt_till_new(&other, 0, 0xBE, 756)) return 45;
     zvt_till_recover(&other, (const uint8_t *)journal, length, &a);
     if (a.status != ZVT_REFUSED || a.reason != ZVT_WRONG_OPENING || zvt_till_state(&other, &s) || s.booked) return 46;
-    /* altered bytes make a till or name a place in the text; a till that is refused changes nothing */
+    /* a changed digit is found by the check of its record, whose line is named */
+    if (zvt_till_new(&other, 0, 0xBE, 978)) return 50;
+    memcpy(text, journal, length);
+    text[strstr(journal, "1234") - journal] = '2';
+    zvt_till_recover(&other, (const uint8_t *)text, length, &a);
+    if (a.status != ZVT_REFUSED || a.reason != ZVT_WRONG_CHECK || !a.place || !is_state(&other, 0, 0, 0)) return 53;
+    /* without checks altered bytes make a till or name a place in the text; a till that is refused changes nothing */
+    char plain[8192];
+    size_t size = 0;
+    for (const char *at = journal; *at; at = strchr(at, '\n') + 1) {
+        size_t whole = strchr(at, '\n') + 1 - at;
+        if (at[0] != '#' || at[1] != '=') { memcpy(plain + size, at, whole); size += whole; }
+    }
     unsigned seed = 1;
     long made = 0;
     for (int i = 0; i < 5000; i++) {
-        memcpy(text, journal, length);
-        for (int k = 0; k < 2; k++) text[30 + rand_r(&seed) % (length - 30)] = "\n#<>! 0189ABCDEFpayreversecloseregister"[rand_r(&seed) % 39];
+        memcpy(text, plain, size);
+        for (int k = 0; k < 2; k++) text[30 + rand_r(&seed) % (size - 30)] = "\n#<>! 0189ABCDEFpayreversecloseregister"[rand_r(&seed) % 39];
         if (zvt_till_new(&other, 0, 0xBE, 978)) return 50;
-        zvt_till_recover(&other, (const uint8_t *)text, length, &a);
+        zvt_till_recover(&other, (const uint8_t *)text, size, &a);
         if (a.status == ZVT_OK) made++;
-        else if (a.status != ZVT_REFUSED || a.reason < ZVT_WRONG_LINE || a.reason > ZVT_WRONG_RECORD || !a.place || a.place > 40 || !is_state(&other, 0, 0, 0)) return 51;
+        else if (a.status != ZVT_REFUSED || a.reason < ZVT_WRONG_LINE || a.reason > ZVT_WRONG_CHECK || !a.place || a.place > 40 || !is_state(&other, 0, 0, 0)) return 51;
     }
     if (made < 20 || made > 4900) return 52;
     zvt_till_free(&t); zvt_till_free(&other);

@@ -1,4 +1,4 @@
-/* zvt.hpp: the till of zvt.h for C++ (17), in one class that owns its handle. Header only. */
+/* zvt.hpp: the till of zvt.h as a C++17 class that owns its handle. Header only. */
 #ifndef ZVT_HPP
 #define ZVT_HPP
 #include "zvt.h"
@@ -9,19 +9,19 @@
 
 namespace zvt {
 
-/* The library lays its structs out so. */
+/* The struct layouts that the library uses. */
 static_assert(sizeof(void *) != 8 || (sizeof(zvt_till) == 16 && sizeof(zvt_answer) == 24 && sizeof(zvt_step) == 64));
 static_assert(sizeof(void *) != 8 || (sizeof(zvt_state) == 72 && sizeof(zvt_entry) == 32));
 static_assert(sizeof(void *) != 8 || (offsetof(zvt_step, outcome) == 44 && offsetof(zvt_state, last) == 48 && offsetof(zvt_entry, doubt) == 28));
 
-/* A call that was refused; the till is as it was. */
+/* Thrown if a call is refused. The till has not changed. */
 class Refused : public std::runtime_error {
 public:
     explicit Refused(uint32_t status) : std::runtime_error("zvt: status " + std::to_string(status)), status(status) {}
     const uint32_t status; /* one of zvt.h's */
 };
 
-/* What the terminal's bytes came to. Send `send` whatever the status is. */
+/* Result of feeding bytes from the terminal. Send `send` whatever the status is. */
 struct Reply {
     std::vector<uint8_t> send;
     std::vector<std::string> lines; /* to print, in the terminal's character set */
@@ -34,36 +34,35 @@ inline void check(uint32_t status) {
     if (status != ZVT_OK) throw Refused(status);
 }
 
-/* The library's version, as 0.2.0. */
+/* Version of the library, such as 0.2.0. */
 inline std::string version() {
     uint8_t room[32];
     return {room, room + zvt_version(room, sizeof room)};
 }
 
-/* Records of a journal, each to be durable before what zvt.h says. */
-inline std::string record_opening(uint16_t currency = 978) {
-    uint8_t room[64];
+/* The text that a call writes: ZVT_RECORD_ROOM bytes hold each record. */
+template <typename Write> std::string record(Write write) {
+    std::vector<uint8_t> room(ZVT_RECORD_ROOM);
     zvt_answer answer{};
-    zvt_record_opening(currency, room, sizeof room, &answer);
+    write(room.data(), room.size(), &answer);
     check(answer.status);
-    return {room, room + answer.size};
+    return {room.begin(), room.begin() + answer.size};
 }
-/* An order, with the bytes that Till::order gave. */
+/* Records of a journal. zvt.h says before what each must be durable. */
+inline std::string record_opening(uint16_t currency = 978) {
+    return record([&](uint8_t *room, size_t length, zvt_answer *answer) { zvt_record_opening(currency, room, length, answer); });
+}
+/* Records an order and the bytes that Till::order returned. */
 inline std::string record_order(uint32_t order, uint64_t number, const std::vector<uint8_t> &sent) {
-    uint8_t room[128];
-    zvt_answer answer{};
-    zvt_record_order(order, number, sent.data(), sent.size(), room, sizeof room, &answer);
-    check(answer.status);
-    return {room, room + answer.size};
+    return record([&](uint8_t *room, size_t length, zvt_answer *answer) {
+        zvt_record_order(order, number, sent.data(), sent.size(), room, length, answer);
+    });
 }
 inline std::string record_lost() {
-    uint8_t room[8];
-    zvt_answer answer{};
-    zvt_record_lost(room, sizeof room, &answer);
-    check(answer.status);
-    return {room, room + answer.size};
+    return record([](uint8_t *room, size_t length, zvt_answer *answer) { zvt_record_lost(room, length, answer); });
 }
-/* The message that stands first: feed it once its record is durable. The status is ZVT_WHOLE, ZVT_MORE or ZVT_REFUSED. */
+/* Record of the first message in the bytes: feed the message once the record is durable. The status is ZVT_WHOLE, ZVT_MORE or
+ * ZVT_REFUSED. */
 struct Heard {
     std::string record;
     zvt_answer answer{};
@@ -77,15 +76,15 @@ inline Heard record_heard(const uint8_t *bytes, size_t length) {
     return heard;
 }
 
-/* Why a text makes no till. */
+/* Thrown if a text is not a journal from which a till can be restored. */
 class BadJournal : public Refused {
 public:
     explicit BadJournal(const zvt_answer &answer) : Refused(answer.status), reason(answer.reason), place(answer.place) {}
-    const uint32_t reason; /* ZVT_WRONG_OPENING .. ZVT_WRONG_RECORD */
+    const uint32_t reason; /* ZVT_WRONG_OPENING .. ZVT_WRONG_CHECK */
     const uint64_t place;
 };
 
-/* A till. It is moved, never copied. One thread at a time uses it. */
+/* A till. You can move it but not copy it. Only one thread at a time may use it. */
 class Till {
 public:
     explicit Till(uint32_t password = 0, uint8_t config = 0xBE, uint16_t currency = 978) {
@@ -97,7 +96,7 @@ public:
         check(zvt_till_load(&till.handle, saved.data(), saved.size()));
         return till;
     }
-    /* Becomes the till of a journal's records, with the settings that it has. */
+    /* Restores the till of a journal, with the settings of this till. */
     void recover(const std::string &text) {
         zvt_answer answer{};
         zvt_till_recover(&handle, reinterpret_cast<const uint8_t *>(text.data()), text.size(), &answer);
@@ -120,14 +119,14 @@ public:
         check(zvt_till_lost(&handle, &step));
         return step.outcome;
     }
-    /* The bytes to send. Save before they go out. */
+    /* Returns the bytes to send. Save the till before you send them. */
     std::vector<uint8_t> order(uint32_t order, uint64_t number = 0) {
         uint8_t out[ZVT_ROOM];
         zvt_step step{};
         check(zvt_till_order(&handle, order, number, out, sizeof out, &step));
         return {out, out + step.send};
     }
-    /* Takes all that the terminal sent, up to bytes that are no message. */
+    /* Reads what the terminal sent, up to the first invalid byte. */
     Reply feed(const uint8_t *piece, size_t length) {
         Reply reply;
         uint8_t out[8 * ZVT_ROOM];
@@ -147,7 +146,7 @@ public:
         check(zvt_till_state(&handle, &state));
         return state;
     }
-    /* `doubt` says what the reversals of a payment leave open; state().unclear_reversals counts those that are unclear. */
+    /* A booked payment. `doubt` says whether its reversal is unclear; state().unclear_reversals counts the unclear ones. */
     std::vector<zvt_entry> book() { return entries(state().booked, zvt_till_entry); }
     std::vector<zvt_entry> unclear() { return entries(state().unclear, zvt_till_unclear); }
     std::vector<uint8_t> save() {

@@ -9,9 +9,9 @@
         Till.Free;
       end;
 
-  The library keeps the till and its book; this unit moves the bytes. Amounts are in the smallest unit of the currency. One thread
-  at a time uses a till. The system is Linux on x86-64, as for the library. Delphi has no unit ssockets: give Connect a line of
-  your own there. }
+  The library keeps the till and its book; this unit transports the bytes. Amounts are in the smallest unit of the currency. Only
+  one thread at a time may use a till. Like the library, this needs Linux on x86-64. Delphi has no unit ssockets: pass a
+  connection of your own to Connect there. }
 unit zvt;
 
 {$IFDEF FPC}{$MODE DELPHI}{$ENDIF}
@@ -22,45 +22,45 @@ uses
   SysUtils;
 
 const
-  { The layouts and calls that this unit is made for. }
+  { Version of the struct layouts and calls that this unit expects. }
   ZvtAbi = 1;
   ZvtMaxAmount = 999999999999;
-  { What a number is where an outcome or an entry does not have it. }
+  { Stands for a number that an outcome or an entry does not have. }
   ZvtNone = -1;
 
 type
   { How an order ended. }
   TZvtEnding = (zeNone, zeRegistered, zePaid, zeDeclined, zeOrderRefused, zeAborted, zeUnclear, zeReversed, zeDayClosed);
-  { Why a payment or a reversal is unclear: ask the terminal's journal, and book nothing by guess. }
+  { Why a payment or a reversal is unclear. Check the terminal's journal before you book or refund the amount. }
   TZvtCause = (zcNone, zcNoStatus, zcConflict, zcAmountDiffers, zcNoTrace, zcTraceUsed, zcAbortAfterApproval, zcLine,
     zcMalformed, zcUnfinished, zcWrongCurrency);
-  { What the reversals of a booked payment leave open. zdUnclearReversal: the last one took the payment back or not, and nobody
-    knows. Reverse it again when the line is back. zdTakenBack: the terminal said with the code B4 that it took it back before. }
+  { What is in doubt about the reversal of a booked payment. zdUnclearReversal: the last reversal may have succeeded or not. Reverse
+    the payment again once you are connected. zdTakenBack: the terminal answered B4, because it had reversed the payment before. }
   TZvtDoubt = (zdNo, zdUnclearReversal, zdTakenBack);
 
   TZvtOutcome = record
     Ending: TZvtEnding;
-    { The terminal's code, where it declined, refused or aborted. }
+    { The terminal's code, if it declined, refused or aborted the order. }
     Code: Integer;
-    { What the code means, where it has a meaning of its own; else empty. }
+    { The meaning of the code, or empty if it has none. }
     Meaning: string;
-    { Where the payment or the reversal is unclear. }
+    { The cause, if the payment or the reversal is unclear. }
     Cause: TZvtCause;
-    { Where it is paid; the receipt number only where the terminal gave one. }
+    { The numbers of a paid payment; the receipt number only if the terminal gave one. }
     Trace, Receipt: Integer;
-    { Whether the order ended by its line, and not by what the terminal said. }
+    { Whether the connection ended the order, rather than a message of the terminal. }
     function IsByLine: Boolean;
     function ToString: string;
   end;
 
-  { A payment that is booked, or one that is unclear for a cause. }
+  { A payment, either booked or unclear for a cause. }
   TZvtEntry = record
     Amount: Int64;
-    { Of a booked payment; the receipt number only where the terminal gave one. }
+    { The numbers of a booked payment; the receipt number only if the terminal gave one. }
     Trace, Receipt: Integer;
-    { Whether a completed reversal took it back. }
+    { Whether a reversal of it was completed. }
     Reversed: Boolean;
-    { Why the payment is unclear, or its last reversal. }
+    { The cause of an unclear payment or reversal. }
     Cause: TZvtCause;
     Doubt: TZvtDoubt;
     function ToString: string;
@@ -69,36 +69,36 @@ type
   TZvtEntries = array of TZvtEntry;
   TZvtPlaces = array of Integer;
 
-  { An argument that the library can't take. }
+  { An argument is out of range. }
   EZvtArgument = class(EArgumentException);
   { The till is closed, or a callback gives its till an order. }
   EZvtUse = class(EInvalidOpException);
 
-  { A call that the library refused; the till is as it was. The status is one of zvt.h's. }
+  { The library refused a call. The till has not changed. The status is one of zvt.h. }
   EZvtRefused = class(Exception)
   public
     Status: Cardinal;
     constructor Create(AStatus: Cardinal);
   end;
 
-  { The line ended, broke, fell silent or brought what is no message, and was given up. The outcome says how the order ended by
-    it: a payment or a reversal is unclear. }
+  { The connection ended, failed, timed out or sent invalid bytes, and was closed. The outcome is the result of the order: a
+    payment or a reversal is unclear. }
   EZvtLine = class(Exception)
   public
     Outcome: TZvtOutcome;
     constructor Create(const AOutcome: TZvtOutcome; const Why: string);
   end;
 
-  { A book that can't be opened or written. The till that had it sends nothing more: make a new one, which opens it again. }
+  { The book can't be opened or written. Its till sends nothing more: create a new till, which opens the book again. }
   EZvtBook = class(Exception);
 
-  { What a line raises where it ends, breaks or is silent. }
+  { The connection ended, failed or timed out. }
   EZvtBroken = class(Exception);
 
-  { A line to a terminal. }
+  { A connection to a terminal. }
   TZvtConnection = class
   public
-    { Reads what comes within that time: 0 where nothing came. Raises EZvtBroken at the end of the line. }
+    { Reads bytes that arrive within this time. Returns 0 if nothing arrived. Raises EZvtBroken at the end of the connection. }
     function Read(var Buffer: TBytes; Milliseconds: Integer): Integer; virtual; abstract;
     procedure Write(const Bytes: TBytes); virtual; abstract;
   end;
@@ -107,18 +107,18 @@ type
   TZvtHeard = procedure(const Text: string) of object;
   TZvtQuestion = function: Boolean of object;
 
-  { What a till is made with. }
+  { The settings of a till. }
   TZvtSettings = record
     { A number of up to six digits. }
     Password: Integer;
     Config: Integer;
-    { The number of ISO 4217: 978 is the euro. }
+    { The code of ISO 4217: 978 is the euro. }
     Currency: Integer;
-    { The file in which the till keeps its book, through every end of the process; empty for none. }
+    { The file in which the till keeps its book, which survives every end of the process. Empty for none. }
     Book: string;
-    { Takes the bytes of each print line, in the terminal's character set. What it raises waits for the order's outcome. }
+    { Receives the bytes of each print line, in the terminal's character set. Its exceptions wait for the order's outcome. }
     PrintLine: TZvtPrintLine;
-    { Takes the text of each message of the terminal, as the program zvt shows it; what it raises waits, too. }
+    { Receives the text of each message of the terminal, as the program zvt shows it. Its exceptions wait, too. }
     Heard: TZvtHeard;
   end;
 
@@ -153,10 +153,10 @@ type
     Full: Cardinal;
   end;
 
-  { The file of a book: text records, each of which is there whole or not at all, whenever the process ends. At rest the file is
-    its records and one line feed, the closed gate, which reads as an empty line. What it stands for is its whole lines up to the
-    first empty one. A record is added in two steps, each durable before the next: the record without its first byte after the
-    gate, with the next gate; and then the first byte over the gate. }
+  { The file of a book: text records, each of which is complete or absent, whenever the process ends. At rest the file is its
+    records and one line feed, the closed gate, which reads as an empty line. It stands for its complete lines up to the first
+    empty one. A record is appended in two steps, each durable before the next: the record without its first byte after the gate,
+    with the next gate; and then the first byte over the gate. }
   TZvtJournal = class
   private
     FPath: string;
@@ -173,20 +173,20 @@ type
     procedure SyncFolder;
     procedure Write(const Bytes: TBytes; Place: Int64; const What: string);
   public
-    { Opens the file, or makes it; nothing is written yet. }
+    { Opens the file, or creates it. Writes nothing yet. }
     constructor Create(const Path: string);
     destructor Destroy; override;
-    { Makes the file one at rest. What is cut is at the end of the file of this name and .cut first. }
+    { Truncates the file to its records and closes the gate. First appends the removed bytes to the file of this name and .cut. }
     procedure Settle;
-    { Makes a record durable: the first so many bytes, whole lines, none of them empty. }
+    { Makes a record durable. It is the given number of bytes: complete lines, none of them empty. }
     procedure Append(const Bytes: TBytes; Size: Integer);
-    { Takes no record from now on. }
+    { Refuses records from now on. }
     procedure GiveUp;
-    { The records of the file as it was opened. }
+    { The records that the file had when it was opened. }
     property Text: TBytes read FText;
   end;
 
-  { A till, which keeps its book in a file where the settings name one. }
+  { A till. It keeps its book in a file if the settings name one. }
   TZvtTill = class
   private
     FHandle: TZvtHandle;
@@ -223,44 +223,44 @@ type
     function IsRegistered: Boolean;
     function SumOfBook: Int64;
   public
-    { Where the file of a book is there, the till goes on from it. }
+    { Creates a till. If the file of its book exists, the till continues from it. }
     constructor Create(const Settings: TZvtSettings);
-    { Gives the line and the till up. A book is complete on the disk before. }
+    { Closes the connection and frees the till. The book on the disk is already complete. }
     destructor Destroy; override;
     {$IFDEF FPC}
-    { Opens a line by TCP; one that stood before is lost. The terminal may be silent for the time-out within an order. }
+    { Connects by TCP, and closes an earlier connection. During an order the terminal may be silent for the timeout. }
     procedure Connect(const Host: string; Port: Word; Milliseconds: Integer); overload;
     {$ENDIF}
-    { Takes a line that is up, which the till frees. }
+    { Takes over an open connection, which the till frees. }
     procedure Connect(Line: TZvtConnection; Milliseconds: Integer); overload;
-    { Gives the line up. }
+    { Closes the connection. }
     procedure Disconnect;
     function Register: TZvtOutcome;
-    { Pays. Five times a second the till asks whether to cancel the payment; the terminal says what comes of it. }
+    { Pays an amount. Five times a second the till asks whether to cancel the payment; the terminal decides. }
     function Pay(Amount: Int64; WantsCancel: TZvtQuestion = nil): TZvtOutcome;
-    { Takes back the payment at that place of the book, from 0. }
+    { Reverses the payment at this index of the book, from 0. }
     function Reverse(Place: Integer): TZvtOutcome;
     function CloseDay: TZvtOutcome;
-    { The payments that are booked. }
+    { The booked payments. }
     function Book: TZvtEntries;
-    { The payments that are neither booked nor known not to be. }
+    { The unclear payments: the terminal may have booked them or not. }
     function Unclear: TZvtEntries;
-    { The places of the booked payments whose last reversal is unclear: reverse these again. }
+    { The indices of the booked payments whose last reversal is unclear. Reverse them again. }
     function UnclearReversals: TZvtPlaces;
-    { The bytes that the till is saved in: those of the till after its line was lost. They have the password in clear. }
+    { Saves the till as bytes, as it would be after losing its connection. They contain the password in clear. }
     function Save: TBytes;
-    { Makes this the till that the bytes were saved of. Its line is down then. }
+    { Restores the till from saved bytes. It is not connected afterwards. }
     procedure Load(const Saved: TBytes);
-    { What the payments that no completed reversal took back come to. }
+    { The sum of the booked payments without a completed reversal. }
     property Total: Int64 read SumOfBook;
     property Registered: Boolean read IsRegistered;
-    { The last outcome; its ending is zeNone where there is none. }
+    { The last outcome; its ending is zeNone if there is none. }
     property Last: TZvtOutcome read LastOutcome;
   end;
 
 { Settings of a till with this book, empty for none: no password, the usual config byte, and the euro. }
 function ZvtSettings(const Book: string = ''): TZvtSettings;
-{ The version of the library, as 0.2.0. }
+{ The version of the library, such as 0.2.0. }
 function ZvtVersion: string;
 
 implementation
@@ -375,7 +375,7 @@ begin
     raise EZvtArgument.CreateFmt('%s is a number from %d to %d, and not %d', [Name, Least, Most, Number]);
 end;
 
-{ The first byte of the bytes, or nil. }
+{ A pointer to the first byte, or nil. }
 function First(const Bytes: TBytes): PByte;
 begin
   if Length(Bytes) = 0 then Result := nil else Result := @Bytes[0];
@@ -395,7 +395,7 @@ begin
   SetString(Result, PAnsiChar(@Room[0]), Min(zvt_result_name(Code, PByte(@Room[0]), SizeOf(Room)), SizeOf(Room)));
 end;
 
-{ The text of a message, as the program zvt shows it. }
+{ Returns the text of a message, as the program zvt shows it. }
 function TextOf(const Message: TBytes): string;
 var
   Answer: TZvtAnswer;
@@ -522,7 +522,7 @@ begin
   except
     on Error: ESocketError do raise EZvtBroken.CreateFmt('cannot connect to %s:%d: %s', [Host, Port, Error.Message]);
   end;
-  { Each message goes out at once: without this the system may hold an acknowledgement back for 40 ms. }
+  { Send each message at once: otherwise the system may delay an acknowledgement by 40 ms. }
   Yes := 1;
   fpSetSockOpt(FSocket.Handle, IPPROTO_TCP, TCP_NODELAY, @Yes, SizeOf(Yes));
 end;
@@ -585,7 +585,7 @@ begin
   if Settings.Book <> '' then BeginBook(Settings);
 end;
 
-{ Makes the till that of the book, or begins the book. }
+{ Restores the till of the book, or creates the book. }
 procedure TZvtTill.BeginBook(const Settings: TZvtSettings);
 var
   Answer: TZvtAnswer;
@@ -601,11 +601,11 @@ begin
   end;
 end;
 
-{ Makes the till that of the book's records. }
+{ Restores the till from the book's records. }
 procedure TZvtTill.Recover(const Path: string);
 const
-  Why: array[1..3] of string = ('line %d is not the first line of a journal of its currency', 'line %d is no line of a till''s record',
-    'record %d can''t follow from those before it');
+  Why: array[1..4] of string = ('line %d is not the first line of a journal of its currency', 'line %d is no line of a till''s record',
+    'record %d can''t follow from those before it', 'line %d is not the check of its record: the file was changed or damaged');
 var
   Answer: TZvtAnswer;
 begin
@@ -694,8 +694,8 @@ begin
   Result := Run(OrderCloseDay, 0, nil);
 end;
 
-{ One order from end to end. Raises EZvtLine where the order ended by the line, EZvtBook where the book failed, EZvtRefused where
-  the library refuses it, and what a callback raised, once the order has ended. }
+{ Runs an order to its end. Raises EZvtLine if the connection ended the order, EZvtBook if the book failed, EZvtRefused if the
+  library refused the order, and, once the order has ended, the exception of a callback. }
 function TZvtTill.Run(Order: Cardinal; Number: Int64; WantsCancel: TZvtQuestion): TZvtOutcome;
 var
   Bytes: TBytes;
@@ -743,7 +743,7 @@ begin
   Result := Copy(FOut, 0, Step.Send);
 end;
 
-{ Makes the order durable, and only then sends it. }
+{ Makes the order durable and then sends it. }
 procedure TZvtTill.KeepAndSend(Order: Cardinal; Number: Int64; const Bytes: TBytes);
 var
   Answer: TZvtAnswer;
@@ -756,7 +756,7 @@ begin
   FLine.Write(Bytes);
 end;
 
-{ After an error the book may lack a record that the till lives through: this till adds no more to it. }
+{ After an error the book may lack a record that the till has processed, so this till stops writing it. }
 procedure TZvtTill.MakeDurable(const Answer: TZvtAnswer);
 begin
   if Answer.Status <> 0 then FJournal.GiveUp;
@@ -769,7 +769,7 @@ begin
   if Step.Outcome.Kind <> 0 then FOutcome := OutcomeOf(Step.Outcome);
 end;
 
-{ Hears the terminal until the order has ended. }
+{ Reads from the terminal until the order has ended. }
 procedure TZvtTill.HearOut(WantsCancel: TZvtQuestion);
 var
   Room: TBytes;
@@ -796,7 +796,7 @@ begin
   end;
 end;
 
-{ Asks the terminal to cancel the payment: False where it has not acknowledged the payment yet, and is to be asked later. }
+{ Asks the terminal to cancel the payment. Returns False if it has not acknowledged the payment yet: try again later. }
 function TZvtTill.Cancels: Boolean;
 var
   Bytes: TBytes;
@@ -814,7 +814,7 @@ begin
   Result := True;
 end;
 
-{ What a callback raises waits until what the terminal sent is heard and answered; the first goes on. }
+{ Postpones the first exception of a callback until everything that the terminal sent is read and answered. }
 function TZvtTill.Wants(Question: TZvtQuestion): Boolean;
 begin
   try
@@ -843,8 +843,8 @@ begin
   end;
 end;
 
-{ Feeds the messages that end in a piece, and sends what answers them. Where the line takes no answer, the rest is heard all the
-  same. Bytes that are no message come last: to a till that keeps a book they are a lost line. }
+{ Feeds the messages that end in a chunk, and sends the replies. If sending fails, still feeds the rest. Invalid bytes come last: a
+  till with a book treats them as a lost connection. }
 procedure TZvtTill.Hear(const Piece: TBytes);
 var
   Answer: TZvtAnswer;
@@ -869,7 +869,7 @@ begin
   if Broken <> '' then raise EZvtBroken.Create(Broken);
 end;
 
-{ The size of the record of the message that stands first, of a till that keeps a book; the answer says what stands first. }
+{ Writes the record of the first message, if the till has a book, and returns its size. The answer describes the message. }
 function TZvtTill.FindFirst(var Answer: TZvtAnswer): Integer;
 begin
   Result := 0;
@@ -1013,14 +1013,14 @@ begin
   raise EZvtBook.CreateFmt('cannot %s the book %s: %s', [What, FPath, LastError]);
 end;
 
-{ The answer of a call that answers -1 where it fails. }
+{ Checks the result of a call that returns -1 if it fails. }
 function TZvtJournal.Done(Answer: Int64; const What: string): Int64;
 begin
   if Answer < 0 then RaiseLast(What);
   Result := Answer;
 end;
 
-{ The file, which its owner alone may read where it is made. }
+{ Opens the file. If it is created, only its owner may read it. }
 function TZvtJournal.OpenOrMake: Integer;
 begin
   Result := posix_open(PAnsiChar(AnsiString(FPath)), O_RDWR or O_CREAT or O_EXCL or O_CLOEXEC, $180);
@@ -1031,7 +1031,7 @@ begin
   Result := Done(posix_open(PAnsiChar(AnsiString(FPath)), O_RDWR or O_CLOEXEC, 0), 'open');
 end;
 
-{ The bytes of the file, all of them durable: after a kill, what a read returns need not be on the disk. }
+{ Reads the file and makes its bytes durable: after a kill, bytes that a read returns need not be on the disk. }
 function TZvtJournal.Durable: TBytes;
 var
   Room: TBytes;
@@ -1047,7 +1047,7 @@ begin
   until Size = 0;
 end;
 
-{ How many bytes of whole lines come before the first empty line, if the file of a book may hold these bytes. }
+{ Returns the size of the complete lines before the first empty one, if a book may have these bytes. }
 function TZvtJournal.Accepted(const Held: TBytes): Integer;
 var
   At: Integer;
@@ -1075,7 +1075,7 @@ procedure TZvtJournal.Settle;
 begin
   if Length(FCut) > 0 then KeepCut;
   SyncFolder;
-  { The cut is on the disk before a gate is written: after a torn gate what was there would count. }
+  { The truncation is on the disk before a gate is written: after a torn gate, the removed bytes would count. }
   Done(ftruncate(FFile, FGate), 'open');
   Done(fdatasync(FFile), 'open');
   Write(TBytes.Create(10), FGate, 'open');

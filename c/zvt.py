@@ -1,4 +1,4 @@
-"""A till in Python, over libzvt.so. The library keeps the till and its book; this module moves the bytes.
+"""A till in Python, based on libzvt.so. The library keeps the till and its book; this module transports the bytes.
 
     import zvt
 
@@ -7,11 +7,11 @@
         till.register()
         print(till.pay(1000))          # paid, trace 000001, receipt 0001
 
-With `book="day.trace"` the till keeps its book in that file, through every crash of the process and the machine. Opened
-anew, it has the payments of the file. zvt_journal.py is needed for it too.
+With `book="day.trace"` the till keeps its book in that file, which survives every crash of the process and the machine. A
+till that opens the file again has its payments. This needs zvt_journal.py.
 
-Amounts are in the smallest unit of the currency. One thread at a time uses a Till. Where no library is named, that of the
-Python package is taken, or else that of the system.
+Amounts are in the smallest unit of the currency. Only one thread at a time may use a Till. Unless you name a library, the
+module uses the one of the Python package, or else the one of the system.
 """
 import ctypes as c
 import enum
@@ -38,14 +38,14 @@ class Ending(enum.IntEnum):
 
 
 class Cause(enum.IntEnum):
-    """Why a payment or a reversal is unclear: ask the terminal's journal, and book nothing by guess."""
+    """Why a payment or a reversal is unclear. Check the terminal's journal before you book or refund the amount."""
     NO_STATUS, CONFLICT, AMOUNT_DIFFERS, NO_TRACE, TRACE_USED, ABORT_AFTER_APPROVAL, LINE, MALFORMED, UNFINISHED, WRONG_CURRENCY = range(1, 11)
 
 
 class Doubt(enum.IntEnum):
-    """What the reversals of a booked payment leave open, beside `reversed`. UNCLEAR_REVERSAL: the last one took the payment
-    back or not, nobody knows, and the cause says why. Reverse it again when the line is back: a completion marks it, and B4
-    says that it was taken back. TAKEN_BACK: B4 said so."""
+    """What is in doubt about the reversal of a booked payment. UNCLEAR_REVERSAL: the last reversal may have succeeded or
+    not, and the cause says why this is unknown. Reverse the payment again once you are connected: the terminal either
+    completes the reversal or answers B4, because it had reversed the payment before. TAKEN_BACK: it answered B4."""
     UNCLEAR_REVERSAL, TAKEN_BACK = range(1, 3)
 
 
@@ -56,11 +56,12 @@ class Status(enum.IntEnum):
 
 # Why a text is no book of a till.
 NO_BOOK = {1: "line {} is not the first line of a journal of its currency", 2: "line {} is no line of a till's record",
-           3: "record {} can't follow from those before it"}
+           3: "record {} can't follow from those before it",
+           4: "line {} is not the check of its record: the file was changed or damaged"}
 
 
 class Refused(Exception):
-    """A call that the library refused; the till is as it was. `status` says why."""
+    """The library refused a call. The till has not changed. `status` says why."""
 
     def __init__(self, status):
         self.status = Status(status)
@@ -68,8 +69,8 @@ class Refused(Exception):
 
 
 class LineError(ConnectionError):
-    """The line ended, broke, fell silent or brought what is no message, and was given up. `outcome` says how the order ended by
-    it: a payment or a reversal is unclear."""
+    """The connection ended, failed, timed out or sent invalid bytes, and was closed. `outcome` is the result of the order:
+    a payment or a reversal is unclear."""
 
     def __init__(self, outcome):
         self.outcome = outcome
@@ -77,7 +78,7 @@ class LineError(ConnectionError):
 
 
 class _BrokenLine(Exception):
-    """The line ended, broke or fell silent."""
+    """The connection ended, failed or timed out."""
 
 
 class Outcome(NamedTuple):
@@ -89,7 +90,7 @@ class Outcome(NamedTuple):
     meaning: Optional[str] = None    # of the code, where it has one of its own
 
     def is_by_line(self):
-        """Whether the order ended by its line, and not by what the terminal said."""
+        """Whether the connection ended the order, rather than a message of the terminal."""
         return self.cause in (Cause.LINE, Cause.MALFORMED)
 
     def __str__(self):
@@ -104,7 +105,7 @@ class Outcome(NamedTuple):
 
 
 class Entry(NamedTuple):
-    """A payment that is booked, or that is unclear for a cause."""
+    """A payment, either booked or unclear for a cause."""
     amount: int
     trace: Optional[int] = None
     receipt: Optional[int] = None
@@ -124,8 +125,8 @@ class Entry(NamedTuple):
 
 
 class State(NamedTuple):
-    """The state of a till. `total` is of the payments that no completed reversal took back, `held` the bytes of an unfinished
-    message."""
+    """The state of a till. `total` is the sum of the booked payments without a completed reversal, and `held` the size of
+    the incomplete message that the till holds."""
     total: int
     booked: int
     unclear: int
@@ -149,7 +150,7 @@ class _Outcome(c.Structure):
     _fields_ = [(n, c.c_uint32) for n in ("kind", "code", "trace", "receipt", "has_receipt")]
 
     def value(self, library):
-        """None where no order ended."""
+        """Returns the outcome, or None if no order has ended."""
         ending = Ending(self.kind)
         if ending == Ending.NONE:
             return None
@@ -215,7 +216,7 @@ _RESULTS |= {name: c.c_size_t for name in ("zvt_record_heard", "zvt_result_name"
 
 
 def whole(name, number, least, most):
-    """Raises a TypeError or a ValueError where the argument is no whole number from `least` to `most`."""
+    """Raises a TypeError or a ValueError unless the argument is an integer from `least` to `most`."""
     if isinstance(number, bool) or not isinstance(number, int):
         raise TypeError(f"{name} is a whole number, and not {number!r}")
     if not least <= number <= most:
@@ -223,7 +224,8 @@ def whole(name, number, least, most):
 
 
 def opened(library=None):
-    """The library, with the types of its calls. Where none is named, that beside this module, or else that of the system."""
+    """Loads the library and declares the types of its calls. By default it is the one next to this module, or else the
+    system's."""
     if library is None:
         beside = os.path.join(os.path.dirname(os.path.abspath(__file__)), "libzvt.so.0")
         library = beside if os.path.exists(beside) else "libzvt.so.0"
@@ -239,34 +241,37 @@ def opened(library=None):
 
 
 def version(library=None):
-    """The version of the library, as 0.2.0."""
+    """Returns the version of the library, such as 0.2.0."""
     return written(opened(library).zvt_version)
 
 
 def written(call, *arguments):
-    """The text that a call writes into a room, after these arguments."""
+    """Returns the text that a call writes to a buffer, which follows these arguments."""
     room = c.create_string_buffer(64)
     size = call(*arguments, room, len(room))
     return room.raw[:size].decode("ascii")
 
 
 class Till:
-    """A till on a socket. `keep`, where it is given, is called with the bytes that the till is saved in: before an order
-    goes out, and after each outcome. What it raises before an order stops the order: nothing was sent, and the line is
-    given up. `print_line`, where it is given, is called with the bytes of each print line of the terminal, in the
-    terminal's character set. `heard`, where it is given, is called with the text of each message of the terminal, as the
-    program `zvt` shows it: the state of a payment is in those of the kind Intermediate.
+    """A till on a socket.
 
-    A callback that raises loses nothing. What the terminal sent is heard to its end and answered, the order goes on to
-    its outcome, and then the exception goes on; `last()` has the outcome. An exception that is to end the program, as
-    KeyboardInterrupt, gives the line up first, so that no order runs on: a payment or a reversal is then unclear.
+    `keep`, if given, is called with the bytes of the saved till before each order is sent, and after each outcome. If it
+    raises an exception before an order, the order is not sent and the connection is closed. `print_line`, if given, is called
+    with the bytes of each print line of the terminal, in the terminal's character set. `heard`, if given, is called with the
+    text of each message of the terminal, as the program `zvt` shows it; messages of the kind Intermediate have the state of a
+    payment.
 
-    `book`, where it is given, is the path of a file in which the till keeps its book. Where the file is there the till goes on
-    from it; `journal` is its zvt_journal.Journal. An order is in it before it is sent, and a message of the terminal before
-    the till hears it. Where it can't be opened or written a zvt_journal.BookError is raised, nothing more is sent, and a till
-    is made anew from it. A line that brings what is no message is a lost line to such a till.
+    A callback that raises an exception loses nothing: the till reads and answers everything that the terminal sends, up to the
+    outcome of the order, and then raises the exception; `last()` has the outcome. An exception that is meant to end the
+    program, such as KeyboardInterrupt, closes the connection first, so that no order continues: a payment or a reversal is
+    then unclear.
 
-    An order that ends by its line raises a LineError, which has the outcome."""
+    `book`, if given, is the path of a file in which the till keeps its book. If the file exists, the till continues from it.
+    `journal` is its zvt_journal.Journal. An order is in the file before it is sent, and a message of the terminal before the
+    till processes it. If the file can't be opened or written, a zvt_journal.BookError is raised and nothing more is sent; make
+    a new till from the file. A till with a book treats invalid bytes as a lost connection.
+
+    If the connection ends an order, a LineError is raised, which has the outcome."""
 
     def __init__(self, library=None, password=0, config=0xBE, currency=978, keep=None, print_line=None, book=None,
                  heard=None):
@@ -285,7 +290,7 @@ class Till:
             self._open_book(book, currency)
 
     def _open_book(self, path, currency):
-        """Makes the till that of the file, or begins the file."""
+        """Restores the till of the file, or creates the file."""
         import zvt_journal
         try:
             self.journal, answer = zvt_journal.Journal(path), _Answer()
@@ -312,12 +317,12 @@ class Till:
         self.close()
 
     def _refuse_within(self):
-        """A callback of a till that gave it an order would change what the running order has not read yet."""
+        """Refuses an order from a callback, because it would disturb the running order."""
         if self._running:
             raise RuntimeError("a callback can't give its till an order, a line or up")
 
     def close(self):
-        """Gives the line and the till up."""
+        """Closes the connection and frees the till."""
         self._refuse_within()
         if self._line is not None:
             self._line.close()
@@ -332,8 +337,8 @@ class Till:
             raise Refused(status)
 
     def connect(self, host, port, timeout=60):
-        """Opens the line. A line that stood before is lost. The terminal may be silent for `timeout` seconds within an
-        order; None waits as long as it takes."""
+        """Connects to the terminal. Closes an earlier connection. During an order the terminal may be silent for `timeout`
+        seconds; None waits without limit."""
         self.disconnect()
         self._line, self._timeout = socket.create_connection((host, port), timeout=timeout), timeout
         # Each message goes out at once: without this the system may hold an acknowledgement back for 40 ms.
@@ -348,7 +353,7 @@ class Till:
         self._call("connected")
 
     def disconnect(self):
-        """Gives the line up, and answers how the running order ended, if one ran."""
+        """Closes the connection. Returns the outcome of the running order, if there was one."""
         self._refuse_within()
         if self._line is None:
             return None
@@ -359,7 +364,7 @@ class Till:
         return outcome
 
     def _give_up(self):
-        """The same, but that what `keep` raises waits."""
+        """Closes the connection, and postpones any exception of `keep`."""
         if self._line is None:
             return None
         self._drop()
@@ -389,14 +394,14 @@ class Till:
         return self._run(Order.REGISTER)
 
     def pay(self, amount, wants_cancel=None):
-        """`wants_cancel`, where it is given, is asked five times a second whether the payment is to be cancelled; the
-        terminal says what comes of it."""
+        """Pays an amount. `wants_cancel`, if given, is called five times a second; if it returns True, the till asks the
+        terminal to cancel the payment, and the terminal decides."""
         whole("amount", amount, 1, MAX_AMOUNT)
         return self._run(Order.PAY, amount, wants_cancel)
 
     def reverse(self, place):
-        """Takes back the payment at that place of the book, from 0. Where it is unclear, nobody knows whether it did:
-        `unclear_reversals` has the payment until a later reversal of it tells."""
+        """Reverses the payment at this index of the book, from 0. If the outcome is unclear, the reversal may have
+        succeeded or not, and `unclear_reversals` has the payment until a later reversal of it decides."""
         whole("place", place, 0, (1 << 64) - 1)
         return self._run(Order.REVERSE, place)
 
@@ -404,8 +409,8 @@ class Till:
         return self._run(Order.CLOSE_DAY)
 
     def _tell(self, callback, *arguments):
-        """Calls a callback. What it raises waits until what the terminal sent is heard and answered; of several the first
-        goes on, or the first that is to end the program."""
+        """Calls a callback, and postpones its exception until everything that the terminal sent is read and answered. Of
+        several exceptions the first is raised, or the first one that is meant to end the program."""
         try:
             return callback(*arguments)
         except BaseException as error:
@@ -418,12 +423,12 @@ class Till:
         return error is not None and not isinstance(error, Exception)
 
     def _order(self, order, number):
-        """The bytes that give the order. Where the library refuses it, the till is as it was."""
+        """Returns the bytes of an order. If the library refuses the order, the till does not change."""
         self._call("order", order, number, self._out, ROOM, c.byref(self._step))
         return self._out.raw[:self._step.send]
 
     def _make_durable(self, kind, *arguments):
-        """Adds a record to the book, if the till keeps one: an opening, an order, or that an earlier line was lost."""
+        """Appends a record to the book, if the till has one: an opening, an order, or a lost connection."""
         if self.journal is None:
             return
         answer = _Answer()
@@ -434,19 +439,19 @@ class Till:
         self.journal.append(self._record_room[:answer.size])
 
     def _give_book_up(self):
-        """The book may have a record that the till has not lived through, or lack one: this till adds no more to it."""
+        """Stops writing the book, because the book may have a record that the till has not processed, or lack one."""
         if self.journal is not None:
             self.journal.give_up()
 
     def _keep_and_send(self, order, number, message):
-        """Makes the order durable and saves the till, and only then sends."""
+        """Makes the order durable, saves the till, and only then sends the order."""
         self._make_durable("order", order, number, message, len(message))
         if self._keep is not None:
             self._keep(self.save())
         self._send(message)
 
     def _ended(self):
-        """How the order ended by the last step, if it did: the till is saved then."""
+        """Returns the outcome if the last step ended the order, and saves the till in that case."""
         outcome = self._step.outcome.value(self._library)
         if outcome is None:
             return None
@@ -456,8 +461,8 @@ class Till:
         return outcome
 
     def _run(self, order, number=0, wants_cancel=None):
-        """One order from end to end. A line that breaks, falls silent or brings what is no message is given up. Where the order
-        ended by that, a LineError is raised, once no callback raised anything."""
+        """Runs an order to its end. Closes the connection if it fails, times out or sends invalid bytes. If that ends the
+        order, raises a LineError, unless a callback raised an exception."""
         self._refuse_within()
         message = self._order(order, number)
         self._raised = self._outcome = broken = None
@@ -483,7 +488,7 @@ class Till:
         return self._outcome
 
     def _hear_out(self, wants_cancel):
-        """Hears the terminal until the order has ended, or until something is to end the program."""
+        """Reads from the terminal until the order has ended, or until an exception is meant to end the program."""
         since = time.monotonic()
         while self._outcome is None:
             if self._must_stop(self._raised):
@@ -496,8 +501,8 @@ class Till:
             since = time.monotonic()
 
     def _cancels(self):
-        """Asks the terminal to cancel the payment: False where it has not acknowledged the payment yet, and is to be asked
-        later."""
+        """Asks the terminal to cancel the payment. Returns False if the terminal has not acknowledged the payment yet: try
+        again later."""
         try:
             message = self._order(Order.CANCEL, 0)
         except Refused as refused:
@@ -508,7 +513,7 @@ class Till:
         return True
 
     def _brings(self, since):
-        """Whether the terminal sends something within a fifth of a second. It may be silent for the line's time-out."""
+        """Returns whether the terminal sends something within 0.2 s. Raises an exception after the connection's timeout."""
         wait = 0.2
         if self._timeout is not None:
             wait = min(wait, since + self._timeout - time.monotonic())
@@ -517,7 +522,7 @@ class Till:
         return bool(select.select([self._line], [], [], wait)[0])
 
     def _hear(self, piece):
-        """Feeds a whole piece and sends what answers it. Where the line takes no answer, the rest is heard all the same."""
+        """Feeds a whole chunk and sends the replies. If sending fails, still feeds the rest."""
         broken = None
         for message in self._messages(piece):
             part = message
@@ -544,8 +549,8 @@ class Till:
             raise broken
 
     def _messages(self, piece):
-        """The messages that end in a piece, each once the book has it, if the till keeps one. Bytes that are no message come
-        last: to a till that keeps a book they are a lost line."""
+        """Yields the messages that end in a chunk, each once it is in the book, if the till has one. Invalid bytes come
+        last: a till with a book treats them as a lost connection."""
         self._unheard += piece
         while self._unheard:
             size, answer = self._first()
@@ -563,7 +568,8 @@ class Till:
             yield message
 
     def _first(self):
-        """The size of the record of the message that stands first, of a till that keeps a book, and what stands first."""
+        """Writes the record of the first unprocessed message. Returns the size of the record, and the answer about the
+        message."""
         answer, size = _Answer(), 0
         if self.journal is None:
             self._library.zvt_scan(self._unheard, len(self._unheard), c.byref(answer))
@@ -572,7 +578,7 @@ class Till:
         return size, answer
 
     def _text_of(self, message):
-        """The text of a message, as the program shows it."""
+        """Returns the text of a message, as the program `zvt` shows it."""
         answer, room = _Answer(), c.create_string_buffer(0)
         while True:
             size = self._library.zvt_text(message, len(message), room, len(room), c.byref(answer))
@@ -581,27 +587,27 @@ class Till:
             room = c.create_string_buffer(size)
 
     def state(self):
-        """The total, the counts of booked and unclear payments and of unclear reversals, whether the till is registered, the
-        last outcome."""
+        """Returns the total, the numbers of booked and unclear payments and of unclear reversals, whether the till is
+        registered, and the last outcome."""
         state = _State()
         self._call("state", c.byref(state))
         return State(state.total, state.booked, state.unclear, state.unclear_reversals, state.held, bool(state.registered),
                      Order(state.running) if state.running else None, state.last.value(self._library))
 
     def last(self):
-        """The last outcome, or None."""
+        """Returns the last outcome, or None."""
         return self.state().last
 
     def book(self):
-        """The payments that are booked."""
+        """Returns the booked payments."""
         return [self._entry("entry", place) for place in range(self.state().booked)]
 
     def unclear(self):
-        """The payments that are neither booked nor known not to be."""
+        """Returns the unclear payments: the terminal may have booked them or not."""
         return [self._entry("unclear", place) for place in range(self.state().unclear)]
 
     def unclear_reversals(self):
-        """The booked payments whose last reversal is unclear, each behind its place in the book: reverse it again."""
+        """Returns the booked payments whose last reversal is unclear, each with its index in the book. Reverse them again."""
         return [(place, entry) for place, entry in enumerate(self.book()) if entry.doubt == Doubt.UNCLEAR_REVERSAL]
 
     def _entry(self, kind, place):
@@ -614,7 +620,7 @@ class Till:
                      Cause(entry.cause) if doubt == Doubt.UNCLEAR_REVERSAL else None, doubt)
 
     def save(self):
-        """The bytes that the till is saved in: those of the till after its line was lost."""
+        """Returns the saved till as bytes. They describe the till as it would be after losing its connection."""
         answer, room = _Answer(), c.create_string_buffer(0)
         while True:
             self._library.zvt_till_save(c.byref(self._handle), room, len(room), c.byref(answer))
@@ -625,7 +631,8 @@ class Till:
             room = c.create_string_buffer(answer.size)
 
     def load(self, saved):
-        """Makes this the till that the bytes were saved of. Its line is down then. A till that keeps a book is that of its book."""
+        """Restores the till from saved bytes. It is not connected afterwards. A till with a book can't be loaded, since its
+        book defines it."""
         if self.journal is not None:
             raise ValueError("a till that keeps a book is that of its book, and of no save")
         self.disconnect()

@@ -1,14 +1,14 @@
-//! The till of zvt.h in safe Rust, for programs that are built without Rattle: put this file beside yours, say `mod zvt;`
-//! and link libzvt. It needs Rust alone.
+//! The till of zvt.h in safe Rust, for programs that are built without Rattle. Copy this file into your project, declare
+//! `mod zvt;` and link libzvt. There are no other dependencies.
 use std::fmt;
 use std::marker::PhantomData;
 use std::mem::{offset_of, size_of};
 use std::ptr::null_mut;
 
 const ROOM: usize = 32;
-/// The room that holds each print line.
+/// Size of a buffer that holds any print line.
 const LINE_ROOM: usize = 65_534;
-/// The room that holds each record.
+/// Size of a buffer that holds any record.
 const RECORD_ROOM: usize = 131_200;
 
 #[repr(C)]
@@ -94,7 +94,7 @@ const _: () = assert!(
         && offset_of!(Answer, status) == 20
 );
 
-/// The layouts and calls that this file is made for.
+/// Version of the struct layouts and calls that this file expects.
 const ABI: u32 = 1;
 
 unsafe extern "C" {
@@ -126,10 +126,10 @@ unsafe extern "C" {
 const REFUSED: u32 = 2;
 const NO_MEMORY: u32 = 3;
 
-/// Why a call was refused: a status of zvt.h other than 0. It changed nothing.
+/// The reason why a call was refused: a status of zvt.h other than 0. The call changed nothing.
 #[derive(Clone, Copy, Debug, PartialEq, Eq)]
 pub enum Refused {
-    /// The bytes are no saved till.
+    /// The bytes are not a saved till.
     Bytes,
     NoMemory,
     Argument,
@@ -142,9 +142,9 @@ pub enum Refused {
     UnknownEntry,
     AlreadyReversed,
     NoReceipt,
-    /// The library is not the one that this file is made for.
+    /// The library does not match this file.
     Library,
-    /// A status that no call of this class answers.
+    /// A status that these calls do not return.
     Other(u32),
 }
 
@@ -200,7 +200,7 @@ pub enum Order {
     Register,
     /// An amount in the smallest unit of the currency.
     Pay(u64),
-    /// The place in the book, from 0.
+    /// Index of the payment in the book, from 0.
     Reverse(u64),
     CloseDay,
     Cancel,
@@ -218,7 +218,7 @@ impl Order {
     }
 }
 
-/// Why a payment or a reversal is unclear: ask the terminal's journal, and book nothing by guess.
+/// Why a payment or a reversal is unclear. Check the terminal's journal before you book or refund the amount.
 #[derive(Clone, Copy, Debug, PartialEq, Eq)]
 pub enum Cause {
     NoStatus,
@@ -231,7 +231,7 @@ pub enum Cause {
     Malformed,
     Unfinished,
     WrongCurrency,
-    /// A number that zvt.h does not name.
+    /// A number that zvt.h does not define.
     Other(u32),
 }
 
@@ -253,7 +253,7 @@ impl Cause {
     }
 }
 
-/// How an order ended. Codes are the terminal's.
+/// The outcome of an order. Codes are the terminal's.
 #[derive(Clone, Copy, Debug, PartialEq, Eq)]
 pub enum Outcome {
     Registered,
@@ -286,16 +286,16 @@ impl OutcomeNumbers {
     }
 }
 
-/// What the reversals of a booked payment leave open, beside `reversed`.
+/// What is in doubt about the reversal of a booked payment.
 #[derive(Clone, Copy, Debug, PartialEq, Eq)]
 pub enum Doubt {
     No,
-    /// The last reversal took the payment back or not: nobody knows. Reverse it again when the line is back: a completion
-    /// marks it, and B4 says that it was taken back.
+    /// The last reversal may have succeeded or not. Reverse the payment again once you are connected: the terminal either
+    /// completes the reversal or answers B4, because it had reversed the payment before.
     Unclear(Cause),
-    /// The terminal answered a reversal with B4: it took the payment back before. `reversed` stays false.
+    /// The terminal answered a reversal with B4, because it had reversed the payment before. `reversed` stays false.
     TakenBack,
-    /// A number that zvt.h does not name.
+    /// A number that zvt.h does not define.
     Other(u32),
 }
 
@@ -315,7 +315,7 @@ pub struct Entry {
     pub amount: u64,
     pub trace: u32,
     pub receipt: Option<u16>,
-    /// Whether a completed reversal took it back.
+    /// Whether a reversal of it was completed.
     pub reversed: bool,
     pub doubt: Doubt,
 }
@@ -326,28 +326,28 @@ pub struct Unclear {
     pub cause: Cause,
 }
 
-/// What the terminal's bytes came to. Send `send` whatever `stop` is.
+/// Result of feeding bytes from the terminal. Send `send` whatever `stop` is.
 #[derive(Debug, Default, PartialEq, Eq)]
 pub struct Reply {
     pub send: Vec<u8>,
     /// Print lines, in the terminal's character set.
     pub lines: Vec<Vec<u8>>,
-    /// How the running order ended, if it did.
+    /// The outcome of the running order, once it has ended.
     pub outcome: Option<Outcome>,
     pub taken: usize,
     pub stop: Option<Stop>,
 }
 
-/// Why not all bytes were taken.
+/// The reason why some bytes were not consumed.
 #[derive(Clone, Copy, Debug, PartialEq, Eq)]
 pub enum Stop {
-    /// They are no message: give the line up, and call [`Till::lost`].
+    /// They are invalid: close the connection and call [`Till::lost`].
     Malformed,
-    /// Feed what was not taken again.
+    /// An allocation failed: feed the remaining bytes again.
     NoMemory,
 }
 
-/// A till. It stays on the thread that made it.
+/// A till. It must stay on the thread that created it.
 pub struct Till {
     handle: Handle,
     _stays: PhantomData<*mut ()>,
@@ -370,22 +370,22 @@ impl Till {
         Ok(Till { handle: Handle { at: null_mut(), full: 0 }, _stays: PhantomData })
     }
 
-    /// A till whose book is empty. The password is a number of up to six digits, the currency one of ISO 4217 (978); 0xBE
-    /// is a usual config byte.
+    /// Creates a till with an empty book. The password is a number of up to six digits, the currency a code of ISO 4217 (978 is
+    /// the euro), and 0xBE is a usual config byte.
     pub fn new(password: u32, config: u8, currency: u16) -> Result<Till, Refused> {
         let mut till = Till::closed()?;
         checked(unsafe { zvt_till_new(&mut till.handle, password, config, currency) })?;
         Ok(till)
     }
 
-    /// The till that the bytes were saved of. Its line is down.
+    /// Restores a till from saved bytes. It is not connected.
     pub fn load(saved: &[u8]) -> Result<Till, Refused> {
         let mut till = Till::closed()?;
         checked(unsafe { zvt_till_load(&mut till.handle, saved.as_ptr(), saved.len()) })?;
         Ok(till)
     }
 
-    /// The bytes that the till is saved in: those of the till after its line was lost.
+    /// Saves the till as bytes. They describe the till as it would be after losing its connection.
     pub fn save(&mut self) -> Result<Vec<u8>, Refused> {
         let mut bytes = Vec::new();
         loop {
@@ -399,7 +399,7 @@ impl Till {
         }
     }
 
-    /// The till of a journal's records, which are the file up to its first empty line. Its line is down.
+    /// Restores the till of a journal. The text is the file up to its first empty line. The till is not connected.
     pub fn recover(password: u32, config: u8, currency: u16, text: &[u8]) -> Result<Till, NoTill> {
         let mut till = Till::new(password, config, currency).map_err(NoTill::Refused)?;
         let mut answer = Answer::default();
@@ -409,23 +409,24 @@ impl Till {
             (REFUSED, 1) => Err(NoTill::Opening),
             (REFUSED, 2) => Err(NoTill::Line(answer.place as usize)),
             (REFUSED, 3) => Err(NoTill::Record(answer.place as usize)),
+            (REFUSED, 4) => Err(NoTill::Check(answer.place as usize)),
             (status, _) => Err(NoTill::Refused(Refused::of(status))),
         }
     }
 
-    /// A line to the terminal is up.
+    /// Tells the till that it is connected.
     pub fn connected(&mut self) -> Result<(), Refused> {
         checked(unsafe { zvt_till_connected(&mut self.handle) })
     }
 
-    /// The line is lost. How the running order ended, if one ran.
+    /// Tells the till that the connection is lost. Returns the outcome of the running order, if there was one.
     pub fn lost(&mut self) -> Result<Option<Outcome>, Refused> {
         let mut step = Step::default();
         checked(unsafe { zvt_till_lost(&mut self.handle, &mut step) })?;
         Ok(step.outcome.outcome())
     }
 
-    /// The bytes to send to the terminal. Save before they go out.
+    /// Starts an order and returns the bytes to send. Save the till before you send them.
     pub fn order(&mut self, order: Order) -> Result<Vec<u8>, Refused> {
         let (kind, number) = order.numbers();
         let (mut out, mut step) = ([0; ROOM], Step::default());
@@ -433,7 +434,7 @@ impl Till {
         Ok(out[..step.send as usize].to_vec())
     }
 
-    /// Takes all that the terminal sent, up to bytes that are no message.
+    /// Reads what the terminal sent, up to the first invalid byte.
     pub fn feed(&mut self, piece: &[u8]) -> Result<Reply, Refused> {
         let (mut reply, mut line) = (Reply::default(), vec![0; LINE_ROOM]);
         while reply.taken < piece.len() && reply.stop.is_none() {
@@ -461,17 +462,17 @@ impl Till {
         Ok(state)
     }
 
-    /// How many booked payments have a reversal that is unclear: their `doubt` is [`Doubt::Unclear`].
+    /// Returns the number of booked payments with an unclear reversal: their `doubt` is [`Doubt::Unclear`].
     pub fn unclear_reversals(&mut self) -> Result<usize, Refused> {
         Ok(self.state()?.unclear_reversals as usize)
     }
 
-    /// What the payments that no completed reversal took back come to.
+    /// Returns the sum of the booked payments without a completed reversal.
     pub fn total(&mut self) -> Result<u64, Refused> {
         Ok(self.state()?.total)
     }
 
-    /// The payments that are booked.
+    /// Returns the booked payments.
     pub fn book(&mut self) -> Result<Vec<Entry>, Refused> {
         (0..self.state()?.booked as usize)
             .map(|place| {
@@ -484,7 +485,7 @@ impl Till {
             .collect()
     }
 
-    /// The payments that are neither booked nor known not to be.
+    /// Returns the unclear payments: the terminal may have booked them or not.
     pub fn unclear(&mut self) -> Result<Vec<Unclear>, Refused> {
         (0..self.state()?.unclear as usize)
             .map(|place| {
@@ -496,7 +497,7 @@ impl Till {
     }
 }
 
-/// The version of the library, as 0.2.0.
+/// Returns the version of the library, such as 0.2.0.
 pub fn version() -> String {
     let mut room = [0; 32];
     // SAFETY: the room is lent for the call, and the declaration fits zvt.h.
@@ -504,34 +505,36 @@ pub fn version() -> String {
     String::from_utf8_lossy(&room[..size.min(room.len())]).into_owned()
 }
 
-/// Why a text makes no till.
+/// The reason why a till can't be restored from a text.
 #[derive(Clone, Copy, Debug, PartialEq, Eq)]
 pub enum NoTill {
-    /// The first line is not that of a till with this currency.
+    /// The first line is not the opening of a journal in this currency.
     Opening,
-    /// This line, from 1, is none of a journal.
+    /// This line, from 1, is not a line of a journal.
     Line(usize),
-    /// No such till can have lived through this record, from 1 behind the opening, after those before it.
+    /// This record, from 1 after the opening, cannot follow the records before it.
     Record(usize),
+    /// The check in this line, from 1, differs from its record: somebody edited the record, or the disk damaged it.
+    Check(usize),
     Refused(Refused),
 }
 
-/// The text that a call writes into a room and tells the size of.
+/// Returns the text that a call writes to a buffer.
 fn record(write: impl Fn(*mut u8, usize, *mut Answer)) -> Result<Vec<u8>, Refused> {
-    let (mut room, mut answer) = (vec![0; 128], Answer::default());
+    let (mut room, mut answer) = (vec![0; RECORD_ROOM], Answer::default());
     write(room.as_mut_ptr(), room.len(), &mut answer);
     checked(answer.status)?;
     room.truncate(answer.size as usize);
     Ok(room)
 }
 
-/// The first record of a journal.
+/// Returns the first record of a journal.
 pub fn record_opening(currency: u16) -> Result<Vec<u8>, Refused> {
     // SAFETY: here and below the room is lent for the call, and the declaration fits zvt.h.
     record(|room, length, answer| unsafe { zvt_record_opening(currency, room, length, answer) })
 }
 
-/// The record of an order, with the bytes that [`Till::order`] gave: durable before they are sent.
+/// Returns the record of an order, with the bytes that [`Till::order`] returned. Make it durable before you send them.
 pub fn record_order(order: Order, sent: &[u8]) -> Result<Vec<u8>, Refused> {
     let (kind, number) = order.numbers();
     record(|room, length, answer| unsafe {
@@ -539,12 +542,12 @@ pub fn record_order(order: Order, sent: &[u8]) -> Result<Vec<u8>, Refused> {
     })
 }
 
-/// The record of a lost line: durable before [`Till::connected`].
+/// Returns the record of a lost connection. Make it durable before [`Till::connected`].
 pub fn record_lost() -> Result<Vec<u8>, Refused> {
     record(|room, length, answer| unsafe { zvt_record_lost(room, length, answer) })
 }
 
-/// The record of the message that stands first, and the message's size: durable before the till is fed those bytes.
+/// Returns the record of the first message and the message's size. Make the record durable before you feed the message.
 pub fn record_heard(bytes: &[u8]) -> Result<(Vec<u8>, usize), NoText> {
     let (mut room, mut answer) = (vec![0; RECORD_ROOM], Answer::default());
     // SAFETY: both slices are lent for the call and apart, and the declaration fits zvt.h.
@@ -554,7 +557,7 @@ pub fn record_heard(bytes: &[u8]) -> Result<(Vec<u8>, usize), NoText> {
     Ok((room, answer.size as usize))
 }
 
-/// Why no text is written: more bytes are needed, no message can follow the byte at a place, or memory is wanted.
+/// The reason why there is no text: the message is incomplete, a byte is invalid, or an allocation failed.
 #[derive(Clone, Copy, Debug, PartialEq, Eq)]
 pub enum NoText {
     More,
@@ -571,7 +574,7 @@ fn no_text(answer: &Answer) -> Result<(), NoText> {
     }
 }
 
-/// The text of the message that stands first, and its size in bytes.
+/// Returns the text of the first message, and the message's size in bytes.
 pub fn text(bytes: &[u8]) -> Result<(String, usize), NoText> {
     let mut room = vec![0; 256];
     loop {

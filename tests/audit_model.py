@@ -1,6 +1,6 @@
 #!/usr/bin/env python3
-"""A model of what `audit` and `audit --json` write, after docs/FORMAT.md, docs/JSON.md and the tables of the till's machine in
-docs/ARCHITECTURE.md alone: no code of the program was looked at.
+"""A model of the output of `audit` and `audit --json`, written from docs/FORMAT.md, with its tables of the till's machine, and
+docs/JSON.md alone, without a look at the program's code.
 
 `Audit` goes over the bytes of a trace with the reader of `json_model.py` and has the books: what is booked, what is unclear
 and why, how many messages were read, and how many streams are bad. With files as arguments it writes the JSON of each.

@@ -263,6 +263,13 @@ check "a new book" "$?" 0 "register -> registered
 pay:500 -> paid trace 000001 receipt 0001
 total 500" "zvt: '$work/day.book': a new book"
 cp "$work/day.book" "$work/copy.book"
+"$zvt" loop --book "$work/noted.book" register pay:1:ref=A-1009 reverse:1 > "$work/out" 2> "$work/err"
+moment=[0-9]{4}-[0-9]{2}-[0-9]{2}T[0-9]{2}:[0-9]{2}:[0-9]{2}Z
+grep -Eq "^# pay 1 at $moment ref A-1009\$" "$work/noted.book" && grep -Eq "^# reverse 1 at $moment\$" "$work/noted.book" \
+    || { echo "NOT AS EXPECTED: the notes of orders"; echo "notes" >> "$work/failed"; }
+refuses "a reference with a space" 2 "zvt: 'pay:1:ref=a b': invalid step 1: " loop "pay:1:ref=a b"
+refuses "no reference" 2 "a reference, as in 'pay:1000:ref=A-1009', has 1 to 40 printable characters and no space" loop pay:1:ref=
+refuses "a reference of 41 characters" 2 "invalid step 1" loop pay:1:ref=12345678901234567890123456789012345678901
 refuses "a trace in a book" 3 "zvt: '$work/day.book': this is a till's book, which a trace would end" loop --trace "$work/day.book"
 refuses "a book of another currency" 3 "zvt: '$work/day.book': the first line is not that of a book in the till's currency" till --port "$port" --currency 0840 --book "$work/day.book"
 refuses "a wrong step beside a book" 2 "'pay:0'" loop --book "$work/day.book" pay:0
@@ -292,12 +299,19 @@ check "a book that another till has open" "$?" 4 "" "zvt: '$work/day.book': anot
 refuses "a book before there is a connection" 4 "zvt: '$work/day.book': 1 booked, 0 unclear, total 500" till --port 1 --book "$work/day.book"
 cmp -s "$work/day.book" "$work/copy.book" || { echo "NOT AS EXPECTED: a book without a connection"; echo "a book" >> "$work/failed"; }
 
-# A book that is full before the first order is sent: 32 bytes are the opening and the lost line, and 32 more that order.
+# A book that is full before the first order is sent: the limit is the size of the file in which a till reserves space, and a
+# remark fills the book up to 36 bytes before it. A lost line takes 14 of them, and no order fits into the others.
+"$zvt" loop --book "$work/full.book" register > /dev/null 2>&1
+python3 -c '
+import sys
+book = open(sys.argv[1], "rb").read()[:-1]
+open(sys.argv[1], "wb").write(book + b"# " + b"x" * (65500 - len(book) - 4) + b"\n\n")
+' "$work/full.book"
 python3 -c '
 import resource, signal, subprocess, sys
 def limit():
     signal.signal(signal.SIGXFSZ, signal.SIG_IGN)
-    resource.setrlimit(resource.RLIMIT_FSIZE, (64, 64))
+    resource.setrlimit(resource.RLIMIT_FSIZE, (65536, 65536))
 ran = subprocess.run(sys.argv[1:], preexec_fn=limit, capture_output=True)
 sys.stdout.buffer.write(ran.stdout)
 sys.stderr.buffer.write(ran.stderr)

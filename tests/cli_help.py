@@ -70,7 +70,7 @@ close -> day closed
 total 1000000000000
 """
 UNSENT = "zvt: reverse:10001 was not sent (UnknownEntry): the book has no such entry\n"
-HELP = ["register", "pay:N", "decline:N:XX", "reverse:N", "close", "> HEX", "Exit status:", *(f"\n  {it} " for it in COMMANDS)]
+HELP = ["register", "pay:N", "decline:N:XX", "reverse:N", "pay:N:ref=R", "close", "> HEX", "Exit status:", *(f"\n  {it} " for it in COMMANDS)]
 failed = []
 
 

@@ -190,6 +190,36 @@ def several(of):
     of.paid(11, 12)
 
 
+def remarked(of):
+    """A person's remarks, between records and at the end."""
+    of.remark("till 3, ground floor")
+    of.registered()
+    of.remark("payments of Monday")
+    of.paid(10, 1)
+    of.remark("")
+    of.taken(20)
+    of.remark("closed for lunch: the line was cut")
+    of.again()
+    of.remark("the customer paid 20 in cash")
+
+
+def noted(of):
+    """Orders with a time, with a reference, and with both."""
+    of.note = " at 2026-11-28T09:14:03Z"
+    of.registered()
+    of.note = " at 2026-11-28T09:15:00Z ref A-1009"
+    of.paid(10, 1)
+    of.note = " ref " + 40 * "~"
+    of.approved(20, 2)
+    of.again()
+    of.note = " ref at"
+    of.reversing(1, 1)
+    of.hear(status(10, 3, 3, original=1))
+    of.completed()
+    of.note = " at 0000-99-99T99:99:99Z"
+    of.close()
+
+
 def padded(of):
     """A terminal that pads its lengths, read with `--loose`."""
     of.register()
@@ -202,7 +232,7 @@ def padded(of):
 
 
 ALL = (register, pay, decline, abort, reverse, reversal_refused, reversal_unclear, close, lost_line, restart, cancel, several,
-       padded)
+       remarked, noted, padded)
 
 # What each dialogue comes to when it has ended: entries (amount, trace number, mark), unclear payments, the total.
 BOOKS = {
@@ -220,6 +250,8 @@ BOOKS = {
     several: ([(1, 1, None), (10, 11, None), (11, 12, None)],
               [(2, "NoStatus"), (3, "AmountDiffers"), (5, "NoTrace"), (6, "TraceUsed"), (7, "WrongCurrency"), (8, "Conflict"),
                (9, "Conflict")], 22),
+    remarked: ([(10, 1, None)], [(20, "Line")], 10),
+    noted: ([(10, 1, "reversed")], [(20, "Line")], 0),
     padded: ([(1234, 17, None)], [], 1234),
 }
 

@@ -2,7 +2,8 @@
 """Gives a till books that it can't have, and looks at its status, its line on standard error, the file and the line.
 
 A full disk, a file that may not be written, a folder, a device, a FIFO, a file that is no journal, a journal of another
-currency, one whose records no till wrote, one with too much after its gate, one that is in use, one that is the trace too.
+currency, one whose records no till wrote, one that was changed, one with too much after its gate, one that is in use, one
+that is the trace too.
 The status is that of the fault, standard error has one line that names the file, nothing is connected, and the file is as it
 was, byte for byte.
 A case that needs root or another user is skipped where that can't be had, and said.
@@ -138,6 +139,29 @@ class Trial:
         path.write_bytes(journal(756).file())
         self.refuses("another currency", BAD, "", path, reads=False)
 
+    def damages(self):
+        """A book whose records were changed after they were written: each digit in turn is another one."""
+        whole = journal().file()
+        begin = whole.index(b"\n") + 1
+        places = [at for at in range(begin, len(whole)) if whole[at:at + 1].isdigit()]
+        path = self.work / "damaged"
+        for at in places:
+            other = b"%d" % ((whole[at] - ord("0") + 5) % 10)
+            path.write_bytes(whole[:at] + other + whole[at + 1:])
+            ended = self.runs(["book", str(path)])
+            if ended.returncode != BAD or ended.stdout:
+                self.differs(f"the digit at {at} is another one", ended.returncode, ended.stdout, ended.stderr)
+            self.cases += 1
+        line = whole[:whole.index(b"0B000001")].count(b"\n") + 3
+        path.write_bytes(whole.replace(b"0B000001", b"0B000002"))
+        self.refuses("another trace number", BAD, f"line {line} of the book is not the check of its record", path)
+        path.write_bytes(b"".join(row for row in whole.splitlines(keepends=True) if not row.startswith(b"#= ")))
+        without = self.runs(["book", str(path)])
+        path.write_bytes(whole)
+        if without.returncode or without.stdout != self.runs(["book", str(path)]).stdout:
+            self.differs("a book of an older version, without checks", without)
+        self.cases += 2
+
     def empty_lines(self):
         """An empty line within a book: no crash leaves it, and what lies behind it is not given up."""
         of = journal_dialogues.Dialogue()
@@ -243,6 +267,13 @@ class Trial:
         self.refuses("a folder that may not be written", FAILED, "", folder / "new", reads=False, user=NOBODY, group=NOBODY)
         if self.runs(["book", str(path)], user=NOBODY, group=NOBODY).returncode != 0:
             self.differs("the book of a read-only file", "it is not read")
+        unread = self.work / "unread"
+        unread.mkdir()
+        (unread / "book").write_bytes(journal().file())
+        os.chmod(unread / "book", 0o666)
+        os.chmod(unread, 0o733)
+        self.refuses("a new file in a folder that may not be read", FAILED, "folder has to be readable", unread / "new", reads=False, user=NOBODY, group=NOBODY)
+        self.refuses("a file in a folder that may not be read", FAILED, "folder has to be readable", unread / "book", reads=False, user=NOBODY, group=NOBODY)
         os.chmod(path, 0o000)
         self.refuses("a file that may not be read", FAILED, "", path, user=NOBODY, group=NOBODY)
 
@@ -313,6 +344,7 @@ class Trial:
     def run(self):
         self.kinds()
         self.contents()
+        self.damages()
         self.empty_lines()
         self.beside()
         self.in_use()

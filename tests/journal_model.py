@@ -6,6 +6,7 @@ payments, unclear reversals, the total. `Writer` makes records and the calls tha
 it writes the book of each, as `zvt book` does.
 """
 import dataclasses
+import hashlib
 import re
 import sys
 
@@ -26,6 +27,10 @@ SIZES = {
 SIZE_OF = {bmp: size for size, bmps in SIZES.items() for bmp in bmps}
 LL, LLL, CONTAINER = (0x22, 0x23, 0x2D, 0x8B, 0xA7), (0x24, 0x2E, 0x3C, 0x60, 0x92, 0x9A, 0xAF), 0x06
 RESULT, AMOUNT, TRACE, CURRENCY, RECEIPT, ORIGINAL = 0x27, 0x04, 0x0B, 0x49, 0x87, 0x37
+
+
+# What an order's comment may have behind the order: when it was given, and a reference.
+NOTE = re.compile(rb"(?: at \d{4}-\d\d-\d\dT\d\d:\d\d:\d\dZ)?(?: ref [!-~]{1,40})?\Z")
 
 
 class NoJournal(ValueError):
@@ -141,17 +146,27 @@ def cause_of(statuses, amount, currency, original):
     return None
 
 
+def is_remark(line):
+    """A comment of a person: its first word, which is letters, is none of an order or of the opening."""
+    return line[:2] == b"# " and re.match(rb"(register|pay|reverse|close|cancel|zvt)(?![A-Za-z])", line[2:]) is None
+
+
 class Reader:
     """Goes over the records of a journal in order."""
 
     def __init__(self, currency):
-        self.book, self.running, self.announced = Book(currency), None, None
+        self.book, self.running, self.announced, self.remarked = Book(currency), None, None, False
 
     def read(self, line):
+        remarked, self.remarked = self.remarked, is_remark(line)
+        if remarked and line[:1] == b">":
+            raise NoJournal(f"bytes that were sent behind a remark: {line}")
+        if self.remarked:
+            return
         if line == b"!":
             self.ends("lost")
         elif line[:1] == b"#":
-            self.comment(line[1:].split())
+            self.comment(NOTE.sub(b"", line)[1:].split())
         elif line[:1] in (b"<", b">"):
             piece = bytes.fromhex(line[1:].decode("ascii"))
             (self.heard if line[:1] == b"<" else self.sent)(piece)
@@ -261,8 +276,14 @@ def reader_of(file):
     opening = re.fullmatch(FORMAT + rb", currency (\d{1,4})", lines[0])
     if opening is None:
         raise NoJournal("the first line is none of a journal")
-    reader = Reader(int(opening[1]))
+    reader, covered = Reader(int(opening[1])), lines[0] + b"\n"
     for line in lines[1:]:
+        if line.startswith(b"#= "):
+            if line[3:] != check_of(covered):
+                raise NoJournal(f"this is not the check of the lines before it: {line}")
+            covered, reader.remarked = b"", False
+            continue
+        covered = (covered if line.startswith(b">") else b"") + line + b"\n"
         try:
             reader.read(line)
         except (ValueError, IndexError, KeyError) as error:
@@ -287,6 +308,16 @@ def running_in(file):
 
 # ---- writing
 
+def check_of(lines):
+    """The check of a record's lines."""
+    return hashlib.sha256(lines).hexdigest()[:8].upper().encode()
+
+
+def checked(lines):
+    """A record: lines and their check."""
+    return lines + b"#= " + check_of(lines) + b"\n"
+
+
 def spelled(sign, apdu):
     return sign + b" " + apdu.hex().upper().encode() + b"\n"
 
@@ -296,9 +327,11 @@ class Writer:
 
     def __init__(self, currency=978):
         self.currency, self.records = currency, [b"%s, currency %d\n" % (FORMAT, currency)]
+        self.note = ""  # of the next order
 
     def order(self, words, apdu):
-        self.records.append(b"# " + words.encode() + b"\n" + spelled(b">", apdu))
+        note, self.note = self.note, ""
+        self.records.append(checked(b"# " + words.encode() + note.encode() + b"\n" + spelled(b">", apdu)))
 
     def register(self):
         self.order("register", message(REGISTRATION, bytes(3) + b"\xBE" + digits(self.currency, 2)))
@@ -317,10 +350,14 @@ class Writer:
         self.order("cancel", message(CANCEL))
 
     def hear(self, apdu, answer=ACK):
-        self.records.append(spelled(b"<", apdu) + (spelled(b">", answer) if answer else b""))
+        self.records.append(checked(spelled(b"<", apdu) + (spelled(b">", answer) if answer else b"")))
 
     def lost(self):
-        self.records.append(b"!\n")
+        self.records.append(checked(b"!\n"))
+
+    def remark(self, words):
+        """A line of a person."""
+        self.records.append(b"# " + words.encode() + b"\n")
 
     def file(self, count=None):
         """The file at rest, with all records or so many first ones."""

@@ -1,5 +1,5 @@
 #!/usr/bin/env python3
-"""Tears the journals of thirteen dialogues in every way a crash may, and compares what the program reads with the model.
+"""Tears the journals of fifteen dialogues in every way a crash may, and compares what the program reads with the model.
 
 For each record: all cuts of what is written behind the closed gate, new bytes mixed with zeros at each place and by chance,
 the gate's byte old and new. Each byte of a torn write is the new one, or 0, since the file grew there. Then a crash in the

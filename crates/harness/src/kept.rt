@@ -6,7 +6,7 @@ use std::alloc::Global;
 use std::io::{self, Cursor};
 use zvt_io::Over;
 use zvt_journal::{FileDevice, open_file};
-use zvt_kept::{KeptTill, run_order_kept};
+use zvt_kept::{KeptTill, Note, run_order_kept};
 use zvt_stream::{Endpoint, Stream};
 use zvt_till::{Order, TillSettings};
 
@@ -25,7 +25,7 @@ pub fn run(rt: &HostRuntime, path: &str, payments: u32) -> io::Result<()> {
 
 /// A till whose line is up, with a book in a file that is not there yet.
 fn new_book(rt: &HostRuntime, path: &str) -> Option<KeptTill<FileDevice>> {
-    let Ok(opened) = open_file(rt.alloc(), path.as_bytes()) else {
+    let Ok(opened) = open_file(rt.alloc(), path.as_bytes()).answer else {
         return None;
     };
     if !opened.text.is_empty() {
@@ -49,7 +49,7 @@ fn ordered(alloc: Global, kept: &mut KeptTill<FileDevice>, payments: u32) -> Opt
         writer: Over::new(Vec::new(alloc)),
         stream: Stream::new(alloc),
     };
-    run_order_kept(alloc, &mut end, kept, Order::Register, 1).ok()?;
+    run_order_kept(alloc, &mut end, kept, Order::Register, &Note::none(), 1).ok()?;
     let mut end = Endpoint {
         reader: Over::new(Cursor::new(APPROVED)),
         writer: end.writer,
@@ -57,7 +57,7 @@ fn ordered(alloc: Global, kept: &mut KeptTill<FileDevice>, payments: u32) -> Opt
     };
     for number in 0..payments {
         end.reader = Over::new(Cursor::new(approved(number)));
-        run_order_kept(alloc, &mut end, kept, Order::Pay(price()), 1).ok()?;
+        run_order_kept(alloc, &mut end, kept, Order::Pay(price()), &Note::none(), 1).ok()?;
     }
     Some(())
 }

@@ -23,7 +23,7 @@ fn a_file_is_made_and_opened_again(rt: HostRuntime) -> Result<(), Fail> {
         text,
         cut,
         created,
-    } = open_file(alloc, path.as_bytes())?;
+    } = open_file(alloc, path.as_bytes()).answer?;
     assert_equal(&rt, &(text.len(), cut, created), &(0, 0, true));
     let mode = fs::metadata(&rt, path)?.mode() & 0o777;
     assert_equal(&rt, &mode, &0o600);
@@ -35,11 +35,11 @@ fn a_file_is_made_and_opened_again(rt: HostRuntime) -> Result<(), Fail> {
     };
     journal.append(OPENING)?;
     journal.append(b"# pay 1234\n> 0601\n")?;
-    let again = open_file(alloc, path.as_bytes());
+    let again = open_file(alloc, path.as_bytes()).answer;
     assert!(rt; matches!(again, Err(JournalFileError::InUse)));
-    assert_equal(&rt, &read_book(&rt, alloc, path)?.len(), &48);
+    assert_equal(&rt, &read_book(&rt, alloc, path).answer?.len(), &48);
     drop(journal);
-    let opened = open_file(alloc, path.as_bytes())?;
+    let opened = open_file(alloc, path.as_bytes()).answer?;
     assert_equal(
         &rt,
         &(opened.text.len(), opened.cut, opened.created),
@@ -60,9 +60,9 @@ fn what_a_crash_left_is_kept_and_cut(rt: HostRuntime) -> Result<(), Fail> {
     let alloc = rt.alloc();
     let _ = fs::remove_file(&rt, beside);
     fs::write(&rt, path, LEFT)?;
-    assert_equal(&rt, &read_book(&rt, alloc, path)?.len(), &32);
+    assert_equal(&rt, &read_book(&rt, alloc, path).answer?.len(), &32);
     assert_equal(&rt, &fs::read(&rt, path)?.as_slice(), &LEFT);
-    let opened = open_file(alloc, path.as_bytes())?;
+    let opened = open_file(alloc, path.as_bytes()).answer?;
     assert_equal(
         &rt,
         &(opened.text.len(), opened.cut, opened.created),
@@ -83,12 +83,12 @@ fn what_a_crash_left_is_kept_and_cut(rt: HostRuntime) -> Result<(), Fail> {
 fn what_is_no_journal_is_left_as_it_is(rt: HostRuntime) -> Result<(), Fail> {
     let path = "zvt_journal_other.trace";
     let alloc = rt.alloc();
-    let folder = open_file(alloc, b".");
+    let folder = open_file(alloc, b".").answer;
     assert!(rt; matches!(folder, Err(JournalFileError::Folder)));
-    let device = read_book(&rt, alloc, "/dev/null");
+    let device = read_book(&rt, alloc, "/dev/null").answer;
     assert!(rt; matches!(device, Err(JournalFileError::NotAFile)));
     fs::write(&rt, path, b"# zvt trace\n".as_slice())?;
-    let trace = open_file(alloc, path.as_bytes());
+    let trace = open_file(alloc, path.as_bytes()).answer;
     assert!(rt; matches!(trace, Err(JournalFileError::NotAJournal)));
     assert_equal(
         &rt,
@@ -101,14 +101,14 @@ fn what_is_no_journal_is_left_as_it_is(rt: HostRuntime) -> Result<(), Fail> {
         b"\n zvt journal 1, currency 12345",
     ] {
         fs::write(&rt, path, note)?;
-        let begun = open_file(alloc, path.as_bytes());
+        let begun = open_file(alloc, path.as_bytes()).answer;
         assert!(rt; matches!(begun, Err(JournalFileError::NotAJournal)));
     }
     let mut long = OPENING.to_vec(alloc)?;
     long.push(b'\n')?;
     long.resize(OPENING.len() + MAX_RECORD_LEN + 2, b'a')?;
     fs::write(&rt, path, long.as_slice())?;
-    let long = open_file(alloc, path.as_bytes());
+    let long = open_file(alloc, path.as_bytes()).answer;
     assert!(rt; matches!(long, Err(JournalFileError::TooMuchAfter { bytes: 262_146 })));
     fs::remove_file(&rt, path)?;
     Ok(())

@@ -10,8 +10,9 @@ use zvt_bcd::{Amount, Currency};
 use zvt_io::Over;
 use zvt_journal::{Memory, open};
 use zvt_kept::{
-    Entry, KeptTill, RecordError, RecoveryError, opening_is_taken, put_heard, put_lost,
-    put_opening, put_order, read_records, records_are_kept, recover, run_order_kept,
+    Entry, KeptTill, MAX_REFERENCE_LEN, Note, RecordError, RecoveryError, opening_is_taken,
+    put_heard, put_lost, put_opening, put_order, read_records, records_are_kept, recover,
+    run_order_kept,
 };
 use zvt_stream::{Endpoint, Stream};
 use zvt_text::Text;
@@ -24,14 +25,23 @@ fn records_are_read_back(rt: HostRuntime) -> Result<(), Fail> {
     let alloc = rt.alloc();
     let mut text = Text::new(alloc);
     put_opening(&mut text, Currency::EURO)?;
-    put_order(&mut text, &Order::Register, b"\x06\x00\x00")?;
+    put_order(&mut text, &Order::Register, &Note::none(), b"\x06\x00\x00")?;
     put_heard(&mut text, b"\x80\x00\x00", b"")?;
-    put_order(&mut text, &Order::Reverse(2), b"\x06\x30\x00")?;
+    put_order(
+        &mut text,
+        &Order::Reverse(2),
+        &Note::none(),
+        b"\x06\x30\x00",
+    )?;
     put_lost(&mut text)?;
     assert_equal(
         &rt,
         &text.bytes(),
-        &b"# zvt journal 1, currency 978\n# register\n> 060000\n< 800000\n# reverse 3\n> 063000\n!\n".as_slice(),
+        &b"# zvt journal 1, currency 978\n# register\n> 060000\n#= 6E8065F3\n\
+< 800000\n#= 9A61F70B\n\
+# reverse 3\n> 063000\n#= 16F5D815\n\
+!\n#= 7DDCFDA1\n"
+            .as_slice(),
     );
     let entries = read_records(alloc, text.bytes())?;
     let [
@@ -58,7 +68,12 @@ fn the_greatest_amount_and_a_long_message_are_read_back(rt: HostRuntime) -> Resu
     let Some(amount) = amount else {
         return Ok(());
     };
-    put_order(&mut text, &Order::Pay(amount), b"\x06\x01\x00")?;
+    put_order(
+        &mut text,
+        &Order::Pay(amount),
+        &Note::none(),
+        b"\x06\x01\x00",
+    )?;
     put_heard(&mut text, &message, b"\x80\x00\x00")?;
     let entries = read_records(alloc, text.bytes())?;
     let [Entry::Order(Order::Pay(paid)), Entry::Heard(heard)] = entries.as_slice() else {
@@ -68,6 +83,52 @@ fn the_greatest_amount_and_a_long_message_are_read_back(rt: HostRuntime) -> Resu
     assert_equal(&rt, &paid.get(), &999_999_999_999);
     assert_equal(&rt, &heard.as_slice(), &message.as_slice());
     Ok(())
+}
+
+#[test]
+fn notes_are_written_and_read_over(rt: HostRuntime) -> Result<(), Fail> {
+    let alloc = rt.alloc();
+    let longest = [b'~'; MAX_REFERENCE_LEN];
+    let notes = [
+        Note::new(None, Some(b"7")),
+        Note::new(Some(b"2026-11-28T09:14:03Z"), Some(&longest)),
+    ];
+    for note in notes {
+        let Some(note) = note else {
+            assert!(rt; false, "no note");
+            return Ok(());
+        };
+        let mut text = Text::new(alloc);
+        put_order(&mut text, &Order::CloseDay, &note, b"")?;
+        let entries = read_records(alloc, text.bytes())?;
+        assert!(rt; matches!(entries.as_slice(), [Entry::Order(Order::CloseDay)]));
+    }
+    Ok(())
+}
+
+#[test]
+fn what_is_no_note_is_refused(rt: HostRuntime) {
+    let too_long = [b'~'; MAX_REFERENCE_LEN + 1];
+    let references = [
+        b"".as_slice(),
+        b"A 1009",
+        b"\x7F",
+        b"caf\xC3\xA9",
+        &too_long,
+    ];
+    for reference in references {
+        assert!(rt; Note::new(None, Some(reference)).is_none());
+    }
+    let times = [
+        b"".as_slice(),
+        b"2026-11-28",
+        b"2026-11-28 09:14:03Z",
+        b"2026-11-28T09:14:03",
+        b"2026-11-28T09:14:03Z ",
+    ];
+    for time in times {
+        assert!(rt; Note::new(Some(time), None).is_none());
+    }
 }
 
 #[test]
@@ -88,6 +149,34 @@ fn a_wrong_line_is_named(rt: HostRuntime) -> Result<(), Fail> {
             &"line 3 of the journal is no line of a till's record",
         );
     }
+    Ok(())
+}
+
+#[test]
+fn a_wrong_check_is_named(rt: HostRuntime) -> Result<(), Fail> {
+    let alloc = rt.alloc();
+    // Each is changed after it was written, or its check belongs to another record.
+    let texts = [
+        b"# zvt journal 1, currency 978\n< 800001\n#= 9A61F70B\n".as_slice(),
+        b"< 800000\n!\n#= 9A61F70B\n",
+        b"!\n#= 7DDCFDA1\n#= 7DDCFDA1\n",
+        b"# register\n> 060001\n#= 6E8065F3\n",
+        b"# register\n!\n#= 7ddcfda1\n",
+    ];
+    for text in texts {
+        let read = read_records(alloc, text);
+        let Err(error) = read else {
+            assert!(rt; false, "a wrong check was taken");
+            return Ok(());
+        };
+        assert_equal(&rt, &error, &RecordError::Check { number: 3 });
+    }
+    // Records without checks are read, and so is a check behind several lines of bytes.
+    assert_equal(
+        &rt,
+        &read_records(alloc, b"!\n< 800000\n#= 9A61F70B\n!\n")?.len(),
+        &3,
+    );
     Ok(())
 }
 
@@ -116,13 +205,21 @@ fn an_order_and_its_answers_are_kept(rt: HostRuntime) -> Result<(), Fail> {
         writer: Over::new(Vec::new(alloc)),
         stream: Stream::new(alloc),
     };
-    let ran = run_order_kept(alloc, &mut end, &mut kept, Order::Register, 4);
+    let Some(note) = Note::new(Some(b"2026-11-28T09:14:03Z"), Some(b"A-1009")) else {
+        assert!(rt; false, "no note");
+        return Ok(());
+    };
+    let ran = run_order_kept(alloc, &mut end, &mut kept, Order::Register, &note, 4);
     assert!(rt; matches!(ran, Ok(Outcome::Registered)), "another outcome");
     assert!(rt; !kept.has_failed());
     assert_equal(
         &rt,
         &kept.device().bytes(),
-        &b"# zvt journal 1, currency 978\n!\n# register\n> 060006000000BE0978\n< 800000\n< 060F00\n> 800000\n\n".as_slice(),
+        &b"# zvt journal 1, currency 978\n!\n#= 7DDCFDA1\n\
+# register at 2026-11-28T09:14:03Z ref A-1009\n> 060006000000BE0978\n#= 92A36DBE\n\
+< 800000\n#= 9A61F70B\n\
+< 060F00\n> 800000\n#= 07264E21\n\n"
+            .as_slice(),
     );
     assert_equal(
         &rt,
@@ -172,12 +269,24 @@ fn a_till_goes_on_over_its_book(rt: HostRuntime) -> Result<(), Fail> {
         writer: Over::new(Vec::new(alloc)),
         stream: Stream::new(alloc),
     };
-    let ran = run_order_kept(alloc, &mut end, &mut kept, Order::Register, 4);
+    let ran = run_order_kept(
+        alloc,
+        &mut end,
+        &mut kept,
+        Order::Register,
+        &Note::none(),
+        4,
+    );
     assert!(rt; matches!(ran, Ok(Outcome::Registered)), "another outcome");
     assert_equal(
         &rt,
         &kept.device().bytes(),
-        &b"# zvt journal 1, currency 978\n!\n# register\n> 060006000000BE0978\n< 800000\n!\n# register\n> 060006000000BE0978\n< 800000\n< 060F00\n> 800000\n\n".as_slice(),
+        &b"# zvt journal 1, currency 978\n!\n# register\n> 060006000000BE0978\n< 800000\n\
+!\n#= 7DDCFDA1\n\
+# register\n> 060006000000BE0978\n#= BBBD54AC\n\
+< 800000\n#= 9A61F70B\n\
+< 060F00\n> 800000\n#= 07264E21\n\n"
+            .as_slice(),
     );
     Ok(())
 }
@@ -189,7 +298,7 @@ fn what_is_no_tills_journal_is_refused(rt: HostRuntime) -> Result<(), Fail> {
         (b"".as_slice(), RecoveryError::Opening),
         (b"# zvt journal 1, currency 840\n", RecoveryError::Opening),
         (
-            b"# zvt journal 1, currency 978\n!\n# registered\n",
+            b"# zvt journal 1, currency 978\n!\n# register now\n",
             RecoveryError::Line { number: 3 },
         ),
         // Not registered.

@@ -19,7 +19,7 @@ fn runs_say_why_they_ended(rt: HostRuntime) -> Result<(), Fail> {
     let rows = [
         (
             &EndFault::BadStep { at: 3 },
-            "invalid step 4: expected 'register', 'pay:N', 'reverse:N', 'close' or, in 'zvt loop', 'decline:N:XX', where N is an amount in cents, as 'pay:1000' for 10.00, or the number of an entry",
+            "invalid step 4: expected 'register', 'pay:N', 'reverse:N', 'close' or, in 'zvt loop', 'decline:N:XX', where N is an amount in cents, as 'pay:1000' for 10.00, or the number of an entry; a reference, as in 'pay:1000:ref=A-1009', has 1 to 40 printable characters and no space",
         ),
         (
             &EndFault::Trace,

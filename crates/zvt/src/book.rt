@@ -6,14 +6,15 @@ use crate::finish::finish_run;
 use crate::inputs::{Input, write_sum};
 use crate::output::Output;
 use crate::reports::{report, report_on};
+use std::io::ErrorKind;
 use std::{fs, io, str};
 use zvt_bcd::Currency;
 use zvt_io::Over;
 use zvt_till::Till;
 use zvt_tool::statuses::{DONE, MEMORY, WORDS, of_device, of_file_error, of_recovery};
 use zvt_tool::{
-    EndFault, FileDevice, Form, JournalFileError, KeptTill, Opened, RecoveryError, Sum,
-    TillSettings, next_line, open_file, read_book, recover, write_book, write_records,
+    EndFault, FileDevice, FileFailure, Form, JournalFileError, KeptTill, Opened, RecoveryError,
+    Sum, TillSettings, next_line, open_file, read_book, recover, write_book, write_records,
 };
 
 /// What is reported of a book in another currency than the till's, or of no book.
@@ -28,6 +29,10 @@ const NO_BOOK: &str =
 const DISPLACED: &str =
     "the file of the book is no longer the one that was opened: it was moved, deleted, replaced or changed, so nothing more was sent";
 
+/// What is reported of a book for whose next record the disk has no room.
+const FULL_DISK: &str =
+    "the disk is full: no record of the book could be written, so nothing more was sent";
+
 /// What is reported of several books whose totals are not added.
 const MIXED: &str = "the books are kept in different currencies, so there is no sum";
 
@@ -38,7 +43,7 @@ const ONE_RECORDS: &str =
 /// What the first line of a book says before the number of its currency.
 const OPENING: [u8; 26] = *b"# zvt journal 1, currency ";
 
-/// What several books come to, as far as they were written.
+/// The sum of the books written so far.
 #[derive(Drop)]
 struct Listing {
     sum: Sum,
@@ -74,8 +79,8 @@ impl Listing {
     }
 }
 
-/// Writes what the books in these files have in this form, and answers the highest exit status. Of several, each line names its
-/// file, and the sum of the totals comes last.
+/// Prints the books in these files and returns the highest exit status. With several files, each line begins with the
+/// name of its file, and the last line is the sum of the totals.
 pub fn show(rt: &HostRuntime, paths: &[&str], form: Form) -> io::Result<u8> {
     let mut listing = Listing::new(paths.len());
     match paths {
@@ -113,7 +118,7 @@ fn show_one(
     let text = if input.is_null_device() {
         Vec::new(rt.alloc())
     } else {
-        match read_book(rt, rt.alloc(), path) {
+        match read_book(rt, rt.alloc(), path).answer {
             Ok(text) => text,
             Err(error) => return unread(rt, path, &error),
         }
@@ -138,7 +143,7 @@ fn show_one(
     finish_run(rt, writer.inner.broken_pipe, answer)
 }
 
-/// Writes the whole records of the book in the one file that is named as a trace, and answers the exit status.
+/// Prints the complete records of the book, as a trace, and returns the exit status. Takes exactly one file.
 pub fn records(rt: &HostRuntime, paths: &[&str]) -> io::Result<u8> {
     match paths {
         [path] => records_of(rt, path),
@@ -152,7 +157,7 @@ pub fn records(rt: &HostRuntime, paths: &[&str]) -> io::Result<u8> {
 /// Writes the whole records of the book in this file as a trace, and answers the exit status. What is there of another record
 /// is reported.
 fn records_of(rt: &HostRuntime, path: &str) -> io::Result<u8> {
-    let text = match read_book(rt, rt.alloc(), path) {
+    let text = match read_book(rt, rt.alloc(), path).answer {
         Ok(text) => text,
         Err(error) => return unread(rt, path, &error),
     };
@@ -208,14 +213,14 @@ fn currency_of(text: &[u8]) -> Option<Currency> {
     }
 }
 
-/// Opens the book in this file, which is made if it is not there, and reports what it has. A book that can't be opened is
-/// reported, and the exit status is answered.
+/// Opens the book in this file, or creates it, and reports its content. If the book can't be opened, reports why and
+/// returns the exit status.
 pub fn open(
     rt: &HostRuntime,
     path: &str,
     settings: &TillSettings,
 ) -> io::Result<Result<KeptTill<FileDevice>, u8>> {
-    let opened = match open_file(rt.alloc(), path.as_bytes()) {
+    let opened = match open_file(rt.alloc(), path.as_bytes()).answer {
         Ok(opened) => opened,
         Err(error) => return Ok(Err(unopened(rt, path, &error)?)),
     };
@@ -279,12 +284,31 @@ fn report_book(rt: &HostRuntime, path: &str, till: &Till) -> io::Result<()> {
     eprintln!(rt; "zvt: '{path}': {booked} booked, {unclear} unclear, total {total}")
 }
 
-/// Reports that the file of the book's name was another one by the time that a record was to be written.
-pub fn report_displaced(rt: &HostRuntime, device: &FileDevice) -> io::Result<()> {
-    if device.is_displaced() {
-        report(rt, DISPLACED)?;
+/// Reports why the book could not be written, if it could not.
+pub fn report_failure(rt: &HostRuntime, device: &FileDevice) -> io::Result<()> {
+    match device.failure() {
+        Some(FileFailure::Displaced) => report(rt, DISPLACED),
+        Some(FileFailure::Io(error) | FileFailure::Unreserved(error)) if is_full(&error) => {
+            report(rt, FULL_DISK)
+        }
+        Some(FileFailure::Unreserved(error)) => {
+            eprintln!(rt;
+                "zvt: no space could be held back beside the book, so nothing more was sent: {error}"
+            )
+        }
+        Some(FileFailure::Io(error)) => {
+            eprintln!(rt; "zvt: a record of the book could not be written: {error}")
+        }
+        None => Ok(()),
     }
-    Ok(())
+}
+
+/// Whether the disk, or the user's share of it, is full.
+fn is_full(error: &io::Error) -> bool {
+    matches!(
+        error.kind(),
+        ErrorKind::StorageFull | ErrorKind::QuotaExceeded
+    )
 }
 
 /// Reports that a book is not read, and answers the exit status. A trace has another command.

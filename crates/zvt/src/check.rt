@@ -18,7 +18,7 @@ use zvt_trace::Direction;
 /// Why a situation has no verdict after a play that ended all.
 const NOT_PLAYED: &[u8] = b"not played: there was no connection, or no memory\n";
 
-/// A situation: its name, the comments at its head, and what is played.
+/// A situation: its name, the comments at its start, and its steps.
 #[derive(Drop)]
 struct Situation<'a> {
     name: &'a str,
@@ -37,7 +37,7 @@ struct Verdicts {
 /// For so many milliseconds a situation listens on after its last line, where it does not say for how many.
 const LISTENED: u32 = 500;
 
-/// Plays a terminal in each situation against a till, and answers the exit status.
+/// Plays the terminal of each situation against a till and returns the exit status.
 pub fn till(rt: &HostRuntime, options: &CheckOptions<'_>) -> io::Result<u8> {
     let situations = match read_all(rt, Direction::FromTerminal, options)? {
         Ok(situations) => situations,
@@ -54,7 +54,7 @@ pub fn till(rt: &HostRuntime, options: &CheckOptions<'_>) -> io::Result<u8> {
     )
 }
 
-/// Plays a till in each situation against a terminal, and answers the exit status.
+/// Plays the till of each situation against a terminal and returns the exit status.
 pub fn terminal(rt: &HostRuntime, options: &CheckOptions<'_>) -> io::Result<u8> {
     if options.port == 0 {
         report_invalid(rt, "port", "0", TERMINAL_PORT)?;

@@ -1,4 +1,4 @@
-//! Where the connections of a script come from.
+//! Sources of a script's connections.
 
 use std::net::TcpStream;
 use std::time::Duration;
@@ -6,7 +6,7 @@ use std::{io, thread};
 use zvt_tcp::{Door, SILENCE_SECONDS, connect, listen};
 use zvt_tool::NetFault;
 
-/// Where the connections of a script come from.
+/// The source of a script's connections.
 #[derive(Drop)]
 pub enum Place<'a> {
     /// They are made to this port of this host.
@@ -15,16 +15,16 @@ pub enum Place<'a> {
     From(Door),
 }
 
-/// For so many seconds the first connection of a situation is awaited: a person has to do its steps.
+/// Seconds to wait for the first connection of a situation, whose steps a person has to carry out.
 pub const FIRST_SECONDS: u32 = 600;
 
-/// For so many seconds a connection is awaited after the first.
+/// Seconds to wait for each further connection.
 pub const CONNECTION_SECONDS: u32 = 60;
 
 /// How many milliseconds pass between two looks for a connection.
 const LOOK_MILLISECONDS: u32 = 10;
 
-/// Where the connections come from.
+/// Returns the source of the connections.
 pub fn place_at<'a>(
     rt: &HostRuntime,
     port: Option<u16>,
@@ -48,7 +48,7 @@ pub fn report_address(rt: &HostRuntime, place: &Place<'_>) -> io::Result<()> {
     }
 }
 
-/// The next connection. One that comes in is awaited for so many seconds, or as long as it takes.
+/// Returns the next connection, and waits for an incoming one for the given number of seconds, or without limit.
 pub fn next_connection(
     rt: &HostRuntime,
     place: &mut Place<'_>,
@@ -68,7 +68,7 @@ pub fn next_connection(
     next
 }
 
-/// The next connection, where one comes within so many milliseconds.
+/// Returns the next connection if one comes in within the given number of milliseconds.
 pub fn next_within(
     rt: &HostRuntime,
     door: &mut Door,
@@ -89,7 +89,7 @@ pub fn next_within(
     found
 }
 
-/// No read waits for longer than so many milliseconds.
+/// Limits each read to the given number of milliseconds.
 pub fn limit_reads(connection: &TcpStream, milliseconds: u32) {
     let longest = Duration::from_millis(u64::from(milliseconds.max(1)));
     let _ = connection.set_read_timeout(Some(longest));

@@ -1,5 +1,5 @@
 //! The runs of either end of a line, as the command line asks for them.
-ghost use Rattle.std.specs.Prelude.{◌≤◌};
+ghost use Rattle.std.specs.Prelude.{◌≡◌, ◌≤◌, IfOk, is_some};
 
 use crate::finish::{finish_plan, finish_run};
 use crate::one_file::report_one_file;
@@ -23,7 +23,7 @@ use zvt_tool::{
 /// What is reported where a till is given no steps.
 const NO_STEPS: &str = "no steps are given, so the till registers and closes the day";
 
-/// Runs both ends in this process, and answers the exit status.
+/// Runs both ends of a line in this process and returns the exit status.
 pub fn both_ends(rt: &HostRuntime, options: &LoopOptions<'_>) -> io::Result<u8> {
     let plan = match planned(rt, Ends::Both, options.steps)? {
         Ok(plan) => plan,
@@ -52,7 +52,7 @@ pub fn both_ends(rt: &HostRuntime, options: &LoopOptions<'_>) -> io::Result<u8> 
         None => run_loop(rt, rt.alloc(), &run, &mut writer, &mut report),
         Some(mut kept) => {
             let answer = run_loop_kept(rt, rt.alloc(), &run, &mut kept, &mut writer, &mut report);
-            book::report_displaced(rt, kept.device())?;
+            book::report_failure(rt, kept.device())?;
             answer
         }
     };
@@ -60,7 +60,7 @@ pub fn both_ends(rt: &HostRuntime, options: &LoopOptions<'_>) -> io::Result<u8> 
     trace_file::mend_after(rt, options.trace, run.trace, status)
 }
 
-/// Runs a till, and answers the exit status.
+/// Runs a till and returns the exit status.
 pub fn till(rt: &HostRuntime, options: &TillOptions<'_>) -> io::Result<u8> {
     let Some(settings) = settings(rt, options)? else {
         return Ok(WORDS);
@@ -151,11 +151,11 @@ fn till_with_book(
     let mut writer = Over::new(Output::new(io::writer(rt)));
     let mut report = Over::new(rt.stderr());
     let answer = run_till_kept(rt, rt.alloc(), &run, &mut kept, &mut writer, &mut report);
-    book::report_displaced(rt, kept.device())?;
+    book::report_failure(rt, kept.device())?;
     finish_run(rt, writer.inner.broken_pipe, answer)
 }
 
-/// Serves tills as a simulated terminal, and answers the exit status. What it reports is text on standard error, or JSON on
+/// Serves tills as a simulated terminal and returns the exit status. Reports text on standard error, or JSON on
 /// standard output.
 pub fn terminal(rt: &HostRuntime, options: &TerminalOptions<'_>) -> io::Result<u8>
     requires { options.now.tid ≤ 99999999 }
@@ -197,13 +197,15 @@ fn planned(rt: &HostRuntime, ends: Ends, words: &[&str]) -> io::Result<Result<Ve
     }
 }
 
-/// The till of the book in this file, if one is named. A book that can't be opened is reported, and the exit status is
-/// answered.
+/// The till of the book in this file, exactly where one is named. A book that can't be opened is reported, and the exit
+/// status is answered.
 fn opened(
     rt: &HostRuntime,
     path: Option<&str>,
     settings: &TillSettings,
-) -> io::Result<Result<Option<KeptTill<FileDevice>>, u8>> {
+) -> io::Result<Result<Option<KeptTill<FileDevice>>, u8>>
+    ensures { IfOk result (λ opened. IfOk opened (λ kept. is_some kept ≡ is_some path.entry)) }
+{
     let Some(path) = path else {
         return Ok(Ok(None));
     };

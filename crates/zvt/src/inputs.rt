@@ -59,7 +59,7 @@ impl<'a> Input<'a> {
         Ok(Output::labelled(alloc, inner, label))
     }
 
-    /// A writer of what is reported of the trace: of one of several, each line begins with its name.
+    /// Returns a writer for reports about the trace. With several files, each line begins with the name of its file.
     pub fn errors<W: Write + Drop>(
         &self,
         alloc: Global,
@@ -94,7 +94,7 @@ impl Ended {
     }
 }
 
-/// Runs the command on the trace in each of these files, or of standard input where none is named. Answers the highest
+/// Runs the command on the trace in each of these files, or on standard input if no file is named. Returns the highest
 /// exit status.
 pub fn work_on(rt: &HostRuntime, command: &TraceCommand, files: &[&str]) -> io::Result<u8> {
     match files {
@@ -139,7 +139,7 @@ fn work_on_all(rt: &HostRuntime, command: &TraceCommand, files: &[&str]) -> io::
     }
 }
 
-/// Writes the line of the sum, and answers the exit status of that.
+/// Writes the line with the sum and returns its exit status.
 pub fn write_sum(rt: &HostRuntime, form: Form, sum: &Sum) -> io::Result<u8> {
     let mut text = Text::new(rt.alloc());
     if sum.write(&mut text, form).is_err() {

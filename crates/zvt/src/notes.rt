@@ -1,4 +1,4 @@
-//! The reports of what is bad in a trace, on standard error.
+//! Reports about bad streams of a trace, on standard error.
 ghost use Rattle.std.specs.Prelude.{◌≡◌, ◌≤◌, length};
 ghost use Rattle.zvt_trace.specs.Written.{limit};
 ghost use Rattle.zvt.specs.Notes.{scope_of, faulty_line};
@@ -12,8 +12,7 @@ use zvt_tool::{
     AuditSummary, Lengths, ListenerError, Scope, Tally, TraceFault, hint_on, write_notes,
 };
 
-/// Reports bad streams, a trace without a message, and directions that may be swapped. It answers whether there was memory
-/// for that.
+/// Reports bad streams, a trace without messages, and directions that may be swapped. Returns whether memory sufficed.
 pub fn report_notes(
     rt: &HostRuntime,
     command: &TraceCommand,

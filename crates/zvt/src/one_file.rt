@@ -1,4 +1,4 @@
-//! Whether two names are those of one file.
+//! Finds out whether two names refer to the same file.
 use crate::reports::report;
 use std::fs::{self, Metadata};
 use std::io;
@@ -10,7 +10,7 @@ const BOOK_AND_TRACE: &str =
     "'--book' and '--trace' name the same file: a book holds nothing but the till's records, so \
 name another file for the trace";
 
-/// Whether the book and the trace are to be in one file, which is reported. Nothing is opened for it.
+/// Returns whether the book and the trace would be the same file, and reports it. Opens nothing.
 pub fn report_one_file(
     rt: &HostRuntime,
     book: Option<&str>,

@@ -20,7 +20,7 @@ pub struct Output<W> {
     pub out_of_memory: bool,
 }
 
-/// A label, the text of what was written last, and its last byte.
+/// A label, the text written last, and its last byte.
 #[derive(Drop)]
 struct Labelling {
     label: Label,
@@ -64,7 +64,8 @@ impl<W: Drop> Output<W> {
 }
 
 impl<W> Output<W> {
-    /// The answer of a command that wrote here, where a write that failed since memory was refused counts as that.
+    /// Returns the result of a command that wrote here. If a write failed because an allocation failed, the fault is
+    /// the allocation's.
     pub fn explained<T: Drop>(&self, answer: Result<T, TraceFault>) -> Result<T, TraceFault>
         ensures { result ≡ explained self.now.out_of_memory answer }
     {

@@ -38,7 +38,7 @@ pub enum Played {
 /// An end of a connection.
 type LineEnd<'a> = Endpoint<Over<&'a TcpStream>, Over<&'a TcpStream>>;
 
-/// Plays one side of a trace, and answers the exit status. The whole trace is read before a connection is opened.
+/// Plays one side of a trace and returns the exit status. Reads the whole trace before it opens a connection.
 pub fn play(rt: &HostRuntime, options: &PlayOptions<'_>) -> io::Result<u8> {
     let (own, path) = match (options.till, options.terminal) {
         (Some(path), None) => (Direction::FromTill, path),
@@ -135,8 +135,8 @@ pub fn script_of(
     }
 }
 
-/// Plays the steps, over one connection after another. Then it listens on for so many milliseconds, or for as many as the last
-/// step says.
+/// Plays the steps, over one connection after another. Then it listens for the given number of milliseconds, or for as
+/// long as the last step demands.
 pub fn play_script(
     rt: &HostRuntime,
     place: &mut Place<'_>,

@@ -5,8 +5,9 @@ use std::time::Instant;
 /// How long a command runs before it reports how far it is.
 const SECONDS: u64 = 1;
 
-/// The files that are done, on a line of a terminal device that the next text writes over. Nothing is reported in the first second,
-/// nor where standard error is no terminal device, nor where standard output is one: there the output tells enough.
+/// Shows the number of finished files on a line of a terminal device, which the next text overwrites. Shows nothing
+/// during the first second, if standard error is not a terminal device, or if standard output is one, because the
+/// output itself then shows the progress.
 #[derive(Drop)]
 pub struct Progress {
     files: usize,
@@ -16,7 +17,7 @@ pub struct Progress {
 }
 
 impl Progress {
-    /// No file is done yet, of so many.
+    /// Starts at 0 of the given number of files.
     pub fn new(rt: &HostRuntime, files: usize) -> Progress {
         let is_wanted = rt.stderr().is_terminal() && !rt.stdout().is_terminal();
         Progress {

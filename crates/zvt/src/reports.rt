@@ -3,13 +3,13 @@ use std::fmt::Display;
 use std::io;
 use zvt_tool::Tally;
 
-/// What is expected of the port of a terminal.
+/// The expected form of a terminal's port.
 pub const TERMINAL_PORT: &str = "give the port that the terminal listens at";
 
-/// What is expected of the time that a till waits.
+/// The expected form of a till's timeout.
 pub const SOME_SECONDS: &str = "expected 1 to 65535";
 
-/// What fails where the file of a trace can't be opened.
+/// The failed action if the file of a trace can't be opened.
 pub const NO_TRACE: &str = "cannot open the trace";
 
 /// Reports this.
@@ -32,7 +32,7 @@ pub fn report_failed<T: Display + Drop>(
     eprintln!(rt; "zvt: '{about}': {what}: {why}")
 }
 
-/// Reports that an argument is not what it is to be.
+/// Reports an invalid argument and its expected form.
 pub fn report_invalid(rt: &HostRuntime, what: &str, word: &str, expected: &str) -> io::Result<()> {
     eprintln!(rt; "zvt: invalid {what} '{word}': {expected}")
 }

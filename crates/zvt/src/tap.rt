@@ -63,7 +63,7 @@ struct TraceFile<'a> {
     failed: bool,
 }
 
-/// Passes on one line after another between tills and a terminal, and answers the highest exit status.
+/// Forwards one connection after another between tills and a terminal, and returns the highest exit status.
 pub fn tap(rt: &HostRuntime, options: &TapOptions<'_>) -> io::Result<u8> {
     let Some(from) = Address::here(options.listen) else {
         let expected = "expected PORT or HOST:PORT, e.g. 20007";
@@ -177,7 +177,7 @@ fn tap_one(
     if failed { status.max(DEVICE) } else { status }
 }
 
-/// The file of a trace. A write that fails is reported at once. Where there is no file, all bytes are taken and none is kept.
+/// The file of a trace. A failed write is reported at once. Without a file, it accepts all bytes and discards them.
 #[derive(Drop)]
 struct Noted<'a> {
     rt: &'a HostRuntime,

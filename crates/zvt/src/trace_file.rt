@@ -14,9 +14,9 @@ const MOST_OF_A_LINE: usize = 2 + 2 * 1024;
 const A_BOOK: &str =
     "this is a till's book, which a trace would end: name another file for the trace";
 
-/// The file of a trace, if one is named. The trace goes behind what the file has, after a lost line. A line that a full disk
-/// or a crash left unfinished at the end of the file is cut off first. Both are reported. A file that can't be written, and
-/// one that is a journal, is reported, and the exit status is answered.
+/// The file of a trace, if one is named. The trace is appended to the file, after a `!` for the lost connection. A
+/// line that a full disk or a crash left unfinished at the end of the file is cut off first. Both are reported. A file
+/// that can't be written, and one that is a journal, is reported, and the exit status is answered.
 pub fn opened(rt: &HostRuntime, path: Option<&str>) -> io::Result<Result<Option<File>, u8>> {
     let Some(path) = path else {
         return Ok(Ok(None));
@@ -48,8 +48,8 @@ pub fn opened(rt: &HostRuntime, path: Option<&str>) -> io::Result<Result<Option<
     }
 }
 
-/// Where a run ended by a device, cuts off what a failed write left of a line at the end of its trace, so that the trace can
-/// be read. What is cut off is reported. It answers the run's exit status.
+/// After a run that a device ended, removes an incomplete line from the end of its trace, so that the trace can be
+/// read. Reports what it removed, and returns the run's exit status.
 pub fn mend_after(
     rt: &HostRuntime,
     path: Option<&str>,

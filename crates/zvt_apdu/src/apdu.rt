@@ -1,4 +1,4 @@
-//! A message that has a spelling.
+//! A message that has an encoding.
 
 ghost use Rattle.std.specs.Prelude.{◌≡◌, IfErr, IfOk};
 ghost use Rattle.zvt_apdu.specs.Messages.{message_of, HasFault, HasSpelling};
@@ -7,7 +7,7 @@ use crate::messages::{BadValue, Message};
 use crate::writer::{control, data_size};
 use std::marker::Model;
 
-/// A message that has a spelling.
+/// A message that has an encoding.
 #[derive(Drop)]
 pub struct Apdu {
     pub(crate) message: Message,
@@ -38,7 +38,7 @@ impl Apdu {
     }
 }
 
-/// The message as one that has a spelling. It is handed back with the first of these that holds:
+/// Returns the message as an APDU if it has an encoding. Otherwise hands it back with the first fault that applies:
 /// `TooLarge`, then `NamedControl`.
 pub fn checked(message: Message) -> Result<Apdu, (Message, BadValue)>
     ensures ok { IfOk result (λ apdu. (apdu ≡ message_of message) × HasSpelling (message_of message)) }

@@ -123,8 +123,8 @@ fn put_reversal(password: [u8; 3], receipt: &[u8; 2], out: &mut [u8; MAX_BRIEF_L
     put_with_password(0x30, password, &[0x87, high, low], out)
 }
 
-/// Writes the message's spelling at the start of the buffer, and says its size. It always fits, and what comes after
-/// it stays.
+/// Encodes the message into the start of the buffer and returns its size. Every brief message fits. The rest of the
+/// buffer does not change.
 pub fn put_brief(brief: &Brief, buffer: &mut [u8; MAX_BRIEF_LEN]) -> usize
     ensures written { PutsMessage (message_of_brief brief.now) buffer.old buffer.new result }
     ensures fits { result ≤ 32 }

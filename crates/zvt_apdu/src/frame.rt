@@ -1,4 +1,4 @@
-//! The frame of a message: control bytes, a length, and what comes after them.
+//! The frame of a message: control bytes, length and data.
 
 ghost use Rattle.std.specs.Prelude.{◌≡◌, ◌≤◌, length, slice_index_or};
 ghost use Rattle.zvt_grammar.specs.Lengths.{reading_of};
@@ -8,7 +8,8 @@ ghost use Rattle.zvt_apdu.specs.Judging.{AnswersOpening, JudgesSize, bytes_after
 use crate::kinds::{Kind, kind_at};
 use zvt_grammar::{Lengths, Scan, Why};
 
-/// What the data of a message is: that many bytes and then bytes of any number, that many bytes and fields, or a registration's.
+/// The form of a message's data: some bytes followed by free bytes, some bytes followed by fields, or the data of a
+/// registration.
 #[derive(Clone, Copy)]
 pub(crate) enum Form {
     BytesFrom(usize),
@@ -16,7 +17,8 @@ pub(crate) enum Form {
     Registration,
 }
 
-/// What is in data: that many bytes, that many bytes of digits, then fields, or bytes.
+/// The parts of a message's data: the number of fixed bytes, the number of bytes of digits, and whether fields or free
+/// bytes follow.
 #[derive(Clone, Copy)]
 pub struct Layout {
     pub free: usize,
@@ -33,7 +35,7 @@ pub(crate) struct Opening {
     pub(crate) size: usize,
 }
 
-/// The form of the data after these control bytes, where the message has a name of its own.
+/// Returns the form of the data after these control bytes if they belong to a named message.
 #[inline(always)]
 pub(crate) fn form_of(high: u8, low: u8) -> Option<Form>
     ensures { result ≡ form_of high low }
@@ -96,7 +98,7 @@ fn can_fill(layout: Layout, size: usize) -> bool
     head <= size && !(layout.fields && size == head + 1)
 }
 
-/// Judges the length of the data after these control bytes: what is in data of that size.
+/// Checks the length of the data after these control bytes and returns the parts of data of that size.
 #[inline(always)]
 pub fn judge_size(high: u8, low: u8, size: usize) -> Result<Layout, Why>
     ensures { JudgesSize high low size result }

@@ -34,7 +34,7 @@ pub enum Kind {
     Other,
 }
 
-/// The kind of the message that has these control bytes. The commonest come first.
+/// Returns the kind of message with these control bytes. The most frequent kinds are tested first.
 #[tactic(auto, unfolding(crate::specs::Kinds::kind_at))]
 #[inline(always)]
 pub fn kind_at(high: u8, low: u8) -> Kind

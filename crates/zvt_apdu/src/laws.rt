@@ -16,8 +16,8 @@ pub fn spellings_are_one()
     ensures { SpellingsAreOne (Spells shortest) }
 {}
 
-/// A line has one cut into messages, what is spelled at its start is a prefix of the cut, and more bytes leave the
-/// messages that stand.
+/// The bytes of a line divide into messages in exactly one way. Any messages encoded at its start are the first
+/// messages of that division, and further bytes do not change them.
 pub fn cuts_are_one()
     ensures one { (r : Reading) → CutsAreOne (Spells r) }
     ensures prefixes { (r : Reading) → PrefixesOfCut (Spells r) }

@@ -11,9 +11,10 @@ use crate::writer::encode;
 use std::alloc::{AllocError, Global};
 use zvt_grammar::Scan;
 
-/// Of the message that comes first, each length in any form that holds it, the spelling whose lengths are the shortest,
-/// and how many bytes the message was read from: never fewer than the spelling has. Else it answers as `scan_loose`. The
-/// only error is that memory runs out, where `scan_loose` has it, and for the spelling of a message that was read.
+/// Reads the first message, with lengths in any form, and returns its encoding with the shortest lengths, and the
+/// number of bytes it was read from, which is never less than the size of that encoding. If there is no message,
+/// returns the result of `scan_loose`. The only error is that an allocation fails, either in `scan_loose` or for the
+/// encoding.
 pub fn normalise(alloc: Global, bytes: &[u8]) -> Result<Scan<(Vec<u8>, usize)>, AllocError>
     ensures { MatchResult result (AnswersNormal bytes.now) (λ _. WantsMemory bytes.now) }
 {

@@ -12,10 +12,10 @@ use std::alloc::{AllocError, Global};
 use zvt_field::scan_fields;
 use zvt_grammar::{Lengths, Scan, Why};
 
-/// Reads the message that comes first: the message and its size, each length in its shortest form. Bytes after it are
-/// not looked at. It answers `More` where the bytes begin a message and hold none, as the empty slice does, and refuses
-/// with the first byte after which no message can follow. The only error is that memory runs out, and it comes only after the
-/// message's head, where its free bytes are all there or some of its fields are stored (`TakesMemory`).
+/// Reads the first message and returns it with its size. Each length must have its shortest form. Ignores the bytes
+/// after the message. Returns `More` if the bytes are the beginning of a message, as an empty slice is, and refuses
+/// the first byte after which no message can follow. The only error is that an allocation fails. It comes only after
+/// the message's head, once all its free bytes have arrived or some of its fields are stored (`TakesMemory`).
 #[inline(always)]
 pub fn scan(alloc: Global, bytes: &[u8]) -> Result<Scan<(Apdu, usize)>, AllocError>
     ensures { MatchResult result (Answers shortest bytes.now) (λ _. TakesMemory shortest bytes.now) }
@@ -23,7 +23,7 @@ pub fn scan(alloc: Global, bytes: &[u8]) -> Result<Scan<(Apdu, usize)>, AllocErr
     scan_message(alloc, bytes, Lengths::Shortest)
 }
 
-/// Reads the message that comes first, where each length may be in any form that holds it.
+/// Reads the first message. Lengths may have any form that holds them.
 pub fn scan_loose(alloc: Global, bytes: &[u8]) -> Result<Scan<(Apdu, usize)>, AllocError>
     ensures { MatchResult result (Answers padded bytes.now) (λ _. TakesMemory padded bytes.now) }
 {

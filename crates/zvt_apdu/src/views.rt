@@ -1,5 +1,5 @@
-//! A view that lends the bytes of a message that a reader has found whole: nothing is copied, and no memory is taken. It
-//! takes each length in any form that holds it, so one view serves the bytes of either reading.
+//! A view borrows the bytes of a message that a reader found complete. It copies nothing and allocates nothing. It
+//! accepts lengths in any form, so the same view serves both readers.
 
 ghost use Rattle.std.specs.Prelude.{◌≡◌, ℕ, List, ◌∷◌, ◌++◌, length};
 ghost use Rattle.std.specs.Option.{option_copied};
@@ -58,7 +58,7 @@ impl<'a> ApduView<'a> {
         [self.bytes[0], self.bytes[1]]
     }
 
-    /// Its fields, where it has fields.
+    /// Returns the fields of a message that has fields.
     pub fn fields(&self) -> Option<FieldsView<'a>>
         ensures { result ≡ fields_in self.now }
     {
@@ -121,7 +121,7 @@ impl<'a> ApduView<'a> {
         }
     }
 
-    /// The currency of a registration, where it stands.
+    /// Returns the currency of a registration, if it has one.
     pub fn currency(&self) -> Option<Currency>
         ensures { result ≡ currency_in self.now }
     {
@@ -134,7 +134,7 @@ impl<'a> ApduView<'a> {
         }
     }
 
-    /// What the terminal is at, as an intermediate status (04 FF) says it.
+    /// Returns the status byte of an intermediate status information (04 FF).
     pub fn status(&self) -> Option<u8>
         ensures { result ≡ status_in self.now }
     {

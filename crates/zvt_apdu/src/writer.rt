@@ -243,8 +243,8 @@ pub fn size(apdu: &Apdu) -> usize
     head_size(size) + size
 }
 
-/// Writes the message's spelling at the start of the slice, and says its size. What comes after it stays.
-/// Where the slice is too short it is left as it was.
+/// Encodes the message into the start of the slice and returns its size. The rest of the slice does not change. If the
+/// slice is too short, none of it changes.
 pub fn encode_into(apdu: &Apdu, out: &mut [u8]) -> Result<usize, NoRoom>
     ensures { Encodes apdu.now out.old out.new result }
 {

@@ -31,7 +31,7 @@ fn digit(value: u8) -> u8
     0xF0 + value
 }
 
-/// What a byte of a length says: 0 to 9 of F0 to F9, and nothing of any other.
+/// Returns the digit of a length byte, F0 to F9, or `None` for any other byte.
 pub fn ll_digit(byte: u8) -> Option<u8>
     ensures { result ≡ ll_digit_of byte }
 {

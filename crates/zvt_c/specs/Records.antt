@@ -61,8 +61,8 @@ Masks sent = (m : Brief) → Spells shortest (message_of_brief m) sent → Spell
 -- The record of the order that two numbers name and of the bytes that are sent for it; or no record, where they name none, where a till
 -- sends no message of so many bytes, or where memory was refused.
 pub data RecordsOrder (kind number : ℕ) (sent buffer_before buffer_after : List ℕ) (answer : ZvtAnswer) : Type 0 where
-  recorded : (order : Order) → recorded_order kind number ≡ Some order → length sent ≤ 32 → IsRecordOf (ordered order) (order_record order (masked_bytes sent))
-      → Records (order_record order (masked_bytes sent)) buffer_before buffer_after answer → RecordsOrder kind number sent buffer_before buffer_after answer
+  recorded : (order : Order) → recorded_order kind number ≡ Some order → length sent ≤ 32 → IsRecordOf (ordered order) (order_record order [] (masked_bytes sent))
+      → Records (order_record order [] (masked_bytes sent)) buffer_before buffer_after answer → RecordsOrder kind number sent buffer_before buffer_after answer
   unnamed : (recorded_order kind number ≡ None) ⊎ (32 < length sent) → buffer_after ≡ buffer_before → answer ≡ bare 5 → RecordsOrder kind number sent buffer_before buffer_after answer
 
 -- The record of the message that comes first, and of what is answered to it; or no record, for the reason that the answer gives.

@@ -3,7 +3,7 @@ use Rattle.std.specs.Prelude.{◌≡◌, ℕ, List, Option, Some, None, Ok, Err}
 use Rattle.zvt_stream.specs.StreamState.{at_start}
 use Rattle.zvt_kept.specs.Recovery.{Recovers}
 use Rattle.zvt_kept.specs.declared.recovery.RecoveryError.{RecoveryError}
-use Rattle.zvt_kept.specs.declared.recovery.RecoveryError.TheVariants.{Opening, Line, Record, Memory}
+use Rattle.zvt_kept.specs.declared.recovery.RecoveryError.TheVariants.{Opening, Check, Line, Record, Memory}
 use Rattle.zvt_c.specs.declared.answer.ZvtAnswer.{ZvtAnswer}
 use Rattle.zvt_c.specs.declared.session.Session.{Session}
 use Rattle.zvt_c.specs.Saving.{bare}
@@ -17,6 +17,7 @@ abbrev pub refused_as : RecoveryError → ZvtAnswer
 refused_as Opening = wrong_at 1 1
 refused_as (Line number) = wrong_at 2 number
 refused_as (Record number) = wrong_at 3 number
+refused_as (Check number) = wrong_at 4 number
 refused_as Memory = bare 3
 
 -- The till is that of the records, with the settings that it had, and its stream is at the start of a line. Or nothing changes.

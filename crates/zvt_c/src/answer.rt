@@ -1,19 +1,19 @@
-//! What a call says of bytes, in numbers.
+//! Results of reading, as numbers.
 ghost use Rattle.std.specs.Prelude.{◌≡◌};
 ghost use Rattle.zvt_c.specs.Answers.{code_of_why, answer_of, out_of_memory};
 
 use zvt_apdu::Apdu;
 use zvt_grammar::{Scan, Why};
 
-/// What comes first in the bytes. `status` says which of the other numbers mean something; they are 0 else.
+/// The first message in the bytes. `status` says which of the other numbers apply; the rest are 0.
 #[repr(C)]
 #[derive(Clone, Copy, Drop)]
 pub struct ZvtAnswer {
-    /// The bytes of the message, where it is whole.
+    /// The size of a complete message, in bytes.
     pub size: u64,
-    /// The first byte after which no message can follow, where the bytes are refused.
+    /// If the bytes are refused, the index of the first byte after which no message can follow.
     pub place: u64,
-    /// Why, where the bytes are refused: 1 to 8.
+    /// If the bytes are refused, the reason: 1 to 8.
     pub reason: u32,
     /// 0 whole, 1 more bytes are needed, 2 refused, 3 out of memory.
     pub status: u32,

@@ -10,8 +10,8 @@ use zvt_apdu::{ApduView, view};
 use zvt_grammar::Scan;
 use zvt_text::Text;
 
-/// Says what comes first in the bytes: a whole message and its size, the beginning of one, or bytes with which none
-/// begins. Bytes after a whole message are not looked at.
+/// Reads the first message: it is complete and has a size, or it is unfinished, or the bytes are refused. Ignores the
+/// bytes after a complete message.
 #[unsafe(no_mangle)]
 pub extern "C" fn zvt_scan(alloc: Global, bytes: &[u8], answer: &mut ZvtAnswer)
     ensures { Says bytes.now answer.new }
@@ -29,8 +29,8 @@ pub extern "C" fn zvt_scan(alloc: Global, bytes: &[u8], answer: &mut ZvtAnswer)
     };
 }
 
-/// Writes the text of the message that comes first, and answers its size: 0 where no whole message is there, or
-/// memory was refused. Where the room is less than the size nothing is written.
+/// Writes the first message as text and returns the size of the text, or 0 if there is no complete message or an
+/// allocation failed. If the buffer is too small, nothing is written.
 #[unsafe(no_mangle)]
 pub extern "C" fn zvt_text(
     alloc: Global,

@@ -1,4 +1,4 @@
-//! What programs in C, and in languages that call C, use of the reader, of the texts and of the till.
+//! The C library: the reader, the texts and the till, for programs in C and in languages that call C.
 #![tactic(auto)]
 
 mod answer;

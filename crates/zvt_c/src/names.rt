@@ -1,6 +1,5 @@
-//! The names of what numbers represent, as the program writes them. Each call writes the name (ASCII, no final zero) at
-//! the start of the room where it fits, and answers its size: 0 where the number names nothing. Where the room is less
-//! than the size nothing is written.
+//! Names of numbers, as the program prints them. Each call writes the name (ASCII, no final zero) to the start of the
+//! buffer and returns its size, or 0 if the number has no name. If the buffer is too small, nothing is written.
 ghost use Rattle.std.specs.Prelude.{◌≡◌};
 ghost use Rattle.zvt_c.specs.Names.{causes, meaning_in, name_in, outcomes, reasons, refusals};
 ghost use Rattle.zvt_c.specs.Saving.{Written};
@@ -134,8 +133,8 @@ pub extern "C" fn zvt_refusal_name(number: u32, buffer: &mut [u8]) -> usize
     put_name(refusal_word(number), buffer)
 }
 
-/// What a result code of the terminal means: the code of an outcome that is declined, refused or aborted. 0 where the
-/// code has no meaning of its own.
+/// Writes the meaning of a terminal's result code, as found in a declined, refused or aborted outcome. Returns 0 if
+/// the code has no meaning of its own.
 #[unsafe(no_mangle)]
 pub extern "C" fn zvt_result_name(code: u32, buffer: &mut [u8]) -> usize
     ensures { Written (meaning_in code) result buffer.old buffer.new }

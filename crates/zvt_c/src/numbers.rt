@@ -7,7 +7,7 @@ use zvt_bcd::{Amount, Trace};
 use zvt_snapshot::cause_code;
 use zvt_till::{Cause, Doubt, Entry, Order, OrderRefusal, Outcome};
 
-/// How an order ended. What a kind does not have is 0.
+/// How an order ended. Members that do not apply to the kind are 0.
 #[repr(C)]
 #[derive(Clone, Copy, Drop)]
 pub struct ZvtOutcome {
@@ -17,12 +17,12 @@ pub struct ZvtOutcome {
     pub code: u32,
     /// The trace number of a payment.
     pub trace: u32,
-    /// Its receipt number, two bytes as they were read, where `has_receipt` is 1.
+    /// If `has_receipt` is 1, the receipt number: its two bytes as read.
     pub receipt: u32,
     pub has_receipt: u32,
 }
 
-/// What a call came to.
+/// Result of a call on a till.
 #[repr(C)]
 #[derive(Clone, Copy, Drop)]
 pub struct ZvtStep {
@@ -30,13 +30,13 @@ pub struct ZvtStep {
     pub taken: u64,
     /// How many bytes are to be sent: they are at the start of `out`.
     pub send: u64,
-    /// Where the terminal's bytes are no message, the first byte after which none can follow.
+    /// If the bytes are refused, the index of the first byte after which no message can follow.
     pub place: u64,
     /// The size of the text of the print line that was heard, which is at the start of `line` where it fits.
     pub line: u64,
     /// Why the terminal's bytes are no message.
     pub reason: u32,
-    /// 1 where a message ended in what was taken.
+    /// 1 if the consumed bytes end a message.
     pub message: u32,
     /// 1 where the last of them is a print line.
     pub printed: u32,
@@ -75,8 +75,8 @@ pub struct ZvtEntry {
     pub reversed: u32,
     /// The cause of an unclear payment, or of an unclear reversal; else 0.
     pub cause: u32,
-    /// What its other reversals leave open: 0 nothing, 1 the last one is unclear, 2 the terminal said with B4 that it took
-    /// the payment back before. 0 of an unclear payment.
+    /// Doubt about its reversal: 0 none, 1 the last reversal is unclear, 2 the terminal answered B4, because it had
+    /// reversed the payment before. Always 0 for an unclear payment.
     pub doubt: u32,
 }
 
@@ -233,8 +233,9 @@ pub fn unclear_numbers(row: &(Amount, Cause)) -> ZvtEntry
     }
 }
 
-/// The order of that kind: 1 register, 2 pay so much, 3 take back the payment at this place of the book, counted from
-/// 0, 4 close the day, 5 cancel. Other numbers name none, and no amount that a message can't hold is paid.
+/// Returns the order of this kind: 1 register, 2 pay this amount, 3 reverse the payment at this index of the book,
+/// from 0, 4 close the day, 5 cancel. Returns `None` for other kinds, and for an amount that does not fit into a
+/// message.
 pub fn order_of(kind: u32, number: u64) -> Option<Order>
     ensures { result ≡ order_named kind number }
 {
@@ -258,7 +259,7 @@ fn pay(number: u64) -> Option<Order>
     }
 }
 
-/// The kind of a running order: 0 where none runs.
+/// Returns the kind of the running order, or 0 if there is none.
 pub fn running_number(running: Option<Order>) -> u32
     ensures { result ≡ kind_of_running running }
 {

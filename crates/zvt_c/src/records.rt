@@ -1,7 +1,7 @@
 //! The records of a journal. A caller makes each of them durable before it sends what follows from it.
 //!
-//! Each call writes the text of one record at the start of the room where it fits, and says its size. Where the room is less
-//! than the size nothing is written.
+//! Each call writes the text of one record to the start of the buffer and reports its size. If the buffer is too
+//! small, nothing is written.
 ghost use Rattle.std.specs.Prelude.{◌≡◌, IfSome, MatchBool, MatchResult, nat_le};
 ghost use Rattle.zvt_kept.specs.Records.{IsSpelledOrder, lost_record, opening};
 ghost use Rattle.zvt_c.specs.Records.{Masks, Records, RecordsHeard, RecordsOrder, has_password, masked_bytes, recorded_order};
@@ -13,12 +13,12 @@ use crate::numbers::order_of;
 use std::alloc::{AllocError, Global};
 use zvt_apdu::{MAX_BRIEF_LEN, view};
 use zvt_bcd::Currency;
-use zvt_kept::{answers_to, put_heard, put_lost, put_opening, put_order};
+use zvt_kept::{Note, answers_to, put_heard, put_lost, put_opening, put_order};
 use zvt_text::Text;
 use zvt_till::{MAX_BOOK_ENTRIES, Order, heard_view};
 
-/// Writes the first record of a journal: its format, and the currency of its till. The status is 0, 3, or 5 for a currency
-/// that is none.
+/// Writes the first record of a journal: its format and its till's currency. The status is 0, 3, or 5 if the number is
+/// not a currency.
 #[unsafe(no_mangle)]
 pub extern "C" fn zvt_record_opening(
     alloc: Global,
@@ -64,12 +64,12 @@ pub extern "C" fn zvt_record_order(
     message.copy_from_slice(sent);
     mask(message);
     let mut text = Text::new(alloc);
-    let written = put_order(&mut text, &order, message);
+    let written = put_order(&mut text, &order, &Note::none(), message);
     *answer = hand_out(written, &text, buffer);
 }
 
-/// Writes the record of the message that comes first, and of what a till answers to it at once. It answers the record's
-/// size: 0 where no whole message is there, or memory was refused. What comes first is said as by `zvt_scan`.
+/// Writes the record of the first message in the bytes, with the till's immediate reply. Returns the record's size, or
+/// 0 if there is no complete message or an allocation failed. The answer describes the first message as in `zvt_scan`.
 #[unsafe(no_mangle)]
 pub extern "C" fn zvt_record_heard(
     alloc: Global,

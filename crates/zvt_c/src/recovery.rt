@@ -11,9 +11,10 @@ use zvt_kept::{RecoveryError, recover};
 use zvt_stream::Stream;
 use zvt_till::{Till, TillSettings};
 
-/// Makes the handle's till that of a journal's records, with the settings that it has: its line is down, and no order runs.
-/// The status is 0; or 2, 3 or 6, and then nothing changes. With 2 the reason says what is wrong. It is 1 for a first line of
-/// another currency, 2 for the line at `place`, and 3 for the record at `place`, which can't follow from those before it.
+/// Replaces the handle's till by the one that a journal's records describe, with the same settings. It is not
+/// connected, and no order is running. The status is 0; or 2, 3 or 6, and then nothing changes. With 2, the reason is
+/// one of these: 1, the first line names another currency; 2, the line at `place` is not a journal's; 3, the record at
+/// `place` cannot follow the records before it. 4 means that the check in the line at `place` differs from its record.
 #[unsafe(no_mangle)]
 pub extern "C" fn zvt_till_recover(
     alloc: Global,
@@ -64,6 +65,7 @@ fn unrecovered(why: RecoveryError) -> ZvtAnswer
         RecoveryError::Opening => (1, 1),
         RecoveryError::Line { number } => (2, number as u64),
         RecoveryError::Record { number } => (3, number as u64),
+        RecoveryError::Check { number } => (4, number as u64),
         RecoveryError::Memory => return bare(3),
     };
     ZvtAnswer {

@@ -1,4 +1,4 @@
-//! What a handle owns.
+//! The memory that a handle owns.
 
 use zvt_stream::Stream;
 use zvt_till::Till;

@@ -27,8 +27,8 @@ fn write_saved(alloc: Global, till: &Till, buffer: &mut [u8]) -> Option<usize>
     Some(size)
 }
 
-/// Writes the bytes that the till is saved in, at any moment, and says their size; where the room is less, nothing is
-/// written. The status is 0, 3 or 6.
+/// Saves the till as bytes, at any time, and reports their size. If the buffer is too small, nothing is written. The
+/// status is 0, 3 or 6.
 #[unsafe(no_mangle)]
 pub extern "C" fn zvt_till_save(
     alloc: Global,

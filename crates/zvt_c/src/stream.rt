@@ -1,4 +1,4 @@
-//! What the terminal sends. The statuses are those of the other calls of a till.
+//! Processes input from the terminal. The statuses are the same as for the other calls on a till.
 ghost use Rattle.std.specs.Prelude.{◌≡◌, ◌≤◌, ◌<◌, ◌+◌, ◌^◌, None, length, MatchBool, cond, nat_lt, []};
 ghost use Rattle.zvt_apdu.specs.Views.{text_in};
 ghost use Rattle.zvt_till.specs.Till.{step, outcome_at};
@@ -17,9 +17,8 @@ use zvt_apdu::ApduView;
 use zvt_stream::{FedView, FeedError};
 use zvt_till::{Happening, Outcome, Till, heard_view};
 
-/// Feeds bytes of the terminal, up to the end of one message. The caller feeds the rest of the piece again, as long as
-/// `message` is 1. What is to be sent is written to `out`, which is to have room for 32. The text of a print line is not
-/// handed out.
+/// Feeds bytes of the terminal, up to the end of one message. While `message` is 1, feed the rest of the bytes again.
+/// Writes the bytes to send to `out`, which needs room for 32. Does not return the text of a print line.
 #[unsafe(no_mangle)]
 pub extern "C" fn zvt_till_feed(
     alloc: Global,
@@ -42,9 +41,9 @@ pub extern "C" fn zvt_till_feed(
     status
 }
 
-/// Feeds bytes of the terminal message by message: up to their end, to a print line, or to where `out` has room for
-/// fewer than 32 more. The answers are in `out` one after another, and are all to be sent, whatever the status is. The
-/// text of the print line is written to `line` where it fits. The caller feeds what was not taken again.
+/// Feeds bytes of the terminal message by message: to their end, to a print line, or until `out` has room for fewer
+/// than 32 further bytes. `out` then has all replies; send them whatever the status is. The text of the print line is
+/// written to `line` if it fits. Feed the remaining bytes again.
 #[unsafe(no_mangle)]
 pub extern "C" fn zvt_till_feed_all(
     alloc: Global,

@@ -1,6 +1,6 @@
-//! The till. Each call answers 0 where it did what it says, else a status, and then nothing changed, and the step that it
-//! answers, if it answers one, is nothing: 3 out of memory, 4 too little room to write, 5 an argument that names nothing,
-//! 6 the handle is closed, 7 the line brought bytes before that begin no message, 10 to 17 the order is refused.
+//! The till. Each call returns 0 if it succeeds. Otherwise it returns a status, changes nothing, and clears the step,
+//! if it has one: 3 an allocation failed, 4 the buffer is too small, 5 an argument is out of range, 6 the handle is
+//! closed, 7 the connection sent invalid bytes earlier, 10 to 17 the order is refused.
 ghost use Rattle.std.specs.Prelude.{◌≡◌, ◌≤◌, ◌⊎◌, ◌&&◌, None, option_map, length, MatchBool, MatchOption, nat_le, nat_lt, cond, slice_get};
 ghost use Rattle.zvt_till.specs.Till.{step, outcome_at};
 ghost use Rattle.zvt_apdu.specs.Briefs.{message_of_brief, PutsMessage};
@@ -21,8 +21,8 @@ use zvt_bcd::{Amount, Currency};
 use zvt_stream::Stream;
 use zvt_till::{Cause, Happening, Order, Outgoing, Till};
 
-/// Makes a till, whose line is down, for the handle. A till that it had after it is freed. The password and the
-/// configuration byte go into a registration as they are. Where the answer is not 0 nothing changes.
+/// Opens a till in the handle. It is not connected. If the handle has a till, that till is freed. A registration
+/// contains the password and the configuration byte unchanged. Unless the call returns 0, nothing changes.
 #[unsafe(no_mangle)]
 pub extern "C" fn zvt_till_new(
     alloc: Global,

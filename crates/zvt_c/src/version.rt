@@ -13,8 +13,8 @@ pub extern "C" fn zvt_abi() -> u32
     1
 }
 
-/// Writes the version (ASCII, no final zero) at the start of the room where it fits, and answers its size. Where the room
-/// is less than the size nothing is written.
+/// Writes the version (ASCII, no final zero) to the start of the buffer and returns its size. If the buffer is too
+/// small, nothing is written.
 #[unsafe(no_mangle)]
 pub extern "C" fn zvt_version(buffer: &mut [u8]) -> usize
     ensures { Written version result buffer.old buffer.new }

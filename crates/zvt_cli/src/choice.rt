@@ -5,7 +5,7 @@ ghost use Rattle.zvt_cli.specs.declared.choice.ChoiceFault.TheVariants.{Memory};
 use std::alloc::{AllocError, AllocFailed};
 use thiserror::Error;
 
-/// A command of the program, with what was given to it.
+/// A command of the program with its arguments.
 ///
 /// Steps, hosts, codes, settings and files are the arguments as they were given. Their users check the form.
 #[derive(Drop)]
@@ -48,7 +48,7 @@ pub enum Choice<'a> {
 /// The files and the options of a command on traces. A flag that the command doesn't have is not set.
 #[derive(Drop)]
 pub struct TraceOptions<'a> {
-    /// The traces, in order: standard input where none is named, and for `-`.
+    /// The traces, in order. No name, or `-`, means standard input.
     pub files: Vec<&'a str>,
     /// Whether lengths are read in any form that holds them.
     pub loose: bool,
@@ -71,7 +71,7 @@ pub struct TillOptions<'a> {
     pub password: Option<&'a str>,
     pub config: Option<&'a str>,
     pub currency: Option<&'a str>,
-    /// How long to wait, in seconds. It is 60 unless a number is given, and may be 0.
+    /// The timeout in seconds, 60 by default. The parser accepts 0; the program rejects it.
     pub timeout: u16,
     pub trace: Option<&'a str>,
     pub book: Option<&'a str>,
@@ -94,7 +94,7 @@ pub struct TerminalOptions<'a> {
     pub host: &'a str,
     /// The terminal's number is at most 99,999,999. It is 12345678 unless one is given.
     pub tid: u32,
-    /// The number of connections is 1 unless one is given. 0 stands for no end.
+    /// The number of connections: 1 by default, and 0 for any number.
     pub connections: u16,
     pub decline: Option<&'a str>,
     pub trace: Option<&'a str>,
@@ -107,27 +107,27 @@ pub struct TerminalOptions<'a> {
 /// The options of `tap`.
 #[derive(Clone, Copy)]
 pub struct TapOptions<'a> {
-    /// Where the till connects: `[HOST:]PORT`.
+    /// The address to which the till connects: `[HOST:]PORT`.
     pub listen: &'a str,
-    /// Where the terminal listens: `HOST:PORT`.
+    /// The address at which the terminal listens: `HOST:PORT`.
     pub to: &'a str,
     pub trace: Option<&'a str>,
-    /// Whether nothing is forwarded once the trace can't be written.
+    /// Stop forwarding if the trace can't be written.
     pub trace_required: bool,
-    /// The number of connections is 1 unless one is given. 0 stands for no end.
+    /// The number of connections: 1 by default, and 0 for any number.
     pub connections: u16,
 }
 
 /// The options of `play`. The program takes one of `till` and `terminal`, and one of `port` and `listen`.
 #[derive(Clone, Copy)]
 pub struct PlayOptions<'a> {
-    /// A trace of which the till's side is played.
+    /// The trace whose till side is played.
     pub till: Option<&'a str>,
-    /// A trace of which the terminal's side is played.
+    /// The trace whose terminal side is played.
     pub terminal: Option<&'a str>,
-    /// Where the other side listens.
+    /// The port at which the other side listens.
     pub port: Option<u16>,
-    /// Where the other side connects.
+    /// The port to which the other side connects.
     pub listen: Option<u16>,
     /// The host of either is 127.0.0.1 unless one is given.
     pub host: &'a str,
@@ -136,7 +136,7 @@ pub struct PlayOptions<'a> {
 /// The options of `check-till` and `check-terminal`.
 #[derive(Drop)]
 pub struct CheckOptions<'a> {
-    /// Where the till connects, or where the terminal listens.
+    /// The port to which the till connects, or at which the terminal listens.
     pub port: u16,
     /// The host is 127.0.0.1 unless one is given.
     pub host: &'a str,

@@ -56,6 +56,7 @@ Steps, run in the given order:
   reverse:N     Reverse the payment in entry N of the till's book; the first entry is 1
   close         Close the day
 N is a positive number of at most 12 digits; amounts are in the smallest unit of the currency, such as cents.
+pay:N:ref=R and reverse:N:ref=R keep the reference R in the till's book: 1 to 40 printable characters, no space.
 XX is two hexadecimal digits, not 00.
 
 Lines of a trace:

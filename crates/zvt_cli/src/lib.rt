@@ -1,5 +1,5 @@
-//! The command line of the program `zvt`, read by `clap`. [`arguments::choice`] answers the command that the
-//! arguments name, with its options and steps. [`with_show`] adds the command to arguments that name a file alone.
+//! The command line of the program `zvt`, read by `clap`. [`arguments::choice`] returns the command, its options and
+//! its steps. [`with_show`] supplies the command if the arguments are just a file.
 #![tactic(auto)]
 
 pub mod arguments;

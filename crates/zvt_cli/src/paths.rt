@@ -4,8 +4,8 @@ ghost use Rattle.zvt_cli.specs.Paths.{is_path, with_show};
 
 use std::alloc::{AllocError, Global};
 
-/// The arguments, with the command `show` before a first one that is a path: `zvt day.trace` shows the file. The first
-/// argument of all is the program's name.
+/// Inserts the command `show` if the first argument is a path, so that `zvt day.trace` shows the file. `arguments`
+/// begins with the program's name.
 pub fn with_show<'a>(alloc: Global, arguments: &[&'a str]) -> Result<Vec<&'a str>, AllocError>
     ensures { IfOk result (λ words. map (λ word. word.now) words.items ≡ with_show (map (λ argument. argument.now) arguments.now)) }
 {

@@ -27,7 +27,7 @@ pub enum Hint {
     },
 }
 
-/// What a character that can't be in a line may be there for.
+/// The likely origin of a character that a line cannot contain.
 #[derive(Clone, Copy)]
 pub enum Reason {
     /// A tab.
@@ -40,8 +40,8 @@ pub enum Reason {
     Plain,
 }
 
-/// Why the line of that number, counted from 1, can't be read, by the first bytes of the trace and by the line. It is none
-/// where the line can be read, and where there is no such line.
+/// Explains why a line, counted from 1, cannot be read. Looks at the line and at the first bytes of the trace. Returns
+/// `None` if the line is valid or does not exist.
 pub fn hint_on(trace: &[u8], number: u64) -> Option<Hint>
     ensures { result ≡ hint_on trace.now (number - 1) (lines trace.now) }
 {

@@ -1,5 +1,5 @@
-//! What is said of a trace beside the output of a command: which streams of it are bad, where, and why a line of it can't
-//! be read.
+//! Diagnostics for bad traces: which streams are bad and where, and why a line cannot be read. Commands print them
+//! beside their output.
 #![tactic(auto)]
 
 mod counts;

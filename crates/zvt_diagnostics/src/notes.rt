@@ -1,4 +1,4 @@
-//! Notes of what is bad in a trace.
+//! Notes about the bad streams of a trace.
 ghost use Rattle.std.specs.Prelude.{◌≡◌, [], ◌++◌, List, OnOk};
 ghost use Rattle.zvt_trace.specs.TraceEvent.{At};
 ghost use Rattle.zvt_diagnostics.specs.Notes.{summary_text, unread_of};

@@ -1,4 +1,4 @@
-//! How many there are of what a word names.
+//! Counts with their nouns, in the singular or the plural.
 ghost use Rattle.std.specs.Prelude.{◌≡◌, ◌++◌, OnOk};
 ghost use Rattle.zvt_diagnostics.specs.Notes.{counted};
 

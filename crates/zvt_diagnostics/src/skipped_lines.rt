@@ -76,7 +76,7 @@ fn put_mark(text: &mut Text, scope: Scope, side: Direction) -> Result<(), AllocE
     }
 }
 
-/// What is not read of either side. Where a refusal leaves the whole line unread, all is counted in one.
+/// The lines of each side that are not read. If a refusal stops the reading of both sides, they are counted together.
 #[derive(Clone, Copy)]
 pub(crate) struct SkippedLines {
     till: Unread,

@@ -16,11 +16,11 @@ use zvt_trace::{ListenerError, Scope, Tally, TraceFault, walk};
 /// incomplete message, and the place in it. Of a refusal it has the fatal byte and the reason. It has no other byte of the
 /// message, since a card number may be there.
 ///
-/// After these a line says how many lines were not read, up to the next loss of the line or to the end. The last line has
-/// the numbers of messages and bad streams. Nothing is written where no stream is bad.
+/// Another line says how many lines were not read after them, up to the next lost connection or to the end. The last
+/// line has the numbers of messages and bad streams. Writes nothing if no stream is bad.
 ///
-/// The streams take such lengths. Where a line can't be read, the notes are about the lines before. The text is written
-/// once, at the end.
+/// The streams accept lengths in this form. If a line can't be read, the notes cover the lines before it. Writes the
+/// text once, at the end.
 pub fn write_notes<W: Sink>(
     alloc: Global,
     scope: Scope,

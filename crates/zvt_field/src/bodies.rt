@@ -1,4 +1,4 @@
-//! A field, and what it needs to have a spelling.
+//! Fields, and conditions under which they have an encoding.
 
 ghost use Rattle.std.specs.Prelude.{◌≡◌, ◌↔◌, ℕ, IsTrue, IsOk, IfOk, IfErr};
 ghost use Rattle.zvt_grammar.specs.Reading.{AreBytes};
@@ -11,7 +11,7 @@ use std::marker::Model;
 use zvt_bcd::is_digits;
 use zvt_tlv::Forest;
 
-/// What a field holds: bytes, or objects.
+/// The content of a field: bytes or objects.
 #[derive(Drop)]
 pub enum FieldBody {
     Bytes(Vec<u8>),
@@ -29,7 +29,7 @@ pub enum BadField {
     NotDigit,
 }
 
-/// A field that has a spelling: its BMP, and what it holds.
+/// A field that has an encoding: its BMP and its content.
 #[derive(Drop)]
 pub struct Field {
     bmp: u8,
@@ -87,7 +87,7 @@ impl Field {
         self.bmp
     }
 
-    /// What it holds.
+    /// Returns the content.
     pub fn body(&self) -> &FieldBody
         ensures body { field_of (name_of self.now) result.now ≡ self.now }
         ensures spelled { HasSpelling self.now }

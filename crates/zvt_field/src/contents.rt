@@ -1,4 +1,4 @@
-//! What the content of a single field says.
+//! Values of single fields.
 
 ghost use Rattle.std.specs.Prelude.{◌≡◌, List, IfSome};
 ghost use Rattle.std.specs.Option.{option_copied};
@@ -8,7 +8,7 @@ ghost use Rattle.zvt_field.specs.Views.{PlainBytes};
 
 use zvt_bcd::{Amount, Currency, Trace, number};
 
-/// The amount in BMP 04, where it isn't zero.
+/// Returns the amount in BMP 04, unless it is zero.
 #[inline(always)]
 pub(crate) fn amount(content: Option<&[u8]>) -> Option<Amount>
     requires { IfSome content (λ bytes. PlainBytes 0x04 bytes.now) }

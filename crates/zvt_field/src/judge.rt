@@ -67,7 +67,8 @@ pub fn judge_digit(more: usize, before: usize, left: usize, byte: u8) -> Result<
     }
 }
 
-/// Where a digit of a length is: how many digits are left, itself included, and the number before it.
+/// Position in a length of digits: how many digits are left, including this one, and the value of the digits before
+/// it.
 ///
 /// Before the first digit two or three are left, and the number is 0.
 #[derive(Clone, Copy)]
@@ -76,7 +77,7 @@ pub struct LlAt {
     pub so_far: u16,
 }
 
-/// What comes after a digit of a length.
+/// The state after a digit of a length.
 #[derive(Clone, Copy)]
 pub enum LlNext {
     /// Another digit.

@@ -27,7 +27,7 @@ pub fn spellings_are_one()
     ensures one { ListsHaveOne }
 {}
 
-/// The reader's answers exclude each other, and each says all that it says.
+/// The reader's results exclude each other, and each is the only one that its definition allows.
 pub fn answers_are_one()
     ensures { AnswersAreOne }
 {}

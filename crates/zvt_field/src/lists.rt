@@ -60,8 +60,8 @@ impl Fields {
         Fields { list, size }
     }
 
-    /// Puts a field after the others, where 65,535 bytes hold them all. Else nothing changes and the field
-    /// comes back: its size is looked at before memory.
+    /// Appends a field if all of them fit into 65,535 bytes. Otherwise nothing changes and the field is handed back.
+    /// The size is checked before memory is allocated.
     pub fn push(&mut self, field: Field) -> Result<(), PushRefusal>
         ensures ok { OnOk result (self.new ≡ self.old ++ field ∷ []) }
         ensures spelled { OnOk result (HaveSpelling (self.old ++ field ∷ [])) }

@@ -1,4 +1,4 @@
-//! What single fields say.
+//! Values of fields that appear once.
 
 ghost use Rattle.std.specs.Prelude.{◌≡◌, ℕ, IfSome};
 ghost use Rattle.std.specs.Option.{option_copied};
@@ -9,7 +9,7 @@ ghost use Rattle.zvt_field.specs.Named.{count_of, only_of, content_of, amount_of
 use crate::{Field, FieldBody, Fields};
 use zvt_bcd::{Amount, Currency, Trace, number};
 
-/// The field of that BMP, where it appears exactly once.
+/// Returns the field with this BMP, if there is exactly one.
 pub fn only(fields: &Fields, bmp: u8) -> Option<&Field>
     ensures { option_copied result ≡ only_of bmp fields.now }
 {
@@ -25,7 +25,7 @@ pub fn only(fields: &Fields, bmp: u8) -> Option<&Field>
     found
 }
 
-/// How often that BMP stands.
+/// Returns the number of fields with this BMP.
 pub fn count(fields: &Fields, bmp: u8) -> usize
     ensures { result ≡ count_of bmp fields.now }
 {
@@ -47,28 +47,28 @@ fn content(fields: &Fields, bmp: u8) -> Option<&[u8]>
     }
 }
 
-/// The amount in BMP 04, where it appears exactly once and isn't zero.
+/// Returns the amount in BMP 04, if it appears exactly once and isn't zero.
 pub fn amount(fields: &Fields) -> Option<Amount>
     ensures { result ≡ amount_of fields.now }
 {
     Amount::new(number(content(fields, 0x04)?))
 }
 
-/// The trace number in BMP 0B, where it appears exactly once.
+/// Returns the trace number in BMP 0B, if it appears exactly once.
 pub fn trace(fields: &Fields) -> Option<Trace>
     ensures { result ≡ trace_of fields.now }
 {
     Trace::new(number(content(fields, 0x0B)?) as u32)
 }
 
-/// The result code in BMP 27, where it appears exactly once.
+/// Returns the result code in BMP 27, if it appears exactly once.
 pub fn result(fields: &Fields) -> Option<u8>
     ensures { result ≡ result_of fields.now }
 {
     content(fields, 0x27)?.first().copied()
 }
 
-/// The receipt number in BMP 87, where it appears exactly once: two bytes as they were read, digits or not.
+/// Returns the receipt number in BMP 87, if it appears exactly once: its two bytes as read, which need not be digits.
 pub fn receipt(fields: &Fields) -> Option<[u8; 2]>
     ensures { result ≡ receipt_of fields.now }
 {
@@ -78,14 +78,14 @@ pub fn receipt(fields: &Fields) -> Option<[u8; 2]>
     }
 }
 
-/// The currency in BMP 49, where it appears exactly once.
+/// Returns the currency in BMP 49, if it appears exactly once.
 pub fn currency(fields: &Fields) -> Option<Currency>
     ensures { result ≡ currency_of fields.now }
 {
     Currency::new(number(content(fields, 0x49)?) as u16)
 }
 
-/// The original trace number in BMP 37, where it appears exactly once: three bytes as they were read.
+/// Returns the original trace number in BMP 37, if it appears exactly once: its three bytes as read.
 pub fn original(fields: &Fields) -> Option<[u8; 3]>
     ensures { result ≡ original_of fields.now }
 {

@@ -3,7 +3,7 @@ ghost use Rattle.std.specs.Prelude.{◌≡◌, ◌≤◌, ◌<◌, is_some, opti
 ghost use Rattle.zvt_field.specs.Names.{name_of};
 ghost use Rattle.zvt_field.specs.Shapes.{shape_of};
 
-/// The name of the field of that BMP, where the table lists it.
+/// Returns the name of the field with this BMP, if the table lists it.
 pub fn name(bmp: u8) -> Option<&'static str>
     ensures value { option_map (λ name. name.now) result ≡ name_of bmp }
     ensures listed { is_some result ≡ is_some (shape_of bmp) }

@@ -20,8 +20,8 @@ fn owned_body(alloc: Global, field: &FieldView<'_>) -> Result<FieldBody, AllocEr
     }
 }
 
-/// The field that a view shows, in memory of its own. The only error is that memory runs out. The shortest spelling of the
-/// field has to fit 65,535 bytes; that of the view may be longer.
+/// Copies the field of a view. Fails only if memory runs out. The field's shortest encoding must fit 65,535 bytes; the
+/// viewed one may be longer.
 pub fn owned_field(alloc: Global, field: &FieldView<'_>) -> Result<Field, AllocError>
     requires { ∥ HasSpelling (shown field.now) ∥₁ }
     ensures { IfOk result (λ made. made ≡ shown field.now) }
@@ -33,8 +33,8 @@ pub fn owned_field(alloc: Global, field: &FieldView<'_>) -> Result<Field, AllocE
     Ok(made)
 }
 
-/// The fields of a view, in memory of their own. The only error is that memory runs out, and no fields want none. The shortest
-/// spelling of the fields has to fit 65,535 bytes; that of the view may be longer.
+/// Copies the fields of a view. Fails only if memory runs out, and never for an empty list. The fields' shortest
+/// encoding must fit 65,535 bytes; the viewed one may be longer.
 pub fn owned(alloc: Global, fields: FieldsView<'_>) -> Result<Fields, AllocError>
     requires { ∥ HaveSpelling fields ∥₁ }
     ensures { MatchResult result (λ made. made ≡ fields.entry) (λ _. fields.entry ≢ []) }

@@ -13,7 +13,7 @@ use std::alloc::{AllocError, Global};
 use zvt_grammar::{Lengths, Scan, Why};
 use zvt_tlv::scan_sized_forest;
 
-/// What comes before a content: how many bytes, how many follow, and whether these are digits.
+/// The part of a field before its content: its size, the size of the content, and whether the content is digits.
 #[derive(Clone, Copy)]
 pub struct Head {
     pub start: usize,
@@ -180,10 +180,11 @@ fn scan_field(
     }
 }
 
-/// Reads the fields whose bytes are exactly the first `room` bytes, each length of objects in its shortest form; bytes
-/// after the room are not looked at. `More` where fewer are there and can be completed, `Refused` with the first byte
-/// after which no fields can fill the room, counted from 0. The only error is that memory runs out, and it comes only where a
-/// whole field comes first, or a container of which objects are stored (`TakesMemory`).
+/// Reads the fields that fill the first `room` bytes exactly. Each length of objects must have its shortest form.
+/// Ignores the bytes after the room. Returns `More` if there are fewer bytes and they can be completed, and `Refused`
+/// with the index of the first byte after which no fields can fill the room. The only error is that an allocation
+/// fails. It comes only if the first field is complete, or is a container some of whose objects are stored
+/// (`TakesMemory`).
 #[inline(always)]
 pub fn scan(alloc: Global, bytes: &[u8], room: usize) -> Result<Scan<Fields>, AllocError>
     requires small { room < 2 ^ 16 }
@@ -193,7 +194,7 @@ pub fn scan(alloc: Global, bytes: &[u8], room: usize) -> Result<Scan<Fields>, Al
     scan_fields(alloc, bytes, room, Lengths::Shortest)
 }
 
-/// Reads the fields of a room, where each length of objects may be in any form that holds it.
+/// Reads the fields in a room. Lengths of objects may have any form that holds them.
 pub fn scan_loose(alloc: Global, bytes: &[u8], room: usize) -> Result<Scan<Fields>, AllocError>
     requires small { room < 2 ^ 16 }
     requires filled { room ≢ 1 }

@@ -1,7 +1,7 @@
-//! What may come after a BMP.
+//! Shapes of fields.
 
-/// What comes after a BMP: that many bytes, that many bytes of digits, bytes after a length of two or three
-/// digits, or objects after their own length (PA00P015, the list of bitmaps).
+/// The shape of a field: a fixed number of bytes, a fixed number of bytes of digits, bytes after a length of two or
+/// three digits, or objects after their length (PA00P015, list of bitmaps).
 #[derive(Clone, Copy)]
 pub enum Shape {
     Fixed(usize),

@@ -12,12 +12,12 @@ use crate::contents;
 use crate::views::{FieldView, FieldsView};
 use zvt_bcd::{Amount, Currency, Trace};
 
-/// What fields say that count only where their BMP appears exactly once.
+/// Values of fields that are valid only if their BMP appears exactly once.
 #[derive(Clone, Copy)]
 pub struct Single {
     /// BMP 27.
     pub result: Option<u8>,
-    /// BMP 04, where it isn't zero.
+    /// BMP 04, unless it is zero.
     pub amount: Option<Amount>,
     /// BMP 0B.
     pub trace: Option<Trace>,
@@ -33,7 +33,7 @@ pub struct Single {
     pub has_currency: bool,
 }
 
-/// What was seen of a BMP.
+/// How often a BMP has appeared so far, and its value.
 #[derive(Clone, Copy, Drop)]
 pub(crate) enum Slot<'a> {
     Absent,
@@ -68,7 +68,7 @@ impl<'a> Slot<'a> {
         }
     }
 
-    /// Whether the BMP stands.
+    /// Returns whether the BMP has appeared.
     #[inline(always)]
     fn is_there(&self, bmp: u8) -> bool
         ensures { (fields : List Field) → Saw bmp fields self.now [] → result ≡ not (count_of bmp fields == 0) }
@@ -81,7 +81,7 @@ impl<'a> Slot<'a> {
     }
 }
 
-/// What was seen of each BMP that counts.
+/// How often each relevant BMP has appeared so far, and its value.
 #[derive(Clone, Copy, Drop)]
 pub(crate) struct Slots<'a> {
     pub(crate) result: Slot<'a>,
@@ -107,7 +107,7 @@ impl<'a> Slots<'a> {
     }
 }
 
-/// What was seen of each BMP in all the fields.
+/// Collects the relevant BMPs of all the fields.
 #[inline(always)]
 fn collect<'a>(fields: &FieldsView<'a>) -> Slots<'a>
     ensures { Collected fields.now result [] }
@@ -126,7 +126,7 @@ fn collect<'a>(fields: &FieldsView<'a>) -> Slots<'a>
     slots
 }
 
-/// What the fields say that count only where their BMP appears exactly once.
+/// Returns the values of the fields that are valid only if their BMP appears exactly once.
 pub fn read_single(fields: &FieldsView<'_>) -> Single
     ensures { Says fields.now result }
 {

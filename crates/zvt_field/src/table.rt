@@ -6,7 +6,7 @@ ghost use Rattle.zvt_field.specs.Judging.{count_digits};
 
 use crate::Shape;
 
-/// The shape of the field of that BMP, where the table lists it.
+/// Returns the shape of the field with this BMP, if the table lists it.
 #[tactic(auto, unfolding(crate::specs::Shapes::shape_of))]
 #[inline(always)]
 pub fn shape(bmp: u8) -> Option<Shape>

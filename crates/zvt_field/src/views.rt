@@ -1,4 +1,4 @@
-//! Views that lend the bytes of fields that a reader has found whole: nothing is copied, and no memory is taken.
+//! Views borrow the bytes of fields that a reader found complete. They copy nothing and allocate nothing.
 
 ghost use Rattle.std.specs.Prelude.{◌≡◌, ℕ, ◌%◌, ◌<◌, ◌^◌, List, ◌++◌, length, IfSome};
 ghost use Rattle.std.specs.Option.{option_copied};
@@ -24,7 +24,7 @@ pub struct FieldView<'a> {
 impl<'a> FieldView<'a> {
     ghost use Rattle.zvt_field.specs.Lent.{shown};
 
-    /// The objects inside, where the BMP is one of a container.
+    /// Returns the objects of a container.
     #[inline(always)]
     pub fn tree(&self) -> Option<ForestView<'a>>
         ensures { result ≡ tree_of (shown self.now) }
@@ -35,7 +35,7 @@ impl<'a> FieldView<'a> {
         }
     }
 
-    /// Its bytes, where it is no container.
+    /// Returns the bytes of a field that is not a container.
     #[inline(always)]
     pub(crate) fn plain(&self) -> Option<&'a [u8]>
         ensures content { option_copied result ≡ bytes_of (shown self.now) }
@@ -48,7 +48,7 @@ impl<'a> FieldView<'a> {
     }
 }
 
-/// The fields of bytes that spell them, in order. Contracts see those that are left.
+/// Iterates over the fields that the bytes encode, in order. In contracts, its value is the fields that are left.
 #[derive(Drop)]
 pub struct FieldsView<'a> {
     bytes: &'a [u8],
@@ -85,7 +85,7 @@ impl<'a> FieldsView<'a> {
         FieldsView { bytes: self.bytes }
     }
 
-    /// The field of that BMP, where it appears exactly once.
+    /// Returns the field with this BMP, if there is exactly one.
     pub fn only(&self, bmp: u8) -> Option<FieldView<'a>>
         ensures { all_shown result ≡ only_of bmp self.now }
     {
@@ -109,49 +109,50 @@ impl<'a> FieldsView<'a> {
         self.only(bmp)?.plain()
     }
 
-    /// The amount in BMP 04, where it appears exactly once and isn't zero.
+    /// Returns the amount in BMP 04, if it appears exactly once and isn't zero.
     pub fn amount(&self) -> Option<Amount>
         ensures { result ≡ amount_of self.now }
     {
         contents::amount(self.content(0x04))
     }
 
-    /// The trace number in BMP 0B, where it appears exactly once.
+    /// Returns the trace number in BMP 0B, if it appears exactly once.
     pub fn trace(&self) -> Option<Trace>
         ensures { result ≡ trace_of self.now }
     {
         contents::trace(self.content(0x0B))
     }
 
-    /// The result code in BMP 27, where it appears exactly once.
+    /// Returns the result code in BMP 27, if it appears exactly once.
     pub fn result(&self) -> Option<u8>
         ensures { result ≡ result_of self.now }
     {
         contents::result(self.content(0x27))
     }
 
-    /// The receipt number in BMP 87, where it appears exactly once: two bytes as they were read, digits or not.
+    /// Returns the receipt number in BMP 87, if it appears exactly once: its two bytes as read, which need not be
+    /// digits.
     pub fn receipt(&self) -> Option<[u8; 2]>
         ensures { result ≡ receipt_of self.now }
     {
         contents::receipt(self.content(0x87))
     }
 
-    /// The currency in BMP 49, where it appears exactly once.
+    /// Returns the currency in BMP 49, if it appears exactly once.
     pub fn currency(&self) -> Option<Currency>
         ensures { result ≡ currency_of self.now }
     {
         contents::currency(self.content(0x49))
     }
 
-    /// The original trace number in BMP 37, where it appears exactly once: three bytes as they were read.
+    /// Returns the original trace number in BMP 37, if it appears exactly once: its three bytes as read.
     pub fn original(&self) -> Option<[u8; 3]>
         ensures { result ≡ original_of self.now }
     {
         contents::original(self.content(0x37))
     }
 
-    /// How often that BMP stands.
+    /// Returns the number of fields with this BMP.
     pub fn count(&self, bmp: u8) -> usize
         ensures { result ≡ count_of bmp self.now }
     {
@@ -195,7 +196,7 @@ fn note_size(bytes: &[u8])
     let _ = bytes.len();
 }
 
-/// The size of what comes before the content after a BMP of that shape, and the size of the content.
+/// Returns the size of the length after a BMP of this shape, and the size of the content.
 #[inline(always)]
 fn lead(shape: Option<Shape>, bytes: &[u8]) -> (usize, usize)
     requires { ∥ LeadFirst shape bytes.now ∥₁ }
@@ -220,7 +221,7 @@ fn digit(byte: u8) -> usize
     (byte % 16) as usize
 }
 
-/// The content that comes first after a BMP of that shape, and what is after it.
+/// Splits the bytes after a BMP of this shape into the content and the rest.
 #[inline(always)]
 fn first_content(shape: Option<Shape>, bytes: &[u8]) -> (&[u8], &[u8])
     requires { ∥ ContentFirst shape bytes.now ∥₁ }

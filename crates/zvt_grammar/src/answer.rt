@@ -1,6 +1,6 @@
-//! What a reader says of the bytes so far.
+//! Results of readers.
 
-/// What the bytes so far are.
+/// Result of reading the bytes so far.
 #[derive(Drop)]
 pub enum Scan<V> {
     /// A whole value comes first.

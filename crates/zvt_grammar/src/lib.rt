@@ -1,4 +1,4 @@
-//! What a reader answers, for every grammar of the project, and what the definitions of each grammar share.
+//! Results of readers, for every grammar of the project, and the definitions that all grammars share.
 #![tactic(auto)]
 
 mod answer;

@@ -1,9 +1,9 @@
-//! Why a byte can't be where it stands.
+//! Reasons why a byte is refused.
 ghost use Rattle.std.specs.Prelude.{◌≡◌};
 
 use std::fmt;
 
-/// Why a byte can't be where it stands.
+/// Reason why a byte is refused.
 #[derive(Clone, Copy, Debug, PartialEq, Eq)]
 pub enum Why {
     /// A length is in a longer form than it needs.

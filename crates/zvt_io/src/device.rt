@@ -1,4 +1,4 @@
-//! What contracts know of a reader and of a writer.
+//! Readers and writers as contracts see them.
 ghost use Rattle.std.specs.Prelude.{◌≡◌, ℕ, ◌+◌, List, Option};
 ghost use Rattle.zvt_io.specs.Devices.{Reads, Writes, CountsFailure};
 
@@ -6,7 +6,7 @@ ghost use Rattle.zvt_io.specs.Devices.{Reads, Writes, CountsFailure};
 #[derive(Clone, Copy, Debug, PartialEq, Eq)]
 pub struct Failed;
 
-/// Where bytes come from.
+/// A source of bytes.
 pub trait Source {
     /// The bytes that are still to come, where they are known.
     ghost remaining: { Self → Option (List ℕ) };
@@ -26,7 +26,7 @@ pub trait Source {
         ensures counted { reads self.new ≡ reads self.old + 1 };
 }
 
-/// Where bytes go.
+/// A destination for bytes.
 pub trait Sink {
     /// The bytes that were written, where they are known.
     ghost written: { Self → Option (List ℕ) };

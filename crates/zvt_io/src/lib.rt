@@ -1,4 +1,4 @@
-//! Readers and writers that tell their bytes, where these are known, and count their failures.
+//! Readers and writers whose models have their bytes, as far as these are known, and the number of failures.
 #![tactic(auto)]
 
 mod count;

@@ -1,12 +1,12 @@
 -- No crash of an append or of a repair leaves more than a record and one byte behind the whole lines, nor a line there.
-use Rattle.std.proofs.Common.{◌≡◌, ⊎_elim, ◌⊎◌, inl, inr, ℕ, zero, suc, ◌+◌, ◌≤◌, ◌<◌, ◌^◌, false, List, [], ◌∷◌, ◌++◌, length, get_or, take, drop, refl, sym, ◌∙◌, ap, arith, append_assoc, length-append, length-drop, take-append-drop}
+use Rattle.std.proofs.Common.{◌≡◌, ⊎_elim, ◌⊎◌, inl, inr, ℕ, zero, suc, ◌+◌, ◌≤◌, ◌<◌, ◌^◌, false, List, [], ◌∷◌, ◌++◌, length, get_or, take, drop, refl, sym, ◌∙◌, ap, arith, length-append, length-drop, take-append-drop}
 use Rattle.std.proofs.lemmas.List.{take_all, drop_all, drop_at}
 use Rattle.std.proofs.lemmas.Bool.{cases_eq}
 use Rattle.std.proofs.lemmas.Bool.Decides.{nat_tests}
 use Rattle.zvt_journal.specs.Device.{Torn, Swapped, Cut}
 use Rattle.zvt_journal.specs.Text.{whole, recovered, at_rest, begins_marked, is_mark, IsRecord}
 use Rattle.zvt_journal.specs.Files.{after_gate, behind_gate, HasFewAfter, HasNoLineBehind, IsRepairable}
-use Rattle.zvt_journal.proofs.Lines.{length-recovered, recovered_short, whole_prefix, whole_then, whole_within}
+use Rattle.zvt_journal.proofs.Lines.{length-recovered, recovered_short, whole_prefix, whole_within}
 use Rattle.zvt_journal.proofs.Append.{following, staged}
 use Rattle.zvt_journal.proofs.Append as append
 

@@ -1,7 +1,7 @@
 -- What a read returns is one of the files that a crash may leave.
 use Rattle.std.proofs.Common.{◌≡◌, ℕ, ◌+◌, ◌≤◌, true, false, List, [], ◌∷◌, ◌++◌, length, get_or, take, drop, zero, suc, ◌<◌, ◌-◌, refl, ◌∙◌, ap, inl, inr, arith, rules, append_assoc, length-append, length-drop, length-take-le}
 use Rattle.std.proofs.lemmas.List.{take_all, take_at, drop_at}
-use Rattle.zvt_journal.specs.declared.call.Call.TheVariants.{Wrote, SetByte, CutTo, Synced}
+use Rattle.zvt_journal.specs.declared.call.Call.TheVariants.{Wrote, SetByte, CutTo, Synced, Aside}
 use Rattle.zvt_journal.specs.Device.{Torn, Cut}
 use Rattle.zvt_journal.specs.Calls.{seen_after, SeenMayBeLeft}
 
@@ -45,3 +45,5 @@ seen_may_be_left start ((CutTo len, bytes, true) ∷ made) within = (seen_after 
 seen_may_be_left start ((CutTo len, bytes, false) ∷ made) within = (seen_after start made, seen_may_be_left start made within.1, uncut len (seen_after start made))
 seen_may_be_left start ((Synced, bytes, true) ∷ made) within = (refl, seen_may_be_left start made within.1)
 seen_may_be_left start ((Synced, bytes, false) ∷ made) within = (seen_after start made, seen_may_be_left start made within.1, refl)
+seen_may_be_left start ((Aside step, bytes, true) ∷ made) within = (seen_after start made, seen_may_be_left start made within.1, refl)
+seen_may_be_left start ((Aside step, bytes, false) ∷ made) within = (seen_after start made, seen_may_be_left start made within.1, refl)

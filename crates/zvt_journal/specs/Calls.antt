@@ -3,7 +3,7 @@ use Rattle.std.specs.Prelude.{◌≡◌, ◌⊎◌, ℕ, ◌+◌, ◌≤◌, ◌
 use mathlib.Core.Logic.{inl, inr}
 use Rattle.std.proofs.Math.Nat.{le_trans, le-suc, not-suc-le_self}
 use Rattle.zvt_journal.specs.declared.call.Call.{Call}
-use Rattle.zvt_journal.specs.declared.call.Call.TheVariants.{Wrote, SetByte, CutTo, Synced}
+use Rattle.zvt_journal.specs.declared.call.Call.TheVariants.{Wrote, SetByte, CutTo, Synced, Aside}
 use Rattle.zvt_journal.specs.Device.{Torn, Swapped, Cut}
 
 -- a call, the bytes that it was given, and whether it answered Ok
@@ -16,6 +16,7 @@ after_call (Wrote at) bytes old = take at old ++ bytes ++ drop (at + length byte
 after_call (SetByte at byte) bytes old = take at old ++ (byte ∷ []) ++ drop (at + length (byte ∷ [])) old
 after_call (CutTo len) bytes old = take len old
 after_call Synced bytes old = old
+after_call (Aside step) bytes old = old
 
 -- what a read returns: a call that failed counts for nothing
 abbrev pub seen_after : List ℕ → List Event → List ℕ
@@ -29,6 +30,7 @@ IsCutShort (Wrote at) bytes old new = Torn at bytes old new
 IsCutShort (SetByte at byte) bytes old new = Swapped at byte old new
 IsCutShort (CutTo len) bytes old new = Cut len old new
 IsCutShort Synced bytes old new = old ≡ new
+IsCutShort (Aside step) bytes old new = old ≡ new
 
 -- The files that a crash may leave now. A sync that answered Ok leaves what a read returns, out of those that were possible.
 abbrev pub may_leave_after : List ℕ → List Event → List ℕ → Type 0
@@ -67,6 +69,7 @@ IsCallWithin (Wrote at) seen = at ≤ length seen
 IsCallWithin (SetByte at byte) seen = at < length seen
 IsCallWithin (CutTo len) seen = len ≤ length seen
 IsCallWithin Synced seen = Unit {0}
+IsCallWithin (Aside step) seen = Unit {0}
 
 -- each of them did, in the file as it was then
 abbrev pub AreWithin : List ℕ → List Event → Type 0

@@ -42,6 +42,19 @@ is_begun (byte ∷ rest) = if byte == 10 then is_opening_part rest else byte == 
 abbrev pub IsBegun : List ℕ → Type 0
 IsBegun file = is_begun file ≡ true
 
+-- opening takes the file for a journal's
+abbrev pub IsKnown : List ℕ → Type 0
+IsKnown file = IsNamed file ⊎ IsBegun file
+
+-- the first record: a line that names the format and a currency
+pub record IsOpening (entry : List ℕ) : Type 0 where
+  pub named : IsNamed entry
+  pub part : is_opening_part (drop 1 entry ++ 10 ∷ []) ≡ true
+
+-- the record goes behind others of a journal, or it is the opening of a new one
+abbrev pub GoesOn : (text entry : List ℕ) → Type 0
+GoesOn text entry = IsNamed text ⊎ ((text ≡ []) × IsOpening entry)
+
 -- the bytes after a closed gate, or all of them where they begin with none
 abbrev pub after_gate : List ℕ → List ℕ
 after_gate [] = []
@@ -73,11 +86,20 @@ abbrev pub lines_ended : List ℕ → ℕ
 lines_ended [] = 0
 lines_ended (byte ∷ rest) = if byte == 10 then lines_ended rest + 1 else lines_ended rest
 
--- how many lines begin with `!`, `#` or `<`, as the first one of a record does; whether the text begins a line is told
+abbrev pub begins_spaced : List ℕ → Bool
+begins_spaced [] = false
+begins_spaced (byte ∷ rest) = byte == 32
+
+-- the text begins as the first line of a record does: with `!`, `<`, or `#` and a space
+abbrev pub begins_record : List ℕ → Bool
+begins_record [] = false
+begins_record (byte ∷ rest) = byte == 33 || byte == 60 || byte == 35 && begins_spaced rest
+
+-- how many lines begin as the first one of a record does; whether the text begins a line is told
 abbrev pub records_from : Bool → List ℕ → ℕ
 records_from begins [] = 0
 records_from begins (byte ∷ rest) =
-    if begins && is_mark byte && not (byte == 62) then records_from (byte == 10) rest + 1 else records_from (byte == 10) rest
+    if begins && begins_record (byte ∷ rest) then records_from (byte == 10) rest + 1 else records_from (byte == 10) rest
 
 -- the line, counted from 1, that is empty and ends the text
 abbrev pub gate_line : List ℕ → ℕ

@@ -6,7 +6,7 @@ ghost use Rattle.zvt_journal.specs.Calls.{Event};
 use crate::call::Call;
 use std::marker::Model;
 
-/// What a file held when it was opened, and the calls made since with their answers, newest first.
+/// The content of a file when it was opened, and the calls made since with their results, newest first.
 #[derive(Drop)]
 pub struct GhostCalls {
     pub ghost start: { List ℕ },

@@ -1,12 +1,13 @@
-//! What a journal's file may hold, and what of it counts.
-ghost use Rattle.std.specs.Prelude.{◌≡◌, ◌≤◌, ◌⊎◌, ◌↔◌, ◌-◌, length, drop, IfOk, IfErr, IsTrue, true};
+//! The possible contents of a journal's file, and the records that it stands for.
+ghost use Rattle.std.specs.Prelude.{◌≡◌, ◌≤◌, ◌↔◌, length, drop, IfOk, IfErr, IsTrue, true};
 ghost use Rattle.zvt_journal.specs.Text.{whole};
-ghost use Rattle.zvt_journal.specs.Files.{IsNamed, IsBegun, IsRepairable, is_begun, is_opening_part, is_part, may_stand, HasFewAfter, HasNoLineBehind, after_gate, gate_line, lines_ended, records_behind, records_from};
+ghost use Rattle.zvt_journal.specs.Files.{IsNamed, IsBegun, begins_record, is_begun, is_opening_part, is_part, may_stand, after_gate, lines_ended, records_from};
+ghost use Rattle.zvt_journal.specs.Opening.{IsAccepted, IsRefusedFor};
 
 use crate::JournalFileError;
 use crate::journal::{LINE_FEED, MAX_RECORD_LEN, begins_marked, whole_lines};
 
-/// What a journal's first line begins with.
+/// The beginning of a journal's first line.
 const FORMAT: [u8; 15] = *b"# zvt journal 1";
 
 /// Whether the first line names the format.
@@ -63,11 +64,8 @@ fn may_stand(byte: u8, wanted: u8) -> bool
 pub(crate) fn accepted_lines(bytes: &[u8]) -> Result<usize, JournalFileError>
     ensures whole { IfOk result (λ end. end ≡ whole 0 bytes.now) }
     ensures within { IfOk result (λ end. end ≤ length bytes.now) }
-    ensures known { IfOk result (λ _. IsNamed bytes.now ⊎ IsBegun bytes.now) }
-    ensures repairable { IfOk result (λ _. IsRepairable bytes.now) }
-    ensures refused { IfErr result (λ error. ((error ≡ JournalFileError.NotAJournal) × (IsNamed bytes.now ⊎ IsBegun bytes.now → ⊥))
-        ⊎ ((error ≡ JournalFileError.RecordsBehind (gate_line bytes.now) (records_behind bytes.now)) × (HasNoLineBehind bytes.now → ⊥))
-        ⊎ ((error ≡ JournalFileError.TooMuchAfter (length bytes.now - whole 0 bytes.now)) × (HasFewAfter bytes.now → ⊥))) }
+    ensures accepted { IfOk result (λ _. IsAccepted bytes.now) }
+    ensures refused { IfErr result (λ error. IsRefusedFor error bytes.now) }
 {
     if !is_named(bytes) && !is_begun(bytes) {
         return Err(JournalFileError::NotAJournal);
@@ -87,7 +85,7 @@ pub(crate) fn accepted_lines(bytes: &[u8]) -> Result<usize, JournalFileError>
     Ok(end)
 }
 
-/// What is cut of a journal whose whole lines end here: all that comes after its closed gate.
+/// Returns the bytes to remove from a journal whose complete lines end here: everything after its closed gate.
 pub(crate) fn to_cut(bytes: &[u8], end: usize) -> &[u8]
     requires { end ≤ length bytes.now }
     ensures { result.now ≡ after_gate (drop end bytes.now) }
@@ -120,10 +118,17 @@ fn records_in(text: &[u8]) -> usize
     let mut begins = true;
     let mut count = 0;
     for (at, byte) in text.iter().enumerate() {
-        if begins && matches!(*byte, b'!' | b'#' | b'<') {
+        if begins && begins_record(&text[at..]) {
             count += 1;
         }
         begins = *byte == LINE_FEED;
     }
     count
+}
+
+/// Whether the text begins as the first line of a record does.
+fn begins_record(text: &[u8]) -> bool
+    ensures { result ≡ begins_record text.now }
+{
+    matches!(text, [b'!' | b'<', ..] | [b'#', b' ', ..])
 }

@@ -1,20 +1,27 @@
-//! A journal's file: made or opened, locked and recovered. No call that opens it takes the runtime: a library that programs in
-//! C link has none.
-ghost use Rattle.std.specs.Prelude.{◌≡◌, length, IfOk};
-ghost use Rattle.zvt_journal.specs.Text.{recovered, IsSettled};
+//! A journal's file: made or opened, locked and recovered. No call that opens it takes the runtime: a library that
+//! programs in C link has none.
+ghost use Rattle.std.specs.Prelude.{◌≡◌, ◌<◌, ◌≤◌, ◌++◌, [], length, IfErr, IfOk, MatchResult};
+ghost use Rattle.zvt_journal.specs.Text.{recovered, whole, IsSettled};
 ghost use Rattle.zvt_journal.specs.Files.{file_seen, file_may_leave};
+ghost use Rattle.zvt_journal.specs.Calls.{failed_among};
+ghost use Rattle.zvt_journal.specs.Opening.{IsAccepted, WhyRefused, WasOpened, WasPeeked, WasRead, kept_beside};
 
+use crate::calls::GhostCalls;
 use crate::content::{accepted_lines, to_cut};
-use crate::descriptor::{
-    append_synced, durable_bytes, is_in_place, opened, read_all, sync_folder, try_lock,
+use crate::file::FileFailure;
+use crate::noted::{
+    find, is_in_place, keep_beside, open_or_make, peek, read, sync_folder, try_lock, why_no_file,
 };
-use crate::{FileDevice, JournalFileError, open};
+use crate::spare::Spare;
+use crate::{DeviceError, FileDevice, JournalFileError, open};
 use std::alloc::Global;
-use std::os::fd::OwnedFd;
-use std::{fs, io};
 
-/// Who may read and write a file that is made here: its owner.
-const OWNER_ALONE: u32 = 0o600;
+/// An answer, and the calls on a file that led to it. Contracts alone see these: they take no memory.
+#[derive(Drop)]
+pub struct Noted<T> {
+    pub answer: T,
+    pub calls: GhostCalls,
+}
 
 /// A journal's file that is open. Nobody else opens it as a journal as long as the device lives.
 #[derive(Drop)]
@@ -28,27 +35,46 @@ pub struct Opened {
     pub created: bool,
 }
 
-/// Opens a journal's file, which it makes if there is none, and recovers its records.
+/// Opens a journal's file, creating it if necessary, and recovers its records.
 ///
-/// The text is empty where the file was made, and where a crash left it before the first record was there. Then the first
+/// The text is empty if the file was just created, or if a crash left it before its first record. Then the first
 /// record is appended: one line, `# zvt journal 1, currency ` and a number of at most four digits.
-pub fn open_file(alloc: Global, path: &[u8]) -> Result<Opened, JournalFileError>
-    ensures text { IfOk result (λ opened. opened.text.items ≡ recovered (file_seen opened.device)) }
-    ensures whole { IfOk result (λ opened. recovered opened.text.items ≡ opened.text.items) }
-    ensures settled { IfOk result (λ opened. IsSettled (file_seen opened.device) (file_may_leave opened.device) (length opened.text.items)) }
+pub fn open_file(alloc: Global, path: &[u8]) -> Noted<Result<Opened, JournalFileError>>
+    ensures text { IfOk result.answer (λ opened. opened.text.items ≡ recovered (file_seen opened.device)) }
+    ensures whole { IfOk result.answer (λ opened. recovered opened.text.items ≡ opened.text.items) }
+    ensures settled { IfOk result.answer (λ opened. IsSettled (file_seen opened.device) (file_may_leave opened.device) (length opened.text.items)) }
+    // The file was locked, then made durable and read, and then looked at again; what was cut was kept before that, and
+    // the name was made durable. An error comes only with its cause.
+    ensures calls { MatchResult result.answer
+        (λ opened. WasOpened path.now result.calls.made opened.text.items opened.cut opened.created)
+        (λ error. WhyRefused error result.calls.made) }
 {
-    let (file, created) = open_or_make(path)?;
-    if !try_lock(&file)? {
+    let mut calls = GhostCalls::none(&[]);
+    let answer = opened_by(&mut calls, alloc, path);
+    Noted { answer, calls }
+}
+
+/// Opens a journal's file, and notes the calls.
+fn opened_by(calls: &mut GhostCalls, alloc: Global, path: &[u8]) -> Result<Opened, JournalFileError>
+    requires { calls.old.made ≡ [] }
+    ensures text { IfOk result (λ opened. opened.text.items ≡ recovered (file_seen opened.device)) }
+    ensures settled { IfOk result (λ opened. IsSettled (file_seen opened.device) (file_may_leave opened.device) (length opened.text.items)) }
+    ensures calls { MatchResult result
+        (λ opened. WasOpened path.now calls.new.made opened.text.items opened.cut opened.created)
+        (λ error. WhyRefused error calls.new.made) }
+{
+    let (file, created) = open_or_make(calls, path)?;
+    if !try_lock(calls, &file)? {
         return Err(JournalFileError::InUse);
     }
-    let bytes = durable_bytes(alloc, &file).map_err(why_no_file)?;
-    if !is_in_place(path, bytes.len())? {
+    let bytes = read(calls, alloc, &file).map_err(why_no_file)?;
+    if !is_in_place(calls, path, bytes.len())? {
         return Err(JournalFileError::Displaced);
     }
-    let end = accepted_lines(&bytes)?;
-    let cut = keep_cut(alloc, path, to_cut(&bytes, end))?;
-    sync_folder(path)?;
-    let mut device = FileDevice::new(file, path.to_vec(alloc)?, &bytes);
+    let end = accepted(calls, &bytes)?;
+    let cut = keep_cut(calls, alloc, path, to_cut(&bytes, end))?;
+    sync_folder(calls, path)?;
+    let mut device = FileDevice::new(file, Spare::none(alloc, path)?, &bytes);
     match open(&mut device, bytes) {
         Ok(text) => Ok(Opened {
             device,
@@ -56,77 +82,90 @@ pub fn open_file(alloc: Global, path: &[u8]) -> Result<Opened, JournalFileError>
             cut,
             created,
         }),
-        Err(_) => Err(refusal(&device)),
+        Err(why) => {
+            let error = refusal(why, &device);
+            *calls = device.calls;
+            Err(error)
+        }
     }
 }
 
-/// The records that a journal's file has at this moment, for a program that only looks. It takes no lock and writes nothing.
+/// The records that a journal's file has at this moment, for a program that only looks. It takes no lock and writes
+/// nothing.
 ///
 /// Its text is whole lines, none of them empty. They need not be durable.
-pub fn read_book(rt: &HostRuntime, alloc: Global, path: &str) -> Result<Vec<u8>, JournalFileError>
-    ensures { IfOk result (λ text. recovered text.items ≡ text.items) }
+pub fn read_book(
+    rt: &HostRuntime,
+    alloc: Global,
+    path: &str,
+) -> Noted<Result<Vec<u8>, JournalFileError>>
+    ensures whole { IfOk result.answer (λ text. recovered text.items ≡ text.items) }
+    ensures calls { MatchResult result.answer
+        (λ text. WasPeeked path.now result.calls.made text.items)
+        (λ error. WhyRefused error result.calls.made) }
 {
-    only_regular(rt, path)?;
-    let file = opened(path.as_bytes(), libc::O_RDONLY, 0)?;
-    let mut bytes = Vec::new(alloc);
-    read_all(&file, &mut bytes)?;
-    let end = accepted_lines(&bytes)?;
+    let mut calls = GhostCalls::none(&[]);
+    let answer = peeked_by(&mut calls, rt, alloc, path);
+    Noted { answer, calls }
+}
+
+/// Reads a journal's file, and notes the calls.
+fn peeked_by(
+    calls: &mut GhostCalls,
+    rt: &HostRuntime,
+    alloc: Global,
+    path: &str,
+) -> Result<Vec<u8>, JournalFileError>
+    requires { calls.old.made ≡ [] }
+    ensures { MatchResult result
+        (λ text. WasPeeked path.now calls.new.made text.items)
+        (λ error. WhyRefused error calls.new.made) }
+{
+    find(calls, rt, path)?;
+    let mut bytes = peek(calls, alloc, path.as_bytes())?;
+    let end = accepted(calls, &bytes)?;
     bytes.truncate(end);
     Ok(bytes)
 }
 
-/// Refuses what is no regular file: a FIFO without a writer is not opened for reading before one comes.
-fn only_regular(rt: &HostRuntime, path: &str) -> Result<(), JournalFileError> {
-    let found = fs::metadata(rt, path)?;
-    if found.is_dir() {
-        return Err(JournalFileError::Folder);
-    }
-    if !found.is_file() {
-        return Err(JournalFileError::NotAFile);
-    }
-    Ok(())
+/// How many bytes of whole lines come before the first empty line of what was read, if a journal's file may hold it.
+fn accepted(calls: &GhostCalls, bytes: &[u8]) -> Result<usize, JournalFileError>
+    requires { WasRead bytes.now calls.now.made }
+    ensures whole { IfOk result (λ end. end ≡ whole 0 bytes.now) }
+    ensures within { IfOk result (λ end. end ≤ length bytes.now) }
+    ensures accepted { IfOk result (λ _. IsAccepted bytes.now) }
+    ensures refused { IfErr result (λ error. WhyRefused error calls.now.made) }
+{
+    accepted_lines(bytes)
 }
 
-/// The file, and whether this call made it.
-fn open_or_make(path: &[u8]) -> Result<(OwnedFd, bool), JournalFileError> {
-    match opened(
-        path,
-        libc::O_RDWR | libc::O_CREAT | libc::O_EXCL,
-        OWNER_ALONE,
-    ) {
-        Ok(file) => Ok((file, true)),
-        Err(error) if error.kind() == io::ErrorKind::AlreadyExists => {
-            Ok((opened(path, libc::O_RDWR, 0).map_err(why_no_file)?, false))
-        }
-        Err(error) => Err(JournalFileError::Io(error)),
-    }
-}
-
-/// What is no regular file is opened, and refused by its first sync: Linux answers EINVAL there.
-fn why_no_file(error: io::Error) -> JournalFileError {
-    match error.raw_os_error() {
-        Some(libc::EISDIR) => JournalFileError::Folder,
-        Some(libc::EINVAL) => JournalFileError::NotAFile,
-        _ => JournalFileError::Io(error),
-    }
-}
-
-/// Keeps what is to be cut at the end of the file of this name and `.cut`, and answers how many bytes these are.
-fn keep_cut(alloc: Global, path: &[u8], cut: &[u8]) -> Result<usize, JournalFileError>
-    ensures { IfOk result (λ count. count ≡ length cut.now) }
+/// Appends the bytes that will be removed to the file of this name and `.cut`, and returns their number.
+fn keep_cut(
+    calls: &mut GhostCalls,
+    alloc: Global,
+    path: &[u8],
+    cut: &[u8],
+) -> Result<usize, JournalFileError>
+    ensures { MatchResult result
+        (λ count. (count ≡ length cut.now) × (calls.new.made ≡ kept_beside path.now cut.now ++ calls.old.made))
+        (λ error. WhyRefused error calls.new.made) }
 {
     if !cut.is_empty() {
-        let mut name = path.to_vec(alloc)?;
-        name.extend_from_slice(b".cut")?;
-        append_synced(&name, cut).map_err(JournalFileError::CutNotKept)?;
+        keep_beside(calls, alloc, path, cut).map_err(JournalFileError::CutNotKept)?;
     }
     Ok(cut.len())
 }
 
 /// Why the device refused a call.
-fn refusal(device: &FileDevice) -> JournalFileError {
-    match device.failure() {
-        Some(error) => JournalFileError::Io(error),
-        None => JournalFileError::Memory,
+fn refusal(why: DeviceError, device: &FileDevice) -> JournalFileError
+    requires { why ≡ DeviceError.Failed → 0 < failed_among device.now.calls.made }
+    ensures { WhyRefused result device.now.calls.made }
+{
+    match (why, device.failure()) {
+        (DeviceError::Failed, Some(FileFailure::Io(error) | FileFailure::Unreserved(error))) => {
+            JournalFileError::Io(error)
+        }
+        (DeviceError::Failed, Some(FileFailure::Displaced)) => JournalFileError::Displaced,
+        _ => JournalFileError::Memory,
     }
 }

@@ -1,6 +1,6 @@
-//! An open file by its descriptor, without the runtime: a library that programs in C link has none.
+//! An open file by its descriptor, without the runtime, which a library linked into C programs does not have.
 //!
-//! The paths are bytes: Linux names files by bytes, and no other text.
+//! Paths are bytes, as they are to Linux.
 ghost use Rattle.std.specs.Prelude.{◌≤◌, length};
 
 use os::FromRawFd;
@@ -39,7 +39,21 @@ pub(crate) fn opened(path: &[u8], flags: i32, mode: u32) -> io::Result<OwnedFd> 
     Ok(file)
 }
 
-/// Takes the lock of the file, which its last descriptor gives back. It answers whether it was free.
+/// Creates a file without a name. While it is created, it has this path, with the six X at the end replaced.
+pub(crate) fn nameless(path: &mut [u8]) -> io::Result<OwnedFd> {
+    let number = os::create_temp(path);
+    if number < 0 {
+        return Err(last_error());
+    }
+    let file = unsafe { OwnedFd::from_raw_fd(number) };
+    checked(os::unlink(path))?;
+    if number <= 2 {
+        return file.try_clone();
+    }
+    Ok(file)
+}
+
+/// Tries to lock the file. The lock is released with the file's last descriptor. Returns whether it was free.
 pub(crate) fn try_lock(file: &OwnedFd) -> io::Result<bool> {
     if libc::flock(file.as_raw_fd(), libc::LOCK_EX | libc::LOCK_NB) == 0 {
         return Ok(true);
@@ -54,8 +68,8 @@ pub(crate) fn try_lock(file: &OwnedFd) -> io::Result<bool> {
 
 /// Whether a file of this name is there that is locked and has this many bytes.
 ///
-/// A lock belongs to an open file. So where this one is free, the name is that of another file than the one that the caller
-/// has locked. Where another till has locked that other file, the bytes tell.
+/// A lock belongs to an open file. If the lock of the file with this name is free, that file is not the one that the
+/// caller has locked. If another till has locked it, the bytes differ.
 pub(crate) fn is_in_place(path: &[u8], size: usize) -> io::Result<bool> {
     let named = match opened(path, libc::O_RDWR, 0) {
         Ok(named) => named,
@@ -153,9 +167,14 @@ pub(crate) fn sync_folder(path: &[u8]) -> io::Result<()> {
     let mut whole = [0; libc::PATH_MAX];
     checked(os::realpath(path, &mut whole))?;
     let size = os::name_length(&whole);
-    let folder = match whole[..size].iter().rposition(|byte| *byte == b'/') {
-        Some(0) => &whole[..1],
-        Some(at) => &whole[..at],
+    sync_folder_of(&whole[..size])
+}
+
+/// Makes the names in the folder of this path durable.
+pub(crate) fn sync_folder_of(path: &[u8]) -> io::Result<()> {
+    let folder = match path.iter().rposition(|byte| *byte == b'/') {
+        Some(0) => &path[..1],
+        Some(at) => &path[..at],
         None => b".",
     };
     let number = os::open_read(folder);

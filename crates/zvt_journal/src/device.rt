@@ -1,5 +1,5 @@
 //! A file as the journal uses it: what a read returns, and what a crash may leave.
-ghost use Rattle.std.specs.Prelude.{◌≡◌, ◌≤◌, ◌<◌, List, [], ◌∷◌, ℕ, length, take, OnOk};
+ghost use Rattle.std.specs.Prelude.{◌≡◌, ◌≤◌, ◌<◌, Bool, true, List, [], ◌∷◌, ℕ, length, take, OnOk};
 ghost use Rattle.zvt_journal.specs.declared.device.DeviceError.TheVariants.{Memory};
 ghost use Rattle.zvt_journal.specs.Device.{Only, Follows, Torn, Swapped, Cut, Over, Elapses, HasCause};
 
@@ -10,7 +10,8 @@ use std::alloc::{AllocError, AllocFailed};
 pub enum DeviceError {
     /// Memory ran out. Nothing was written.
     Memory,
-    /// A call on the file failed. What a read returns now is not known: another process opens the file anew.
+    /// A call on the file failed. The result of a further read is unknown, so another process has to open the file
+    /// anew.
     Failed,
     /// The file has 2^60 bytes or more, or the record more than [`MAX_RECORD_LEN`](crate::MAX_RECORD_LEN). Nothing was written.
     Full,
@@ -32,12 +33,12 @@ impl<T: Drop> From<AllocFailed<T>> for DeviceError {
     }
 }
 
-/// A file on a disk that may lose power at any moment. Nothing is durable before a `sync`.
+/// A file on a disk that can lose power at any moment. Writes become durable only with [`sync`](Device::sync).
 ///
-/// The crash model: each byte of a write that was cut short is the new one or the one from before, and 0 where the file
-/// grew. Bytes outside of a write stay as they are. The bytes of one write may go to the disk in any order.
+/// Crash model: until it is synced, each byte of a write is the new byte or the old one, and 0 where the file grew. The
+/// bytes of a write may reach the disk in any order. All other bytes keep their values.
 ///
-/// No call reads. Whoever makes a device reads the file first, since no contract of std says what a file holds.
+/// No call reads. Read the file before you make a device of it: no contract of std says what a file holds.
 pub trait Device {
     /// The bytes that a read returns.
     ghost seen: { Self → List ℕ };
@@ -53,6 +54,17 @@ pub trait Device {
 
     /// How often the disk has failed.
     ghost faults: { Self → ℕ };
+
+    /// Whether disk space is reserved for the next writes.
+    ghost has_capacity: { Self → Bool };
+
+    /// Reserves disk space for the records of a payment. Does not change the file.
+    fn reserve(&mut self) -> Result<(), DeviceError>
+        ensures room { OnOk result (has_capacity self.new ≡ true) }
+        ensures seen { seen self.new ≡ seen self.old }
+        ensures crash { (file : List ℕ) → may_leave self.new file → may_leave self.old file }
+        ensures time { Elapses (moment self.old) (moment self.new) (left_since self.old) (left_since self.new) (may_leave self.new) }
+        ensures cause { HasCause (faults self.old) (faults self.new) result };
 
     /// Writes over the file, and past its end. Until the next `sync` a crash may leave any of them.
     fn write_at(&mut self, at: usize, bytes: &[u8]) -> Result<(), DeviceError>

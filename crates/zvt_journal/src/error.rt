@@ -6,9 +6,10 @@ use std::alloc::AllocError;
 use std::io;
 use thiserror::Error;
 
-/// Why a journal's file is not opened. Nothing was written to it, but for `Io` and `Memory`, which may come at any moment.
+/// Why a journal's file was not opened. Nothing was written to it, except that `Io` and `Memory` can happen at any
+/// moment.
 ///
-/// No text names the file: the program writes the name before it.
+/// The messages do not name the file; the program puts its name in front.
 #[derive(Debug, Drop, Error)]
 pub enum JournalFileError {
     /// Another process has the file open as its journal.
@@ -26,8 +27,8 @@ pub enum JournalFileError {
     /// The file is no journal: its first line doesn't begin with the name of the format.
     #[error("this is no journal, and it was left as it is: name a journal, or a file that is not there yet")]
     NotAJournal,
-    /// Whole records lie behind the first empty line, which this line is. No crash leaves such a file: an editor put the empty
-    /// line there, or the disk lost what stood in its place.
+    /// Complete records follow the first empty line, which is this line. No crash leaves such a file: an editor
+    /// inserted the empty line, or the disk lost the bytes in its place.
     #[error("line {line} is empty, and {records} records lie behind it, which no crash leaves: \
         remove that line to have them back, or all that comes after it to give them up")]
     RecordsBehind { line: usize, records: usize },
@@ -37,6 +38,9 @@ pub enum JournalFileError {
     /// The bytes that are to be cut could not be kept in the file beside it, so they were not cut.
     #[error("cannot keep the bytes that are to be cut in the file of this name and '.cut': {0}")]
     CutNotKept(io::Error),
+    /// The name of the file can't be made durable, since its folder can't be opened or synced. No file was made.
+    #[error("cannot make the name of this file durable, for which its folder has to be readable and on a disk that syncs folders: {0}")]
+    FolderNotSynced(io::Error),
     /// The file could not be opened, read, written or made durable.
     #[error("cannot open, read or write this file: {0}")]
     Io(io::Error),

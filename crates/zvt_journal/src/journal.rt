@@ -1,10 +1,10 @@
 //! Records of text lines, and the gate that makes each of them count at once.
-ghost use Rattle.std.specs.Prelude.{◌≡◌, All, ◌↔◌, ◌⊎◌, ◌+◌, ◌<◌, ◌≤◌, ◌^◌, ◌++◌, [], ◌∷◌, List, ℕ, length, drop, IfOk, OnErr, OnOk, IsErrOf, IsTrue};
+ghost use Rattle.std.specs.Prelude.{◌≡◌, true, All, ◌↔◌, ◌⊎◌, ◌+◌, ◌<◌, ◌≤◌, ◌^◌, ◌++◌, [], ◌∷◌, List, ℕ, get_or, length, drop, IfOk, OnErr, OnOk, IsErrOf, IsTrue};
 ghost use Rattle.zvt_journal.specs.Device.{Only, LeavesOnly};
-ghost use Rattle.zvt_journal.specs.Files.{IsRepairable, IsRepairableAsBefore};
+ghost use Rattle.zvt_journal.specs.Files.{GoesOn, IsKnown, IsRepairable, IsRepairableAsBefore};
 ghost use Rattle.zvt_journal.specs.Text.{whole, begins_marked, recovered, IsRecord, IsSettled, IsWithOrWithout, IsAsBefore, joined, HasFirst, LinesAreRecovered, RecoveredIsLines};
 
-use crate::durable::{cut_synced, set_synced, write_synced};
+use crate::durable::{cut_synced, reserve_for, set_synced, write_synced};
 use crate::{Device, DeviceError};
 use std::alloc::{AllocError, Global};
 
@@ -26,10 +26,11 @@ pub struct Journal<D: Device> {
 }
 
 impl<D: Device> Journal<D> {
-    /// Adds a record of whole lines. After `Ok` each crash leaves a file that has it.
+    /// Appends a record, consisting of complete lines, and makes it durable.
     ///
-    /// After `Err` the file stands for the records from before, with the new one or without it. `Full` and `Memory` write
-    /// nothing. After `Failed` this journal is not used again.
+    /// After `Ok`, every later crash leaves a file that contains the record. After `Err`, the file contains the
+    /// earlier records, with or without the new one. `Full` and `Memory` write nothing. After `Failed`, do not use
+    /// this journal again.
     pub fn append(&mut self, entry: &[u8]) -> Result<(), DeviceError>
         requires settled { IsSettled (D.seen self.old.device) (D.may_leave self.old.device) self.old.gate }
         requires entry { IsRecord entry.now }
@@ -44,6 +45,39 @@ impl<D: Device> Journal<D> {
 
         // Opening repairs that file: no more comes after its whole lines than a record and one byte, and no line.
         ensures repairable { LeavesOnly D.moment D.left_since self.old.device self.new.device IsRepairable }
+
+        // And opening takes it for a journal's file, if the record goes behind others or is the opening of a new one.
+        ensures known { GoesOn (recovered (D.seen self.old.device)) entry.now → LeavesOnly D.moment D.left_since self.old.device self.new.device IsKnown }
+
+        // It doesn't give up by itself.
+        ensures failed { IsErrOf result DeviceError.Failed → D.faults self.old.device < D.faults self.new.device }
+        ensures full { IsErrOf result DeviceError.Full → (2 ^ 60 ≤ self.old.gate) ⊎ (2 ^ 18 < length entry.now) }
+        ensures faults { D.faults self.old.device ≤ D.faults self.new.device }
+        ensures gate { OnErr result (self.new.gate ≡ self.old.gate) }
+    {
+        reserve_for(&mut self.device, entry[0])?;
+        self.add(entry)
+    }
+
+    /// Adds a record, for which there is room.
+    fn add(&mut self, entry: &[u8]) -> Result<(), DeviceError>
+        requires settled { IsSettled (D.seen self.old.device) (D.may_leave self.old.device) self.old.gate }
+        requires entry { IsRecord entry.now }
+        requires room { get_or entry.now 0 0 ≡ 35 → D.has_capacity self.old.device ≡ true }
+
+        ensures settled { OnOk result (IsSettled (D.seen self.new.device) (D.may_leave self.new.device) self.new.gate) }
+        ensures acknowledged { OnOk result (recovered (D.seen self.new.device) ≡ recovered (D.seen self.old.device) ++ entry.now) }
+        ensures longest { OnOk result (length entry.now ≤ 2 ^ 18) }
+
+        // A crash at any moment of the call leaves the text from before it, with the record or without.
+        ensures any_moment { LeavesOnly D.moment D.left_since self.old.device self.new.device
+            (IsWithOrWithout (recovered (D.seen self.old.device)) entry.now) }
+
+        // Opening repairs that file: no more comes after its whole lines than a record and one byte, and no line.
+        ensures repairable { LeavesOnly D.moment D.left_since self.old.device self.new.device IsRepairable }
+
+        // And opening takes it for a journal's file, if the record goes behind others or is the opening of a new one.
+        ensures known { GoesOn (recovered (D.seen self.old.device)) entry.now → LeavesOnly D.moment D.left_since self.old.device self.new.device IsKnown }
 
         // It doesn't give up by itself.
         ensures failed { IsErrOf result DeviceError.Failed → D.faults self.old.device < D.faults self.new.device }
@@ -72,6 +106,11 @@ impl<D: Device> Journal<D> {
         // A crash at any moment leaves the text from before the call and some first ones of the records, whole.
         ensures any_moment { LeavesOnly D.moment D.left_since self.old.device self.new.device
             (HasFirst (recovered (D.seen self.old.device)) entries.now) }
+        ensures repairable { LeavesOnly D.moment D.left_since self.old.device self.new.device IsRepairable }
+
+        ensures failed { IsErrOf result DeviceError.Failed → D.faults self.old.device < D.faults self.new.device }
+        ensures full { IsErrOf result DeviceError.Full → (2 ^ 60 ≤ self.new.gate) ⊎ (All (λ entry. length entry.items ≤ 2 ^ 18) entries.now → ⊥) }
+        ensures faults { D.faults self.old.device ≤ D.faults self.new.device }
     {
         for entry in entries {
             self.append(entry)?;
@@ -80,7 +119,7 @@ impl<D: Device> Journal<D> {
     }
 }
 
-/// What is written after the closed gate: a record without its first byte, and the next closed gate.
+/// Returns the bytes to write after the closed gate: the record without its first byte, and the next closed gate.
 fn after_gate(alloc: Global, entry: &[u8]) -> Result<Vec<u8>, AllocError>
     requires { 0 < length entry.now }
     ensures { IfOk result (λ following. following.items ≡ drop 1 entry.now ++ 10 ∷ []) }
@@ -90,10 +129,10 @@ fn after_gate(alloc: Global, entry: &[u8]) -> Result<Vec<u8>, AllocError>
     Ok(following)
 }
 
-/// Recovers the records of a file that a crash may have left, and makes the file one at rest.
+/// Returns the complete records of a journal file, and repairs whatever a crash left behind them.
 ///
-/// `bytes` are what a read of the file returned. It syncs first: after a process was killed, what a read returns need not be
-/// durable. An empty file is a journal without records.
+/// Pass the whole content of the file as `bytes`. The file is synced first, because data that can be read after a process
+/// was killed is not necessarily durable yet. An empty file is a valid, empty journal. A file at rest is not written.
 pub fn open<D: Device>(device: &mut D, mut bytes: Vec<u8>) -> Result<Vec<u8>, DeviceError>
     requires bytes { bytes.items ≡ D.seen device.old }
 
@@ -114,6 +153,10 @@ pub fn open<D: Device>(device: &mut D, mut bytes: Vec<u8>) -> Result<Vec<u8>, De
 {
     device.sync()?;
     let end = whole_lines(&bytes);
+    if is_gate_alone(&bytes[end..]) {
+        bytes.truncate(end);
+        return Ok(bytes);
+    }
     // The cut is on the disk before a gate is written: after a torn gate what was there would count.
     cut_synced(device, end)?;
     write_synced(device, end, &[LINE_FEED])?;
@@ -121,7 +164,15 @@ pub fn open<D: Device>(device: &mut D, mut bytes: Vec<u8>) -> Result<Vec<u8>, De
     Ok(bytes)
 }
 
-/// Whether these are whole lines, none of them empty, at least one, and no mark comes second: what a journal takes as a record.
+/// Whether these bytes are a closed gate, and no more.
+fn is_gate_alone(rest: &[u8]) -> bool
+    ensures { IsTrue result ↔ (rest.now ≡ 10 ∷ []) }
+{
+    matches!(rest, [LINE_FEED])
+}
+
+/// Whether these are whole lines, none of them empty, at least one, and no mark comes second: what a journal takes as a
+/// record.
 #[tactic(auto, using(crate::proofs::Meaning::record_if, crate::proofs::Meaning::record_whole))]
 pub fn is_record(text: &[u8]) -> bool
     ensures { IsTrue result ↔ IsRecord text.now }
@@ -129,7 +180,8 @@ pub fn is_record(text: &[u8]) -> bool
     !text.is_empty() && !begins_marked(&text[1..]) && whole_lines(text) == text.len()
 }
 
-/// Lines before a closed gate are what is recovered, whatever comes after it; each file stands for such lines, and so do they.
+/// Recovery returns exactly the lines before a closed gate, whatever follows it. Every file stands for such lines, and
+/// recovering them again changes nothing.
 pub fn lines_are_recovered()
     ensures lines { LinesAreRecovered }
     ensures converse { RecoveredIsLines }

@@ -1,9 +1,9 @@
-//! A journal: text records in a file, each of which is there whole or not at all, whenever the process ends.
+//! A journal: text records in a file, each complete or absent, whenever the process ends.
 //!
-//! A record is one or more lines, none of them empty. At rest the file is its records and one line feed, the closed gate,
-//! which reads as an empty line. What a file stands for is its whole lines up to the first empty one. [`open`] recovers
-//! them, and [`Journal::append`] adds a record in two steps: the record without its first byte after the gate, and then the
-//! first byte over the gate, each of them durable before what comes next.
+//! A record is one or more lines, none of them empty. At rest the file is its records and one line feed, the closed
+//! gate, which reads as an empty line. A file stands for its complete lines up to the first empty one. [`open`]
+//! recovers them, and [`Journal::append`] adds a record in two steps, each durable before the next: it writes the
+//! record without its first byte after the gate, and then the first byte over the gate.
 #![tactic(auto)]
 
 mod call;
@@ -17,12 +17,14 @@ mod error;
 mod file;
 mod journal;
 mod memory;
+mod noted;
+mod spare;
 mod tears;
 
-pub use create::{Opened, open_file, read_book};
+pub use create::{Noted, Opened, open_file, read_book};
 pub use device::{Device, DeviceError};
 pub use error::JournalFileError;
-pub use file::{FileDevice, a_read_may_be_left};
+pub use file::{FileDevice, FileFailure, a_read_may_be_left};
 pub use journal::{Journal, MAX_RECORD_LEN, is_record, lines_are_recovered, open};
 pub use memory::Memory;
 pub use tears::{Tear, torn};

@@ -1,5 +1,5 @@
-//! A file in memory, for tests. Each call is done at once, so a crash leaves what is there.
-ghost use Rattle.std.specs.Prelude.{◌≡◌, ◌≤◌, ◌⊎◌, [], ◌∷◌, ◌++◌, length, drop, IfOk, OnOk, OnErr};
+//! A file in memory, for tests. Every call takes effect immediately, so a crash leaves the current content.
+ghost use Rattle.std.specs.Prelude.{◌≡◌, ◌≤◌, ◌⊎◌, true, [], ◌∷◌, ◌++◌, length, drop, IfOk, OnOk, OnErr};
 ghost use Rattle.std.proofs.Common.{inl};
 ghost use Rattle.zvt_journal.specs.Device.{Over};
 ghost use Rattle.zvt_journal.specs.Past.{Was, only_last};
@@ -29,7 +29,7 @@ impl Memory {
         }
     }
 
-    /// What a read returns.
+    /// Returns the bytes that a read would return.
     pub fn bytes(&self) -> &[u8]
         ensures { result.now ≡ memory_bytes self.now }
     {
@@ -83,9 +83,15 @@ impl Device for Memory {
 
     ghost faults = { λ m. 0 };
 
+    ghost has_capacity = { λ m. true };
+
     ghost counts_now = { λ m t file le now. inl now };
 
     ghost only_now = { λ m file left. only_last m.past.items m.bytes.items file left };
+
+    fn reserve(&mut self) -> Result<(), DeviceError> {
+        Ok(())
+    }
 
     fn write_at(&mut self, at: usize, bytes: &[u8]) -> Result<(), DeviceError> {
         let next = over(self.alloc, &self.bytes, at, bytes)?;

@@ -17,7 +17,8 @@ pub enum Tear {
 
 /// A file that a crash may leave between two contents of a [`Memory`](crate::Memory), one call apart.
 ///
-/// A test tries each place up to the longer length. Where the call was a cut, the file ends at the place, or at its new end.
+/// A test tries each index up to the greater length. If the call was a truncation, the file ends at the index, or at
+/// its new end.
 pub fn torn(
     alloc: Global,
     old: &[u8],
@@ -49,7 +50,7 @@ fn up_to(bytes: &[u8], at: usize) -> &[u8]
     &bytes[..at.min(bytes.len())]
 }
 
-/// The bytes from this place on, if there are so many.
+/// Returns the bytes from this index on, or none if it is beyond the end.
 fn from(bytes: &[u8], at: usize) -> &[u8]
     ensures { result.now ≡ drop at bytes.now }
 {

@@ -19,9 +19,9 @@ use zvt_text::cursor::{Full, push};
 use zvt_text::{Says, Text};
 use zvt_trace::{Direction, Refusal, TraceEvent};
 
-/// Adds the JSON line of an event that is at a line of the trace. The password of a message is never written, and of the
-/// fields 22, 23, 24, 2D, 3A and 3D (card number, tracks, verification value, password) the size alone. Where memory is
-/// refused the text stays as it is.
+/// Appends the JSON line of an event at a line of the trace. Never writes the password of a message, and writes only
+/// the size of the fields 22, 23, 24, 2D, 3A and 3D (card number, tracks, verification value, password). If an
+/// allocation fails, the text does not change.
 #[inline(always)]
 pub fn event(
     text: &mut Text,

@@ -196,7 +196,7 @@ fn currency(buffer: &mut [u8], at: usize, currency: Option<Currency>) -> Result<
     fixed(buffer, at, *b"\",")
 }
 
-/// The fields, where the message has fields.
+/// The fields of a message that has fields.
 #[inline(always)]
 fn listed(buffer: &mut [u8], at: usize, list: Option<FieldsView<'_>>) -> Result<usize, Full>
     requires { at ≤ length buffer.old }

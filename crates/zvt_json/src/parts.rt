@@ -10,7 +10,7 @@ use crate::strings::byte;
 use zvt_text::cursor::{Full, fixed, push, word};
 use zvt_text::meaning;
 
-/// A comma, where something stands before.
+/// Writes a comma, unless this is the first item.
 #[inline(always)]
 pub(crate) fn comma(buffer: &mut [u8], at: usize, later: bool) -> Result<usize, Full>
     requires { at ≤ length buffer.old }

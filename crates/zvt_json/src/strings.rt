@@ -1,4 +1,4 @@
-//! What is between the quotation marks of a JSON string.
+//! The characters between the quotation marks of a JSON string.
 ghost use Rattle.std.specs.Prelude.{◌≡◌, ◌≤◌, length};
 ghost use Rattle.hex.specs.Hex.{encode_upper};
 ghost use Rattle.json.specs.Print.{escape};

@@ -1,6 +1,6 @@
 -- A record made durable.
-use Rattle.std.proofs.Common.{◌≡◌, ◌⊎◌, ⊎_elim, inl, ℕ, ◌^◌, ◌<◌, ◌≤◌, List, [], ◌++◌, length, refl, sym, ap, subst, ◌∙◌, arith}
-use Rattle.std.specs.Prelude.{Result, Ok, Err, IfErr, IfOk, IsErrAnd, IsErrOf, OnErr, OnOk}
+use Rattle.std.proofs.Common.{◌≡◌, ◌⊎◌, ⊎_elim, inl, ℕ, ◌^◌, ◌<◌, ◌≤◌, List, [], ◌++◌, length, refl, sym, ap, subst, ◌∙◌, arith, append_assoc}
+use Rattle.std.specs.Prelude.{Result, Ok, Err, IfErr, IfOk, IsErr, IsErrAnd, IsErrOf, OnErr, OnOk}
 use Rattle.zvt_journal.specs.Device.{LeavesOnly}
 use Rattle.zvt_journal.specs.Text.{recovered, IsSettled, IsWithOrWithout}
 use Rattle.zvt_journal.specs.declared.device.DeviceError.{DeviceError}
@@ -9,12 +9,32 @@ use Rattle.zvt_journal.specs.Files.{IsRepairable}
 use Rattle.zvt_journal.proofs.Lines.{recovered_whole}
 use Rattle.zvt_journal.proofs.Moments.{started}
 use Rattle.zvt_journal.proofs.Repairable.{repairable_at_rest}
-use Rattle.zvt_kept.specs.Records.{Kept, IsRecordOf}
-use Rattle.zvt_kept.specs.KeptTill.{Adds, HasCause, Recorded}
+use Rattle.zvt_till.specs.declared.orders.Order.{Order}
+use Rattle.zvt_kept.specs.Records.{Kept, IsRecordOf, order_record}
+use Rattle.zvt_io.specs.Devices.{IsPrefix}
+use Rattle.zvt_kept.specs.Reading.{Extends}
+use Rattle.zvt_kept.specs.KeptTill.{Adds, HasCause, HasNoted, Recorded}
 
 -- a text that was begun anew
 pub text_is : (new start added : List ℕ) → new ≡ start ++ added → start ≡ [] → new ≡ added
 text_is new start added grown none = grown ∙ ap (λ l. l ++ added) none
+
+-- a first part was cut short
+pub cut_short : {E : Type 0} (result : Result Unit E) (old new first second : List ℕ) → IsErr result → ((part : List ℕ) × IsPrefix part first × (new ≡ old ++ part)) → Extends result old new (first ++ second)
+cut_short (Ok done) old new first second err e = absurd cc
+cut_short (Err why) old new first second err e = (e.0, (e.1.0 ++ second, ap (λ w. w ++ second) e.1.1 ∙ append_assoc e.0 e.1.0 second), e.2)
+
+-- a second part came behind the whole first one
+pub then_second : {E : Type 0} (result : Result Unit E) (old middle new first second : List ℕ) → middle ≡ old ++ first → Extends result middle new second → Extends result old new (first ++ second)
+then_second (Ok done) old middle new first second is e = e ∙ ap (λ w. w ++ second) is ∙ append_assoc old first second
+then_second (Err why) old middle new first second is e =
+    (first ++ e.0, (e.1.0, ap (λ w. first ++ w) e.1.1 ∙ sym (append_assoc first e.0 e.1.0)), e.2 ∙ ap (λ w. w ++ e.0) is ∙ append_assoc old first e.0)
+
+-- the record of an order that was appended has its note
+pub noted : {D : Type 0} (seen : D → List ℕ) (old new : D) (order : Order) (note sent text : List ℕ) (result : Result Unit DeviceError) → text ≡ order_record order note sent
+    → OnOk result (recovered (seen new) ≡ recovered (seen old) ++ text) → OnOk result (HasNoted seen order note old new)
+noted seen old new order note sent text (Ok done) is more = (sent, more ∙ ap (λ t. recovered (seen old) ++ t) is)
+noted seen old new order note sent text (Err why) is more = tt
 
 module _ {D : Type 0} (seen : D → List ℕ) (may_leave : D → List ℕ → Type 0) (moment : D → ℕ) (left_since : D → ℕ → List ℕ → Type 0) (faults : D → ℕ) where
   -- nothing was written

@@ -1,6 +1,7 @@
 mod Begun
 mod Bytes
 mod CallsOutlived
+mod CheckLemmas
 mod Crashed
 mod Failing
 mod Kept
@@ -8,6 +9,7 @@ pub mod Known
 mod LineLemmas
 mod Logged
 mod Made
+mod NoteLemmas
 mod Numbers
 mod Opened
 mod Outlived
@@ -16,9 +18,11 @@ mod Places
 mod ReadLines
 mod Recovered
 mod Relived
+mod Remarked
 mod Rows
 mod RunsOutlived
 mod Sent
 mod Short
 mod Steps
 mod WordLemmas
+mod Worlds

@@ -26,7 +26,7 @@ happen_more currency [] one log happened none h = (happened, [], h, refl, ap (λ
 happen_more currency (first ∷ kept) one log happened all h =
     (all.0, all.1 ++ happened, all.2, happen_more currency kept one all.1 happened all.3 h, ap (λ l. l ++ happened) all.4 ∙ append_assoc all.0 all.1 happened)
 
-whole_text : (file : List ℕ) → recovered (recovered file) ≡ recovered file
+pub whole_text : (file : List ℕ) → recovered (recovered file) ≡ recovered file
 whole_text file = take_all (whole 0 (recovered file)) (recovered file) (omega (arith, recovered_whole file))
 
 module _ (records_are_kept : RecordsAreKept) where

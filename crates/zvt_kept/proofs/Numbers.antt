@@ -45,6 +45,12 @@ number_back n some most =
     let shown : list_all is_ascii_digit (decimal n) ≡ true = all_shown (decimal n) numeral.0.1 in
     value_back (decimal n) n (rw (count, shown) refl) numeral.1 some
 
+-- a digit of it is no space
+pub decimal_unspaced : (n : ℕ) → n < 2 ^ 64 → All (λ byte. 32 < byte) (decimal n)
+decimal_unspaced n fits =
+    let numeral = decimal_is_IsNumeral n fits in
+    All-from_get_or (λ byte. 32 < byte) (decimal n) 0 (λ i below. let at = digit_at (decimal n) i numeral.0.1 below in omega arith)
+
 -- a digit of it is no control character
 pub decimal_plain : (n : ℕ) → n < 2 ^ 64 → All (λ byte. 31 < byte) (decimal n)
 decimal_plain n fits =

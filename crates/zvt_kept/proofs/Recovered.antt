@@ -21,7 +21,7 @@ use Rattle.zvt_journal.specs.Text.{recovered, IsSettled}
 use Rattle.zvt_till.proofs.Segments.{fold-snoc}
 use Rattle.zvt_kept.specs.KeptTill.{Keeps, unless_up}
 use Rattle.zvt_kept.specs.Outliving.{IsLostTill, LogsAreRecovered, TillsAreRecovered}
-use Rattle.zvt_kept.specs.declared.recovery.RecoveryError.TheVariants.{Opening, Line, Record, Memory}
+use Rattle.zvt_kept.specs.declared.recovery.RecoveryError.TheVariants.{Opening, Check, Line, Record, Memory}
 use Rattle.zvt_till.specs.View.{TillValue}
 use Rattle.zvt_kept.specs.declared.recovery.RecoveryError.{RecoveryError}
 use Rattle.zvt_kept.proofs.Logged.{happen_more, lost_stands}
@@ -136,6 +136,7 @@ pub logs_are_recovered : LogsAreRecovered
 logs_are_recovered settings text log (Ok till) s k r = r.stands.1 ∙ ap (λ l. state_after settings (l ++ Lost ∷ [])) (logs_are_one settings.currency text r.log log r.recorded s)
 logs_are_recovered settings text log (Err Opening) s k r = r s.opened
 logs_are_recovered settings text log (Err (Line number)) s k r = none_is_some s.kept (sym r.0 ∙ s.read)
+logs_are_recovered settings text log (Err (Check number)) s k r = none_is_some s.kept (sym r.0 ∙ s.read)
 logs_are_recovered settings text log (Err (Record number)) s k r = no_foreign settings text log number s k r
 logs_are_recovered settings text log (Err Memory) s k r = tt
 
@@ -159,6 +160,7 @@ recovered_till settings text log state up (Ok till) line s t r =
     logs_are_recovered settings text log (Ok till) s (prefix_from settings [] log (unless_up up) t.0) r ∙ sym (lost_stands settings log state up t).1
 recovered_till settings text log state up (Err Opening) line s t r = logs_are_recovered settings text log (Err Opening) s (prefix_from settings [] log (unless_up up) t.0) r
 recovered_till settings text log state up (Err (Line number)) line s t r = logs_are_recovered settings text log (Err (Line number)) s (prefix_from settings [] log (unless_up up) t.0) r
+recovered_till settings text log state up (Err (Check number)) line s t r = logs_are_recovered settings text log (Err (Check number)) s (prefix_from settings [] log (unless_up up) t.0) r
 recovered_till settings text log state up (Err (Record number)) line s t r = logs_are_recovered settings text log (Err (Record number)) s (prefix_from settings [] log (unless_up up) t.0) r
 recovered_till settings text log state up (Err Memory) line s t r = tt
 

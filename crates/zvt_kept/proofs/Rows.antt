@@ -4,7 +4,7 @@ use Rattle.std.specs.Prelude.{codes}
 use Rattle.std.specs.Fmt.{digits}
 use Rattle.hex.proofs.OnLiterals.{hex_on_literals}
 use Rattle.zvt_till.specs.declared.orders.Order.TheVariants.{Register, Pay, Reverse, CloseDay, Cancel}
-use Rattle.zvt_kept.specs.Records.{ordered, heard, lost, heard_record, kept_in, opening, order_record}
+use Rattle.zvt_kept.specs.Records.{ordered, heard, lost, heard_lines, kept_in, one_or_none, opening, order_lines}
 
 -- ---- texts
 
@@ -12,23 +12,27 @@ opening_text : opening 978 ≡ codes "# zvt journal 1, currency 978\n"
 unfolding digits
 opening_text = refl
 
-payment_text : order_record (Pay 1234) (6 ∷ 1 ∷ 0 ∷ []) ≡ codes "# pay 1234\n> 060100\n"
+payment_text : order_lines (Pay 1234) [] (6 ∷ 1 ∷ 0 ∷ []) ≡ codes "# pay 1234\n> 060100\n"
 unfolding hex_on_literals digits
 payment_text = refl
 
+noted_text : order_lines (Pay 1234) (codes " at 2026-11-28T09:14:03Z ref A-1009") (6 ∷ 1 ∷ 0 ∷ []) ≡ codes "# pay 1234 at 2026-11-28T09:14:03Z ref A-1009\n> 060100\n"
+unfolding hex_on_literals digits
+noted_text = refl
+
 -- an entry is counted from 1
-reversal_text : order_record (Reverse 2) (6 ∷ 48 ∷ 0 ∷ []) ≡ codes "# reverse 3\n> 063000\n"
+reversal_text : order_lines (Reverse 2) [] (6 ∷ 48 ∷ 0 ∷ []) ≡ codes "# reverse 3\n> 063000\n"
 unfolding hex_on_literals digits
 reversal_text = refl
 
-order_alone_text : order_record CloseDay [] ≡ codes "# close\n"
+order_alone_text : order_lines CloseDay [] [] ≡ codes "# close\n"
 order_alone_text = refl
 
-heard_text : heard_record (6 ∷ 15 ∷ 0 ∷ []) (128 ∷ 0 ∷ 0 ∷ []) ≡ codes "< 060F00\n> 800000\n"
+heard_text : heard_lines (6 ∷ 15 ∷ 0 ∷ []) (one_or_none (128 ∷ 0 ∷ 0 ∷ [])) ≡ codes "< 060F00\n> 800000\n"
 unfolding hex_on_literals
 heard_text = refl
 
-heard_alone_text : heard_record (128 ∷ 0 ∷ 0 ∷ []) [] ≡ codes "< 800000\n"
+heard_alone_text : heard_lines (128 ∷ 0 ∷ 0 ∷ []) (one_or_none []) ≡ codes "< 800000\n"
 unfolding hex_on_literals
 heard_alone_text = refl
 
@@ -53,6 +57,21 @@ restart = refl
 -- one carriage return before a line feed is no part of the line
 carriage_return : kept_in (codes "# pay 1234\r\n!\r\n") ≡ Some (ordered (Pay 1234) ∷ lost ∷ [])
 carriage_return = refl
+
+-- notes mean nothing
+noted : kept_in (codes "# register at 2026-11-28T09:14:03Z\n# pay 1234 ref A-1009\n# reverse 3 at 2026-11-28T09:14:03Z ref 7\n# close ref x\n") ≡ Some (ordered Register ∷ ordered (Pay 1234) ∷ ordered (Reverse 2) ∷ ordered CloseDay ∷ [])
+noted = refl
+
+wrong_note : kept_in (codes "# pay 1234 ref two words\n") ≡ None
+wrong_note = refl
+
+wrong_time : kept_in (codes "# pay 1234 at 2026-11-28\n") ≡ None
+wrong_time = refl
+
+-- a person's remarks mean nothing
+remarks : kept_in (codes "# cash drawer 2\n# pay 1234\n> 060100\n# payment by card\n!\n# \n") ≡ Some (ordered (Pay 1234) ∷ lost ∷ [])
+unfolding hex_on_literals
+remarks = refl
 
 -- ---- texts that have no meaning
 
@@ -89,9 +108,21 @@ other = refl
 empty_line : kept_in (codes "!\n\n!\n") ≡ None
 empty_line = refl
 
--- a comment that is neither an order nor an opening
-misspelled : kept_in (codes "# closed\n") ≡ None
+-- a reserved word, and no whole order
+no_order : kept_in (codes "# pay 12x\n") ≡ None
+no_order = refl
+
+glued : kept_in (codes "# pay1234\n") ≡ None
+glued = refl
+
+-- bytes that were sent behind a remark: an order's line may be damaged
+misspelled : kept_in (codes "# pby 1234\n> 060100\n") ≡ None
+unfolding hex_on_literals
 misspelled = refl
+
+within_a_record : kept_in (codes "# pay 1234\n# by card\n> 060100\n") ≡ None
+unfolding hex_on_literals
+within_a_record = refl
 
 no_amount : kept_in (codes "# pay 0\n") ≡ None
 no_amount = refl

@@ -7,7 +7,9 @@ use Rattle.hex.specs.Hex.{encode_upper, upper_digits}
 use Rattle.hex.proofs.HexLemmas.{length-encode_with}
 use Rattle.zvt_till.specs.declared.orders.Order.{Order}
 use Rattle.zvt_till.specs.declared.orders.Order.TheVariants.{Register, Pay, Reverse, CloseDay, Cancel}
-use Rattle.zvt_kept.specs.Records.{IsSpelledOrder, heard_line, heard_record, lost_record, one_or_none, opening, order_line, order_record, order_words, sent_line, sent_lines}
+use Rattle.sha2.specs.Sha256.{sha256}
+use Rattle.zvt_kept.specs.Checks.{check_line, check_of, check_sign, checked}
+use Rattle.zvt_kept.specs.Records.{IsSpelledOrder, heard_line, heard_lines, heard_record, lost_line, lost_record, noted_words, one_or_none, opening, order_line, order_lines, order_record, order_words, sent_line, sent_lines}
 
 pub few_taken : (n : ℕ) (bytes : List ℕ) → n ≤ 32 → length (take n bytes) ≤ 32
 few_taken n bytes few = let taken = length-take n bytes in omega (arith, taken, few)
@@ -30,13 +32,25 @@ sent_length (byte ∷ bytes) =
     let whole = length-append (sent_line (byte ∷ bytes)) [] in
     omega (arith, line, hex, whole)
 
+-- a record has twelve bytes more than its lines
+checked_length : (text : List ℕ) → length (checked text) ≤ length text + 12
+unfolding check_of
+checked_length text =
+    let digest = take 4 (sha256 text) in
+    let four = length-take 4 (sha256 text) in
+    let hex = hex_length digest in
+    let line = line_length check_sign (check_of text) in
+    let whole = length-append text (check_line text) in
+    omega (arith, four, hex, line, whole)
+
 pub heard_short : (message answers : List ℕ) → length message ≤ 65540 → length answers ≤ 32 → length (heard_record message answers) ≤ 2 ^ 18
 heard_short message answers few fewer =
     let line = line_length (codes "< ") (encode_upper message) in
     let hex = hex_length message in
     let sent = sent_length answers in
-    let whole = length-append (heard_line message) (sent_lines (one_or_none answers)) in
-    omega (arith, line, hex, sent, whole, few, fewer)
+    let lines = length-append (heard_line message) (sent_lines (one_or_none answers)) in
+    let whole = checked_length (heard_lines message (one_or_none answers)) in
+    omega (arith, line, hex, sent, lines, whole, few, fewer)
 
 number_length : (n : ℕ) → n ≤ 999999999999 → length (decimal n) ≤ 12
 number_length n most = length-decimal-le 12 n (lit< tt) (omega (arith, most)) (omega (arith, most))
@@ -54,13 +68,15 @@ words_length (Reverse entry) spelled =
 words_length CloseDay spelled = omega arith
 words_length Cancel spelled = omega arith
 
-pub order_short : (order : Order) (sent : List ℕ) → IsSpelledOrder order → length sent ≤ 32 → length (order_record order sent) ≤ 2 ^ 18
-order_short order sent spelled few =
+pub order_short : (order : Order) (note sent : List ℕ) → IsSpelledOrder order → length note ≤ 69 → length sent ≤ 32 → length (order_record order note sent) ≤ 2 ^ 18
+order_short order note sent spelled least few =
     let words = words_length order spelled in
-    let line = line_length (codes "# ") (order_words order) in
+    let noted = length-append (order_words order) note in
+    let line = line_length (codes "# ") (noted_words order note) in
     let bytes = sent_length sent in
-    let whole = length-append (order_line order) (sent_lines (one_or_none sent)) in
-    omega (arith, words, line, bytes, whole, few)
+    let lines = length-append (order_line order note) (sent_lines (one_or_none sent)) in
+    let whole = checked_length (order_lines order note sent) in
+    omega (arith, words, noted, line, bytes, lines, whole, few, least)
 
 pub opening_short : (currency : ℕ) → currency ≤ 9999 → length (opening currency) ≤ 2 ^ 18
 opening_short currency most =
@@ -69,4 +85,4 @@ opening_short currency most =
     omega (arith, line, number)
 
 pub lost_short : length lost_record ≤ 2 ^ 18
-lost_short = omega arith
+lost_short = let whole = checked_length lost_line in omega (arith, whole)

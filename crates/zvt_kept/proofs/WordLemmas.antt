@@ -1,31 +1,99 @@
 -- The words of orders are read back.
-use Rattle.std.proofs.Common.{◌≡◌, ℕ, ◌+◌, ◌-◌, ◌<◌, true, nat_lt, List, ◌++◌, All, Option, Some, option_map, refl, ap, ◌∙◌, arith}
-use Rattle.std.specs.Prelude.{codes, decimal, option_and_then}
-use Rattle.std.proofs.lemmas.List.Elements.{All-append, All-weaker}
+use Rattle.std.proofs.Common.{◌≡◌, ℕ, ◌+◌, ◌-◌, ◌<◌, Bool, true, false, cond, ◌≤◌, nat_lt, List, [], ◌∷◌, ◌++◌, All, length, take, drop, Some, None, option_map, refl, ap, sym, subst, ◌∙◌, arith}
+use Rattle.std.specs.Prelude.{codes, decimal, if◌then◌else◌, ◌==◌}
+use Rattle.std.proofs.Math.Seq.{take-append_seam}
+use Rattle.std.proofs.lemmas.Bool.Decides.{nat_tests}
+use Rattle.std.proofs.lemmas.List.Elements.{All-append, All-head, All-tail, All-weaker}
 use Rattle.std.proofs.lemmas.List.Sums.{AllPass-from_list_all}
-use Rattle.std.specs.List.{list_all}
-use borrow.Author.Tests.{ltb-true}
+use Rattle.std.specs.List.{list_all, position, position_or_len}
+use borrow.Author.Tests.{ltb-true, ltb-false}
 use Rattle.zvt_till.specs.declared.orders.Order.{Order}
 use Rattle.zvt_till.specs.declared.orders.Order.TheVariants.{Register, Pay, Reverse, CloseDay, Cancel}
-use Rattle.zvt_text.specs.Words.{trailing}
-use Rattle.zvt_kept.specs.Records.{IsSpelledOrder, number_of, or_else, order_of, order_words}
-use Rattle.zvt_kept.proofs.Numbers.{decimal_plain, number_back}
+use Rattle.zvt_kept.specs.Notes.{is_note}
+use Rattle.zvt_kept.specs.Records.{IsSpelledOrder, is_reserved, noted_words, number_of, order_of, order_words, with_number, word_size}
+use Rattle.zvt_kept.proofs.NoteLemmas.{note_ends, note_plain}
+use Rattle.zvt_kept.proofs.Numbers.{decimal_plain, decimal_unspaced, number_back}
 
--- an order is read back from its words
-pub order_back : (order : Order) → IsSpelledOrder order → order_of (order_words order) ≡ Some order
-order_back Register spelled = refl
-order_back (Pay amount) spelled =
-    let words = order_words (Pay amount) in
-    let reverse = option_map (λ (n : ℕ). Reverse (n - 1)) (option_and_then number_of (trailing (codes "reverse ") words)) in
-    ap (λ (r : Option ℕ). or_else (option_map Pay r) reverse) (number_back amount (omega (arith, spelled.0)) spelled.1)
-order_back (Reverse entry) spelled =
-    let words = order_words (Reverse entry) in
-    let pay = option_map Pay (option_and_then number_of (trailing (codes "pay ") words)) in
+-- ---- a number, and then a note
+
+no_space : (byte : ℕ) → 32 < byte → (byte == 32) ≡ false
+no_space byte above = grind (arith, nat_tests)
+
+size_of : (word rest : List ℕ) → All (λ byte. 32 < byte) word → word_size rest ≡ 0 → word_size (word ++ rest) ≡ length word
+size_of [] rest all none = none
+size_of (byte ∷ word) rest all none =
+    rw (no_space byte (All-head (λ byte. 32 < byte) byte word all)) (omega (arith, size_of word rest (All-tail (λ byte. 32 < byte) byte word all) none))
+
+-- where a first place is
+pub in_reach : (p : ℕ → Bool) (words : List ℕ) → position_or_len p words ≤ length words
+in_reach p [] = omega arith
+in_reach p (byte ∷ words) = by_test (p byte) refl (in_reach p words)
+  where
+    by_test : (b : Bool) → p byte ≡ b → position_or_len p words ≤ length words → position_or_len p (byte ∷ words) ≤ length (byte ∷ words)
+    by_test true is more = rw is (omega arith)
+    by_test false is more = rw is (omega (arith, more))
+
+pub found_at : (p : ℕ → Bool) (words : List ℕ) (n : ℕ) → position p words ≡ Some n → n ≡ position_or_len p words
+found_at p words n is = by_test (nat_lt (position_or_len p words) (length words)) refl
+  where
+    by_test : (b : Bool) → nat_lt (position_or_len p words) (length words) ≡ b → n ≡ position_or_len p words
+    by_test true less = let same : Some (position_or_len p words) ≡ Some n = subst (λ (b : Bool). cond b (Some (position_or_len p words)) None ≡ Some n) less is in cc same
+    by_test false more = let none : None ≡ Some n = subst (λ (b : Bool). cond b (Some (position_or_len p words)) None ≡ Some n) more is in absurd cc
+
+pub not_found : (p : ℕ → Bool) (words : List ℕ) → position p words ≡ None → length words ≡ position_or_len p words
+not_found p words is = by_test (nat_lt (position_or_len p words) (length words)) refl
+  where
+    by_test : (b : Bool) → nat_lt (position_or_len p words) (length words) ≡ b → length words ≡ position_or_len p words
+    by_test true less = let some : Some (position_or_len p words) ≡ None = subst (λ (b : Bool). cond b (Some (position_or_len p words)) None ≡ None) less is in absurd cc
+    by_test false more = let all = in_reach p words in let least = ltb-false (position_or_len p words) (length words) more in omega (arith, all, least)
+
+drop_seam : (first rest : List ℕ) → drop (length first) (first ++ rest) ≡ rest
+drop_seam [] rest = refl
+drop_seam (byte ∷ first) rest = drop_seam first rest
+
+number_noted : (order : ℕ → Order) (digits note : List ℕ) (n : ℕ) → All (λ byte. 32 < byte) digits → is_note note ≡ true → number_of digits ≡ Some n → with_number order (digits ++ note) ≡ Some (order n)
+number_noted order digits note n all noted is =
+    let tail = digits ++ note in
+    let size = size_of digits note all (note_ends note noted).size in
+    let rest : drop (word_size tail) tail ≡ note = ap (λ k. drop k tail) size ∙ drop_seam digits note in
+    let first : take (word_size tail) tail ≡ digits = ap (λ k. take k tail) size ∙ take-append_seam digits note in
+    ap (λ r. if is_note r then option_map order (number_of (take (word_size tail) tail)) else None) rest
+    ∙ ap (λ b. if b then option_map order (number_of (take (word_size tail) tail)) else None) noted
+    ∙ ap (λ w. option_map order (number_of w)) first
+    ∙ ap (option_map order) is
+
+-- digits of no number
+pub no_number : (order : ℕ → Order) (tail digits : List ℕ) → Some digits ≡ (if is_note (drop (word_size tail) tail) then Some (take (word_size tail) tail) else None) → None ≡ number_of digits → None ≡ with_number order tail
+no_number order tail digits read none = by_test (is_note (drop (word_size tail) tail)) refl
+  where
+    by_test : (b : Bool) → is_note (drop (word_size tail) tail) ≡ b → None ≡ with_number order tail
+    by_test true is =
+        let same : Some digits ≡ Some (take (word_size tail) tail) = read ∙ ap (λ b. if b then Some (take (word_size tail) tail) else None) is in
+        let word : digits ≡ take (word_size tail) tail = cc same in
+        ap (option_map order) (none ∙ ap number_of word) ∙ sym (ap (λ b. if b then option_map order (number_of (take (word_size tail) tail)) else None) is)
+    by_test false is = sym (ap (λ b. if b then option_map order (number_of (take (word_size tail) tail)) else None) is)
+
+-- ---- orders
+
+-- an order is read back from its words, with any note behind them
+pub order_back : (order : Order) (note : List ℕ) → IsSpelledOrder order → is_note note ≡ true → order_of (noted_words order note) ≡ Some order
+order_back Register note spelled noted = ap (λ b. if b then Some Register else None) noted
+order_back (Pay amount) note spelled noted =
+    number_noted Pay (decimal amount) note amount (decimal_unspaced amount (omega (arith, spelled.1))) noted (number_back amount (omega (arith, spelled.0)) spelled.1)
+order_back (Reverse entry) note spelled noted =
     let same : entry + 1 - 1 ≡ entry = omega arith in
-    ap (λ (r : Option ℕ). or_else pay (option_map (λ (n : ℕ). Reverse (n - 1)) r)) (number_back (entry + 1) (omega arith) (omega (arith, spelled)))
+    number_noted (λ (n : ℕ). Reverse (n - 1)) (decimal (entry + 1)) note (entry + 1) (decimal_unspaced (entry + 1) (omega (arith, spelled))) noted (number_back (entry + 1) (omega arith) (omega (arith, spelled)))
     ∙ ap (λ (n : ℕ). Some (Reverse n)) same
-order_back CloseDay spelled = refl
-order_back Cancel spelled = refl
+order_back CloseDay note spelled noted = ap (λ b. if b then Some CloseDay else None) noted
+order_back Cancel note spelled noted = ap (λ b. if b then Some Cancel else None) noted
+
+-- an order's first word is reserved
+pub order_reserved : (order : Order) (note : List ℕ) → is_note note ≡ true → is_reserved (noted_words order note) ≡ true
+order_reserved Register note noted = rw ((note_ends note noted).ends) refl
+order_reserved (Pay amount) note noted = refl
+order_reserved (Reverse entry) note noted = refl
+order_reserved CloseDay note noted = rw ((note_ends note noted).ends) refl
+order_reserved Cancel note noted = rw ((note_ends note noted).ends) refl
 
 above : (byte : ℕ) → nat_lt 31 byte ≡ true → 31 < byte
 above byte is = ltb-true 31 byte is
@@ -38,9 +106,13 @@ pub both_plain : (a b : List ℕ) → All (λ byte. 31 < byte) a → All (λ byt
 both_plain a b = All-append (λ byte. 31 < byte) a b
 
 -- and so is each of the words of an order
-pub words_plain : (order : Order) → IsSpelledOrder order → All (λ byte. 31 < byte) (order_words order)
-words_plain Register spelled = word_plain (codes "register") refl
-words_plain (Pay amount) spelled = both_plain (codes "pay ") (decimal amount) (word_plain (codes "pay ") refl) (decimal_plain amount (omega (arith, spelled.1)))
-words_plain (Reverse entry) spelled = both_plain (codes "reverse ") (decimal (entry + 1)) (word_plain (codes "reverse ") refl) (decimal_plain (entry + 1) (omega (arith, spelled)))
-words_plain CloseDay spelled = word_plain (codes "close") refl
-words_plain Cancel spelled = word_plain (codes "cancel") refl
+order_plain : (order : Order) → IsSpelledOrder order → All (λ byte. 31 < byte) (order_words order)
+order_plain Register spelled = word_plain (codes "register") refl
+order_plain (Pay amount) spelled = both_plain (codes "pay ") (decimal amount) (word_plain (codes "pay ") refl) (decimal_plain amount (omega (arith, spelled.1)))
+order_plain (Reverse entry) spelled = both_plain (codes "reverse ") (decimal (entry + 1)) (word_plain (codes "reverse ") refl) (decimal_plain (entry + 1) (omega (arith, spelled)))
+order_plain CloseDay spelled = word_plain (codes "close") refl
+order_plain Cancel spelled = word_plain (codes "cancel") refl
+
+-- and of its note
+pub words_plain : (order : Order) (note : List ℕ) → IsSpelledOrder order → is_note note ≡ true → All (λ byte. 31 < byte) (noted_words order note)
+words_plain order note spelled noted = both_plain (order_words order) note (order_plain order spelled) (note_plain note noted)

@@ -19,7 +19,7 @@ use Rattle.zvt_journal.specs.Device.{LeavesOnly}
 use Rattle.zvt_journal.specs.Files.{IsRepairable}
 use Rattle.zvt_journal.specs.declared.device.DeviceError.{DeviceError}
 use Rattle.zvt_journal.specs.declared.device.DeviceError.TheVariants.{Memory, Failed, Full}
-use Rattle.zvt_kept.specs.Records.{Kept, IsRecordOf, opening}
+use Rattle.zvt_kept.specs.Records.{Kept, IsRecordOf, opening, order_record}
 use Rattle.zvt_kept.specs.Logs.{StandsFor}
 use Rattle.zvt_kept.specs.declared.refusal.KeptRefusal.{KeptRefusal}
 use Rattle.zvt_kept.specs.declared.refusal.KeptRefusal.TheVariants.{Order as OrderRefused, Journal as JournalFailed}
@@ -79,6 +79,10 @@ abbrev pub HasCause : DeviceError → (faults_before faults_after gate : ℕ) �
 HasCause Failed before after gate = before < after
 HasCause Full before after gate = 2 ^ 60 ≤ gate
 HasCause Memory before after gate = Unit {0}
+
+-- the records grew by that of an order, with this note
+abbrev pub HasNoted : {D : Type 0} (seen : D → List ℕ) → Order → (note : List ℕ) → (old new : D) → Type 0
+HasNoted seen order note old new = (sent : List ℕ) × (recovered (seen new) ≡ recovered (seen old) ++ order_record order note sent)
 
 module _ {D : Type 0} (seen : D → List ℕ) (may_leave : D → List ℕ → Type 0) (moment : D → ℕ) (left_since : D → ℕ → List ℕ → Type 0) (faults : D → ℕ) where
   -- A text was to be made durable. A crash at any moment leaves the text before, with this one or without, in a file that opening

@@ -1,9 +1,12 @@
+pub mod Checks
 pub mod Crashes
 pub mod KeptTill
 pub mod Logs
 pub mod Masking
+pub mod Notes
 pub mod Outliving
 pub mod Reading
 pub mod Records
 pub mod Recovery
+pub mod Remarks
 pub mod Runs

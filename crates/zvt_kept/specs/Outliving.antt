@@ -17,13 +17,14 @@ use Rattle.zvt_till.specs.View.{TillValue}
 use Rattle.zvt_journal.specs.Device.{LeavesOnly}
 use Rattle.zvt_journal.specs.declared.device.DeviceError.{DeviceError}
 use Rattle.zvt_journal.specs.Text.{recovered}
+use Rattle.zvt_kept.specs.Crashes.{KeptMove, crashes, kept_world}
 use Rattle.zvt_kept.specs.Logs.{StandsFor}
 use Rattle.zvt_kept.specs.Recovery.{Recovers}
 use Rattle.zvt_kept.specs.KeptTill.{Connects, HasLog, Hears, IsKept, KeptValue, LosesLine, has_failed}
 use Rattle.zvt_kept.specs.Runs.{RanKept}
 use Rattle.zvt_kept.specs.declared.run.KeptFault.{KeptFault}
 use Rattle.zvt_kept.specs.declared.recovery.RecoveryError.{RecoveryError}
-use Rattle.zvt_kept.specs.declared.recovery.RecoveryError.TheVariants.{Opening, Line, Record, Memory}
+use Rattle.zvt_kept.specs.declared.recovery.RecoveryError.TheVariants.{Opening, Check, Line, Record, Memory}
 
 -- A file stands for a log that has all of the first, and then a prefix of what happened.
 pub record IsBetween (currency : ℕ) (first happened : List Happening) (file : List ℕ) : Type 0 where
@@ -49,11 +50,21 @@ HappenInAll currency [] happened = happened ≡ []
 HappenInAll currency (step ∷ more) happened =
     (first rest : List Happening) × HappensIn currency step first × HappenInAll currency more rest × (happened ≡ first ++ rest)
 
+-- The file has some first part of what happened. Where moves of both ends log that part, recovery gives the till that a crash
+-- after these moves gives.
+pub record IsOfWorld (settings : Settings) (all : List KeptMove) (happened : List Happening) (file : List ℕ) : Type 0 where
+  pub part : List Happening
+  pub rest : List Happening
+  pub is_part : happened ≡ part ++ rest
+  pub same_till : (more : List KeptMove) (till : TillValue) → (kept_world settings (all ++ more)).log ≡ (kept_world settings all).log ++ part
+      → Recovers settings (recovered file) (Ok till) → till.state ≡ (kept_world settings ((all ++ more) ++ crashes ∷ [])).ends.till
+
 -- recovery gave this till, whose line was lost; or memory was refused
 abbrev pub IsLostTill : TillState → Result TillValue RecoveryError → Type 0
 IsLostTill state (Ok till) = till.state ≡ step state Lost
 IsLostTill state (Err Memory) = Unit {0}
 IsLostTill state (Err Opening) = ⊥
+IsLostTill state (Err (Check number)) = ⊥
 IsLostTill state (Err (Line number)) = ⊥
 IsLostTill state (Err (Record number)) = ⊥
 
@@ -101,6 +112,15 @@ module _ {D : Type 0} (seen : D → List ℕ) (may_leave : D → List ℕ → Ty
       × LeavesOnly moment left_since old.standing.device new.standing.device (IsBetween settings.currency log happened)
       × (has_failed new ≡ false → HasLog seen may_leave moment left_since faults settings (log ++ happened) new.standing)
 
+  -- The calls of a till whose journal has the log of both ends are moves of these ends: whenever a crash comes, recovery gives the
+  -- till that both ends have after a crash.
+  abbrev pub CallsAreMoves : Type 0
+  CallsAreMoves =
+      (settings : Settings) (all : List KeptMove) (steps : List KeptStep) (old new : KeptValue D)
+      → HasLog seen may_leave moment left_since faults settings (kept_world settings all).log old.standing → has_failed old ≡ false → DidAll steps old new
+      → (happened : List Happening) × HappenInAll settings.currency steps happened
+      × LeavesOnly moment left_since old.standing.device new.standing.device (IsOfWorld settings all happened)
+
   -- What a till with its journal is, recovery finds: the same till, whose line was lost; or memory was refused.
   abbrev pub TillsAreRecovered : Type 0
   TillsAreRecovered =
@@ -112,6 +132,7 @@ abbrev pub IsRecoveredAs : Settings → List Happening → Result TillValue Reco
 IsRecoveredAs settings log (Ok till) = till.state ≡ state_after settings (log ++ Lost ∷ [])
 IsRecoveredAs settings log (Err Memory) = Unit {0}
 IsRecoveredAs settings log (Err Opening) = ⊥
+IsRecoveredAs settings log (Err (Check number)) = ⊥
 IsRecoveredAs settings log (Err (Line number)) = ⊥
 IsRecoveredAs settings log (Err (Record number)) = ⊥
 

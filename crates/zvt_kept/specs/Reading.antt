@@ -3,13 +3,14 @@ use Rattle.std.specs.Prelude.{◌≡◌, ◌+◌, ◌≤◌, ℕ, List, [], ◌�
 use Rattle.std.specs.Str.Lines.{lines}
 use Rattle.std.specs.declared.alloc.Global.{Global}
 use Rattle.zvt_io.specs.Devices.{IsPrefix}
-use Rattle.zvt_kept.specs.Records.{Kept, ordered, heard, lost, kept_in, meaning, meanings}
+use Rattle.zvt_kept.specs.Checks.{IsFirstWrongCheck}
+use Rattle.zvt_kept.specs.Records.{Kept, ordered, heard, lost, kept_in, last_of, meaning_behind, meanings}
 use Rattle.zvt_kept.specs.declared.records.Entry.{Entry}
 use Rattle.zvt_kept.specs.declared.records.Entry.TheVariants as entry
 use Rattle.zvt_kept.specs.declared.lines.Meaning.{Meaning}
 use Rattle.zvt_kept.specs.declared.lines.Meaning.TheVariants.{Nothing, Kept as KeptEntry, Unknown}
 use Rattle.zvt_kept.specs.declared.lines.RecordError.{RecordError}
-use Rattle.zvt_kept.specs.declared.lines.RecordError.TheVariants.{Line, Memory}
+use Rattle.zvt_kept.specs.declared.lines.RecordError.TheVariants.{Check, Line, Memory}
 
 -- what an entry of the code stands for
 abbrev pub kept_of : Entry → Kept
@@ -29,21 +30,23 @@ pub record IsFirstWrong (text : List ℕ) (number : ℕ) : Type 0 where
   pub line : List ℕ
   pub after : List (List ℕ)
   pub is : lines text ≡ before ++ line ∷ after
-  pub good : IsSome (meanings before)
-  pub wrong : meaning line ≡ None
+  pub good : IsSome (meanings [] before)
+  pub wrong : meaning_behind (last_of [] before) line ≡ None
   pub number_is : number ≡ length before + 1
 
--- the entries are what the text means; or it has no meaning, from that line on
+-- the entries are what the text means; or it has no meaning, from that line on, or since that check is wrong
 abbrev pub ReadsRecords : (text : List ℕ) → Result (Vec Entry Global) RecordError → Type 0
 ReadsRecords text (Ok entries) = kept_in text ≡ Some (map kept_of entries.items)
 ReadsRecords text (Err (Line number)) = (kept_in text ≡ None) × IsFirstWrong text number
+ReadsRecords text (Err (Check number)) = (kept_in text ≡ None) × IsFirstWrongCheck text number
 ReadsRecords text (Err Memory) = Unit {0}
 
--- the lines of the text before the rest: what they mean, and how many they are
-pub record HasRead (text rest : List ℕ) (number : ℕ) (entries : List Entry) : Type 0 where
+-- the lines of the text before the rest: what they mean, the last of them, and how many they are
+pub record HasRead (text rest last : List ℕ) (number : ℕ) (entries : List Entry) : Type 0 where
   pub before : List (List ℕ)
   pub is : lines text ≡ before ++ lines rest
-  pub good : meanings before ≡ Some (map kept_of entries)
+  pub good : meanings [] before ≡ Some (map kept_of entries)
+  pub last_is : last ≡ last_of [] before
   pub number_is : number ≡ length before
   pub fits : number + length rest ≤ length text
 

@@ -1,13 +1,16 @@
 -- The records of a till's journal: the text of each, and what a text of records means. A line feed is 10.
-use Rattle.std.specs.Prelude.{◌≡◌, ◌<◌, ◌≤◌, ◌==◌, ◌&&◌, ⊤, ℕ, ◌+◌, ◌-◌, if◌then◌else◌, List, [], ◌∷◌, ◌++◌, All, codes, decimal, length, Option, Some, None, option_map, option_and_then, Result, Ok, Err}
-use Rattle.std.specs.Str.{bytes_eq}
+use Rattle.std.specs.Prelude.{◌≡◌, ◌<◌, ◌≤◌, ◌==◌, ◌&&◌, ◌||◌, ⊤, Bool, true, false, not, ℕ, ◌+◌, ◌-◌, if◌then◌else◌, List, [], ◌∷◌, ◌++◌, All, codes, decimal, length, take, drop, Option, Some, None, option_map, option_and_then, Result, Ok, Err}
+use Rattle.std.specs.Char.{is_ascii_alphabetic}
 use Rattle.std.specs.Str.Lines.{lines}
 use Rattle.hex.specs.Hex.{IsBytes, decode_of, encode_upper}
 use Rattle.hex.specs.declared.error.FromHexError.{FromHexError}
+use Rattle.std.specs.List.{position_or_len}
 use Rattle.zvt_text.specs.Words.{number_in, trailing}
+use Rattle.zvt_kept.specs.Notes.{is_note}
 use Rattle.zvt_till.specs.declared.orders.Order.{Order}
 use Rattle.zvt_till.specs.declared.orders.Order.TheVariants.{Register, Pay, Reverse, CloseDay, Cancel}
 use Rattle.zvt_journal.specs.Text.{recovered, IsRecord}
+use Rattle.zvt_kept.specs.Checks.{are_right, checked, is_sent}
 
 -- what a journal records
 pub data Kept : Type 0 where
@@ -39,22 +42,36 @@ abbrev pub one_or_none : List ℕ → List (List ℕ)
 one_or_none [] = []
 one_or_none (byte ∷ bytes) = (byte ∷ bytes) ∷ []
 
-abbrev pub order_line : Order → List ℕ
-order_line order = codes "# " ++ order_words order ++ 10 ∷ []
+-- the words of an order, and those of its note
+abbrev pub noted_words : Order → (note : List ℕ) → List ℕ
+noted_words order note = order_words order ++ note
+
+abbrev pub order_line : Order → (note : List ℕ) → List ℕ
+order_line order note = codes "# " ++ noted_words order note ++ 10 ∷ []
 
 abbrev pub heard_line : List ℕ → List ℕ
 heard_line message = codes "< " ++ encode_upper message ++ 10 ∷ []
 
--- an order, and the bytes that are sent for it
-abbrev pub order_record : Order → List ℕ → List ℕ
-order_record order sent = order_line order ++ sent_lines (one_or_none sent)
+-- an order with its note, and the bytes that are sent for it
+abbrev pub order_lines : Order → (note sent : List ℕ) → List ℕ
+order_lines order note sent = order_line order note ++ sent_lines (one_or_none sent)
 
 -- a message of the terminal, and the bytes of all answers to it
+abbrev pub heard_lines : List ℕ → List (List ℕ) → List ℕ
+heard_lines message answers = heard_line message ++ sent_lines answers
+
+abbrev pub lost_line : List ℕ
+lost_line = codes "!" ++ 10 ∷ []
+
+-- A record is its lines and their check.
+abbrev pub order_record : Order → (note sent : List ℕ) → List ℕ
+order_record order note sent = checked (order_lines order note sent)
+
 abbrev pub heard_record : List ℕ → List ℕ → List ℕ
-heard_record message answers = heard_line message ++ sent_lines (one_or_none answers)
+heard_record message answers = checked (heard_lines message (one_or_none answers))
 
 abbrev pub lost_record : List ℕ
-lost_record = codes "!" ++ 10 ∷ []
+lost_record = checked lost_line
 
 -- the first line of a journal, with the number of its currency
 abbrev pub opening : ℕ → List ℕ
@@ -75,17 +92,19 @@ pub record IsPiece (piece : List ℕ) : Type 0 where
 
 -- a text is the record of an order
 pub record IsOrderRecord (order : Order) (text : List ℕ) : Type 0 where
+  pub note : List ℕ
   pub sent : List ℕ
   pub bytes : IsBytes sent
   pub spelled : IsSpelledOrder order
-  pub is : text ≡ order_record order sent
+  pub noted : is_note note ≡ true
+  pub is : text ≡ order_record order note sent
 
 -- a text is the record of a message, and of any lines of answers to it
 pub record IsHeardRecord (message text : List ℕ) : Type 0 where
   pub answers : List (List ℕ)
   pub piece : IsPiece message
   pub answer_pieces : All IsPiece answers
-  pub is : text ≡ heard_line message ++ sent_lines answers
+  pub is : text ≡ checked (heard_lines message answers)
 
 -- a text is what is written for this
 abbrev pub IsRecordOf : Kept → List ℕ → Type 0
@@ -102,23 +121,34 @@ not_zero n = if n == 0 then None else Some n
 abbrev pub number_of : List ℕ → Option ℕ
 number_of digits = option_and_then not_zero (number_in 12 digits)
 
-abbrev pub or_else : Option Order → Option Order → Option Order
-or_else None other = other
-or_else (Some order) other = Some order
+-- up to the first space
+abbrev pub word_size : List ℕ → ℕ
+word_size words = position_or_len (λ byte. byte == 32) words
 
--- an order that has a number
-abbrev pub numbered : List ℕ → Option Order
-numbered words =
-    or_else (option_map Pay (option_and_then number_of (trailing (codes "pay ") words)))
-    (option_map (λ n. Reverse (n - 1)) (option_and_then number_of (trailing (codes "reverse ") words)))
+-- an order, before a note
+abbrev pub plain : Order → (rest : List ℕ) → Option Order
+plain order rest = if is_note rest then Some order else None
 
--- the order that words name
+-- an order that has a number, before a note
+abbrev pub with_number : (ℕ → Order) → (tail : List ℕ) → Option Order
+with_number order tail = if is_note (drop (word_size tail) tail) then option_map order (number_of (take (word_size tail) tail)) else None
+
+abbrev pub by_rest : Option (List ℕ) → (List ℕ → Option Order) → Option Order → Option Order
+by_rest None found other = other
+by_rest (Some rest) found other = found rest
+
+-- by what comes behind this word, where the words begin with it
+abbrev pub by_word : (word words : List ℕ) → (List ℕ → Option Order) → (other : Option Order) → Option Order
+by_word word words found other = by_rest (trailing word words) found other
+
+-- the order that words name, with a note behind it
 abbrev pub order_of : List ℕ → Option Order
 order_of words =
-    if bytes_eq words (codes "register") then Some Register
-    else if bytes_eq words (codes "close") then Some CloseDay
-    else if bytes_eq words (codes "cancel") then Some Cancel
-    else numbered words
+    by_word (codes "register") words (plain Register)
+    (by_word (codes "close") words (plain CloseDay)
+    (by_word (codes "cancel") words (plain Cancel)
+    (by_word (codes "pay ") words (with_number Pay)
+    (by_word (codes "reverse ") words (with_number (λ n. Reverse (n - 1))) None))))
 
 -- the first words of a journal
 abbrev pub format_name : List ℕ
@@ -128,10 +158,38 @@ abbrev pub ordered_by : Option Order → (words : List ℕ) → Option (List Kep
 ordered_by None words = option_map (λ rest. []) (trailing format_name words)
 ordered_by (Some order) words = Some (ordered order ∷ [])
 
--- a comment is an order, or the opening of a journal, which means nothing; no other has a meaning
+-- a check means nothing
+abbrev pub check : (after_sign : List ℕ) → Option (List Kept)
+check [] = None
+check (space ∷ digits) = if space == 32 then Some [] else None
+
+-- the word ends here: no letter follows
+abbrev pub ends_word : List ℕ → Bool
+ends_word [] = true
+ends_word (byte ∷ rest) = not (is_ascii_alphabetic byte)
+
+abbrev pub ends_there : Option (List ℕ) → Bool
+ends_there None = false
+ends_there (Some rest) = ends_word rest
+
+-- this is the first word
+abbrev pub begins_with : (word words : List ℕ) → Bool
+begins_with word words = ends_there (trailing word words)
+
+-- the first word is one of those with which an order or the opening of a journal begins
+abbrev pub is_reserved : (words : List ℕ) → Bool
+is_reserved words =
+    begins_with (codes "register") words || begins_with (codes "pay") words || begins_with (codes "reverse") words
+    || begins_with (codes "close") words || begins_with (codes "cancel") words || begins_with (codes "zvt") words
+
+-- what follows `# `: with a reserved word an order, or the opening of a journal, which means nothing; any other words are a remark, which a person may add, and mean nothing
+abbrev pub words_meaning : (words : List ℕ) → Option (List Kept)
+words_meaning words = if is_reserved words then ordered_by (order_of words) words else Some []
+
+-- a comment is words, or a check
 abbrev pub comment : (after_sign : List ℕ) → Option (List Kept)
 comment [] = None
-comment (space ∷ words) = if space == 32 then ordered_by (order_of words) words else None
+comment (sign ∷ rest) = if sign == 32 then words_meaning rest else if sign == 61 then check rest else None
 
 -- at least one byte
 abbrev pub some_bytes : Result (List ℕ) FromHexError → Option (List ℕ)
@@ -144,7 +202,8 @@ abbrev pub bytes_in : (after_sign : List ℕ) → Option (List ℕ)
 bytes_in [] = None
 bytes_in (space ∷ digits) = if space == 32 then some_bytes (decode_of digits) else None
 
--- What a line means. `#`, a space and the words of an order are that order, and an opening is nothing. `> ` and bytes are nothing, `< ` and bytes are a message, and `!` alone is a loss. No other line has a meaning.
+-- What a line means. `#`, a space and the words of an order are that order; an opening, a remark and a check are nothing. `> ` and bytes
+-- are nothing, `< ` and bytes are a message, and `!` alone is a loss. No other line has a meaning.
 abbrev pub meaning : (line : List ℕ) → Option (List Kept)
 meaning [] = None
 meaning (first ∷ rest) =
@@ -162,14 +221,30 @@ then_kept None more = None
 then_kept (Some kept) None = None
 then_kept (Some kept) (Some more) = Some (kept ++ more)
 
--- the meanings of lines one after another, where each has one
-abbrev pub meanings : List (List ℕ) → Option (List Kept)
-meanings [] = Some []
-meanings (line ∷ more) = then_kept (meaning line) (meanings more)
+-- a line is a remark
+abbrev pub is_remark : (line : List ℕ) → Bool
+is_remark [] = false
+is_remark (sign ∷ []) = false
+is_remark (sign ∷ space ∷ words) = sign == 35 && space == 32 && not (is_reserved words)
 
--- what the lines of a text mean
+-- What a line means behind another. Bytes that were sent have no meaning behind a remark: its line may be an order's that was
+-- damaged.
+abbrev pub meaning_behind : (last line : List ℕ) → Option (List Kept)
+meaning_behind last line = if is_sent line && is_remark last then None else meaning line
+
+-- the last of the lines; before the first one comes an empty one
+abbrev pub last_of : (last : List ℕ) → (lines : List (List ℕ)) → List ℕ
+last_of last [] = last
+last_of last (line ∷ more) = last_of line more
+
+-- the meanings of lines one after another, behind this one, where each has one
+abbrev pub meanings : (last : List ℕ) → List (List ℕ) → Option (List Kept)
+meanings last [] = Some []
+meanings last (line ∷ more) = then_kept (meaning_behind last line) (meanings line more)
+
+-- what the lines of a text mean, where each check is right
 abbrev pub kept_in : (text : List ℕ) → Option (List Kept)
-kept_in text = meanings (lines text)
+kept_in text = if are_right (lines text) then meanings [] (lines text) else None
 
 -- ---- laws
 

@@ -7,11 +7,12 @@ use Rattle.zvt_till.specs.Sending.{Settings}
 use Rattle.zvt_till.specs.Till.{TillState}
 use Rattle.zvt_till.specs.TillHistory.{Stands}
 use Rattle.zvt_till.specs.View.{TillValue}
+use Rattle.zvt_kept.specs.Checks.{IsFirstWrongCheck}
 use Rattle.zvt_kept.specs.Records.{Kept, kept_in}
 use Rattle.zvt_kept.specs.Logs.{Happens, HappenAll, HasOpening, StandsFor}
 use Rattle.zvt_kept.specs.Reading.{IsFirstWrong}
 use Rattle.zvt_kept.specs.declared.recovery.RecoveryError.{RecoveryError}
-use Rattle.zvt_kept.specs.declared.recovery.RecoveryError.TheVariants.{Opening, Line, Record, Memory}
+use Rattle.zvt_kept.specs.declared.recovery.RecoveryError.TheVariants.{Opening, Check, Line, Record, Memory}
 
 -- The records stand for this log, and the till is that of the log and a lost line.
 pub record IsRecovered (settings : Settings) (text : List ℕ) (state : TillState) : Type 0 where
@@ -37,6 +38,7 @@ abbrev pub Recovers : Settings → (text : List ℕ) → Result TillValue Recove
 Recovers settings text (Ok till) = IsRecovered settings text till.state
 Recovers settings text (Err Opening) = HasOpening settings.currency text → ⊥
 Recovers settings text (Err (Line number)) = (kept_in text ≡ None) × IsFirstWrong text number
+Recovers settings text (Err (Check number)) = (kept_in text ≡ None) × IsFirstWrongCheck text number
 Recovers settings text (Err (Record number)) = IsFirstForeign settings text number
 Recovers settings text (Err Memory) = Unit {0}
 

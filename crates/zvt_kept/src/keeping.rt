@@ -1,9 +1,9 @@
 //! The steps of a till, each of them in its journal first.
-ghost use Rattle.std.specs.Prelude.{◌≡◌, ◌≤◌, [], List, Some, ℕ, length, true};
+ghost use Rattle.std.specs.Prelude.{◌≡◌, ◌≤◌, [], List, OnOk, Some, ℕ, length, true};
 ghost use Rattle.zvt_apdu.specs.Grammar.{Spells};
 ghost use Rattle.zvt_grammar.specs.Reading.{padded};
 ghost use Rattle.zvt_journal.specs.Text.{IsSettled};
-ghost use Rattle.zvt_kept.specs.KeptTill.{Adds, KeepsSome, Orders, Recorded, Takes};
+ghost use Rattle.zvt_kept.specs.KeptTill.{Adds, HasNoted, KeepsSome, Orders, Recorded, Takes};
 ghost use Rattle.zvt_kept.specs.Masking.{masked};
 ghost use Rattle.zvt_kept.specs.Records.{IsSpelledOrder, heard, kept_in, lost, opening, ordered};
 ghost use Rattle.zvt_till.specs.Hearing.{heard_as};
@@ -12,6 +12,7 @@ ghost use Rattle.zvt_till.specs.Refusals.{refusal};
 ghost use Rattle.zvt_till.specs.Sending.{reply_to};
 ghost use Rattle.zvt_till.specs.Till.{facts_of};
 
+use crate::note::Note;
 use crate::records::{put_heard, put_lost, put_opening, put_order};
 use crate::refusal::KeptRefusal;
 use std::alloc::Global;
@@ -22,24 +23,26 @@ use zvt_stream::Answers;
 use zvt_text::Text;
 use zvt_till::{Heard, Order, Outgoing, Till, heard_view, reply_to};
 
-/// Gives the till an order once its journal has it, and answers the message to send.
+/// Gives the till an order once its journal has it, and returns the message to send.
 pub(crate) fn take_order<D: Device>(
     alloc: Global,
     till: &mut Till,
     journal: &mut Journal<D>,
     order: Order,
+    note: &Note,
 ) -> Result<Outgoing, KeptRefusal>
     requires { till.old.state.line_up ≡ true → KeepsSome (D.seen journal.old.device) (D.may_leave journal.old.device) journal.old.gate till.old.state }
-    ensures { Orders D.seen D.may_leave D.moment D.left_since D.faults order
+    ensures orders { Orders D.seen D.may_leave D.moment D.left_since D.faults order
         (record { till = till.old; device = journal.old.device; gate = journal.old.gate })
         (record { till = till.new; device = journal.new.device; gate = journal.new.gate }) result }
+    ensures noted { OnOk result (HasNoted D.seen order note.now journal.old.device journal.new.device) }
 {
     has_words(till, &order);
     let outgoing = match till.order(order) {
         Err(why) => return Err(KeptRefusal::Order(why)),
         Ok(outgoing) => outgoing,
     };
-    match keep_order(alloc, journal, &order, &outgoing) {
+    match keep_order(alloc, journal, &order, note, &outgoing) {
         Ok(()) => Ok(outgoing),
         Err(why) => {
             let _ = till.lost();
@@ -48,7 +51,7 @@ pub(crate) fn take_order<D: Device>(
     }
 }
 
-/// Lets the till hear a message once its journal has it, and answers what is to be sent.
+/// Lets the till process a message once its journal has it, and returns the bytes to send.
 pub(crate) fn take_message<D: Device>(
     alloc: Global,
     till: &mut Till,
@@ -75,8 +78,8 @@ pub(crate) fn take_message<D: Device>(
     }
 }
 
-/// What the till takes has words in a record: an amount and an entry's number have at most twelve digits. The calls do
-/// nothing but make the bounds of an amount and of a book known to the proof.
+/// Every order that the till accepts can be written into a record: amounts and entry numbers have at most twelve
+/// digits. The calls only make the bounds of amounts and books known to the proof.
 fn has_words(till: &Till, order: &Order)
     ensures { refusal (facts_of till.now.state) order.now ≡ None → IsSpelledOrder order.now }
 {
@@ -96,20 +99,22 @@ fn keep_order<D: Device>(
     alloc: Global,
     journal: &mut Journal<D>,
     order: &Order,
+    note: &Note,
     outgoing: &Outgoing,
 ) -> Result<(), DeviceError>
     requires settled { IsSettled (D.seen journal.old.device) (D.may_leave journal.old.device) journal.old.gate }
     requires spelled { IsSpelledOrder order.now }
-    ensures { Recorded D.seen D.may_leave D.moment D.left_since D.faults (ordered order.now) journal.old.device journal.new.device journal.old.gate journal.new.gate result }
+    ensures recorded { Recorded D.seen D.may_leave D.moment D.left_since D.faults (ordered order.now) journal.old.device journal.new.device journal.old.gate journal.new.gate result }
+    ensures noted { OnOk result (HasNoted D.seen order.now note.now journal.old.device journal.new.device) }
 {
     let mut buffer = [0; MAX_BRIEF_LEN];
     let size = masked(outgoing).put(&mut buffer);
     let mut text = Text::new(alloc);
-    put_order(&mut text, order, &buffer[..size])?;
+    put_order(&mut text, order, note, &buffer[..size])?;
     journal.append(text.bytes())
 }
 
-/// Makes the record of a message, and of what answers it, durable.
+/// Makes the record of a message and of the reply to it durable.
 fn keep_heard<D: Device>(
     alloc: Global,
     journal: &mut Journal<D>,
@@ -177,7 +182,7 @@ fn masked(outgoing: &Outgoing) -> Outgoing
     Outgoing { brief }
 }
 
-/// The bytes with which a till answers this at once, while its line is up.
+/// Returns the bytes of a till's immediate reply while it is connected.
 pub fn answers_to(heard: &Heard) -> Answers
     ensures answers { IsAnswer (reply_to heard.now) result }
     ensures few { length result.bytes ≤ 32 }

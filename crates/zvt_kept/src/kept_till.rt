@@ -2,6 +2,7 @@
 ghost use Rattle.std.specs.Prelude.{◌≡◌};
 
 use crate::keeping::{keep_lost, keep_opening, take_message, take_order};
+use crate::note::Note;
 use crate::recovery::{RecoveryError, recover};
 use crate::refusal::KeptRefusal;
 use std::alloc::{AllocError, Global};
@@ -11,10 +12,8 @@ use zvt_journal::{Device, DeviceError, Journal};
 use zvt_stream::{Answers, Machine};
 use zvt_till::{Order, Outgoing, Till, TillSettings};
 
-/// A till and its journal.
-///
-/// An order is durable before its message is handed out to be sent. A message of the terminal is durable before the till
-/// hears it. Once the journal failed the till's line is down, and it sends nothing more.
+/// A till that writes ahead: an order is durable before you get the bytes to send, and a message is durable before the
+/// till processes it. If the journal fails, the till drops its connection and sends nothing more.
 #[derive(Drop)]
 pub struct KeptTill<D: Device> {
     till: Till,
@@ -91,7 +90,8 @@ impl<D: Device + Drop> KeptTill<D> {
         })
     }
 
-    /// The till of the records that a device at rest has, as [`recover`] makes it. Its line is down. Nothing is written.
+    /// Restores the till from the records of a device at rest, like [`recover`]. The till is not connected. Writes
+    /// nothing.
     ///
     /// A text without a record is no till's: [`KeptTill::create`] begins a journal on its device.
     pub fn open(
@@ -123,7 +123,7 @@ impl<D: Device + Drop> KeptTill<D> {
 
 impl<D: Device> KeptTill<D> {
     ghost use Rattle.std.specs.Prelude.{None, OnOk};
-    ghost use Rattle.zvt_kept.specs.KeptTill.{IsKept, Orders, Connects, LosesLine, failure_after, has_failed};
+    ghost use Rattle.zvt_kept.specs.KeptTill.{HasNoted, IsKept, Orders, Connects, LosesLine, failure_after, has_failed};
 
     /// The till, to look at.
     pub fn till(&self) -> &Till
@@ -154,13 +154,19 @@ impl<D: Device> KeptTill<D> {
         self.failure
     }
 
-    /// Gives the till an order, and answers the message to send. The order's record is durable then.
-    pub fn order(&mut self, alloc: Global, order: Order) -> Result<Outgoing, KeptRefusal>
+    /// Starts an order and returns the message to send. The order's record, with the note, is durable by then.
+    pub fn order(
+        &mut self,
+        alloc: Global,
+        order: Order,
+        note: &Note,
+    ) -> Result<Outgoing, KeptRefusal>
         ensures orders { Orders D.seen D.may_leave D.moment D.left_since D.faults order self.old.standing self.new.standing result }
         ensures failure { self.new.failure ≡ failure_after self.old.failure result }
         ensures whole { OnOk result (self.new.failure ≡ None) }
+        ensures noted { OnOk result (HasNoted D.seen order note.now self.old.standing.device self.new.standing.device) }
     {
-        match take_order(alloc, &mut self.till, &mut self.journal, order) {
+        match take_order(alloc, &mut self.till, &mut self.journal, order, note) {
             Ok(outgoing) => Ok(outgoing),
             Err(KeptRefusal::Order(why)) => Err(KeptRefusal::Order(why)),
             Err(KeptRefusal::Journal(why)) => {
@@ -196,8 +202,9 @@ impl<D: Device> KeptTill<D> {
     }
 }
 
-/// A till with its journal hears a message once the journal has it. Where the journal fails it hears nothing, and its line
-/// is down. It never wants memory: a record without memory is a journal that fails.
+/// A till with its journal processes a message once the journal has it. If the journal fails, the till processes
+/// nothing and loses its connection. It never reports a failed allocation: if a record cannot be allocated, the
+/// journal fails.
 impl<D: Device> Machine for KeptTill<D> {
     ghost use Rattle.std.specs.Prelude.{false};
     ghost use Rattle.zvt_kept.specs.KeptTill.{Hears, LosesLine};

@@ -1,12 +1,14 @@
-//! What records mean after one another, and what a crash at any moment leaves of them.
-ghost use Rattle.zvt_kept.specs.Crashes.{CrashesAccount, CrashesAreLosses, CrashesKeepReversals, CrashesMatch};
+//! Laws about sequences of records, and about the records that a crash at any moment leaves.
+ghost use Rattle.zvt_kept.specs.Crashes.{CrashesAccount, CrashesAreLosses, CrashesKeepReversals, CrashesMatch, FilesAreWorlds};
 ghost use Rattle.zvt_kept.specs.Logs.{LogsAreOne};
-ghost use Rattle.zvt_kept.specs.Outliving.{CallsOutlive, HearingsOutlive, LogsAreRecovered, RunsOutlive, TillsAreRecovered};
+ghost use Rattle.zvt_kept.specs.Outliving.{CallsAreMoves, CallsOutlive, HearingsOutlive, LogsAreRecovered, RunsOutlive, TillsAreRecovered};
 ghost use Rattle.zvt_kept.specs.Records.{OpeningIsTaken, RecordsAreKept, RecordsAreTaken, RecordsAreWhole};
+ghost use Rattle.zvt_kept.specs.Remarks.{RemarksMeanNothing};
 
 use zvt_journal::Device;
 
-/// A record that comes after whole lines adds what it was written for. It makes whole lines of them, and a journal takes it.
+/// A record after complete lines adds exactly the entry for which it was written. The result is complete lines again,
+/// and a journal accepts it.
 pub fn records_are_kept()
     ensures kept { RecordsAreKept }
     ensures whole { RecordsAreWhole }
@@ -18,7 +20,12 @@ pub fn opening_is_taken()
     ensures { OpeningIsTaken }
 {}
 
-/// A journal stands for one log.
+/// A remark that a person adds to a journal does not change the journal's meaning.
+pub fn remarks_mean_nothing()
+    ensures { RemarksMeanNothing }
+{}
+
+/// A journal has exactly one log.
 pub fn logs_are_one()
     ensures { LogsAreOne }
 {}
@@ -45,16 +52,25 @@ pub fn calls_outlive<D: Device>()
     ensures { CallsOutlive D.seen D.may_leave D.moment D.left_since D.faults }
 {}
 
+/// The calls of a till with its journal are moves of both ends of its line: after a crash at any moment, recovery gives the till
+/// that both ends have after a crash.
+pub fn calls_are_moves<D: Device>()
+    ensures { CallsAreMoves D.seen D.may_leave D.moment D.left_since D.faults }
+{}
+
 /// Of a till whose journal did not fail, recovery finds the same till, whose line was lost, unless memory is refused.
 pub fn tills_are_recovered<D: Device>()
     ensures { TillsAreRecovered D.seen D.may_leave D.moment D.left_since D.faults }
 {}
 
-/// Both ends of a line, with crashes of the till and recovery from its journal, are as with a lost line for each crash. So
-/// what holds of both ends holds with crashes: each entry of the till's book is an approval of the terminal's ledger of its
-/// own. Over lines that keep order no approval, and no payment that was taken back, is dropped.
+/// With any settings of the till, a crash and the recovery from its journal have the same effect on both ends as a
+/// lost connection. Recovery restores exactly the till that a lost connection would leave.
+///
+/// So what holds of both ends holds with crashes, at the default settings: each entry of the till's book is an approval of the
+/// terminal's ledger of its own. Over lines that keep order no approval, and no payment that was taken back, is dropped.
 pub fn crashes_are_losses()
     ensures same { CrashesAreLosses }
+    ensures files { FilesAreWorlds }
     ensures matches { CrashesMatch }
     ensures account { CrashesAccount }
     ensures reversals { CrashesKeepReversals }

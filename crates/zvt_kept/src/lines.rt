@@ -1,14 +1,15 @@
-//! What records mean.
+//! The meaning of records.
 ghost use Rattle.std.specs.Prelude.{◌≡◌, ◌∷◌, [], Some, option_map, is_some, ◌++◌, IfOk, OnOk};
 ghost use Rattle.std.specs.Char.{is_ascii_hexdigit};
 ghost use Rattle.std.specs.List.{list_all};
 ghost use Rattle.hex.specs.Hex.{decode_of};
 ghost use Rattle.zvt_kept.specs.Reading.{ReadsRecords, meant_by};
-ghost use Rattle.zvt_kept.specs.Records.{bytes_in, comment, heard, meaning, some_bytes};
+ghost use Rattle.zvt_kept.specs.Records.{bytes_in, comment, heard, is_remark, meaning, meaning_behind, some_bytes};
 ghost use Rattle.zvt_kept.specs.declared.lines.RecordError.TheVariants.{Memory};
 
+use crate::check::{first_wrong_check, is_sent};
 use crate::records::Entry;
-use crate::words::order_of;
+use crate::words::{is_reserved, order_of};
 use hex::FromHexError;
 use std::alloc::{AllocError, Global};
 use thiserror::Error;
@@ -21,6 +22,9 @@ pub enum RecordError {
     /// This line, counted from 1, is no line of a journal.
     #[error("line {number} of the journal is no line of a till's record")]
     Line { number: usize },
+    /// This line, counted from 1, is a check that doesn't belong to the record before it.
+    #[error("line {number} of the journal is not the check of its record: the file was changed or damaged")]
+    Check { number: usize },
     /// Memory was refused.
     #[error("out of memory")]
     Memory,
@@ -34,21 +38,26 @@ impl From<AllocError> for RecordError {
     }
 }
 
-/// Reads a text of records: what it records, in its order.
+/// Reads a text of records and returns their entries, in order.
 pub fn read_records(alloc: Global, text: &[u8]) -> Result<Vec<Entry>, RecordError>
     ensures { ReadsRecords text.now result }
 {
+    if let Some(number) = first_wrong_check(text) {
+        return Err(RecordError::Check { number });
+    }
     let mut entries = Vec::new(alloc);
     let mut rest = text;
+    let mut last: &[u8] = &[];
     let mut number = 0;
     while !rest.is_empty() {
         let (line, after) = next_line(rest);
         number += 1;
-        match read_line(alloc, line)? {
+        match read_after(alloc, last, line)? {
             Meaning::Nothing => {}
             Meaning::Kept(entry) => add(&mut entries, entry)?,
             Meaning::Unknown => return Err(RecordError::Line { number }),
         }
+        last = line;
         rest = after;
     }
     Ok(entries)
@@ -62,12 +71,32 @@ fn add(entries: &mut Vec<Entry>, entry: Entry) -> Result<(), AllocError>
     Ok(())
 }
 
-/// What a line means.
+/// A line of a journal.
 #[derive(Drop)]
 enum Meaning {
     Nothing,
     Kept(Entry),
     Unknown,
+}
+
+/// Reads a line behind another: bytes that were sent have no meaning behind a remark.
+fn read_after(alloc: Global, last: &[u8], line: &[u8]) -> Result<Meaning, AllocError>
+    ensures { IfOk result (λ read. meaning_behind last.now line.now ≡ meant_by read) }
+{
+    if is_sent(line) && is_remark(last) {
+        return Ok(Meaning::Unknown);
+    }
+    read_line(alloc, line)
+}
+
+/// Whether a line is a remark.
+fn is_remark(line: &[u8]) -> bool
+    ensures { result ≡ is_remark line.now }
+{
+    match line {
+        [b'#', b' ', words @ ..] => !is_reserved(words),
+        _ => false,
+    }
 }
 
 /// Reads a line.
@@ -86,13 +115,18 @@ fn read_line(alloc: Global, line: &[u8]) -> Result<Meaning, AllocError>
 /// The first words of a journal.
 const FORMAT_NAME: &[u8] = b"zvt journal 1";
 
-/// Reads a comment, after its sign: an order, or the opening of a journal.
+/// Reads a comment, after its sign: an order, a check, the opening of a journal, or a remark.
 fn comment(text: &[u8]) -> Meaning
     ensures { meant_by result ≡ comment text.now }
 {
-    let [b' ', words @ ..] = text else {
-        return Meaning::Unknown;
+    let words = match text {
+        [b' ', words @ ..] => words,
+        [b'=', b' ', ..] => return Meaning::Nothing,
+        _ => return Meaning::Unknown,
     };
+    if !is_reserved(words) {
+        return Meaning::Nothing;
+    }
     if let Some(order) = order_of(words) {
         return Meaning::Kept(Entry::Order(order));
     }

@@ -1,15 +1,17 @@
-//! The text of records.
+//! The text of records: the lines of each, and the check of them.
 ghost use Rattle.std.specs.Prelude.{◌≡◌, ◌++◌, ◌<◌, ◌≤◌, ◌^◌, [], ◌∷◌, Some, decimal, length};
 ghost use Rattle.zvt_journal.specs.Text.{IsRecord};
 ghost use Rattle.zvt_kept.specs.Reading.{Extends};
-ghost use Rattle.zvt_kept.specs.Records.{IsRecordOf, IsSpelledOrder, heard, heard_record, kept_in, ordered, lost_record, one_or_none, opening, order_record, order_words, sent_lines};
+ghost use Rattle.zvt_kept.specs.Records.{IsRecordOf, IsSpelledOrder, heard, heard_lines, heard_record, kept_in, ordered, lost_record, one_or_none, opening, order_line, order_lines, order_record, order_words, sent_lines};
 
+use crate::check::put_check;
+use crate::note::Note;
 use std::alloc::AllocError;
 use zvt_bcd::Currency;
 use zvt_text::{Text, hexadecimal};
 use zvt_till::Order;
 
-/// What a journal records.
+/// An entry of a journal.
 #[derive(Drop)]
 pub enum Entry {
     /// An order of the till.
@@ -30,35 +32,70 @@ pub fn put_opening(text: &mut Text, currency: Currency) -> Result<(), AllocError
     put_numbered(text, b"# zvt journal 1, currency ", currency.get())
 }
 
-/// Writes an order, and the bytes that are sent for it. After `Err` a prefix of the record is written.
+/// Writes an order with its note, and the bytes that are sent for it. After `Err` a prefix of the record is written.
 ///
 /// The bytes are written as they are given. So the caller puts 00 00 00 in the place of a password.
-pub fn put_order(text: &mut Text, order: &Order, sent: &[u8]) -> Result<(), AllocError>
-    ensures written { Extends result text.old text.new (order_record order.now sent.now) }
-    ensures kept { IsSpelledOrder order.now → IsRecordOf (ordered order.now) (order_record order.now sent.now) }
+pub fn put_order(text: &mut Text, order: &Order, note: &Note, sent: &[u8]) -> Result<(), AllocError>
+    ensures written { Extends result text.old text.new (order_record order.now note.now sent.now) }
+    ensures kept { IsSpelledOrder order.now → IsRecordOf (ordered order.now) (order_record order.now note.now sent.now) }
+    ensures few { length note.now ≤ 69 }
+{
+    let start = text.size();
+    put_order_lines(text, order, note.words(), sent)?;
+    put_check(text, start)
+}
+
+/// Writes the line of an order and its note. After `Err` a prefix of it is written.
+fn put_order_line(text: &mut Text, order: &Order, note: &[u8]) -> Result<(), AllocError>
+    ensures { Extends result text.old text.new (order_line order.now note.now) }
 {
     text.word(b"# ")?;
     put_words(text, order)?;
-    text.push(b'\n')?;
-    put_sent(text, sent)
+    text.word(note)?;
+    text.push(b'\n')
 }
 
-/// Writes a message of the terminal, and the bytes of all answers to it. After `Err` a prefix of the record is written.
+/// Writes a message of the terminal and the bytes of all replies to it. After `Err`, the text has a part of the
+/// record.
 pub fn put_heard(text: &mut Text, message: &[u8], answers: &[u8]) -> Result<(), AllocError>
     ensures written { Extends result text.old text.new (heard_record message.now answers.now) }
     ensures kept { 0 < length message.now → IsRecordOf (heard message.now) (heard_record message.now answers.now) }
+{
+    let start = text.size();
+    put_heard_lines(text, message, answers)?;
+    put_check(text, start)
+}
+
+/// Writes that the connection was lost. After `Err` a prefix of the record is written.
+pub fn put_lost(text: &mut Text) -> Result<(), AllocError>
+    ensures { Extends result text.old text.new lost_record }
+{
+    let start = text.size();
+    text.word(b"!\n")?;
+    put_check(text, start)
+}
+
+/// Writes the lines of an order, without their check. After `Err` a prefix of them is written.
+fn put_order_lines(
+    text: &mut Text,
+    order: &Order,
+    note: &[u8],
+    sent: &[u8],
+) -> Result<(), AllocError>
+    ensures { Extends result text.old text.new (order_lines order.now note.now sent.now) }
+{
+    put_order_line(text, order, note)?;
+    put_sent(text, sent)
+}
+
+/// Writes the lines of a message, without their check. After `Err` a prefix of them is written.
+fn put_heard_lines(text: &mut Text, message: &[u8], answers: &[u8]) -> Result<(), AllocError>
+    ensures { Extends result text.old text.new (heard_lines message.now (one_or_none answers.now)) }
 {
     text.word(b"< ")?;
     hexadecimal(text, message)?;
     text.push(b'\n')?;
     put_sent(text, answers)
-}
-
-/// Writes that the connection was lost. After `Err` nothing is written.
-pub fn put_lost(text: &mut Text) -> Result<(), AllocError>
-    ensures { Extends result text.old text.new lost_record }
-{
-    text.word(b"!\n")
 }
 
 /// Writes a line of words and a number. After `Err` a prefix of it is written.

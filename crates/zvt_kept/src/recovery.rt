@@ -21,14 +21,17 @@ use zvt_till::{Order, OrderRefusal, Till, TillSettings, heard};
 /// Why a journal's records make no till.
 #[derive(Clone, Copy, Debug, PartialEq, Eq, Error)]
 pub enum RecoveryError {
-    /// The first line isn't that of a journal of a till with this currency.
+    /// The first line is not the opening of a journal with this currency.
     #[error("this book is of another currency: give the book's currency, or name another file")]
     Opening,
     /// This line, counted from 1, is no line of a journal.
     #[error("line {number} of the book is no line of a till's record")]
     Line { number: usize },
-    /// This record, counted from 1, is the first that can't follow from those before it: the till refuses its order, or its
-    /// bytes are not one message.
+    /// This line, counted from 1, is a check that doesn't belong to the record before it.
+    #[error("line {number} of the book is not the check of its record: the file was changed or damaged")]
+    Check { number: usize },
+    /// This record, counted from 1, is the first that cannot follow the records before it: the till refuses its order,
+    /// or its bytes are not one message.
     #[error("record {number} of the book is none that a till makes after those before it")]
     Record { number: usize },
     /// Memory was refused.
@@ -44,11 +47,11 @@ impl From<AllocError> for RecoveryError {
     }
 }
 
-/// Makes the till of a journal's records. It has lived through each of them, and then its line was lost.
+/// Rebuilds a till from its journal by replaying the records and then losing the connection.
 ///
-/// So its book has each payment that the records complete, a payment or a reversal that ran is unclear, and the till
-/// registers again on its next line. The settings' currency is that of the journal. A journal doesn't have the password: the
-/// till has that of the settings.
+/// Completed payments are in the book; a payment or reversal that was in progress is unclear. The till has to
+/// register on its next connection. `settings` must have the journal's currency, and supplies the password, which
+/// journals do not store.
 pub fn recover(alloc: Global, settings: &TillSettings, text: &[u8]) -> Result<Till, RecoveryError>
     ensures { Recovers (settings_of settings.now) text.now result }
 {
@@ -58,6 +61,7 @@ pub fn recover(alloc: Global, settings: &TillSettings, text: &[u8]) -> Result<Ti
     let entries = match read_records(alloc, text) {
         Ok(entries) => entries,
         Err(RecordError::Line { number }) => return Err(RecoveryError::Line { number }),
+        Err(RecordError::Check { number }) => return Err(RecoveryError::Check { number }),
         Err(RecordError::Memory) => return Err(RecoveryError::Memory),
     };
     let mut till = Till::new(alloc, settings.password, settings.config, settings.currency);
@@ -80,7 +84,7 @@ fn has_opening(alloc: Global, text: &[u8], currency: Currency) -> Result<bool, A
     Ok(trailing(opening.bytes(), text).is_some())
 }
 
-/// Lets the till live through what was recorded. It answers whether it can: a till that can't is of no use.
+/// Replays an entry. Returns whether the till accepts it; if not, do not use the till again.
 fn relive(alloc: Global, till: &mut Till, entry: &Entry) -> Result<bool, AllocError>
     ensures { IfOk result (λ can. Relives can (kept_of entry.now) till.old.state till.new.state) }
 {
@@ -95,7 +99,7 @@ fn relive(alloc: Global, till: &mut Till, entry: &Entry) -> Result<bool, AllocEr
     }
 }
 
-/// Gives the till an order again. It answers whether the till takes it.
+/// Replays an order. Returns whether the till accepts it.
 fn relive_order(till: &mut Till, order: &Order) -> Result<bool, AllocError>
     ensures { IfOk result (λ can. Relives can (ordered order.now) till.old.state till.new.state) }
 {
@@ -106,7 +110,7 @@ fn relive_order(till: &mut Till, order: &Order) -> Result<bool, AllocError>
     }
 }
 
-/// Lets the till hear a message again. It answers whether the bytes are one message.
+/// Replays a message. Returns whether the bytes are exactly one message.
 fn relive_message(alloc: Global, till: &mut Till, bytes: &[u8]) -> Result<bool, AllocError>
     ensures { IfOk result (λ can. Relives can (heard bytes.now) till.old.state till.new.state) }
 {

@@ -4,6 +4,7 @@ ghost use Rattle.zvt_kept.specs.Runs.{IsOver, RanKept, reads_failed, writes_fail
 ghost use Rattle.zvt_stream.specs.StreamState.{IsReserved};
 
 use crate::kept_till::KeptTill;
+use crate::note::Note;
 use crate::refusal::KeptRefusal;
 use std::alloc::Global;
 use zvt_apdu::MAX_BRIEF_LEN;
@@ -24,7 +25,7 @@ pub enum KeptFault {
     Line(LineFault),
 }
 
-/// Gives the till an order, and pumps the line until no order runs, for at most `turns` turns of one read each.
+/// Gives the till an order, which is recorded with the note, and pumps the line until no order runs, for at most `turns` turns of one read each.
 ///
 /// The order is in the journal before its first byte is sent. Each message is in the journal before the till hears it, so
 /// before its answer is sent, and before its outcome is returned. It returns what became of the order. Over a stream that was
@@ -34,6 +35,7 @@ pub fn run_order_kept<R: Source, W: Sink, D: Device>(
     end: &mut Endpoint<R, W>,
     kept: &mut KeptTill<D>,
     order: Order,
+    note: &Note,
     turns: u64,
 ) -> Result<Outcome, KeptFault>
     ensures ran { RanKept D.seen D.may_leave D.moment D.left_since D.faults order end.old.stream end.new.stream kept.old kept.new
@@ -49,7 +51,7 @@ pub fn run_order_kept<R: Source, W: Sink, D: Device>(
     ensures writer_failures { MatchResult result (λ _. W.failures end.new.writer ≡ W.failures end.old.writer)
         (λ fault. W.failures end.new.writer ≡ W.failures end.old.writer + writes_failed fault) }
 {
-    let outgoing = match kept.order(alloc, order) {
+    let outgoing = match kept.order(alloc, order, note) {
         Ok(outgoing) => outgoing,
         Err(KeptRefusal::Order(why)) => return Err(KeptFault::Order(why)),
         Err(KeptRefusal::Journal(_)) => return Err(KeptFault::Journal),

@@ -1,8 +1,10 @@
-//! The words of an order.
-ghost use Rattle.std.specs.Prelude.{◌≡◌, ◌≤◌, IfSome};
-ghost use Rattle.std.specs.Str.{bytes_eq};
-ghost use Rattle.zvt_kept.specs.Records.{number_of, numbered, order_of};
+//! The words of a comment.
+ghost use Rattle.std.specs.Prelude.{◌≡◌, ◌≤◌, ◌-◌, ◌==◌, IfSome, None, Some, drop, if◌then◌else◌, length, option_map, take};
+ghost use Rattle.std.specs.List.{position, position_or_len};
+ghost use Rattle.zvt_kept.specs.Notes.{is_note};
+ghost use Rattle.zvt_kept.specs.Records.{begins_with, ends_word, is_reserved, number_of, order_of, plain, with_number, word_size};
 
+use crate::note::is_note;
 use zvt_bcd::Amount;
 use zvt_text::words::{decimal_number, trailing};
 use zvt_till::Order;
@@ -10,38 +12,105 @@ use zvt_till::Order;
 /// The most digits of a number.
 const MAX_DIGITS: usize = 12;
 
-/// The order that words name.
+/// Whether the first word is one with which an order or the opening of a journal begins.
+pub(crate) fn is_reserved(words: &[u8]) -> bool
+    ensures { result ≡ is_reserved words.now }
+{
+    begins_with(b"register", words)
+        || begins_with(b"pay", words)
+        || begins_with(b"reverse", words)
+        || begins_with(b"close", words)
+        || begins_with(b"cancel", words)
+        || begins_with(b"zvt", words)
+}
+
+/// Whether this is the first word.
+fn begins_with(word: &[u8], words: &[u8]) -> bool
+    ensures { result ≡ begins_with word.now words.now }
+{
+    match trailing(word, words) {
+        Some(rest) => ends_word(rest),
+        None => false,
+    }
+}
+
+/// Whether a word ends before this: no letter follows.
+fn ends_word(rest: &[u8]) -> bool
+    ensures { result ≡ ends_word rest.now }
+{
+    match rest {
+        [] => true,
+        [next, ..] => !next.is_ascii_alphabetic(),
+    }
+}
+
+/// The order that words name, with a note behind it.
 pub(crate) fn order_of(words: &[u8]) -> Option<Order>
     ensures { result ≡ order_of words.now }
 {
-    if is_word(words, b"register") {
-        return Some(Order::Register);
+    if let Some(rest) = trailing(b"register", words) {
+        return plain(Order::Register, rest);
     }
-    if is_word(words, b"close") {
-        return Some(Order::CloseDay);
+    if let Some(rest) = trailing(b"close", words) {
+        return plain(Order::CloseDay, rest);
     }
-    if is_word(words, b"cancel") {
-        return Some(Order::Cancel);
+    if let Some(rest) = trailing(b"cancel", words) {
+        return plain(Order::Cancel, rest);
     }
-    numbered(words)
+    if let Some(tail) = trailing(b"pay ", words) {
+        return payment(tail);
+    }
+    reversal(trailing(b"reverse ", words)?)
 }
 
-/// Whether the words are this word.
-fn is_word(words: &[u8], word: &[u8]) -> bool
-    ensures { result ≡ bytes_eq words.now word.now }
+/// A payment of this amount, before a note.
+fn payment(tail: &[u8]) -> Option<Order>
+    ensures { result ≡ with_number Order.Pay tail.now }
 {
-    words == word
+    let digits = noted_digits(tail)?;
+    Some(Order::Pay(amount(digits)?))
 }
 
-/// An order that has a number.
-fn numbered(words: &[u8]) -> Option<Order>
-    ensures { result ≡ numbered words.now }
+/// The reversal of this entry, before a note.
+fn reversal(tail: &[u8]) -> Option<Order>
+    ensures { result ≡ with_number (λ n. Order.Reverse (n - 1)) tail.now }
 {
-    if let Some(digits) = trailing(b"pay ", words) {
-        return Some(Order::Pay(amount(digits)?));
-    }
-    let number = number(trailing(b"reverse ", words)?)?;
+    let digits = noted_digits(tail)?;
+    let number = number(digits)?;
     Some(Order::Reverse(number as usize - 1))
+}
+
+/// An order, before a note.
+fn plain(order: Order, rest: &[u8]) -> Option<Order>
+    ensures { result ≡ plain order rest.now }
+{
+    if is_note(rest) { Some(order) } else { None }
+}
+
+/// The first word, before a note.
+fn noted_digits(tail: &[u8]) -> Option<&[u8]>
+    ensures { option_map (λ digits. digits.now) result ≡ (if is_note (drop (word_size tail.now) tail.now) then Some (take (word_size tail.now) tail.now) else None) }
+{
+    let (word, rest) = tail.split_at(size_before(b' ', tail));
+    if is_note(rest) { Some(word) } else { None }
+}
+
+/// How many bytes come before the first of this value, or how many there are.
+pub fn size_before(byte: u8, words: &[u8]) -> usize
+    ensures size { result ≡ position_or_len (λ other. other == byte) words.now }
+    ensures fits { result ≤ length words.now }
+{
+    match first_of(byte, words) {
+        Some(size) => size,
+        None => words.len(),
+    }
+}
+
+/// Returns the index of the first byte with this value.
+fn first_of(byte: u8, words: &[u8]) -> Option<usize>
+    ensures { result ≡ position (λ other. other == byte) words.now }
+{
+    words.iter().position(|other| *other == byte)
 }
 
 /// The amount of that many digits.

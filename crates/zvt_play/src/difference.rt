@@ -1,4 +1,4 @@
-//! Where what comes differs from a script.
+//! Differences between received bytes and a script.
 
 use zvt_grammar::Why;
 

@@ -1,7 +1,7 @@
 //! Plays one side of a trace against a real other side.
 //!
-//! [`script`] reads what a trace has the player do, a step for each line. [`play`] makes the steps over one connection: it
-//! sends its own side's lines, and compares what comes with the other side's.
+//! [`script`] turns a trace into steps, one for each line. [`play`] carries them out over one connection: it sends the
+//! lines of its own side, and compares received bytes with the lines of the other side.
 #![tactic(auto)]
 
 mod difference;

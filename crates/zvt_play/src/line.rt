@@ -1,4 +1,4 @@
-//! What a line of a trace has the player do.
+//! Lines of a trace as steps of the player.
 ghost use Rattle.std.specs.Prelude.{◌≡◌, ℕ, List, Ok, Err, IfErr, IfOk, IsErr, OnOk, option_map};
 ghost use Rattle.hex.specs.Hex.{decode_of};
 ghost use Rattle.zvt_trace.specs.Meanings.{piece_of, without_spaces};
@@ -24,7 +24,7 @@ pub enum ScriptLineError {
     /// It begins as a mark and is none.
     #[error("expected a mark, e.g. '#~ silent', '#~ 1500', '#~ listen 2000', '#~ bind 87 n1', '#~ same 37 n1' or '#~ use 87 n1'")]
     Mark,
-    /// It is a mark with a name, and can't be played where it stands.
+    /// It is a mark with a name that cannot be used here.
     #[error("{0}")]
     Name(NameFault),
     /// It is a line of the other side, and no message begins with its bytes up to and with the one at `at`, which is

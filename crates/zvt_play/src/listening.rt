@@ -1,4 +1,4 @@
-//! What comes after the last line.
+//! Bytes that arrive after the last line.
 ghost use Rattle.std.specs.Prelude.{◌≡◌, ◌<◌, length, IfErr, MatchOption, OnOk};
 ghost use Rattle.std.specs.Io.KnownBytes.{Consumes};
 ghost use Rattle.zvt_play.specs.Playing.{FallsSilent, NoneCame, SaysMore, may_come};
@@ -8,8 +8,8 @@ use crate::difference::Difference;
 use crate::unheard::Unheard;
 use zvt_io::Source;
 
-/// Listens until the other side is silent for as long as a read takes at most, or closes the connection. Where it owes an
-/// acknowledgement of what it was sent last, that may come; whatever else comes is a surplus.
+/// Listens until the other side closes the connection or sends nothing for the timeout of a read. If it still owes an
+/// acknowledgement, that may arrive. Anything else is a surplus.
 pub fn listen_on<R: Source>(reader: &mut R, is_owed: bool) -> Result<(), Difference>
     ensures ok { OnOk result (FallsSilent is_owed (R.remaining reader.old) (R.remaining reader.new) (R.failures reader.old) (R.failures reader.new)) }
     ensures err { IfErr result (λ why. SaysMore is_owed why (R.remaining reader.old) (R.remaining reader.new)) }

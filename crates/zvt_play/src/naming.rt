@@ -1,4 +1,4 @@
-//! Whether a script can use its names: each is bound before it is used, and stands where a number is.
+//! Checks the names of a script: each is bound before it is used, and appears in place of a number.
 ghost use Rattle.std.specs.Prelude.{◌≡◌, MatchOption};
 ghost use Rattle.zvt_play.specs.Naming.{AreNamed, IsFirstFault, bound_field, bound_here, ends_with, fault_of, has_end, hears_last, is_heard, size_fault};
 ghost use Rattle.zvt_play.specs.Playing.{acts_of};
@@ -9,7 +9,7 @@ use crate::player::LONGEST_LINE;
 use crate::step::{Action, ScriptStep};
 use thiserror::Error;
 
-/// Why a mark with a name can't be played where it stands.
+/// Reason why a mark with a name cannot be used where it appears.
 #[derive(Clone, Copy, Debug, Drop, PartialEq, Eq, Error)]
 pub enum NameFault {
     /// A `bind` or `same` does not come after a line of the other side.

@@ -61,7 +61,7 @@ impl Number {
     }
 }
 
-/// The numbers that were heard, by their names, and the one that the next own line is to have.
+/// The numbers heard so far, by name, and the one that the next own line will carry.
 #[derive(Drop)]
 pub struct Names {
     numbers: [Option<Number>; 256],

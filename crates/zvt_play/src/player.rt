@@ -23,11 +23,12 @@ use zvt_stream::Endpoint;
 /// The longest own line that can have a name's number: a message whose length is one byte.
 pub(crate) const LONGEST_LINE: usize = 258;
 
-/// Plays the steps over a new connection, up to the first that breaks it or is silent, or to the end. Answers how many steps
-/// were played.
+/// Plays the steps over a new connection, up to the first step that breaks it or waits in silence, or to the end.
+/// Returns the number of steps played.
 ///
-/// What was read must have been awaited before an own line is sent, before the connection is broken, and at the end.
-/// Where a name was prepared, the next own line is sent with its number as the last bytes. Names outlive the connection.
+/// All bytes received must be expected ones before the player sends a line, before it breaks the connection, and at
+/// the end. If a name was prepared, the next line is sent with its number as the last bytes. Names outlive the
+/// connection.
 pub fn play<C: Clock, R: Source, W: Sink>(
     clock: &C,
     end: &mut Endpoint<R, W>,

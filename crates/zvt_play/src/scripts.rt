@@ -31,8 +31,9 @@ impl From<AllocError> for ScriptFault {
 
 /// The steps of the trace for the player of that side: one for each line of bytes, each `!` and each mark, in order.
 ///
-/// An own line may have any bytes. A line of the other side has messages, and perhaps the beginning of one, or no bytes.
-/// A mark with a name stands where it can be played: each name is bound once, and before it is used.
+/// A line of the player's own side may have any bytes. A line of the other side has messages, and perhaps the
+/// beginning of one, or no bytes. A mark with a name must be usable where it appears: each name is bound once, and
+/// before it is used.
 pub fn script(alloc: Global, own: Direction, trace: &[u8]) -> Result<Vec<ScriptStep>, ScriptFault>
     ensures { ReadsScript own trace.now result }
 {

@@ -1,12 +1,12 @@
-//! A side that answers nothing.
+//! A side that never answers.
 
 use zvt_io::Source;
 
 /// The most reads of a silence.
 const MOST_READS: u32 = 1_000_000;
 
-/// Reads and drops what comes, until the other side closes the connection or a read fails, as one does that takes too long.
-/// It ends after 1,000,000 reads at the latest.
+/// Reads and discards bytes until the other side closes the connection or a read fails, for example by its timeout.
+/// Ends after 1,000,000 reads at the latest.
 pub fn stay_silent<R: Source>(reader: &mut R) {
     let mut buffer = [0; 1_024];
     for _ in 0..MOST_READS {

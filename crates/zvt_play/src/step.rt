@@ -2,7 +2,7 @@
 
 use crate::numbers::NumberField;
 
-/// What the player does for a line of a trace.
+/// A step of the player: what it does for a line of a trace.
 #[derive(Drop)]
 pub enum Action {
     /// Sends these bytes, by one write.

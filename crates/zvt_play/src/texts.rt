@@ -1,4 +1,4 @@
-//! What is said of a step that could not be played.
+//! The text about a step that could not be played.
 ghost use Rattle.std.specs.Prelude.{◌≡◌, ◌++◌, ℕ, List, codes, IfOk, OnOk};
 ghost use Rattle.zvt_trace.specs.Emitting.{other};
 ghost use Rattle.zvt_trace.specs.Lines.{direction_text};
@@ -13,8 +13,8 @@ use zvt_stream::Stream;
 use zvt_text::{Text, hexadecimal, message};
 use zvt_trace::Direction;
 
-/// What is said of a step that could not be played, or of the end: the message that is awaited, and the one that came, if
-/// one did. A name that is awaited has its number beside it. Of a surplus it is what [`surplus_text`] answers.
+/// Describes a difference: the message that was awaited, and the one that came, if any. An awaited name is shown with
+/// its number. For surplus bytes, returns the text of [`surplus_text`].
 pub fn difference_text(
     alloc: Global,
     own: Direction,
@@ -34,7 +34,7 @@ pub fn difference_text(
     Ok(text)
 }
 
-/// What is said where so many bytes more came than the trace has before this step, or before its end.
+/// Describes bytes that came although the trace has none before this step, or before its end.
 pub fn surplus_text(
     alloc: Global,
     step: Option<&ScriptStep>,

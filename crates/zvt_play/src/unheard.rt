@@ -8,7 +8,7 @@ use zvt_io::{Failed, Source};
 /// How many bytes are read at once.
 const CHUNK: usize = 1_024;
 
-/// What a read brought and nobody heard yet.
+/// Bytes that were read but not processed yet.
 #[derive(Drop)]
 pub(crate) struct Unheard {
     chunk: [u8; CHUNK],

@@ -1,7 +1,7 @@
-//! Devices that write what goes through them to a trace.
+//! Recording of traffic.
 //!
-//! [`Recorded`] is such a device. [`spell_piece`] makes the line of a chunk; [`end_trace`] and [`ends_lacking`] write the
-//! last line.
+//! [`Recorded`] is a device that writes what passes through it to a trace. [`spell_piece`] makes the line of a chunk;
+//! [`end_trace`] and [`ends_lacking`] write the last line.
 #![tactic(auto)]
 
 mod recorder;

@@ -11,10 +11,10 @@ use zvt_trace::Direction;
 /// The size of the longest line: the devices of a connection read and write at most 1,024 bytes at once.
 const MAX_LINE: usize = 2 + 2 * 1024 + 1;
 
-/// A device, and the trace of what goes through it: each read that brings bytes, and each write, is a line of its own.
-/// The device counts its bytes as it does without a trace. A trace that can't be written is broken, also for want of
-/// memory. Then each call fails: a write before it is made, a read from the next one on. Memory is asked for at once. Only
-/// a chunk of more than 1,024 bytes can want it later.
+/// Wraps a device and records its traffic as a trace, one line for each write and each non-empty read.
+///
+/// If the trace cannot be written, the device is no longer used: a write fails before it reaches the device, and so does
+/// every read after the current one. The buffer is allocated up front; only chunks of more than 1,024 bytes allocate later.
 #[derive(Drop)]
 pub struct Recorded<D, T> {
     pub device: D,
@@ -143,7 +143,8 @@ pub fn end_trace<T: Sink>(trace: &mut T) -> Result<(), Failed>
     trace.write_all(b"!\n")
 }
 
-/// Ends a trace, which lacks a piece already or does not, and answers whether it lacks something: a piece, or its end.
+/// Ends a trace and returns whether it is incomplete: because it lacked a chunk before, or because its end could not
+/// be written.
 pub fn ends_lacking<T: Sink>(lacks: bool, trace: &mut T) -> bool
     ensures { EndsTrace lacks (T.written trace.old) (T.written trace.new) (T.failures trace.old) (T.failures trace.new) result }
 {

@@ -1,6 +1,5 @@
 -- The notes of a run so far: all of them were reported, or a prefix up to where the device failed.
-use Rattle.std.proofs.Common.{◌≡◌, Bool, true, false, ℕ, ◌+◌, List, ◌++◌, Option, Result, Ok, Err, ap, ◌∙◌, inl, inr}
-use Rattle.std.specs.Io.KnownBytes.{Appends}
+use Rattle.std.proofs.Common.{Bool, true, false, ℕ, ◌+◌, List, ◌++◌, Option, Result, Ok, Err, ap, ◌∙◌, inl, inr}
 use Rattle.std.proofs.KnownBytes.{Appends-trans}
 use Rattle.std.specs.Result.{is_ok}
 use Rattle.zvt_io.specs.Devices.{CountsFailure, Writes}

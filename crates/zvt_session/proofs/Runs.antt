@@ -4,7 +4,6 @@ use Rattle.std.proofs.Math.Seq.{take-suc}
 use Rattle.std.proofs.lemmas.List.{take-append-drop, flat_map_more}
 use Rattle.std.proofs.lemmas.Option.{same_Some}
 use Rattle.std.specs.Io.KnownBytes.{Appends}
-use Rattle.std.specs.String.{string_bytes}
 use Rattle.zvt_io.specs.Devices.{IsPrefix}
 use Rattle.zvt_session.specs.declared.plans.StepOptions.{StepOptions}
 use Rattle.zvt_stream.proofs.HearingLemmas.{appends_none}

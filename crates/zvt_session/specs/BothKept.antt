@@ -1,5 +1,5 @@
 -- Both ends of a line, which take turns, where the till keeps its book in a journal.
-use Rattle.std.specs.Prelude.{◌≡◌, ◌⊎◌, ℕ, zero, suc, ◌<◌, Bool, true, false, List, Some, None, Result, Ok, Err}
+use Rattle.std.specs.Prelude.{◌≡◌, ◌⊎◌, ℕ, zero, suc, ◌<◌, true, false, List, Some, None, Result, Ok, Err}
 use Rattle.zvt_journal.specs.declared.device.DeviceError.{DeviceError}
 use Rattle.zvt_kept.specs.KeptTill.{Hears, KeptValue, LosesLine, OrderLost, Ordered, has_failed, kept_rests}
 use Rattle.zvt_kept.specs.declared.run.KeptFault.{KeptFault}

@@ -1,7 +1,9 @@
 -- The words that name steps.
-use Rattle.std.specs.Prelude.{ℕ, ◌+◌, ◌-◌, ◌*◌, ◌==◌, ◌&&◌, cond, List, [], ◌∷◌, codes, length, take, drop, Option, Some, None, option_map, option_and_then}
+use Rattle.std.specs.Prelude.{◌≡◌, ◌⊎◌, ℕ, ◌+◌, ◌-◌, ◌*◌, ◌==◌, ◌&&◌, Bool, true, false, cond, List, [], ◌∷◌, codes, length, take, drop, Option, Some, None, option_map, option_and_then}
 use Rattle.std.specs.Char.{digit_value, is_ascii_hexdigit}
+use Rattle.std.specs.List.{position_or_len}
 use Rattle.std.specs.Str.{bytes_eq}
+use Rattle.zvt_kept.specs.Notes.{is_reference, note_of}
 use Rattle.zvt_text.specs.Words.{number_in, trailing}
 use Rattle.zvt_session.specs.declared.arguments.Ends.{Ends}
 use Rattle.zvt_session.specs.declared.arguments.Ends.TheVariants.{Both, Till}
@@ -58,14 +60,44 @@ abbrev pub decline_of : Ends → List ℕ → Option Step
 decline_of Both word = option_and_then declined (trailing (codes "decline:") word)
 decline_of Till word = None
 
+-- a number ends at the first colon
+abbrev pub number_size : List ℕ → ℕ
+number_size tail = position_or_len (λ byte. byte == 58) tail
+
+abbrev pub refers : Option (List ℕ) → Bool
+refers None = false
+refers (Some reference) = is_reference reference
+
+-- nothing comes behind a number, or a reference
+abbrev pub ends_number : List ℕ → Bool
+ends_number [] = true
+ends_number (byte ∷ rest) = refers (trailing (codes ":ref=") (byte ∷ rest))
+
+-- the digits before nothing, or before a reference
+abbrev pub digits_of : (tail : List ℕ) → Option (List ℕ)
+digits_of tail = cond (ends_number (drop (number_size tail) tail)) (Some (take (number_size tail) tail)) None
+
 -- the step that a word with a number names
 abbrev pub numbered : Ends → List ℕ → Option Step
 numbered ends word =
-    or_else (option_map Pay (option_and_then amount_of (trailing (codes "pay:") word)))
-    (or_else (option_map Reverse (option_and_then entry_of (trailing (codes "reverse:") word))) (decline_of ends word))
+    or_else (option_map Pay (option_and_then amount_of (option_and_then digits_of (trailing (codes "pay:") word))))
+    (or_else (option_map Reverse (option_and_then entry_of (option_and_then digits_of (trailing (codes "reverse:") word)))) (decline_of ends word))
+
+abbrev pub behind_sign : List ℕ → Option (List ℕ)
+behind_sign [] = None
+behind_sign (sign ∷ rest) = Some rest
+
+-- what a word has behind its first `=`
+abbrev pub reference_of : List ℕ → Option (List ℕ)
+reference_of word = behind_sign (drop (position_or_len (λ byte. byte == 61) word) word)
 
 -- the step that a word names
 abbrev pub step_of : Ends → List ℕ → Option Step
 step_of ends word =
     cond (bytes_eq word (codes "register")) (Some Register)
     (cond (bytes_eq word (codes "close")) (Some CloseDay) (numbered ends word))
+
+-- The note of an order: some time or none, and the reference of the word that names its step. Where these are no note, it says
+-- nothing.
+abbrev pub IsNoteOf : (word note : List ℕ) → Type 0
+IsNoteOf word note = (at : Option (List ℕ)) × ((note_of at (reference_of word) ≡ Some note) ⊎ (note ≡ []))

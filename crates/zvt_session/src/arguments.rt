@@ -1,9 +1,10 @@
 //! Steps of a run, and the words that name them.
-ghost use Rattle.std.specs.Prelude.{◌≡◌, if◌then◌else◌, Some, None};
+ghost use Rattle.std.specs.Prelude.{◌≡◌, if◌then◌else◌, Some, None, option_map};
 ghost use Rattle.std.specs.Char.{digit_value, is_ascii_hexdigit};
-ghost use Rattle.zvt_session.specs.Words.{code_in, code_of, declined, declining, amount_of, entry_of, numbered, step_of};
+ghost use Rattle.zvt_session.specs.Words.{amount_of, code_in, code_of, declined, declining, digits_of, ends_number, entry_of, numbered, step_of};
 
 use zvt_bcd::Amount;
+use zvt_kept::{is_reference, size_before};
 use zvt_term::Verdict;
 use zvt_text::words::{decimal_number, trailing};
 use zvt_till::Order;
@@ -35,7 +36,7 @@ pub enum Step {
 impl Step {
     ghost use Rattle.zvt_session.specs.Steps.{order_of, verdict_of};
 
-    /// What the till is asked.
+    /// Returns the order to the till.
     pub fn order(&self) -> Order
         ensures { result ≡ order_of self.now }
     {
@@ -48,7 +49,7 @@ impl Step {
         }
     }
 
-    /// What the terminal decides of it.
+    /// Returns the terminal's decision.
     pub fn verdict(&self) -> Verdict
         ensures { result ≡ verdict_of self.now }
     {
@@ -123,15 +124,40 @@ fn declined(words: &[u8]) -> Option<Step>
     }
 }
 
+/// The digits before nothing, or before a reference.
+fn digits_of(tail: &[u8]) -> Option<&[u8]>
+    ensures { option_map (λ digits. digits.now) result ≡ digits_of tail.now }
+{
+    let (digits, rest) = tail.split_at(size_before(b':', tail));
+    if ends_number(rest) {
+        Some(digits)
+    } else {
+        None
+    }
+}
+
+/// Whether nothing comes behind a number, or a reference.
+fn ends_number(rest: &[u8]) -> bool
+    ensures { result ≡ ends_number rest.now }
+{
+    if rest.is_empty() {
+        return true;
+    }
+    match trailing(b":ref=", rest) {
+        Some(reference) => is_reference(reference),
+        None => false,
+    }
+}
+
 /// A step that has a number.
 fn numbered(ends: Ends, word: &[u8]) -> Option<Step>
     ensures { result ≡ numbered ends word.now }
 {
-    if let Some(digits) = trailing(b"pay:", word) {
-        return Some(Step::Pay(amount(digits)?));
+    if let Some(tail) = trailing(b"pay:", word) {
+        return Some(Step::Pay(amount(digits_of(tail)?)?));
     }
-    if let Some(digits) = trailing(b"reverse:", word) {
-        return Some(Step::Reverse(entry(digits)?));
+    if let Some(tail) = trailing(b"reverse:", word) {
+        return Some(Step::Reverse(entry(digits_of(tail)?)?));
     }
     match ends {
         Ends::Both => declined(trailing(b"decline:", word)?),
@@ -139,9 +165,10 @@ fn numbered(ends: Ends, word: &[u8]) -> Option<Step>
     }
 }
 
-/// The step that a word names: `register`, `pay:N`, `reverse:N` (the entries of the book are counted from 1), `close` and,
-/// where both ends run, `decline:N:XX`. N is one to twelve decimal digits that are not all 0, and XX two hexadecimal
-/// digits, in capital or small letters, that are not 00.
+/// Parses a step: `register`, `pay:N`, `reverse:N` (entries of the book are counted from 1), `close` and, if both ends
+/// run, `decline:N:XX`. N is one to twelve decimal digits, not all of them 0. XX is two hexadecimal digits in upper or
+/// lower case, but not 00. A payment and a reversal may have a reference for the till's book, such as
+/// `pay:1234:ref=A-1009`: 1 to 40 printable ASCII characters without a space.
 pub fn step_of(ends: Ends, word: &str) -> Option<Step>
     ensures { result ≡ step_of ends word.now }
 {
@@ -152,8 +179,8 @@ pub fn step_of(ends: Ends, word: &str) -> Option<Step>
     }
 }
 
-/// The result code that two hexadecimal digits name, in capital or small letters: each but 00, with which nothing is
-/// declined.
+/// Parses a result code of two hexadecimal digits in upper or lower case. 00 is not accepted, because it is no reason
+/// to decline.
 pub fn result_code(word: &str) -> Option<u8>
     ensures { result ≡ code_in word.now }
 {

@@ -50,7 +50,7 @@ fn say_entry(text: &mut Text, number: usize, entry: &Entry) -> Result<(), AllocE
     write_entry(text, number, entry)
 }
 
-/// The line of a payment of which it is not known whether it happened.
+/// The line of an unclear payment.
 #[tactic(auto, using(crate::proofs::BookObjects::unclear_said))]
 fn say_unclear_row(text: &mut Text, row: &(Amount, Cause)) -> Result<(), AllocError>
     ensures { OnOk result (text.new ≡ text.old ++ line_text (unclear_value row.now)) }
@@ -148,7 +148,7 @@ fn say_trace(text: &mut Text, trace: Trace) -> Result<(), AllocError>
     text.word(b"}}\n")
 }
 
-/// Writes the line of a payment of which it is not known whether it happened, part by part.
+/// Writes the line of an unclear payment, part by part.
 #[tactic(auto, unfolding(crate::specs::BookObjects::unclear_json))]
 fn write_unclear(text: &mut Text, row: &(Amount, Cause)) -> Result<(), AllocError>
     ensures { OnOk result (text.new ≡ text.old ++ unclear_json row.now) }

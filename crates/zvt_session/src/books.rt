@@ -15,10 +15,10 @@ use zvt_json::Form;
 use zvt_text::Text;
 use zvt_till::{Cause, Doubt, Entry, Till};
 
-/// Writes a till's book in this form. A line represents each entry, with what became of its reversals. Then one represents
-/// each payment of which it is not known whether it happened. Last comes the sum of the entries that were not reversed.
+/// Writes a till's book: one line per entry, with the state of its reversals, then one per unclear payment, then the
+/// total of the entries that were not reversed.
 ///
-/// The text is written once. Where memory runs out nothing is written.
+/// Writes the text once. If an allocation fails, writes nothing.
 pub fn write_book<W: Sink>(
     alloc: Global,
     form: Form,

@@ -9,11 +9,13 @@ ghost use Rattle.zvt_session.specs.Reporting.{ReportsRun};
 use crate::arguments::Step;
 use crate::fault::EndFault;
 use crate::line_end::LineEnd;
+use crate::order_notes::NoNotes;
 use crate::plans::StepRun;
 use crate::reversals::report_reversals;
 use crate::steps::{StepLine, connected_till, run_steps};
 use std::alloc::Global;
 use zvt_io::Sink;
+use zvt_kept::Note;
 use zvt_stream::LineFault;
 use zvt_term::Served;
 use zvt_till::{Outcome, RunFault, Till, TillSettings};
@@ -50,7 +52,13 @@ impl<A: LineEnd, B: LineEnd> StepLine<Till> for BothEnds<A, B> {
 
     ghost makes = { λ old till step result new left. MakesHere step result (here A.state B.state old till) (here A.state B.state new left) };
 
-    fn make(&mut self, alloc: Global, till: &mut Till, step: &Step) -> Result<Outcome, RunFault>
+    fn make(
+        &mut self,
+        alloc: Global,
+        till: &mut Till,
+        step: &Step,
+        _note: &Note,
+    ) -> Result<Outcome, RunFault>
         ensures made { MakesHere step.now result (here A.state B.state self.old till.old) (here A.state B.state self.new till.new) }
         // After a broken line it is known what became of the order.
         ensures over { IfErr result (λ fault. IsOver fault till.new.state) }
@@ -89,7 +97,7 @@ pub fn run_both_ends<A: LineEnd, B: LineEnd, T: Sink, E: Sink>(
     ensures write { result ≡ Err EndFault.Write → T.failures writer.old < T.failures writer.new }
 {
     let mut till = connected_till(alloc, settings);
-    let answer = run_steps(alloc, line, &mut till, steps, writer, report);
+    let answer = run_steps(alloc, line, &mut till, &NoNotes, steps, writer, report);
     report_reversals(till.book(), report);
     answer
 }

@@ -55,7 +55,7 @@ pub enum EndFault {
     #[error("a step did not succeed: its line says what became of it")]
     Unsuccessful,
     /// The word at this place, counted from 0, names no step. Nothing was sent or written.
-    #[error("invalid step {number}: expected 'register', 'pay:N', 'reverse:N', 'close' or, in 'zvt loop', 'decline:N:XX', where N is an amount in cents, as 'pay:1000' for 10.00, or the number of an entry", number = from_one(.at))]
+    #[error("invalid step {number}: expected 'register', 'pay:N', 'reverse:N', 'close' or, in 'zvt loop', 'decline:N:XX', where N is an amount in cents, as 'pay:1000' for 10.00, or the number of an entry; a reference, as in 'pay:1000:ref=A-1009', has 1 to 40 printable characters and no space", number = from_one(.at))]
     BadStep { at: usize },
     /// There was no connection. Nothing was written.
     #[error("no connection: {0}")]

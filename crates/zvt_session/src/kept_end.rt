@@ -1,4 +1,4 @@
-//! The till's end of a connection to a terminal elsewhere, where the till keeps its book in a journal.
+//! A till that keeps its book in a journal, connected to a terminal elsewhere.
 ghost use Rattle.std.specs.Prelude.{◌≡◌, ◌<◌, Err};
 ghost use Rattle.zvt_kept.specs.KeptTill.{Connects};
 ghost use Rattle.zvt_stream.specs.StreamState.{start_in};
@@ -13,9 +13,10 @@ use crate::plans::StepRun;
 use crate::steps::StepLine;
 use crate::till_end::READS_OF_AN_ORDER;
 use std::alloc::Global;
+use std::rt::Clock;
 use zvt_io::{Sink, Source};
 use zvt_journal::Device;
-use zvt_kept::{KeptTill, run_order_kept};
+use zvt_kept::{KeptTill, Note, run_order_kept};
 use zvt_stream::Endpoint;
 use zvt_till::{Outcome, RunFault};
 
@@ -31,8 +32,9 @@ impl<R: Source, W: Sink, D: Device> StepLine<KeptTill<D>> for Endpoint<R, W> {
         alloc: Global,
         till: &mut KeptTill<D>,
         step: &Step,
+        note: &Note,
     ) -> Result<Outcome, RunFault> {
-        match run_order_kept(alloc, self, till, step.order(), READS_OF_AN_ORDER) {
+        match run_order_kept(alloc, self, till, step.order(), note, READS_OF_AN_ORDER) {
             Ok(outcome) => Ok(outcome),
             Err(fault) => Err(run_fault(fault)),
         }
@@ -41,11 +43,13 @@ impl<R: Source, W: Sink, D: Device> StepLine<KeptTill<D>> for Endpoint<R, W> {
 
 /// Makes the steps one after another with a till that keeps its book, at this end of a connection that is at its start.
 ///
-/// Each step writes a line when it ends: its word and its outcome. The last line is the till's total, with the entries that
-/// the book had before. An order's record is durable before its first byte is sent. Where the journal fails no further step
-/// is made, and the fault is `Book`. [`run_till_end`](crate::run_till_end) says what else is answered.
-pub fn run_till_end_kept<R: Source, W: Sink, D: Device, T: Sink, E: Sink>(
+/// Each step writes a line when it ends: its word and its outcome. The last line is the till's total, including the
+/// entries that the book had before. The record of an order is durable before its first byte is sent. It has the time
+/// by the clock and the reference in the step's word. If the journal fails, no further step is made, and the fault is
+/// `Book`. For the other faults, see [`run_till_end`](crate::run_till_end).
+pub fn run_till_end_kept<R: Source, W: Sink, D: Device, T: Sink, E: Sink, C: Clock>(
     alloc: Global,
+    clock: &C,
     end: &mut Endpoint<R, W>,
     kept: &mut KeptTill<D>,
     steps: &StepRun<'_>,
@@ -57,5 +61,5 @@ pub fn run_till_end_kept<R: Source, W: Sink, D: Device, T: Sink, E: Sink>(
         (ReportsRun (E.written report.old) (E.written report.new) (E.failures report.old) (E.failures report.new)) (ReportsNothing (E.written report.old) (E.written report.new) (E.failures report.old) (E.failures report.new)) result }
     ensures write { result ≡ Err EndFault.Write → T.failures writer.old < T.failures writer.new }
 {
-    run_kept_steps(alloc, end, kept, steps, writer, report)
+    run_kept_steps(alloc, clock, end, kept, steps, writer, report)
 }

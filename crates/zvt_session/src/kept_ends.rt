@@ -1,4 +1,4 @@
-//! Both ends of a line, which take turns, where the till keeps its book in a journal.
+//! Both ends of a line, taking turns, with a till that keeps its book in a journal.
 ghost use Rattle.std.specs.Prelude.{◌≡◌, ◌<◌, Err, MatchResult};
 ghost use Rattle.zvt_kept.specs.KeptTill.{Connects};
 ghost use Rattle.zvt_session.specs.BothEnds.{BeginsHere, line_of};
@@ -15,10 +15,11 @@ use crate::line_end::LineEnd;
 use crate::plans::StepRun;
 use crate::steps::StepLine;
 use std::alloc::Global;
+use std::rt::Clock;
 use zvt_apdu::MAX_BRIEF_LEN;
 use zvt_io::Sink;
 use zvt_journal::Device;
-use zvt_kept::{KeptFault, KeptRefusal, KeptTill};
+use zvt_kept::{KeptFault, KeptRefusal, KeptTill, Note};
 use zvt_stream::{LineFault, Machine};
 use zvt_till::{Order, Outcome, RunFault};
 
@@ -28,12 +29,13 @@ fn send_kept<A: LineEnd, D: Device>(
     end: &mut A,
     kept: &mut KeptTill<D>,
     order: Order,
+    note: &Note,
 ) -> Result<(), KeptFault>
     ensures { MatchResult result
         (λ _. WritesKept D.seen D.may_leave D.moment D.left_since D.faults order (A.state end.old) kept.old (A.state end.new) kept.new)
         (λ fault. NotSentKept D.seen D.may_leave D.moment D.left_since D.faults fault order (A.state end.old) kept.old (A.state end.new) kept.new) }
 {
-    let outgoing = match kept.order(alloc, order) {
+    let outgoing = match kept.order(alloc, order, note) {
         Ok(outgoing) => outgoing,
         Err(KeptRefusal::Order(why)) => return Err(KeptFault::Order(why)),
         Err(KeptRefusal::Journal(_)) => return Err(KeptFault::Journal),
@@ -77,9 +79,10 @@ impl<A: LineEnd, B: LineEnd, D: Device> StepLine<KeptTill<D>> for BothEnds<A, B>
         alloc: Global,
         till: &mut KeptTill<D>,
         step: &Step,
+        note: &Note,
     ) -> Result<Outcome, RunFault> {
         self.served.decide(step.verdict());
-        if let Err(fault) = send_kept(alloc, &mut self.till, till, step.order()) {
+        if let Err(fault) = send_kept(alloc, &mut self.till, till, step.order(), note) {
             return Err(run_fault(fault));
         }
         'alternations: for made in 0..ALTERNATIONS {
@@ -100,11 +103,13 @@ impl<A: LineEnd, B: LineEnd, D: Device> StepLine<KeptTill<D>> for BothEnds<A, B>
 
 /// Makes the steps one after another with a till that keeps its book, on this line that is at its start.
 ///
-/// Each step writes a line when it ends: its word and its outcome. The last line is the till's total, with the entries that
-/// the book had before. An order's record is durable before its first byte is sent. Where the journal fails no further step
-/// is made, and the fault is `Book`. [`run_both_ends`](crate::run_both_ends) says what else is answered.
-pub fn run_both_ends_kept<A: LineEnd, B: LineEnd, D: Device, T: Sink, E: Sink>(
+/// Each step writes a line when it ends: its word and its outcome. The last line is the till's total, including the
+/// entries that the book had before. The record of an order is durable before its first byte is sent. It has the time
+/// by the clock and the reference in the step's word. If the journal fails, no further step is made, and the fault is
+/// `Book`. For the other faults, see [`run_both_ends`](crate::run_both_ends).
+pub fn run_both_ends_kept<A: LineEnd, B: LineEnd, D: Device, T: Sink, E: Sink, C: Clock>(
     alloc: Global,
+    clock: &C,
     line: &mut BothEnds<A, B>,
     kept: &mut KeptTill<D>,
     steps: &StepRun<'_>,
@@ -116,5 +121,5 @@ pub fn run_both_ends_kept<A: LineEnd, B: LineEnd, D: Device, T: Sink, E: Sink>(
         (ReportsRun (E.written report.old) (E.written report.new) (E.failures report.old) (E.failures report.new)) (ReportsNothing (E.written report.old) (E.written report.new) (E.failures report.old) (E.failures report.new)) result }
     ensures write { result ≡ Err EndFault.Write → T.failures writer.old < T.failures writer.new }
 {
-    run_kept_steps(alloc, line, kept, steps, writer, report)
+    run_kept_steps(alloc, clock, line, kept, steps, writer, report)
 }

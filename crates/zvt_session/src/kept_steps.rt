@@ -5,10 +5,12 @@ ghost use Rattle.zvt_session.specs.Kept.{AnswersBook, run_fault_of};
 ghost use Rattle.zvt_session.specs.Reporting.{ReportsNothing, ReportsRun};
 
 use crate::fault::{EndFault, by_book};
+use crate::order_notes::Clocked;
 use crate::plans::StepRun;
 use crate::reversals::report_reversals;
 use crate::steps::{Keeper, StepLine, run_steps};
 use std::alloc::Global;
+use std::rt::Clock;
 use zvt_io::Sink;
 use zvt_journal::Device;
 use zvt_kept::{KeptFault, KeptTill};
@@ -30,8 +32,9 @@ impl<D: Device> Keeper for KeptTill<D> {
 /// That an earlier line was lost is durable before the first step. Where the journal fails, here or in a step, no further
 /// step is made, and the fault is `Book`. [`run_steps`] says what else is answered. However a run ends that began, `report`
 /// gets a line for each entry of the book whose last reversal is unclear.
-pub(crate) fn run_kept_steps<L: StepLine<KeptTill<D>>, D: Device, T: Sink, E: Sink>(
+pub(crate) fn run_kept_steps<L: StepLine<KeptTill<D>>, D: Device, T: Sink, E: Sink, C: Clock>(
     alloc: Global,
+    clock: &C,
     line: &mut L,
     kept: &mut KeptTill<D>,
     steps: &StepRun<'_>,
@@ -45,7 +48,7 @@ pub(crate) fn run_kept_steps<L: StepLine<KeptTill<D>>, D: Device, T: Sink, E: Si
     if let Err(_) = kept.connected(alloc) {
         return Err(EndFault::Book);
     }
-    let answer = run_steps(alloc, line, kept, steps, writer, report);
+    let answer = run_steps(alloc, line, kept, &Clocked { clock }, steps, writer, report);
     report_reversals(kept.till().book(), report);
     by_book(kept.has_failed(), answer)
 }

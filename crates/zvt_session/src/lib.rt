@@ -15,6 +15,7 @@ mod kept_steps;
 mod line_end;
 mod notes;
 mod objects;
+mod order_notes;
 mod outcomes;
 mod plans;
 mod reversals;

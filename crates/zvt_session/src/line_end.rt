@@ -1,4 +1,4 @@
-//! One end of a line, at which a machine has its turns.
+//! One end of a connection, at which a machine takes its turns.
 ghost use Rattle.std.specs.Prelude.{◌≡◌, MatchResult};
 ghost use Rattle.zvt_till.specs.View.{TillValue};
 ghost use Rattle.zvt_till.specs.declared.line.RunFault.{RunFault};

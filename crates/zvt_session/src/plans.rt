@@ -18,7 +18,7 @@ pub struct Planned {
 /// How a run reports its steps.
 #[derive(Clone, Copy)]
 pub struct StepOptions {
-    /// The form in which the steps and the total are written.
+    /// The form of the lines for the steps and the total.
     pub form: Form,
     /// Whether the run fails where a step did not succeed.
     pub check: bool,

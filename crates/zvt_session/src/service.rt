@@ -10,8 +10,8 @@ use zvt_term::Served;
 /// The reads after which a terminal gives up its connection.
 const READS_OF_A_SERVICE: u64 = 1_000_000;
 
-/// Lets the terminal hear and answer what comes, until the connection fails, which is reported to it. The end of the
-/// connection between two messages is no fault, and each other end is one.
+/// Lets the terminal answer incoming messages until the connection ends, and tells it about the end. An end between
+/// two messages is not a fault; any other end is.
 pub fn serve<R: Source, W: Sink>(
     alloc: Global,
     end: &mut Endpoint<R, W>,

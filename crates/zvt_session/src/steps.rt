@@ -1,4 +1,4 @@
-//! Steps made one after another on a line, and what is written of them.
+//! Runs steps one after another and prints their results.
 ghost use Rattle.std.specs.Prelude.{◌≡◌, ◌<◌, ◌++◌, Err, IfErr, IfOk, OnOk, Result, false};
 ghost use Rattle.std.specs.String.{string_bytes};
 ghost use Rattle.zvt_till.specs.Marks.{total};
@@ -19,11 +19,13 @@ use crate::arguments::Step;
 use crate::fault::EndFault;
 use crate::notes::{note_of, report_note};
 use crate::objects::{say_step_object, say_total_object};
+use crate::order_notes::NoteSource;
 use crate::outcomes::outcome_text;
 use crate::plans::{Planned, StepOptions, StepRun};
 use std::alloc::{AllocError, Global};
 use zvt_io::Sink;
 use zvt_json::Form;
+use zvt_kept::Note;
 use zvt_stream::LineFault;
 use zvt_text::Text;
 use zvt_till::{OrderRefusal, Outcome, RunFault, Till, TillSettings};
@@ -55,11 +57,18 @@ pub(crate) trait StepLine<K: Keeper> {
 
     /// Gives the till the order of the step, and goes on with the line until no order runs. It answers the order's outcome.
     /// `RunFault::Line` was reported to the till, whose last outcome is that of the order. The line is then given up.
-    fn make(&mut self, alloc: Global, till: &mut K, step: &Step) -> Result<Outcome, RunFault>
+    /// A journal has the note beside the order.
+    fn make(
+        &mut self,
+        alloc: Global,
+        till: &mut K,
+        step: &Step,
+        note: &Note,
+    ) -> Result<Outcome, RunFault>
         ensures { makes self.old till.old step.now result self.new till.new };
 }
 
-/// Makes the steps one after another. Each writes a line when it ends: its word and its outcome. The last line is the
+/// Makes the steps one after another, each order with the note that `notes` gives it. Each writes a line when it ends: its word and its outcome. The last line is the
 /// till's total. `steps` has the form of these lines. A step whose order is unclear or was not sent is reported besides, with
 /// what to do.
 ///
@@ -67,10 +76,11 @@ pub(crate) trait StepLine<K: Keeper> {
 /// `Unsuccessful` if one did not succeed. An order that is not sent is another fault only if memory runs out. The other
 /// faults are `Write` and `Memory`: then no further step is made, and the lines of all steps before the last were written.
 /// After `Write` a prefix of its own line may be written. A failure of `report` is no fault, and nothing more is reported.
-pub(crate) fn run_steps<L: StepLine<K>, K: Keeper, W: Sink, E: Sink>(
+pub(crate) fn run_steps<L: StepLine<K>, K: Keeper, W: Sink, E: Sink, N: NoteSource>(
     alloc: Global,
     line: &mut L,
     till: &mut K,
+    notes: &N,
     steps: &StepRun<'_>,
     writer: &mut W,
     report: &mut E,
@@ -81,7 +91,8 @@ pub(crate) fn run_steps<L: StepLine<K>, K: Keeper, W: Sink, E: Sink>(
     let mut short = false;
     let mut reports = true;
     'steps: for planned in steps.plan {
-        let made = line.make(alloc, till, &planned.step);
+        let named = notes.note(planned.word.as_bytes());
+        let made = line.make(alloc, till, &planned.step, &named);
         let text = line_of(alloc, steps.options.form, planned, &made, till.look())?;
         let note = note_of(alloc, planned, &made, till.look())?;
         reports = report_note(reports, &note, report);

@@ -1,4 +1,4 @@
-//! The till that saved bytes are of.
+//! Restores a till from its saved bytes.
 ghost use Rattle.std.specs.Prelude.{◌≡◌, ℕ, ◌≤◌, List, Option, Some, IfOk, MatchResult, flat_map, length};
 ghost use Rattle.std.specs.List.{All};
 ghost use Rattle.zvt_till.specs.declared.entries.Entry.{Entry};
@@ -91,7 +91,7 @@ fn read_currency(bytes: &[u8]) -> Option<Currency>
     }
 }
 
-/// What a till was made with, and its last outcome.
+/// The settings of a till, and its last outcome.
 #[derive(Clone, Copy)]
 struct Made {
     password: [u8; 3],
@@ -190,8 +190,8 @@ fn load_in(alloc: Global, layout: Layout, bytes: &[u8]) -> Result<Till, LoadErro
     }
 }
 
-/// The till that the bytes were saved of, in either layout: its line is down, and no order runs. Err where they are no
-/// till's, or memory was refused.
+/// Restores a till from saved bytes in either layout. It is not connected, and no order is running. Fails if the bytes
+/// are not a saved till, or if an allocation fails.
 pub fn load(alloc: Global, bytes: &[u8]) -> Result<Till, LoadError>
     ensures whole { (s : TillState) → IsKept s → bytes.now ≡ saved s → LeadsTo result s }
     ensures first { (s : TillState) → IsKept s → HasNoDoubts s → bytes.now ≡ saved_first s → LeadsTo result s }
@@ -200,8 +200,8 @@ pub fn load(alloc: Global, bytes: &[u8]) -> Result<Till, LoadError>
     load_in(alloc, layout_of(bytes), bytes)
 }
 
-/// The till that comes of what this one is saved in, at any moment. Its contract is a law: what was saved of a till can be
-/// loaded, and is that till after its connection was lost.
+/// Saves this till and restores it. The contract is a law: a saved till can always be loaded, and equals the till
+/// after losing its connection.
 pub fn reloaded(alloc: Global, till: &Till) -> Result<Till, LoadError>
     ensures { LeadsTo result (step till.now.state Happening.Lost) }
 {

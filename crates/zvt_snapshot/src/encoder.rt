@@ -1,4 +1,4 @@
-//! What a till is saved in.
+//! The bytes of a saved till.
 ghost use Rattle.std.specs.Prelude.{◌≡◌, ◌++◌, ◌^◌, ◌<◌, ◌≤◌, length, Some, IfOk, OnOk, flat_map};
 ghost use Rattle.std.specs.List.{All};
 ghost use Rattle.zvt_apdu.specs.Briefs.{digits};
@@ -26,7 +26,7 @@ fn put_number(bytes: &mut Vec<u8>, count: usize, number: u64) -> Result<(), Allo
     bytes.extend_from_slice(part)
 }
 
-/// The number of a cause: in what is saved, and for C.
+/// Returns the number of a cause, as used in saved bytes and in C.
 pub fn cause_code(cause: Cause) -> u8
     ensures { result ≡ cause_code cause }
 {
@@ -143,7 +143,7 @@ fn put_paid(bytes: &mut Vec<u8>, trace: Trace, receipt: Option<[u8; 2]>) -> Resu
     put_outcome_row(bytes, 2, 0, trace.get(), receipt)
 }
 
-/// What the loss of its line makes of a till.
+/// The parts of a till that the loss of its connection changes.
 #[derive(Clone, Copy)]
 struct Settled {
     /// The payment that is unclear then besides those that are.
@@ -154,7 +154,7 @@ struct Settled {
     last: Option<Outcome>,
 }
 
-/// What the loss of its line makes of the till.
+/// Computes the state that the till would have after losing its connection.
 fn settle(till: &Till) -> Settled
     ensures unclear { (step till.now.state Happening.Lost).unclear ≡ till.now.state.unclear ++ open_rows result.left }
     ensures last { (step till.now.state Happening.Lost).last_outcome ≡ result.last }
@@ -319,8 +319,8 @@ pub fn save_in(alloc: Global, layout: Layout, till: &Till) -> Result<Vec<u8>, Al
     Ok(bytes)
 }
 
-/// The bytes that the till is saved in, at any moment: those of the till after its connection was lost. So a payment or a
-/// reversal that runs is unclear in them. That state is one that `load` takes. The only error is that memory runs out.
+/// Saves a till as it would be after losing its connection, so a payment or reversal in progress is saved as unclear.
+/// `load` accepts the result. Fails only if memory runs out.
 pub fn save(alloc: Global, till: &Till) -> Result<Vec<u8>, AllocError>
     ensures bytes { IfOk result (λ bytes. bytes.items ≡ saved (step till.now.state Happening.Lost)) }
     ensures kept { OnOk result (IsKept (step till.now.state Happening.Lost)) }

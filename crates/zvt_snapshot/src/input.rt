@@ -1,5 +1,5 @@
-//! What saved bytes say. Each reader finds the value whose bytes are there; what it makes of other bytes is not said,
-//! since what was loaded is saved again and compared.
+//! Reads values from saved bytes. If the bytes encode a value, the reader returns it. Its contract does not cover
+//! other bytes, because a loaded till is saved again and compared.
 ghost use Rattle.std.specs.Prelude.{◌≡◌, ℕ, ◌^◌, ◌<◌, ◌≤◌, List, Option, Some, IfSome, length};
 ghost use Rattle.zvt_apdu.specs.Briefs.{digits};
 ghost use Rattle.zvt_till.specs.declared.entries.Doubt.{Doubt};

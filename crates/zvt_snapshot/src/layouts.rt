@@ -1,4 +1,4 @@
-//! The layouts of what a till is saved in.
+//! The layouts of a saved till.
 ghost use Rattle.std.specs.Prelude.{◌≡◌, ℕ, Some, slice_get};
 ghost use Rattle.zvt_snapshot.specs.Encoded.{entry_size, version};
 
@@ -31,7 +31,7 @@ pub fn entry_size(layout: Layout) -> usize
     }
 }
 
-/// The layout that these bytes name. Where they name none, it is not said which.
+/// Returns the layout that these bytes name, or any layout if they name none.
 pub fn layout_of(bytes: &[u8]) -> Layout
     ensures { (layout : Layout) → slice_get bytes.now 3 ≡ Some (version layout) → result ≡ layout }
 {

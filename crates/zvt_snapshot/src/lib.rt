@@ -1,4 +1,4 @@
-//! A till that outlives its process: its bytes, and the till that they are of.
+//! Saves and restores a till.
 #![tactic(auto)]
 
 mod decoder;

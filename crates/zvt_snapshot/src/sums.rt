@@ -1,4 +1,4 @@
-//! The check sums after what is saved.
+//! Checksums at the end of saved bytes.
 ghost use Rattle.std.specs.Prelude.{◌≡◌, ◌<◌};
 ghost use Rattle.zvt_snapshot.specs.Sums.{sums_of};
 

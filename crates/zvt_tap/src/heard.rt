@@ -12,7 +12,7 @@ use zvt_io::Sink;
 use zvt_json::Form;
 use zvt_trace::TraceFault;
 
-/// What an audit has heard of a line. After a fault it hears nothing more.
+/// The audit of a line so far. After a fault it ignores further bytes.
 #[derive(Drop)]
 pub(crate) struct Heard {
     audit: Audit,

@@ -11,15 +11,15 @@ use crate::relay::{Ends, Readiness, run_relay};
 use std::alloc::Global;
 use zvt_io::{Sink, Source};
 
-/// How a line ended that was tapped, and what was found of it.
+/// How a tapped line ended, and what the log found.
 #[derive(Drop)]
 pub struct Tapped<T, O> {
     pub ended: Result<(), TapFault>,
     pub found: Found<T, O>,
 }
 
-/// Passes on what comes from each side of a line to the other, until both have come to their end or a fault ends the line.
-/// Then the trace gets its last line `!`, and the output has the text that `show` writes of the trace, and its audit.
+/// Forwards bytes from each side of a line to the other, until both sides have ended or a fault ends the line. Then
+/// writes the last line `!` to the trace. The output has the text that `show` prints for the trace, and its audit.
 ///
 /// [`run_relay`](crate::run_relay) says what the faults leave.
 pub fn tap_line<L: Readiness, R: Source, W: Sink, T: Sink + Drop, O: Sink + Drop>(

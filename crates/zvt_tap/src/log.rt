@@ -1,4 +1,4 @@
-//! What is observed of a line: its trace, the text that is shown, and the audit.
+//! The log of a line: its trace, the text shown, and the audit.
 ghost use Rattle.std.specs.Prelude.{◌≡◌, ◌≤◌, ◌++◌, ◌∷◌, [], codes, ℕ, List, Option, IfOk, MatchResult, length};
 ghost use Rattle.zvt_grammar.specs.Lengths.{reading_of};
 ghost use Rattle.zvt_grammar.specs.Reading.{Reading};
@@ -21,8 +21,8 @@ use zvt_trace::{Direction, Tally, TraceFault};
 /// The size of the line of the longest chunk: its sign, its bytes as digits, and a line feed.
 const MAX_LINE: usize = 2 + 2 * MAX_CHUNK + 1;
 
-/// What is observed of a line: a trace, and on an output the text that `show` writes of the trace, and then its audit. Each of
-/// them ends at its own fault, and the others go on.
+/// The log of a line: a trace, and on an output the text that `show` prints for the trace, followed by its audit. Each
+/// of these stops at its own fault, and the others continue.
 #[derive(Drop)]
 pub struct TapLog<T, O> {
     parts: Parts<T, O>,
@@ -39,7 +39,7 @@ struct Parts<T, O> {
     heard: Heard,
 }
 
-/// What was found of a line, and the devices of its log.
+/// The findings of a log, and its devices.
 #[derive(Drop)]
 pub struct Found<T, O> {
     pub tracing: Tracing<T>,
@@ -65,7 +65,8 @@ impl<T: Sink, O: Sink> Parts<T, O> {
 }
 
 impl<T: Sink + Drop, O: Sink + Drop> TapLog<T, O> {
-    /// A log of a line whose messages have such lengths. Nothing is observed yet. All memory for its trace is asked for at once.
+    /// Creates a log of a line whose messages have lengths in this form. It has observed nothing. Allocates all memory
+    /// for its trace at once.
     pub fn new(
         alloc: Global,
         lengths: Lengths,

@@ -1,4 +1,4 @@
-//! What comes from each side of a line goes to the other.
+//! Forwards bytes from each side of a line to the other.
 ghost use Rattle.std.specs.Prelude.{◌≡◌, ◌≤◌, ◌+◌, ◌++◌, [], ℕ, Bool, false, true, List, MatchOption, MatchResult, length};
 ghost use Rattle.zvt_recorder.specs.Recorder.{piece_text};
 ghost use Rattle.zvt_tap.specs.Chunks.{sides};
@@ -9,11 +9,11 @@ use std::alloc::AllocError;
 use zvt_io::{Failed, Sink, Source};
 use zvt_trace::Direction;
 
-/// The most bytes of a chunk: no more are read, observed and written at once. What shows and audits a trace decodes a line
-/// of so many bytes at once.
+/// The largest chunk that is read, observed and written at once, in bytes. A decoder of traces handles a line of this
+/// size in one piece.
 pub const MAX_CHUNK: usize = 4_096;
 
-/// In which order chunks are passed on. It may be any order.
+/// Decides which side to read next. The relay is correct for every order.
 pub trait Readiness {
     /// How often it was waited.
     ghost waits: { Self → ℕ };
@@ -33,7 +33,7 @@ pub trait Readiness {
         ensures failures { failures self.new ≡ failures self.old };
 }
 
-/// What observes the chunks that pass.
+/// An observer of the forwarded chunks.
 pub trait Observer {
     /// This text of a trace was observed besides.
     ghost observes: { Self → List ℕ → Self → Type 0 };
@@ -71,11 +71,12 @@ pub struct Ends<R, W> {
     pub to_till: W,
 }
 
-/// Passes on what comes from each side to the other, a chunk of at most [`MAX_CHUNK`] bytes at a time, until both have come
-/// to their end. Each chunk is observed before it is written.
+/// Forwards everything that one side sends to the other, in chunks of at most [`MAX_CHUNK`] bytes, until both sides have
+/// closed. Each chunk is shown to the observer before it is written.
 ///
-/// At `Read` and `Write` a device has failed. At `Trace` the observer is stopped, and the last chunk was observed but not written.
-/// At `Memory` it was neither observed nor written. At `Wait` nobody could wait, or it was waited 2⁶⁴ - 1 times.
+/// Fails with `Read` or `Write` if a device fails. Fails with `Trace` if the observer demands to stop, in which case it has
+/// seen a chunk that was not forwarded. Fails with `Memory` if a chunk was neither observed nor forwarded, and with `Wait`
+/// if waiting for the devices fails, or after 2⁶⁴ − 1 waits.
 pub fn run_relay<L: Readiness, R: Source, W: Sink, K: Observer>(
     line: &mut L,
     ends: &mut Ends<R, W>,

@@ -11,7 +11,7 @@ use zvt_io::Sink;
 use zvt_show::{Follower, Style};
 use zvt_trace::{Scope, Tally, TraceFault};
 
-/// What is shown of a line. After a fault nothing more is.
+/// The text shown for a line. After a fault it shows nothing more.
 #[derive(Drop)]
 pub(crate) struct Shown {
     follower: Follower,

@@ -1,5 +1,5 @@
-//! A line between two sockets. What is proved of this module is that it is safe and ends: the system alone knows what
-//! sockets do.
+//! A line between two sockets. The proofs of this module show that it is safe and terminates; the behaviour of sockets
+//! is the system's.
 ghost use Rattle.zvt_tap.specs.Log.{MayObserve};
 
 use crate::fault::TapFault;
@@ -31,8 +31,8 @@ pub struct SocketTapped<T, O> {
     pub error: Option<ErrorKind>,
 }
 
-/// Passes on what comes from each of two sockets to the other, as [`tap_line`] does. Small messages go out at once. A side
-/// that has closed its sending half is handed on. A side to which nothing could be written for five seconds is a fault.
+/// Forwards traffic between two sockets in both directions, as [`tap_line`] does. Small messages are sent immediately,
+/// and half-closing is forwarded. Being unable to write to a side for five seconds is a fault.
 pub fn tap_sockets<R, T: Sink + Drop, O: Sink + Drop>(
     rt: &R,
     alloc: Global,

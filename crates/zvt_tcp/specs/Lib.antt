@@ -5,3 +5,4 @@ pub mod KeptOverTcp
 pub mod Tills
 pub mod LedgerRows
 pub mod Reporting
+pub mod Outliving

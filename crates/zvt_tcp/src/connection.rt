@@ -11,8 +11,8 @@ use std::time::Duration;
 use zvt_io::GhostCount;
 use zvt_session::NetFault;
 
-/// For that many seconds a till waits unless it is told otherwise: to be connected, for each read and for each write. A
-/// terminal that is silent for longer counts as a read that failed.
+/// Default timeout of a till in seconds: for connecting, for each read and for each write. If the terminal is silent
+/// for longer, the read fails.
 pub const SILENCE_SECONDS: u16 = 60;
 
 /// The address of this machine to itself.
@@ -53,8 +53,8 @@ where
     Ok((till_end, terminal_end))
 }
 
-/// The till's end of a connection to a terminal that listens at this host and port. It waits for so many seconds at most, to
-/// be connected, for each read and for each write. Of 0 seconds there is no connection.
+/// Connects to the terminal at this host and port. `seconds` limits the connecting, each read and each write; zero is
+/// an error.
 pub fn connect<R>(rt: &R, host: &str, port: u16, seconds: u16) -> Result<TcpStream, NetFault>
 where
     R: Net<Listener = TcpListener, Stream = TcpStream>,
@@ -80,7 +80,7 @@ where
     Err(last)
 }
 
-/// Where tills come in. Contracts see how many connections it gave.
+/// A listening socket. Its model counts the connections that it accepted.
 #[derive(Drop)]
 pub struct Door {
     pub(crate) listener: TcpListener,
@@ -100,7 +100,7 @@ impl Door {
         }
     }
 
-    /// The address at which it listens.
+    /// Returns the address that it listens on.
     pub fn address(&self) -> io::Result<SocketAddr> {
         self.listener.local_addr()
     }
@@ -124,7 +124,7 @@ impl Door {
     }
 }
 
-/// Listens at this port of this host, where port 0 is a free one.
+/// Listens at this port of this host. Port 0 chooses a free port.
 pub fn listen<R>(rt: &R, host: &str, port: u16) -> Result<Door, NetFault>
 where
     R: Net<Listener = TcpListener, Stream = TcpStream>,

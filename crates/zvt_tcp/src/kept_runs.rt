@@ -17,6 +17,7 @@ use crate::silence::{by_silence, waited};
 use crate::trace_file::by_trace;
 use std::alloc::Global;
 use std::net::{Net, TcpListener, TcpStream};
+use std::rt::Clock;
 use zvt_grammar::Lengths;
 use zvt_io::Sink;
 use zvt_journal::Device;
@@ -36,7 +37,7 @@ pub fn run_till_kept<R, D, W, E>(
     report: &mut E,
 ) -> Result<(), EndFault>
 where
-    R: Net<Listener = TcpListener, Stream = TcpStream>,
+    R: Net<Listener = TcpListener, Stream = TcpStream> + Clock,
     D: Device,
     W: Sink,
     E: Sink,
@@ -51,7 +52,7 @@ where
     let end = connect(rt, run.host, run.port, run.seconds).map_err(EndFault::Net)?;
     let shown = shown_by(alloc, run.options.form, run.lengths, run.show);
     let mut line = till_line_of(alloc, &end, run.lengths, run.trace, shown)?;
-    let answer = run_till_end_kept(alloc, &mut line, kept, &steps, writer, report);
+    let answer = run_till_end_kept(alloc, rt, &mut line, kept, &steps, writer, report);
     let answer = by_trace(is_broken(&line, run.trace), answer);
     by_silence(waited(&line, run.seconds), answer)
 }
@@ -69,7 +70,7 @@ pub fn run_loop_kept<R, D, W, E>(
     report: &mut E,
 ) -> Result<(), EndFault>
 where
-    R: Net<Listener = TcpListener, Stream = TcpStream>,
+    R: Net<Listener = TcpListener, Stream = TcpStream> + Clock,
     D: Device,
     W: Sink,
     E: Sink,
@@ -84,6 +85,6 @@ where
     let (till_end, terminal_end) = both_ends(rt).map_err(EndFault::Net)?;
     let till = till_end_of(alloc, &till_end, Lengths::Shortest, run.trace)?;
     let mut line = both_ends_of(alloc, till, &terminal_end);
-    let answer = run_both_ends_kept(alloc, &mut line, kept, &steps, writer, report);
+    let answer = run_both_ends_kept(alloc, rt, &mut line, kept, &steps, writer, report);
     by_trace(is_broken(&line.till, run.trace), answer)
 }

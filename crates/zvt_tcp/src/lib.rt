@@ -7,6 +7,7 @@
 mod connection;
 mod ends;
 mod kept_runs;
+mod laws;
 mod options;
 mod reports;
 mod rows;
@@ -18,6 +19,7 @@ mod trace_file;
 
 pub use connection::{Door, SILENCE_SECONDS, connect, listen};
 pub use kept_runs::{run_loop_kept, run_till_kept};
+pub use laws::book_runs_outlive;
 pub use options::{BookRun, LoopRun, TerminalRun, TillRun};
 pub use runs::{run_loop, run_till};
 pub use terminal::run_terminal;

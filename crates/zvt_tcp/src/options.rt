@@ -1,4 +1,4 @@
-//! What a run over TCP is given.
+//! The options of runs over TCP.
 use std::fs::File;
 use std::io::Stderr;
 use zvt_grammar::Lengths;
@@ -23,7 +23,7 @@ pub struct TillRun<'a, 'f> {
     pub lengths: Lengths,
     /// The file that the trace is written to.
     pub trace: Option<&'f File>,
-    /// Where the messages of the terminal are shown.
+    /// Shows the terminal's messages here.
     pub show: Option<Stderr>,
     /// The steps of the till.
     pub plan: &'a [Planned],
@@ -45,7 +45,7 @@ pub struct BookRun<'a, 'f> {
     pub lengths: Lengths,
     /// The file that the trace is written to.
     pub trace: Option<&'f File>,
-    /// Where the messages of the terminal are shown.
+    /// Shows the terminal's messages here.
     pub show: Option<Stderr>,
     /// The steps of the till.
     pub plan: &'a [Planned],
@@ -64,7 +64,7 @@ pub struct LoopRun<'a, 'f> {
     pub options: StepOptions,
 }
 
-/// The run of a simulated terminal: where it listens, what it answers, how its lines are read and traced, and the form of its
+/// Options of a simulated terminal: its address, its decisions, how its lines are read and traced, and the form of its
 /// reports.
 #[derive(Clone, Copy)]
 pub struct TerminalRun<'a, 'f> {

@@ -1,4 +1,4 @@
-//! What a terminal that listens and serves reports.
+//! Reports of a simulated terminal.
 ghost use Rattle.std.specs.Prelude.{◌≡◌, [], ◌∷◌, ◌++◌, Some, IfOk, OnOk, drop};
 ghost use Rattle.serde_json.specs.View.{view};
 ghost use Rattle.zvt_json.specs.Strings.{line_text};

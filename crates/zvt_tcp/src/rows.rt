@@ -1,4 +1,4 @@
-//! What a terminal reports of the rows that its ledger got from a till.
+//! Reports of the ledger rows that a till caused.
 ghost use Rattle.std.specs.Prelude.{◌≡◌, ◌++◌, IfOk, OnOk};
 ghost use Rattle.serde_json.specs.View.{view};
 ghost use Rattle.zvt_json.specs.Strings.{line_text};

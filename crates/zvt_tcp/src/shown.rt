@@ -13,7 +13,7 @@ use zvt_trace::Scope;
 /// The longest text that is shown at once. No line of the trace of a connection is longer.
 const MAX_TEXT: usize = 16_384;
 
-/// What is shown of a trace, as `zvt show` shows it. After a fault nothing more is.
+/// The text of a trace, as `zvt show` prints it. After a fault nothing more is shown.
 #[derive(Drop)]
 pub(crate) struct Shown<S> {
     follower: Option<Follower>,

@@ -17,8 +17,8 @@ use zvt_session::{EndFault, serve};
 use zvt_stream::LineFault;
 use zvt_term::{Served, Terminal};
 
-/// Listens, and serves the tills one after another with one terminal, each to the end of its connection. It waits for each
-/// till as long as it takes. The terminal's ledger goes on from till to till, and each till begins unregistered.
+/// Listens, and serves tills one after another with one terminal, waiting for each without limit. The terminal's
+/// ledger carries over from till to till, but each till has to register anew.
 ///
 /// The end of a connection between two messages is no fault. A connection that breaks otherwise ends the service of its
 /// till alone. The first such fault is answered, as `Line`, once all tills were served.

@@ -1,4 +1,4 @@
-//! The file of a trace, where there is one.
+//! The optional file of a trace.
 ghost use Rattle.std.specs.Prelude.{◌≡◌};
 ghost use Rattle.zvt_tcp.specs.Traced.{by_trace};
 
@@ -6,7 +6,7 @@ use std::fs::File;
 use std::io::{self, Write};
 use zvt_session::EndFault;
 
-/// The file of a trace. Where there is none, all bytes are taken and none is kept.
+/// The file of a trace. Without a file, it accepts all bytes and discards them.
 #[derive(Clone, Copy)]
 pub(crate) struct TraceFile<'a> {
     pub(crate) file: Option<&'a File>,

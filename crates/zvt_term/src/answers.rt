@@ -1,4 +1,4 @@
-//! Reports as the answers to one message.
+//! The terminal's replies to one message.
 ghost use Rattle.std.specs.Prelude.{◌≡◌, ◌<◌, ◌≤◌, length};
 ghost use Rattle.zvt_term.specs.Reports.{IsWritable};
 ghost use Rattle.zvt_term.specs.Terminal.{reports_of};

@@ -1,4 +1,4 @@
-//! What a message of the till asks of the terminal.
+//! Requests of the till's messages.
 ghost use Rattle.std.specs.Prelude.{◌≡◌};
 ghost use Rattle.zvt_term.specs.Asking.{asked_as, authorised, currency_in};
 
@@ -31,7 +31,7 @@ fn authorised_view(fields: &FieldsView<'_>) -> Asked
     Asked::Authorisation(fields.amount(), zvt_till::currency_shown(fields))
 }
 
-/// What the message asks.
+/// Returns the request of a message.
 pub fn asked(apdu: &Apdu) -> Asked
     ensures { result ≡ asked_as apdu.now }
 {
@@ -47,7 +47,7 @@ pub fn asked(apdu: &Apdu) -> Asked
     }
 }
 
-/// What the message that a view shows asks: as `asked` of the message.
+/// Returns the request of a message given as a view, like `asked`.
 pub fn asked_view(apdu: &ApduView<'_>) -> Asked
     ensures { result ≡ asked_as apdu.now }
 {

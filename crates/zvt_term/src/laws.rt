@@ -1,10 +1,10 @@
-//! What holds of both ends together, each as the contract of a function that does nothing.
+//! Laws of both ends together. Each is the contract of an empty function.
 ghost use Rattle.zvt_term.specs.World.{WorldsMatch};
 ghost use Rattle.zvt_term.specs.Orderly.{OrderlyWorldsAccount};
 ghost use Rattle.zvt_term.specs.Returned.{OrderlyWorldsKeepReversals};
 
-/// Whatever comes, comes again, comes late or never: each entry of the till's book is an approval of the terminal's
-/// ledger of its own.
+/// Even if messages arrive twice, late or never, each entry of the till's book corresponds to an approval of its own
+/// in the terminal's ledger.
 pub fn worlds_match()
     ensures { WorldsMatch }
 {}

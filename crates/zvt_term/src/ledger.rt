@@ -12,7 +12,7 @@ pub struct Row {
     /// Its place in the ledger, counted from 1.
     pub number: u16,
     pub amount: Amount,
-    /// The currency in which the till was registered then, if its registration named one.
+    /// The currency that the till's registration named, if any.
     pub currency: Option<Currency>,
     /// The number of the approval that it takes back, if it takes one back.
     pub reverses: Option<u16>,

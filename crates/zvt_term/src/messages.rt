@@ -1,8 +1,8 @@
-//! What is asked of the terminal, and what it says.
+//! Requests to the terminal, and its responses.
 use zvt_bcd::{Amount, Currency};
 use zvt_till::CurrencyFact;
 
-/// What a message of the till asks of the terminal.
+/// A request of a till's message.
 #[derive(Clone, Copy)]
 pub enum Asked {
     /// 06 00, with the currency that it names, if it names one.
@@ -21,7 +21,7 @@ pub enum Asked {
     Unknown,
 }
 
-/// What the terminal prints.
+/// A print line of the terminal.
 #[derive(Clone, Copy)]
 pub enum Line {
     /// `APPROVED` and the amount, in the currency's smallest unit.
@@ -69,7 +69,7 @@ pub enum Report {
     Aborted(u8),
 }
 
-/// What the terminal answers to one message.
+/// The terminal's replies to one message.
 #[derive(Clone, Copy)]
 pub enum Response {
     Nothing,

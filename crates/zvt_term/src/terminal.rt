@@ -1,4 +1,4 @@
-//! The terminal: what it makes of each message, and its ledger.
+//! The terminal: its reaction to each message, and its ledger.
 ghost use Rattle.std.specs.Prelude.{◌≡◌, ◌≤◌, length, IfOk, IsOk, OnOk, OnErr, ◌++◌, option_to_list, Some, None, if◌then◌else◌};
 ghost use Rattle.zvt_term.specs.Ledger.{NumberedFrom};
 
@@ -32,7 +32,7 @@ const NO_APPROVAL: u8 = 0xB5;
 /// The code of all else.
 const SYSTEM_ERROR: u8 = 0xFF;
 
-/// What comes to the terminal.
+/// An event at the terminal.
 #[derive(Clone, Copy)]
 pub enum Input<'a> {
     /// A message of the till.
@@ -45,7 +45,7 @@ pub enum Input<'a> {
     Malformed,
 }
 
-/// A terminal that takes orders of one till, and keeps a ledger of what it approved.
+/// A terminal that accepts the orders of one till, and keeps a ledger of its approvals.
 #[derive(Drop)]
 pub struct Terminal {
     tid: u32,
@@ -87,7 +87,7 @@ impl Terminal {
         }
     }
 
-    /// What it approved and took back, in the order in which it did.
+    /// Returns the approvals and reversals, in order.
     pub fn ledger(&self) -> &[Row]
         ensures rows { result.now ≡ self.now.ledger }
         ensures most { length result.now ≤ MAX_LEDGER_ROWS }
@@ -361,8 +361,8 @@ impl Terminal {
         Ok(answers_of(&turn.reply))
     }
 
-    /// Takes what comes to the terminal, and answers it. The verdict decides an authorisation, and counts for nothing
-    /// else. Only an approval and a reversal take memory, one row of the ledger; where it is refused nothing changes.
+    /// Processes an event and returns the replies. The verdict decides an authorisation and is otherwise ignored. Only
+    /// approvals and reversals allocate memory, for one row of the ledger. If the allocation fails, nothing changes.
     pub fn step(&mut self, input: Input<'_>, verdict: Verdict) -> Result<Answers, AllocError>
         ensures stepped { IfOk result (λ answers. Steps self.old input.entry verdict answers self.new) }
         ensures err { OnErr result (self.new ≡ self.old) }

@@ -1,9 +1,9 @@
-//! What a message makes of the terminal.
+//! The terminal's state after a message.
 use crate::ledger::Row;
 use crate::messages::{Line, Response};
 use zvt_bcd::Currency;
 
-/// What the terminal decides of an authorisation.
+/// The terminal's decision about an authorisation.
 #[derive(Clone, Copy)]
 pub enum Verdict {
     Approve,
@@ -11,7 +11,7 @@ pub enum Verdict {
     Decline(u8),
 }
 
-/// Where the terminal is in an order. It goes on with each answer of the till.
+/// The terminal's progress in an order, which advances with each reply of the till.
 #[derive(Clone, Copy)]
 pub enum Phase {
     /// No order runs.
@@ -26,7 +26,7 @@ pub enum Phase {
     Ending,
 }
 
-/// What one message makes of the terminal, and what it answers.
+/// The terminal's state after a message, and its replies.
 #[derive(Clone, Copy)]
 pub(crate) struct Turn {
     pub registered: bool,

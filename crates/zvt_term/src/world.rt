@@ -19,8 +19,8 @@ use std::alloc::{AllocError, Global};
 use zvt_apdu::Apdu;
 use zvt_till::{Order, OrderRefusal, Outgoing, Till, heard};
 
-/// What happens to the two ends. A delivery names a message by its number among all that the other end ever sent,
-/// counted from 0: it may come late, again, or never.
+/// An event at either end. A delivery names a message by its number among all that the other end ever sent, counted
+/// from 0: it may arrive late, again, or never.
 #[derive(Clone, Copy)]
 pub enum Move {
     /// The till has a line.
@@ -46,7 +46,7 @@ pub struct World {
     pub from_terminal: Vec<Apdu>,
 }
 
-/// The terminal's number where none is chosen.
+/// The default terminal ID.
 pub const DEFAULT_TID: u32 = 12_345_678;
 
 /// Keeps a message that the till sends, if there is one.
@@ -161,8 +161,8 @@ impl World {
     }
 }
 
-/// Makes the moves with a new till and a new terminal. A delivery of a message that was never sent, or an order that
-/// the till refuses, does nothing; where memory is refused the run ends with the error.
+/// Makes the moves with a new till and a new terminal. Delivering a message that was never sent does nothing, nor does
+/// an order that the till refuses. Fails only if memory runs out.
 pub fn run_world(alloc: Global, moves: &[Move]) -> Result<World, AllocError>
     ensures world { IfOk result (λ both. ends_of both ≡ world moves.now) }
     // Whatever comes late, again or never, each entry of the book is an approval of the ledger of its own, in the

@@ -204,8 +204,8 @@ fn put_line(line: &Line, out: &mut [u8; MAX_REPORT_LEN]) -> usize
     }
 }
 
-/// Writes the message's spelling at the start of the buffer, and says its size. It always fits, and what comes after
-/// it stays.
+/// Encodes the message into the start of the buffer and returns its size. It always fits. The rest of the buffer does
+/// not change.
 pub fn put_report(report: &Report, buffer: &mut [u8; MAX_REPORT_LEN]) -> usize
     requires { IsWritable report.now }
     ensures written { PutsMessage (message_of_report report.now) buffer.old buffer.new result }

@@ -1,4 +1,4 @@
-//! Text in a buffer of fixed size. Each function writes from a place in it, and answers where the text ends then.
+//! Text in a buffer of fixed size. Each function writes at an index and returns the index after the text.
 ghost use Rattle.std.specs.Prelude.{◌+◌, ◌∷◌, ◌≤◌, [], length, replicate};
 ghost use Rattle.hex.specs.Hex.{encode_upper};
 ghost use Rattle.zvt_text.specs.Bytes.{hex_of};

@@ -1,4 +1,4 @@
-//! What a head says after the name of a message: each part that the message has.
+//! The first line of a message after its name: one item for each part that the message has.
 ghost use Rattle.std.specs.Prelude.{◌≤◌, ◌∷◌, length};
 ghost use Rattle.std.specs.Option.{option_copied};
 ghost use Rattle.hex.specs.Hex.{encode_upper};

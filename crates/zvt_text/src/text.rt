@@ -10,7 +10,7 @@ use std::marker::Model;
 /// The capacity for the first text that is written.
 const FIRST_CAPACITY: usize = 128;
 
-/// Text that grows. Where memory is refused nothing of what was to be written is in it.
+/// Growing text. If an allocation fails, nothing of the new text is added.
 #[derive(Drop)]
 pub struct Text {
     /// The text, and spare capacity after it.
@@ -98,7 +98,7 @@ impl Text {
         self.word(Buffer::new().format(number).as_bytes())
     }
 
-    /// Writes what is said, whole or not at all.
+    /// Appends a text, completely or not at all.
     #[inline(always)]
     pub fn add<S: Says>(&mut self, what: &S) -> Result<(), AllocError>
         ensures { Adds result self.old self.new (S.said what.now) }
@@ -113,7 +113,7 @@ impl Text {
     }
 }
 
-/// What can be written into a [`Text`], whole or not at all.
+/// A value that can be written to a [`Text`], completely or not at all.
 pub trait Says {
     ghost said: { Self → List ℕ };
 
@@ -148,7 +148,7 @@ impl Says for Word<'_> {
     }
 }
 
-/// Writes what is said after the text in the buffer, and answers where it ends.
+/// Writes the value after the text in the buffer and returns the index after it.
 #[inline(always)]
 fn put_after<S: Says>(buffer: &mut [u8], size: usize, what: &S) -> Result<usize, Full>
     requires { size ≤ length buffer.old }

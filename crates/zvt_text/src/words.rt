@@ -5,7 +5,7 @@ ghost use Rattle.std.specs.List.{list_all};
 ghost use Rattle.std.specs.Str.Parse.{digits_value};
 ghost use Rattle.zvt_text.specs.Words.{is_number, number_in, trailing};
 
-/// The bytes after this prefix, where the word begins with it.
+/// Returns the bytes after this prefix, if the word begins with it.
 pub fn trailing<'a>(prefix: &[u8], word: &'a [u8]) -> Option<&'a [u8]>
     ensures { option_map (λ rest. rest.now) result ≡ trailing prefix.now word.now }
 {

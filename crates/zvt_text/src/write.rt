@@ -1,4 +1,4 @@
-//! What is written of messages and of their parts, all of it or nothing.
+//! Writes messages and their parts, each completely or not at all.
 ghost use Rattle.std.specs.Prelude.{◌≡◌, ◌≤◌, ◌++◌, ◌∷◌, [], length, option_map};
 ghost use Rattle.hex.specs.Hex.{encode_upper};
 ghost use Rattle.zvt_text.specs.Bytes.{escaped_text};
@@ -19,9 +19,9 @@ use zvt_bcd::Trace;
 
 // Where memory is refused, the error of each, the text is as it was: so nothing of half a message is ever seen.
 
-/// Writes a message after a prefix: the name of its kind and what it says, then a line for each field, each line with
-/// its end. The password of a message is never written, and of the fields 22, 23, 24, 2D, 3A and 3D (card number,
-/// tracks, verification value, password) the size alone.
+/// Writes a prefix and a message: a line with the name of its kind and its values, then a line for each field. Every
+/// line ends in a line feed. Never writes the password of a message, and writes only the size of the fields 22, 23,
+/// 24, 2D, 3A and 3D (card number, tracks, verification value, password).
 #[inline(always)]
 pub fn message(text: &mut Text, prefix: &[u8], message: &ApduView<'_>) -> Result<(), AllocError>
     ensures { Adds result text.old text.new (prefix.now ++ said message.now) }
@@ -29,8 +29,8 @@ pub fn message(text: &mut Text, prefix: &[u8], message: &ApduView<'_>) -> Result
     text.add(&MessageText { prefix, message })
 }
 
-/// Writes a result code and what it means, as `6F wrong currency`; a code without a meaning of its own is `code` and
-/// two digits in hexadecimal.
+/// Writes a result code and its meaning, such as `6F wrong currency`. A code without a meaning is written as `code`
+/// and two hexadecimal digits.
 pub fn result_words(text: &mut Text, code: u8) -> Result<(), AllocError>
     ensures { Adds result text.old text.new (result_words code) }
 {
@@ -45,8 +45,8 @@ pub fn numbers(text: &mut Text, trace: Trace, receipt: Option<[u8; 2]>) -> Resul
     text.add(&PaymentNumbers { trace, receipt })
 }
 
-/// Writes bytes and the end of the line. From 20 to 7E they are as they are, but for the quotation mark and the
-/// backslash; every other byte is `\x` and two digits in hexadecimal.
+/// Writes bytes and the end of the line. Printable ASCII (20 to 7E) stays as it is, except the quotation mark and the
+/// backslash; every other byte becomes `\x` and two hexadecimal digits.
 pub fn escaped_line(text: &mut Text, bytes: &[u8]) -> Result<(), AllocError>
     ensures { Adds result text.old text.new (escaped_text bytes.now ++ 10 ∷ []) }
 {

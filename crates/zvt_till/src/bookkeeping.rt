@@ -1,7 +1,7 @@
 //! The books of a whole log.
 //!
-//! What an audit calls for each message is `#[inline(always)]`. What few messages need is `#[inline(never)]`, so that it
-//! does not make that way longer.
+//! Functions that an audit calls for every message are `#[inline(always)]`. Functions that few messages need are
+//! `#[inline(never)]`, to keep that path short.
 ghost use Rattle.std.specs.Prelude.{◌≡◌, ◌++◌, ◌∷◌, [], List, length, IfOk, OnOk};
 ghost use Rattle.zvt_till.specs.Books.{books};
 ghost use Rattle.zvt_till.specs.declared.happenings.Happening.TheVariants.{Heard as HeardIn};
@@ -20,7 +20,7 @@ use zvt_apdu::{ApduView, Kind};
 use zvt_bcd::{Currency, Trace};
 use zvt_field::FieldsView;
 
-/// The books of a log that goes on: each happening is judged as it comes, and none is stored.
+/// The books of a log that is still growing. Each event is judged immediately, and none is stored.
 #[derive(Drop)]
 pub struct Bookkeeping {
     found: Books,
@@ -41,7 +41,7 @@ impl Model for Bookkeeping {
 }
 
 impl Bookkeeping {
-    /// The books of a log in which nothing has happened.
+    /// Creates the books of an empty log.
     pub fn new(alloc: Global) -> Bookkeeping
         ensures { HasJudged [] result }
     {
@@ -52,7 +52,7 @@ impl Bookkeeping {
         }
     }
 
-    /// Judges what happened next. Where memory is refused the books are those of no log any more.
+    /// Judges the next event. If an allocation fails, the books are no longer valid.
     #[inline(always)]
     pub fn take(&mut self, happening: &Happening) -> Result<(), AllocError>
         ensures { OnOk result ((log : List Happening) → HasJudged log self.old → HasJudged (log ++ happening.now ∷ []) self.new) }
@@ -66,7 +66,7 @@ impl Bookkeeping {
         Ok(())
     }
 
-    /// Judges a message of the terminal, as `take` does what it is to a till. Most messages leave early.
+    /// Processes a message of the terminal like `take`, and returns early for most messages.
     #[inline(always)]
     pub fn hear(&mut self, apdu: &ApduView<'_>) -> Result<(), AllocError>
         ensures { OnOk result ((log : List Happening) → HasJudged log self.old → HasJudged (log ++ HeardIn (heard_as apdu.now) ∷ []) self.new) }
@@ -125,7 +125,7 @@ impl Bookkeeping {
         self.found.booked.len()
     }
 
-    /// Of how many payments it is not known whether they happened, but for the one that runs.
+    /// Returns the number of unclear payments, not counting the one in progress.
     #[inline(always)]
     pub fn unclear_count(&self) -> usize
         ensures { result ≡ length self.now.books.unclear }
@@ -144,8 +144,8 @@ impl Bookkeeping {
     }
 }
 
-/// The payments of a log, each judged by all that was heard up to the next order. Any log will do, also one that no
-/// till of this crate can have. The error is that memory runs out.
+/// Returns the payments of a log, each judged by everything heard before the next order. Accepts any log, even one
+/// that no till of this crate can have. Fails only if memory runs out.
 pub fn books(alloc: Global, log: &[Happening]) -> Result<Books, AllocError>
     ensures { IfOk result (λ found. books_value found ≡ books log.now) }
 {

@@ -8,12 +8,12 @@ use zvt_bcd::{Amount, Trace};
 /// The result code by which a terminal says that it took a payment back before.
 const ALREADY_REVERSED: u8 = 0xB4;
 
-/// What the reversals of a payment leave open, beside its mark.
+/// What is in doubt about the reversal of a payment.
 #[derive(Clone, Copy, Debug, PartialEq, Eq)]
 pub enum Doubt {
     /// Nothing.
     No,
-    /// The last reversal took the payment back or not: nobody knows.
+    /// It is unknown whether the last reversal succeeded.
     Unclear(Cause),
     /// No reversal was completed, but the terminal refused or aborted one with B4: it took the payment back before.
     TakenBack,
@@ -29,7 +29,7 @@ pub struct Entry {
     pub receipt: Option<[u8; 2]>,
     /// Whether a completed reversal took it back.
     pub reversed: bool,
-    /// What its other reversals leave open.
+    /// What is in doubt about its reversal.
     pub doubt: Doubt,
 }
 

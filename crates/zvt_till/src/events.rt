@@ -23,7 +23,7 @@ use zvt_apdu::MAX_BRIEF_LEN;
 use zvt_bcd::{Amount, Currency, Trace};
 use zvt_stream::{FedView, FeedError, Stream};
 
-/// What a run of a till is made of.
+/// An event in a run of a till.
 #[derive(Drop)]
 pub enum Event {
     /// The line is up. Where it was down, it is a new line.
@@ -219,8 +219,7 @@ impl Run {
     }
 }
 
-/// Runs a new till over the events. A refused order leaves nothing in the log. Where memory is refused the run ends
-/// with the error.
+/// Runs a new till over the events. A refused order leaves no trace in the log. Fails only if memory runs out.
 pub fn replay(alloc: Global, events: &[Event]) -> Result<Run, AllocError>
     // The log is that of the events, however the line's bytes are cut into pieces.
     ensures log { IfOk result (λ run. IsLogOf events.now run.log.items) }

@@ -1,4 +1,4 @@
-//! What happens on a till's line, and what of it ends an order.
+//! Events on a till's line, and which of them end an order.
 //!
 //! `ends`, `force_after` and `is_positive` are `#[inline(always)]`: an audit calls them for each happening.
 ghost use Rattle.std.specs.Prelude.{◌≡◌};
@@ -31,8 +31,8 @@ pub enum Happening {
     Lost,
 }
 
-/// Whether this ends the running order, of which a positive answer was heard or not: once the terminal
-/// has taken an order up, a negative answer is none to the order.
+/// Returns whether this event ends the running order. `positive` says whether the terminal has accepted the order:
+/// after that, a negative answer no longer refers to it.
 #[inline(always)]
 pub fn ends(positive: bool, happening: &Happening) -> bool
     ensures { result ≡ ends positive happening.now }
@@ -46,7 +46,7 @@ pub fn ends(positive: bool, happening: &Happening) -> bool
     }
 }
 
-/// The currency in force after this: that of the last registration, where it named one.
+/// Returns the currency in force after this event: the one that the last registration named, if any.
 #[inline(always)]
 pub fn force_after(force: Option<Currency>, happening: &Happening) -> Option<Currency>
     ensures { result ≡ force_after force happening.now }

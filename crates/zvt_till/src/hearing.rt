@@ -1,4 +1,4 @@
-//! What a message of the terminal is to a till.
+//! Reduces a terminal's message to what matters to a till.
 //!
 //! The functions over views are `#[inline(always)]`: a till and an audit call them for each message.
 ghost use Rattle.std.specs.Prelude.{◌≡◌, ◌==◌, cond, List};
@@ -72,7 +72,8 @@ fn facts_in(fields: &Fields) -> StatusFacts
     }
 }
 
-/// What a message is to a till: of the data a status information's fields count, and the code of a refusal.
+/// Reduces a message to what matters to a till. Of its data, only the fields of a status information and the code of a
+/// refusal count.
 pub fn heard(apdu: &Apdu) -> Heard
     ensures { result ≡ heard_as apdu.now }
 {
@@ -95,7 +96,7 @@ pub fn heard(apdu: &Apdu) -> Heard
     }
 }
 
-/// The payment that is taken back, where BMP 37 appears once.
+/// The reversed payment, if BMP 37 appears exactly once.
 #[inline(always)]
 fn original_shown(single: &Single) -> Original
     ensures { (fields : List Field) → Says fields single.now → result ≡ original_in fields }
@@ -107,7 +108,7 @@ fn original_shown(single: &Single) -> Original
     }
 }
 
-/// The currency that is named, where BMP 49 appears once.
+/// The currency, if BMP 49 appears exactly once.
 #[inline(always)]
 fn currency_named(single: &Single) -> CurrencyFact
     ensures { (fields : List Field) → Says fields single.now → result ≡ currency_in fields }
@@ -132,7 +133,7 @@ pub fn currency_shown(fields: &FieldsView<'_>) -> CurrencyFact
     }
 }
 
-/// What the fields of a view of a status information say.
+/// Returns the values of a status information.
 #[inline(always)]
 pub(crate) fn facts_shown(fields: &FieldsView<'_>) -> StatusFacts
     ensures { result ≡ facts_in_fields fields.now }
@@ -148,7 +149,7 @@ pub(crate) fn facts_shown(fields: &FieldsView<'_>) -> StatusFacts
     }
 }
 
-/// What the message that a view shows is to a till: as `heard` of the message.
+/// Classifies the message of a view for a till, as `heard` classifies a message.
 #[inline(always)]
 pub fn heard_view(apdu: &ApduView<'_>) -> Heard
     ensures { result ≡ heard_as apdu.now }

@@ -1,4 +1,4 @@
-//! What holds of every till and every log, as functions whose contracts are these laws.
+//! Laws of every till and every log. Each is the contract of an empty function.
 ghost use Rattle.zvt_till.specs.Log.{StepsMeetLog};
 ghost use Rattle.zvt_till.specs.TillHistory.{RunsAreLogged, FaultsAreLogged, UnsentAreLogged, OrdersAreLogged};
 ghost use Rattle.zvt_till.specs.Cuttings.{LogsAreOne, CuttingsAgree};
@@ -14,12 +14,13 @@ pub fn no_approval_dropped()
     ensures { NoApprovalDropped }
 {}
 
-/// A reversal that has an end is marked, or known to have taken nothing back by itself, or left unclear.
+/// A reversal that has ended is marked as completed, or is known not to have reversed the payment itself, or is
+/// unclear.
 pub fn no_reversal_dropped()
     ensures { NoReversalDropped }
 {}
 
-/// What is open of an entry stays so until a reversal of that entry ends.
+/// The doubt about an entry does not change until a reversal of that entry ends.
 pub fn doubts_stay()
     ensures { DoubtsStay }
 {}
@@ -29,7 +30,7 @@ pub fn traces_stay_distinct()
     ensures { TracesStayDistinct }
 {}
 
-/// Whatever happens, no entry leaves the book or changes but for its mark.
+/// Whatever happens, no entry leaves the book, and nothing of it changes except its mark and its doubt.
 pub fn entries_stay()
     ensures { EntriesStay }
 {}
@@ -45,8 +46,8 @@ pub fn cuttings_agree()
     ensures { CuttingsAgree }
 {}
 
-/// Of a till that some log leads to, an order that ran to its end adds itself to the log, and the messages of the bytes
-/// that were read. So the till's book is again that of its log.
+/// If a log leads to a till, then an order that runs to its end extends the log by the order and by the messages read.
+/// The till's book is then the book of the extended log.
 pub fn runs_are_logged()
     ensures { RunsAreLogged }
 {}

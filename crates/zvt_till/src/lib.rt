@@ -1,5 +1,4 @@
-//! The till's end of a payment line: which orders it takes, what it makes of what the terminal says,
-//! and its book.
+//! The till's end of a line: which orders it accepts, how it interprets the terminal's messages, and its book.
 #![tactic(auto)]
 
 mod bookkeeping;

@@ -1,4 +1,4 @@
-//! A till on a line: as a machine that hears and answers, and one order from end to end.
+//! A till on a line: as a machine that receives and answers messages, and for one order from start to end.
 ghost use Rattle.std.specs.Prelude.{◌≡◌, ◌+◌, ◌≤◌, OnOk, IfOk, IfErr, MatchResult};
 ghost use Rattle.std.specs.Result.{IsErrOf};
 ghost use Rattle.zvt_stream.specs.StreamState.{IsReserved};
@@ -62,8 +62,8 @@ pub enum RunFault {
     Line(LineFault),
 }
 
-/// Gives the till an order, and writes its message. A refused order sends nothing. Where the write fails the till has
-/// lost its line, and the fault is `Write`.
+/// Gives the till an order and sends its message. Sends nothing if the till refuses the order. If the write fails, the
+/// till loses its line and the fault is `Write`.
 pub fn send_order<W: Sink>(writer: &mut W, till: &mut Till, order: Order) -> Result<(), RunFault>
     ensures ok { OnOk result (Sends order till.old till.new (W.written writer.old) (W.written writer.new)) }
     ensures err { IfErr result (λ fault. NotSent fault order till.old till.new (W.written writer.old) (W.written writer.new)) }

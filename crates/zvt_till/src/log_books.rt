@@ -1,6 +1,6 @@
 //! A log's payments, judged one after another.
 //!
-//! What an audit calls for each happening is `#[inline(always)]`.
+//! Functions that an audit calls for every event are `#[inline(always)]`.
 ghost use Rattle.std.specs.Prelude.{◌≡◌, ◌++◌, ◌∷◌, [], ◌||◌, List, OnOk};
 ghost use Rattle.zvt_till.specs.Segments.{begun, in_force, is_positive, status_of};
 ghost use Rattle.zvt_till.specs.Books.{books};
@@ -26,12 +26,12 @@ pub struct Booked {
     pub receipt: Option<[u8; 2]>,
 }
 
-/// What a log says of its payments. Those that are known not to have happened are in neither list.
+/// The payments that a log justifies. Payments that certainly did not happen are in neither list.
 #[derive(Drop)]
 pub struct Books {
-    /// The payments that were completed, in the order in which they were sent.
+    /// The completed payments, in the order of their orders.
     pub booked: Vec<Booked>,
-    /// The payments of which it is not known whether they happened, in the order in which they were sent.
+    /// The unclear payments, in the order of their orders.
     pub unclear: Vec<(Amount, Cause)>,
     /// The trace numbers of the payments that were completed.
     pub(crate) used: UsedTraces,
@@ -41,7 +41,7 @@ pub struct Books {
 #[derive(Clone, Copy)]
 pub struct OpenPayment {
     pub amount: Amount,
-    /// The currency in force as it was sent, if one was.
+    /// The currency in force when it was sent, if any.
     pub currency: Option<Currency>,
     pub positive: bool,
     pub statuses: Statuses,

@@ -1,4 +1,4 @@
-//! What the terminal says, as far as a till cares, and what is answered to it at once.
+//! The terminal's messages as a till distinguishes them, and its immediate replies.
 ghost use Rattle.std.specs.Prelude.{◌≡◌};
 ghost use Rattle.zvt_till.specs.Sending.{reply_to};
 ghost use Rattle.zvt_till.specs.Statuses.{spells};
@@ -52,7 +52,7 @@ impl CurrencyFact {
     ghost use Rattle.std.specs.Prelude.{◌≡◌};
     ghost use Rattle.zvt_till.specs.Statuses.{is_in_currency};
 
-    /// Whether no currency is named, or one alone: that in force, where there is one.
+    /// Returns whether the message names no currency, or exactly one which is the currency in force, if there is one.
     pub fn is_in(&self, force: Option<Currency>) -> bool
         ensures { result ≡ is_in_currency force self.now }
     {
@@ -67,8 +67,8 @@ impl CurrencyFact {
     }
 }
 
-/// What a status information says. A field that stands more than once is as good as absent. BMP 37 and BMP 49 say that
-/// they stand more than once.
+/// The facts of a status information. A field that appears more than once counts as absent, except that BMP 37 and BMP
+/// 49 tell that they do.
 #[derive(Clone, Copy, Debug, PartialEq, Eq)]
 pub struct StatusFacts {
     /// The result code (BMP 27), 0 where the terminal approves.
@@ -77,7 +77,7 @@ pub struct StatusFacts {
     pub amount: Option<Amount>,
     /// The trace number (BMP 0B).
     pub trace: Option<Trace>,
-    /// The receipt number (BMP 87) as it was read, two bytes that need not be digits.
+    /// The receipt number (BMP 87) as read: two bytes, which need not be digits.
     pub receipt: Option<[u8; 2]>,
     /// The payment taken back (BMP 37).
     pub original: Original,
@@ -111,7 +111,7 @@ fn spells(digits: [u8; 3], trace: Trace) -> bool
     is_digits(digits.as_slice()) && number(digits.as_slice()) == u64::from(trace.get())
 }
 
-/// What is answered to a message at once, if anything is: an acknowledgement is not acknowledged.
+/// Returns the immediate reply to a message, if it has one: an acknowledgement has none.
 pub fn reply_to(heard: &Heard) -> Option<Outgoing>
     ensures { result ≡ reply_to heard.now }
 {

@@ -7,8 +7,8 @@ use crate::happenings::Happening;
 use crate::messages::Heard;
 use zvt_bcd::Trace;
 
-/// The trace and receipt numbers (BMP 0B and 87) that the terminal named in the status information of an order. Where it
-/// named several, the last one counts.
+/// The trace and receipt numbers (BMP 0B and 87) from the status information of an order. If there were several, the
+/// last one counts.
 #[derive(Clone, Copy, Debug, PartialEq, Eq)]
 pub struct Numbers {
     pub trace: Option<Trace>,

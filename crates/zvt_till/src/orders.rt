@@ -1,11 +1,11 @@
-//! What a caller asks of the till, what is sent for it, and why not.
+//! Orders for the till, the messages that they cause, and the reasons to refuse them.
 use crate::outcomes::Outcome;
 use std::alloc::{AllocError, Global};
 use std::fmt;
 use zvt_apdu::{Apdu, Brief, MAX_BRIEF_LEN, brief_message, put_brief};
 use zvt_bcd::Amount;
 
-/// What a caller asks of the till.
+/// An order to the till.
 #[derive(Clone, Copy, Debug, PartialEq, Eq)]
 pub enum Order {
     /// Registers the till on its line, which every other order but Cancel needs.
@@ -127,7 +127,7 @@ impl Outgoing {
     }
 }
 
-/// What a message of the terminal leads to: what is answered, and how the running order ended, if it did.
+/// The reaction to a terminal's message: the answer, and the outcome of the running order if the message ended it.
 #[derive(Clone, Copy, Debug, PartialEq, Eq)]
 pub struct Reply {
     pub send: Option<Outgoing>,

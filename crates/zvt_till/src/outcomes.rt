@@ -14,12 +14,12 @@ use crate::used_traces::UsedTraces;
 use std::fmt;
 use zvt_bcd::Trace;
 
-/// Why it is not known what became of an order.
+/// Why the outcome of an order is unknown.
 #[derive(Clone, Copy, Debug, PartialEq, Eq)]
 pub enum Cause {
     /// It was completed without a status.
     NoStatus,
-    /// A status names no one result, or another payment, or disagrees with the first.
+    /// A status has no single result code, refers to a different payment, or contradicts the first status.
     Conflict,
     /// A status does not name the amount.
     AmountDiffers,
@@ -105,11 +105,11 @@ pub enum Outcome {
         trace: Trace,
         receipt: Option<[u8; 2]>,
     },
-    /// Completed, every status naming a result other than 0; this is the first.
+    /// The terminal completed the order, but every status declined it. Contains the result code of the first one.
     Declined(u8),
     /// Not taken up, with this code.
     Refused(u8),
-    /// Broken off with this code, after no status but declines.
+    /// The terminal aborted the order with this code, and every status before that, if any, was a decline.
     Aborted(u8),
     /// It may have happened or not. A payment is in the unclear list.
     Unclear(Cause),
@@ -117,7 +117,7 @@ pub enum Outcome {
     DayClosed,
 }
 
-/// How a completed payment ends, where the entries have these trace numbers.
+/// Returns the outcome of a completed payment, if the entries have these trace numbers.
 #[inline(always)]
 fn payment_outcome(used: &UsedTraces, so_far: Statuses) -> Outcome
     ensures { (book : List Entry) → AreTracesOf used.now book → result ≡ payment_outcome book so_far }
@@ -173,7 +173,7 @@ fn completion_outcome(used: &UsedTraces, order: &Order, so_far: Statuses) -> Out
     }
 }
 
-/// How an order ends that was broken off: plainly, where nothing but declines were heard.
+/// Returns the outcome of an order that was broken off: the plain one if every status before was a decline.
 #[inline(always)]
 fn broken_outcome(so_far: Statuses, plain: Outcome) -> Outcome
     ensures { result ≡ broken_outcome so_far plain }
@@ -184,7 +184,7 @@ fn broken_outcome(so_far: Statuses, plain: Outcome) -> Outcome
     }
 }
 
-/// How the running order ends by this, where the entries have these trace numbers.
+/// Returns the outcome of the running order after this event, if the entries have these trace numbers.
 #[inline(always)]
 pub fn outcome_by(
     used: &UsedTraces,

@@ -1,4 +1,4 @@
-//! What a till is set to.
+//! The settings of a till.
 
 use zvt_bcd::Currency;
 
@@ -9,7 +9,7 @@ pub struct TillSettings {
     pub password: [u8; 3],
     /// The configuration byte of a registration.
     pub config: u8,
-    /// The currency in which the till registers and pays.
+    /// The currency of the till's registrations and payments.
     pub currency: Currency,
 }
 

@@ -1,4 +1,4 @@
-//! What one status says under an order, and what the statuses of an order say together.
+//! The meaning of one status information under an order, and of all of them together.
 //!
 //! The functions that judge a status are `#[inline(always)]`: an audit calls them for each status.
 ghost use Rattle.std.specs.Prelude.{◌≡◌};
@@ -12,7 +12,7 @@ use crate::orders::Order;
 use crate::outcomes::Cause;
 use zvt_bcd::{Amount, Currency, Trace};
 
-/// What a status has to name as charged: it may leave out the currency.
+/// The amount and currency that a status information must confirm. It may omit the currency.
 #[derive(Clone, Copy)]
 pub struct Charge {
     pub amount: Amount,
@@ -32,7 +32,7 @@ impl Charge {
     }
 }
 
-/// What the statuses of an order are measured against.
+/// The values with which the status information of an order must agree.
 #[derive(Clone, Copy)]
 pub enum Demand {
     Payment(Charge),
@@ -40,7 +40,7 @@ pub enum Demand {
     Closing,
 }
 
-/// What one status says under an order. Good has a trace number for payments alone.
+/// The meaning of one status information under an order. `Good` has a trace number only for payments.
 #[derive(Clone, Copy)]
 pub enum Class {
     Good(Option<Trace>),
@@ -48,8 +48,8 @@ pub enum Class {
     Doubtful(Cause),
 }
 
-/// What the statuses of the running order say together: with the first receipt where all are good, the
-/// first code where all decline, and what the first that did not agree is blamed for.
+/// The combined meaning of the status information of the running order: the first receipt number if all approve, the
+/// first result code if all decline, otherwise the fault of the first that disagrees.
 #[derive(Clone, Copy)]
 pub enum Statuses {
     Nothing,
@@ -109,7 +109,7 @@ fn class_undeclined(demand: &Demand, status: &StatusFacts) -> Class
     }
 }
 
-/// What the status says under the order.
+/// Returns the meaning of the status information under the order.
 #[inline(always)]
 fn class_of(demand: &Demand, status: &StatusFacts) -> Class
     ensures { result ≡ class_of demand.now status.now }
@@ -121,7 +121,7 @@ fn class_of(demand: &Demand, status: &StatusFacts) -> Class
     }
 }
 
-/// What the statuses say together with one more of this class.
+/// Adds one status information of this class to the combined meaning.
 #[inline(always)]
 fn note_class(so_far: Statuses, class: Class, receipt: Option<[u8; 2]>) -> Statuses
     ensures { result ≡ note_class so_far class receipt }
@@ -152,7 +152,7 @@ fn note_class(so_far: Statuses, class: Class, receipt: Option<[u8; 2]>) -> Statu
     }
 }
 
-/// What the statuses say together with one more.
+/// Adds one status information to the combined meaning.
 #[inline(always)]
 pub(crate) fn note(demand: &Option<Demand>, so_far: Statuses, status: &StatusFacts) -> Statuses
     ensures { result ≡ note demand.now so_far status.now }
@@ -163,7 +163,7 @@ pub(crate) fn note(demand: &Option<Demand>, so_far: Statuses, status: &StatusFac
     }
 }
 
-/// What the statuses of the order are measured against, by the currency in force; those of a registration say nothing.
+/// Returns what the order's statuses are compared with, given the currency in force. A registration demands nothing.
 pub fn demand_of(currency: Option<Currency>, book: &[Entry], order: &Order) -> Option<Demand>
     ensures { result ≡ demand_of currency book.now order.now }
 {

@@ -1,4 +1,4 @@
-//! The till: its state, its book, and what it makes of what it hears.
+//! The till: its state, its book, and how it reacts to messages.
 ghost use Rattle.std.specs.Prelude.{◌≡◌, ◌+◌, ◌≤◌, length, if◌then◌else◌, option_map};
 
 mod capacity;
@@ -22,8 +22,8 @@ use zvt_bcd::{Amount, Currency};
 /// The rows that the book, and the list of unclear payments, can have at most.
 pub const MAX_BOOK_ENTRIES: usize = 10_000;
 
-/// A till with its line, its running order and its book. It speaks to one terminal over one line at a
-/// time; a new line begins with Register.
+/// A till: the state of its connection, the order in progress, and its book of payments. It talks to one terminal at
+/// a time, and has to register again on every new connection.
 #[derive(Drop)]
 pub struct Till {
     password: [u8; 3],
@@ -123,7 +123,7 @@ impl Till {
         self.config
     }
 
-    /// The currency in which it registers and pays.
+    /// Returns the currency of its registrations and payments.
     pub fn currency(&self) -> Currency
         ensures { result ≡ self.now.state.settings.currency }
     {
@@ -138,7 +138,8 @@ impl Till {
         self.book.as_slice()
     }
 
-    /// The payments of which it is not known whether they happened, in the order of their ends.
+    /// Returns the payments whose outcome is unknown, in the order in which they ended. Check each of them with the
+    /// terminal before charging again.
     pub fn unclear(&self) -> &[(Amount, Cause)]
         ensures rows { result.now ≡ self.now.state.unclear }
         ensures most { length result.now ≤ MAX_BOOK_ENTRIES }
@@ -160,7 +161,8 @@ impl Till {
         count
     }
 
-    /// The sum of the payments whose reversal was not completed.
+    /// Returns the sum of all entries that are not marked as reversed. An entry with a doubtful reversal still
+    /// counts.
     pub fn total(&self) -> u64
         ensures { result ≡ total self.now.state.book }
     {
@@ -198,7 +200,7 @@ impl Till {
         self.last_outcome
     }
 
-    /// The numbers that the terminal named of the order that runs, or of the one that ended last where none runs.
+    /// Returns the numbers that the terminal named in the running order or, if none is running, in the last one.
     pub fn numbers(&self) -> Numbers
         ensures { result ≡ self.now.numbers }
     {
@@ -267,7 +269,8 @@ impl Till {
         None
     }
 
-    /// Takes a message of the terminal. While the line is down nothing is heard.
+    /// Processes a message from the terminal. Returns the answer to send, if any, and the outcome of the order if
+    /// this message ended it. Has no effect while the connection is down.
     pub fn hear(&mut self, heard: Heard) -> Reply
         ensures state { self.new.state ≡ step self.old.state (Happening.Heard heard) }
         ensures room { KeepsRoom self.old self.new }
@@ -309,7 +312,7 @@ impl Till {
         outcome
     }
 
-    /// What came on the line is no message, and the line is given up.
+    /// Gives up the line because its bytes were no message.
     pub fn malformed(&mut self) -> Option<Outcome>
         ensures state { self.new.state ≡ step self.old.state Happening.Malformed }
         ensures room { KeepsRoom self.old self.new }

@@ -1,4 +1,4 @@
-//! What a list of objects needs to have a spelling.
+//! Conditions under which a list of objects has an encoding.
 
 ghost use Rattle.std.specs.Prelude.{◌≡◌, ℕ, List, length, ◌+◌, ◌<◌, ◌≤◌, ◌^◌, nat_lt, ◌&&◌, not, min, suc, MatchOption};
 ghost use Rattle.std.specs.Bool.{OnTrue};
@@ -64,7 +64,7 @@ fn kind_agrees(object: &Tlv) -> bool
     }
 }
 
-/// Whether no constructed object stands too deep.
+/// Returns whether no constructed object is nested too deeply.
 #[cycle(depths)]
 fn is_shallow(objects: &[Tlv], depth: usize) -> bool
     requires { depth ≤ 6 }
@@ -89,7 +89,7 @@ fn stands_shallow(object: &Tlv, depth: usize) -> bool
     }
 }
 
-/// The size of the objects' spelling, or 65,536 where it is more.
+/// Returns the size of the objects' encoding, or 65,536 if it is larger.
 #[cycle(limits)]
 fn limited_size(objects: &[Tlv]) -> usize
     ensures { result ≡ min (size_of (objects_of objects.now)) 65536 }

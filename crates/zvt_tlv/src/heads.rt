@@ -1,4 +1,4 @@
-//! The reader of what comes before a content.
+//! Reads tags and lengths.
 
 ghost use Rattle.std.specs.Prelude.{◌≢◌, [], ◌<◌};
 ghost use Rattle.zvt_grammar.specs.Beginnings.{Alive};
@@ -87,8 +87,8 @@ pub fn scan_head(bytes: &[u8], room: usize, depth: usize, lengths: Lengths) -> S
     }
 }
 
-/// Reads the length of objects that stand without a tag, in a room of that many bytes: its size, and the size that it
-/// says.
+/// Reads a length that precedes objects without a tag, within `room` bytes. Returns the size of the length and the
+/// value it gives.
 pub fn scan_size(bytes: &[u8], room: usize, lengths: Lengths) -> Scan<(usize, usize)>
     requires { Alive (SizedIn (reading_of lengths) room) [] }
     ensures { AnswersSize (reading_of lengths) room bytes.now result }

@@ -16,7 +16,7 @@ pub enum TagAt {
     Third { constructed: bool },
 }
 
-/// What comes after a byte of a tag.
+/// The state after a byte of a tag.
 #[derive(Clone, Copy)]
 pub enum TagNext {
     /// Another byte of the tag.
@@ -34,7 +34,7 @@ pub enum LengthAt {
     Low82 { high: u8 },
 }
 
-/// What comes after a byte of a length.
+/// The state after a byte of a length.
 #[derive(Clone, Copy)]
 pub enum LengthNext {
     /// Another byte of the length.
@@ -64,7 +64,8 @@ fn content_fits(nests: bool, size: usize, left: usize) -> bool
     fits(size, left) && !(nests && size == 1)
 }
 
-/// Whether what is left is not just that many bytes that a shortest length would count a single byte of objects.
+/// Returns whether the remaining room avoids the sizes at which a shortest length would leave a single byte for
+/// objects.
 #[inline(always)]
 fn avoids(lengths: Lengths, nests: bool, left: usize, size: usize) -> bool
     ensures { result ≡ avoids (reading_of lengths) nests left size }
@@ -151,8 +152,8 @@ fn judge_second_tag_byte(
     Ok(TagNext::More(TagAt::Third { constructed }))
 }
 
-/// Judges one byte of a length. `nests` says that the content is objects: after a constructed tag, and where a length
-/// and objects stand without a tag. `left` counts the bytes of the enclosing content after the byte.
+/// Judges one byte of a length. `nests` says that objects follow: after a constructed tag, and after a length without
+/// a tag. `left` is the number of bytes of the enclosing content after this byte.
 #[inline(always)]
 pub fn judge_length(
     at: LengthAt,

@@ -7,8 +7,8 @@ pub fn each_size_is_filled()
     ensures { EachSizeIsFilled }
 {}
 
-/// What is alive and unfinished is at one position, whose tests decide of each next byte whether it leaves the bytes
-/// alive.
+/// Bytes that can still become a whole encoding are at exactly one position, and the tests of that position decide for
+/// each next byte whether this remains so.
 pub fn tests_decide()
     ensures decide { TestsDecide }
     ensures some { EachBeginningStands }
@@ -34,7 +34,7 @@ pub fn answers_stay()
     ensures sized { SizedAnswersStay }
 {}
 
-/// Where two spellings are at the start of the same bytes, they are one, and of one value.
+/// If two encodings start the same bytes, they are equal and encode the same value.
 pub fn spellings_end_themselves()
     ensures objects { ObjectsEndThemselves }
     ensures rooms { RoomsEndThemselves }

@@ -1,5 +1,5 @@
-//! Objects of tag, length and content (PA00P015, chapter on TLV containers): their tree, its one spelling, and a reader
-//! that says for each byte whether it can be where it stands.
+//! TLV objects, made of a tag, a length and content (PA00P015, chapter on TLV containers): their tree, its unique
+//! encoding, and a reader that finds the first invalid byte.
 #![tactic(auto)]
 
 mod checks;

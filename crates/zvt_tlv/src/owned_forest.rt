@@ -11,8 +11,8 @@ use crate::trees::{Body, Forest, Tlv};
 use crate::views::ForestView;
 use std::alloc::{AllocError, Global};
 
-/// The objects of a view, in memory of their own. The only error is that memory runs out, and no objects want none. The shortest spelling of the objects
-/// has to fit 65,535 bytes; that of the view may be longer.
+/// Copies the objects of a view. Fails only if memory runs out, and never for an empty list. The objects' shortest
+/// encoding must fit 65,535 bytes; the viewed one may be longer.
 pub fn owned(alloc: Global, objects: ForestView<'_>) -> Result<Forest, AllocError>
     requires { ∥ HasSpelling objects ∥₁ }
     ensures { MatchResult result (λ made. made ≡ objects.entry) (λ _. objects.entry ≢ none) }

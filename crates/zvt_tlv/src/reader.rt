@@ -1,6 +1,6 @@
-//! The readers. Each looks at no byte after its room, and takes nothing from the bytes: after `More` the caller comes
-//! again with more of them from the same start. `Err` is that memory runs out alone, and comes only where the bytes go on after
-//! the tag and the length of the first object, and after its content where that is bytes (`TakesMemory`).
+//! Readers. None of them looks at bytes beyond its room, and none consumes bytes: after `More`, call it again with
+//! more bytes from the same start. The only error is that an allocation fails. It comes only if bytes follow the tag
+//! and the length of the first object, or if its content is bytes, the content as well (`TakesMemory`).
 
 ghost use Rattle.std.specs.Prelude.{◌≢◌, [], ◌≤◌, ◌<◌, ◌^◌, MatchResult};
 ghost use Rattle.zvt_grammar.specs.Beginnings.{Alive};
@@ -32,7 +32,7 @@ pub fn scan(
     scan_forest(alloc, bytes, room, depth, Lengths::Shortest)
 }
 
-/// Reads the objects of a room, where each length may be in any form that holds it.
+/// Reads the objects in a room. Lengths may have any form that holds them.
 pub fn scan_loose(
     alloc: Global,
     bytes: &[u8],
@@ -48,9 +48,8 @@ pub fn scan_loose(
     scan_forest(alloc, bytes, room, depth, Lengths::Padded)
 }
 
-/// Reads a length and the objects at depth 1 that it counts, in a room of that many bytes of which not a single one may be
-/// left over: the objects, and the size of both. Each length is in its shortest form. No such bytes fit a room of
-/// two.
+/// Reads a length and the objects at depth 1 that it covers, which together fill `room` bytes exactly. Returns the
+/// objects and the size of both. Each length must have its shortest form. A room of two bytes cannot be filled.
 pub fn scan_sized(
     alloc: Global,
     bytes: &[u8],
@@ -64,7 +63,7 @@ pub fn scan_sized(
     scan_sized_forest(alloc, bytes, room, Lengths::Shortest)
 }
 
-/// Reads a length and its objects, where each length may be in any form that holds it. A room of two may hold `81 00`.
+/// Reads a length and its objects. Lengths may have any form that holds them, so `81 00` fills a room of two bytes.
 pub fn scan_sized_loose(
     alloc: Global,
     bytes: &[u8],

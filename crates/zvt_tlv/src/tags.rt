@@ -24,8 +24,8 @@ impl Model for Tag {
 }
 
 impl Tag {
-    /// The tag of these bytes, or `None` where they are no tag or more than one. A second byte follows where the low five
-    /// bits of the first are all ones. A third follows where bit 8 of the second is set, and its own bit 8 is clear.
+    /// Returns these bytes as a tag, or `None` unless they are exactly one tag. A tag has a second byte if the low
+    /// five bits of the first are all ones, and a third if bit 8 of the second is set. Bit 8 of the third is clear.
     pub fn checked(bytes: &[u8]) -> Option<Tag>
         ensures some { IfSome result (λ t. (t ≡ bytes.now) × IsTag bytes.now) }
         ensures none { IfNone result (IsTag bytes.now → ⊥) }

@@ -9,7 +9,7 @@ use crate::checks::first_fault;
 use crate::tags::Tag;
 use std::marker::Model;
 
-/// An object: its tag and what it holds.
+/// An object: its tag and its content.
 #[derive(Drop)]
 #[cycle(tree)]
 pub struct Tlv {
@@ -17,7 +17,7 @@ pub struct Tlv {
     pub body: Body,
 }
 
-/// What an object holds.
+/// The content of an object.
 #[derive(Drop)]
 #[cycle(tree)]
 pub enum Body {

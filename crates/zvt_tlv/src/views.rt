@@ -1,5 +1,5 @@
-//! Views that lend the bytes of objects that a reader has found whole: nothing is copied, and no memory is taken. A view
-//! takes each length in any form that holds it, so one view serves the bytes of either reading.
+//! Views borrow the bytes of objects that a reader found complete. They copy nothing and allocate nothing. They accept
+//! lengths in any form, so the same view serves both readers.
 
 ghost use Rattle.std.specs.Prelude.{◌≡◌, ℕ, List, ◌++◌, length};
 ghost use Rattle.zvt_grammar.specs.Reading.{padded};
@@ -19,7 +19,7 @@ pub struct TlvView<'a> {
 impl<'a> TlvView<'a> {
     ghost use Rattle.zvt_tlv.specs.Lent.{IsChildren};
 
-    /// The objects inside, where the tag is constructed.
+    /// Returns the objects inside, if the tag is constructed.
     pub fn children(&self) -> Option<ForestView<'a>>
         ensures { IsChildren self.now result }
     {
@@ -32,7 +32,7 @@ impl<'a> TlvView<'a> {
     }
 }
 
-/// The objects of bytes that spell them, in order. Contracts see those that are left.
+/// Iterates over the objects that the bytes encode, in order. In contracts, its value is the objects that are left.
 #[derive(Drop)]
 pub struct ForestView<'a> {
     bytes: &'a [u8],
@@ -59,7 +59,7 @@ impl<'a> ForestView<'a> {
         ForestView { bytes }
     }
 
-    /// The bytes that spell what is left.
+    /// Returns the bytes of the objects that are left.
     pub fn bytes(&self) -> &'a [u8]
         ensures { ∥ Spells padded 1 self.now result.now ∥₁ }
     {
@@ -101,7 +101,7 @@ fn tag_size(bytes: &[u8]) -> usize
     }
 }
 
-/// The size of the length that comes first, and what it says.
+/// Returns the size of the length at the start, and its value.
 pub fn length_first(bytes: &[u8]) -> (usize, usize)
     requires { ∥ LengthFirst bytes.now ∥₁ }
     ensures { (n : ℕ) (size after : List ℕ) → bytes.now ≡ size ++ after → IsLength padded n size → (result.0 ≡ length size) × (result.1 ≡ n) }

@@ -1,4 +1,5 @@
-//! The writers. Each answers how many bytes it wrote at the start, and leaves those after them.
+//! The writers. Each writes to the start of a buffer, returns the number of bytes written, and leaves the others
+//! unchanged.
 
 ghost use Rattle.std.specs.Prelude.{◌≡◌, length, ◌+◌, ◌<◌, ◌≤◌, ◌^◌, ◌++◌, nat_lt};
 ghost use Rattle.zvt_grammar.specs.Reading.{shortest};
@@ -19,7 +20,7 @@ pub fn write_into(forest: &Forest, out: &mut [u8]) -> usize
     write_objects(out, forest.objects())
 }
 
-/// Writes the length of the forest's spelling, and the spelling: what comes after the name of a container.
+/// Writes the length of the encoded objects, then the objects: the part of a container after its BMP.
 pub fn put_sized(forest: &Forest, out: &mut [u8]) -> usize
     requires { length_size (size_of forest.now) + size_of forest.now ≤ length out.old }
     ensures { Writes (Sized shortest forest.now) out.old out.new result }

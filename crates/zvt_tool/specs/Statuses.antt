@@ -67,6 +67,7 @@ status_of_file_error on_file.NotAJournal = 3
 status_of_file_error (on_file.RecordsBehind line records) = 3
 status_of_file_error (on_file.TooMuchAfter bytes) = 3
 status_of_file_error (on_file.CutNotKept error) = status_of_call (error_kind error)
+status_of_file_error (on_file.FolderNotSynced error) = status_of_call (error_kind error)
 status_of_file_error (on_file.Io error) = status_of_call (error_kind error)
 status_of_file_error on_file.Memory = 5
 
@@ -75,6 +76,7 @@ abbrev pub status_of_recovery : RecoveryError → ℕ
 status_of_recovery on_records.Opening = 3
 status_of_recovery (on_records.Line number) = 3
 status_of_recovery (on_records.Record number) = 3
+status_of_recovery (on_records.Check number) = 3
 status_of_recovery on_records.Memory = 5
 
 -- a journal that can't be begun is 4, out of memory 5

@@ -14,7 +14,7 @@ use zvt_session::StepOptions;
 use zvt_show::Style;
 use zvt_trace::Scope;
 
-/// What is written of a trace, or of vectors.
+/// The output of a command on traces or on vectors.
 #[derive(Clone, Copy)]
 pub enum TraceWork {
     /// The text of the trace, in this style.
@@ -25,8 +25,7 @@ pub enum TraceWork {
     Vectors(Form),
 }
 
-/// A command on traces: what it writes, the lengths that it reads, whether an unclear payment counts as bad, whether the
-/// trace is written as it comes, and whether a side is read on after a message that is refused.
+/// A command on traces: its output, strict or padded lengths, and the options `--check`, `--follow` and `--resync`.
 #[derive(Clone, Copy)]
 pub struct TraceCommand {
     pub work: TraceWork,
@@ -37,7 +36,7 @@ pub struct TraceCommand {
 }
 
 impl TraceCommand {
-    /// What a refusal leaves unread where the text of the trace is written.
+    /// Returns how much input to skip after an invalid message.
     pub fn scope(&self) -> Scope
         ensures { result ≡ text_scope self.now.resync }
     {
@@ -99,14 +98,14 @@ pub fn lengths_by(loose: bool) -> Lengths
     }
 }
 
-/// The form of what a command writes, where it writes JSON or does not.
+/// Returns the output form: JSON or text.
 pub fn form_by(json: bool) -> Form
     ensures { result ≡ form_by json }
 {
     if json { Form::Json } else { Form::Text }
 }
 
-/// How many connections are taken one after another, where 0 stands for no end. No program lives to see that many.
+/// Returns the number of connections to accept. 0 means any number, and becomes the largest `u64`.
 pub fn connections_by(number: u16) -> u64
     ensures { result ≡ connections_by number }
 {

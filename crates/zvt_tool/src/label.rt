@@ -6,7 +6,7 @@ use serde_json::Value;
 use std::alloc::{AllocError, Global};
 use zvt_text::Text;
 
-/// What each line begins with.
+/// Prefixes of lines.
 #[derive(Drop)]
 pub struct Label {
     text: Text,

@@ -1,11 +1,11 @@
-//! The library of the program `zvt`: what the program does apart from files, sockets and reports.
+//! The library of the program `zvt`, without its files, sockets and reports.
 //!
 //! - What the program does for a command line: [`command`]. What becomes of an answer: the exit [`statuses`].
 //! - What is written: the commands on a trace ([`on_trace`]), a [`label`] before each line, and the [`verdicts`] of situations.
 //! - The commands on what a reader brings: [`show`], [`join`], [`audit`], [`receipts`] and [`vectors`], and their loose forms.
 //! - The runs of steps that words name: [`run_loop`], [`run_till`] and [`run_terminal`].
 //!
-//! What other crates have is handed on:
+//! Reexported from other crates:
 //!
 //! - The command line: [`choice`] returns a [`Choice`], and [`with_show`] adds the command to a file alone.
 //! - [`write_notes`] reports what is bad in a trace, and [`hint_on`] why a line can't be read. [`follow_trace`] works on a
@@ -37,7 +37,7 @@ pub use zvt_cli::{
 };
 pub use zvt_diagnostics::{hint_on, write_notes};
 pub use zvt_grammar::Lengths;
-pub use zvt_journal::{FileDevice, JournalFileError, Opened, open_file, read_book};
+pub use zvt_journal::{FileDevice, FileFailure, JournalFileError, Opened, open_file, read_book};
 pub use zvt_json::Form;
 pub use zvt_kept::{KeptTill, RecoveryError, recover};
 pub use zvt_session::{

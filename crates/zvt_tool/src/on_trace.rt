@@ -11,7 +11,7 @@ use zvt_show::{follow_trace, render_trace};
 use zvt_trace::{Tally, TraceFault};
 use zvt_vectors::vectors;
 
-/// Does with the trace what the command says, and writes what comes of it.
+/// Executes the command on the trace and writes its output.
 pub fn work_on_trace<W: Sink>(
     alloc: Global,
     command: &TraceCommand,

@@ -51,8 +51,8 @@ fn plain() -> StepOptions
     }
 }
 
-/// Runs the steps that the words name between a till and a terminal that are both in this process, as
-/// [`zvt_tcp::run_loop`] does. The default steps are run where there are no words.
+/// Runs steps between a till and a terminal in this process, like [`zvt_tcp::run_loop`]. Without words, runs the
+/// default steps.
 ///
 /// `BadStep` and `Net` come before anything is written.
 pub fn run_loop<R, W>(
@@ -118,8 +118,8 @@ where
     in_run(zvt_tcp::run_till(rt, alloc, &run, writer, &mut Unreported))
 }
 
-/// Listens at this port of 127.0.0.1, and serves one till to the end of its connection, as [`zvt_tcp::run_terminal`] does.
-/// With `loose` the terminal reads lengths in any form that holds them. Nothing is reported.
+/// Listens at this port of 127.0.0.1 and serves one till to the end of its connection, like [`zvt_tcp::run_terminal`].
+/// With `loose`, the terminal accepts lengths in any form. Reports nothing.
 pub fn run_terminal<R>(
     rt: &R,
     alloc: Global,

@@ -14,8 +14,8 @@ use zvt_trace::TraceFault;
 /// All was done, or help was asked for.
 pub const DONE: u8 = 0;
 
-/// A stream of the trace was refused or cut off; a payment is unclear, or a step did not succeed, where that is checked; or a
-/// trace that was played and what came differ.
+/// A stream of the trace was refused or cut off; or, with `--check`, a payment is unclear or a step did not succeed;
+/// or the received bytes differ from the played trace.
 pub const BAD: u8 = 1;
 
 /// The command line or a step is wrong.
@@ -94,7 +94,9 @@ pub fn of_file_error(error: &JournalFileError) -> u8
         | JournalFileError::Displaced
         | JournalFileError::Folder
         | JournalFileError::NotAFile => DEVICE,
-        JournalFileError::CutNotKept(error) | JournalFileError::Io(error) => of_call(error),
+        JournalFileError::CutNotKept(error)
+        | JournalFileError::FolderNotSynced(error)
+        | JournalFileError::Io(error) => of_call(error),
         JournalFileError::Memory => MEMORY,
     }
 }
@@ -114,7 +116,10 @@ pub fn of_recovery(error: RecoveryError) -> u8
     ensures { result ≡ status_of_recovery error }
 {
     match error {
-        RecoveryError::Opening | RecoveryError::Line { .. } | RecoveryError::Record { .. } => TRACE,
+        RecoveryError::Opening
+        | RecoveryError::Line { .. }
+        | RecoveryError::Check { .. }
+        | RecoveryError::Record { .. } => TRACE,
         RecoveryError::Memory => MEMORY,
     }
 }

@@ -47,8 +47,8 @@ pub fn join<R: Source, W: Sink>(
     read_and_render(alloc, Style::Join, Lengths::Shortest, reader, writer)
 }
 
-/// Writes the text of each print line of the terminal as one line, with escapes (`\xHH`) for what is no printing
-/// character, and nothing else. A stream that is refused or cut off counts as bad all the same.
+/// Writes the text of each print line of the terminal as one line, and nothing else. Characters that are not printable
+/// are written as `\xHH`. A stream that is refused or cut off still counts as bad.
 pub fn receipts<R: Source, W: Sink>(
     alloc: Global,
     reader: &mut R,
@@ -133,8 +133,8 @@ pub fn audit_loose<R: Source, W: Sink>(
     read_and_audit(alloc, Lengths::Padded, reader, writer)
 }
 
-/// Checks the vectors that the reader brings, as [`zvt_vectors::vectors`] does, and writes a line of text for each that the
-/// reader of messages answers otherwise. `messages` of the tally counts the vectors.
+/// Checks vectors like [`zvt_vectors::vectors`], and writes a line of text for each that differs from the result of
+/// the message reader. `messages` of the tally counts the vectors.
 pub fn vectors<R: Source, W: Sink>(
     alloc: Global,
     reader: &mut R,

@@ -1,4 +1,4 @@
-//! What a reader answers, as text.
+//! Results of a reader, as text.
 ghost use Rattle.std.specs.Prelude.{◌≡◌, ◌++◌, ℕ, List, OnOk};
 ghost use Rattle.std.specs.String.{string_bytes};
 ghost use Rattle.zvt_vectors.specs.Vectors.{AnswersAs};

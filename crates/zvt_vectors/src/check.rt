@@ -13,12 +13,13 @@ use zvt_io::{Sink, Source};
 use zvt_json::Form;
 use zvt_trace::{Tally, TraceFault, next_line, read_trace};
 
-/// Writes for each line of the vectors that the reader of messages (`zvt_apdu::scan`) answers otherwise a line in this form,
-/// with its number and what the reader answers. Such lines count as bad; `messages` of the tally counts the vectors.
+/// Compares each vector with the result of the message reader (`zvt_apdu::scan`). If they differ, writes a line in
+/// this form, with the number of the vector's line and the reader's result, and counts it as bad. `messages` of the
+/// tally counts the vectors.
 ///
-/// A line is bytes in hexadecimal, ` = `, and an answer: `whole N`, `more`, or `refused at P: R`, where R is the name of a
-/// reason. Spaces may be between the bytes; numbers have no zeros before them. Empty lines and lines that begin with `#`
-/// say nothing. What the lines before a fault caused to be written stays written.
+/// A vector is bytes in hexadecimal, ` = `, and a result: `whole N`, `more`, or `refused at P: R`, where R is the name
+/// of a reason. Spaces may separate the bytes, and numbers have no leading zeros. Empty lines and lines that begin
+/// with `#` are ignored. Output for the lines before a fault has already been written.
 pub fn vectors<R: Source, W: Sink>(
     alloc: Global,
     form: Form,

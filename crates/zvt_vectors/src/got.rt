@@ -1,4 +1,4 @@
-//! What is written of a vector that the reader answers otherwise.
+//! The line for a vector that differs from the reader's result.
 ghost use Rattle.std.specs.Prelude.{◌≡◌, IfOk};
 ghost use Rattle.std.specs.String.{string_bytes};
 ghost use Rattle.serde_json.specs.View.{view};

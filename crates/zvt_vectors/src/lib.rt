@@ -1,6 +1,6 @@
-//! Test vectors for readers of messages: lines of bytes and of what a reader answers that is given them.
+//! Test vectors for parsers of messages: lines of bytes and the expected answer.
 //!
-//! [`vectors`] writes a line for each that this project's own reader answers otherwise.
+//! [`vectors`] writes a line for each vector that differs from the result of this project's reader.
 #![tactic(auto)]
 
 mod answers;

@@ -10,7 +10,7 @@ use crate::claims::is_claim;
 use std::alloc::{AllocError, Global};
 use zvt_trace::{TraceLineError, spelled_bytes};
 
-/// What a line means.
+/// A line of vectors.
 #[derive(Drop)]
 pub(crate) enum VectorLine<'a> {
     /// Nothing.

@@ -5,8 +5,8 @@ use super::{MAX_BOOK_ENTRIES, Till};
 use std::alloc::AllocError;
 
 impl Till {
-    /// How many payments can be taken and written down, each booked or unclear, without more memory. One that runs
-    /// still has its place among them.
+    /// Returns how many payments can be started and recorded, as booked or unclear, without allocating. A running
+    /// payment still counts.
     pub fn spare(&self) -> usize
         ensures { result ≡ self.now.spare }
     {
@@ -19,8 +19,8 @@ impl Till {
         }
     }
 
-    /// Makes the capacity enough for that many payments to be taken and written down: `spare` is then at least `pays`.
-    /// Where memory is refused it is less, though it may have risen. Nothing else changes.
+    /// Reserves capacity for the given number of payments, so that `spare` is at least `pays`. If an allocation fails,
+    /// `spare` may have risen, but not enough. Nothing else changes.
     pub fn reserve(&mut self, pays: usize) -> Result<(), AllocError>
         requires { pays ≤ MAX_BOOK_ENTRIES }
         ensures room { OnOk result (pays ≤ self.new.spare) }

@@ -125,8 +125,8 @@ impl Till {
         });
     }
 
-    /// Takes an order, where nothing refuses it, and answers the message to send. A refused order
-    /// changes nothing. A payment asks for memory where `spare` is 0, and fails for want of it there alone.
+    /// Starts an order and returns the message to send, or explains why the order cannot be sent now; nothing changes
+    /// in that case. A payment allocates only if [`spare`](Till::spare) is 0.
     pub fn order(&mut self, order: Order) -> Result<Outgoing, OrderRefusal>
         ensures taken { IfOk result (λ message. refusal (facts_of self.old.state) order ≡ None) }
         ensures sent { IfOk result (λ message. message_of self.old.state.settings self.old.state.book order ≡ Some message) }

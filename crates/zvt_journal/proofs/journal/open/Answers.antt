@@ -100,7 +100,7 @@ returns-clause-settled g c =
     let new = g.D.Device.seen c.write_synced.new.device in
     let rests = closed_again text is new (subst (λ n. Over n (10 ∷ []) text new) at_end (subst (λ was. Over end (10 ∷ []) was new) cut_is c.in_ok-write_synced.ensures.written)) in
     let settled = settled_again text is new (g.D.Device.may_leave c.write_synced.new.device) rests c.in_ok-write_synced.ensures.durable in
-    let told : c.truncate.new.self.items ≡ text = c.truncate.ensures.items ∙ ap (λ (l : List ℕ). take end l) read_is ∙ ap (λ (n : ℕ). take n file) end_is in
+    let told : c.truncate-2.new.self.items ≡ text = c.truncate-2.ensures.items ∙ ap (λ (l : List ℕ). take end l) read_is ∙ ap (λ (n : ℕ). take n file) end_is in
     subst (λ n. IsSettled new (g.D.Device.may_leave c.write_synced.new.device) n) (ap length (sym told)) settled
 
 pub returns-clause-kept : goal.returns-clause-kept

@@ -17,15 +17,15 @@ keep_order-requires-clause-settled g c = (c.requires (taken_up c.args.till.now.s
 pub keep_order-requires-clause-spelled : goal.keep_order-requires-clause-spelled
 keep_order-requires-clause-spelled g c = c.has_words.ensures c.in-Ok.ensures.taken
 
-pub returns-in-Ok-keep_order : goal.returns-in-Ok-keep_order
-returns-in-Ok-keep_order g c =
+pub returns-in-Ok-keep_order-clause-orders : goal.returns-in-Ok-keep_order-clause-orders
+returns-in-Ok-keep_order-clause-orders g c =
     let V = g.D.Device in
     let order = c.args.order in
     let state = c.args.till.now.state in
     let old : Standing g.row.D.Denot = record { till = c.args.till.now; device = c.args.journal.now.device; gate = c.args.journal.now.gate } in
     let new : Standing g.row.D.Denot = record { till = c.order.new.self; device = c.keep_order.new.journal.device; gate = c.keep_order.new.journal.gate } in
     let took = c.in-Ok.ensures in
-    let kept = c.in-Ok-keep_order.ensures in
+    let kept = c.in-Ok-keep_order.ensures.recorded in
     record {
       taken = took.taken;
       message = took.sent;
@@ -38,13 +38,13 @@ returns-in-Ok-keep_order g c =
       later = kept.adds.later;
     }
 
-pub returns-in-Err-keep_order : goal.returns-in-Err-keep_order
-returns-in-Err-keep_order g c =
+pub returns-in-Err-keep_order-clause-orders : goal.returns-in-Err-keep_order-clause-orders
+returns-in-Err-keep_order-clause-orders g c =
     let V = g.D.Device in
     let order = c.args.order in
     let old : Standing g.row.D.Denot = record { till = c.args.till.now; device = c.args.journal.now.device; gate = c.args.journal.now.gate } in
     let new : Standing g.row.D.Denot = record { till = c.lost.new.self; device = c.keep_order.new.journal.device; gate = c.keep_order.new.journal.gate } in
-    let kept = c.in-Err-keep_order.ensures in
+    let kept = c.in-Err-keep_order.ensures.recorded in
     record {
       cause = kept.adds.cause;
       stays = kept.adds.stays;

@@ -1,6 +1,6 @@
 use Rattle.std.proofs.Common.{List, ap, inl, refl, subst, ◌∙◌}
 use Rattle.zvt_till.specs.declared.entries.Entry.{Entry}
-use Rattle.zvt_session.specs.Reporting.{Reports, ReportsReversals, ReportsRun}
+use Rattle.zvt_session.specs.Reporting.{ReportsReversals}
 use Rattle.zvt_session.specs.Faults.{by_book}
 use Rattle.zvt_session.specs.Kept.{till_of}
 use Rattle.zvt_session.specs.Runs.{standing}

@@ -10,7 +10,7 @@ invariant_of-self g c =
     let k = c.self.inside in
     let old : Standing g.row.D.Denot = record { till = k.till; device = k.journal.device; gate = k.journal.gate } in
     let new : Standing g.row.D.Denot = record { till = c.take_order.new.till; device = c.take_order.new.journal.device; gate = c.take_order.new.journal.gate } in
-    let took = c.in-Ok.ensures in
+    let took = c.in-Ok.ensures.orders in
     kept_on V.seen V.may_leave V.moment V.left_since V.faults (is_some k.failure) (order_sent V.seen V.may_leave V.moment V.left_since V.faults c.args.order) old new
     (up_whole V.seen V.may_leave V.moment V.left_since V.faults (is_some k.failure) old (taken_up k.till.state c.args.order took.taken) c.self.invariant) took.logs c.self.invariant
 
@@ -23,4 +23,4 @@ returns-in-Ok-clause-whole g c =
     let V = g.D.Device in
     let k = c.self.inside in
     let old : Standing g.row.D.Denot = record { till = k.till; device = k.journal.device; gate = k.journal.gate } in
-    unfailed k.failure (up_whole V.seen V.may_leave V.moment V.left_since V.faults (is_some k.failure) old (taken_up k.till.state c.args.order c.in-Ok.ensures.taken) c.self.invariant)
+    unfailed k.failure (up_whole V.seen V.may_leave V.moment V.left_since V.faults (is_some k.failure) old (taken_up k.till.state c.args.order c.in-Ok.ensures.orders.taken) c.self.invariant)

@@ -1,0 +1,183 @@
+//! Notes: what the record of an order says beside the order.
+ghost use Rattle.std.specs.Prelude.{◌≡◌, ◌≤◌, ◌+◌, ◌++◌, ◌&&◌, drop, length, option_map, take, true};
+ghost use Rattle.std.specs.Char.{is_ascii_graphic};
+ghost use Rattle.std.specs.List.{list_all};
+ghost use Rattle.zvt_kept.specs.Notes.{fits, fits_if_some, fits_place, is_moment, is_note, is_reference, is_reference_part, keyed};
+
+use arrayvec::ArrayVec;
+use std::marker::Model;
+use zvt_text::words::trailing;
+
+/// The most characters of a reference.
+pub const MAX_REFERENCE_LEN: usize = 40;
+
+/// The bytes of a time.
+const MOMENT_LEN: usize = 20;
+
+/// The note in the record of an order: the time of the order, and the caller's reference.
+#[derive(Drop)]
+pub struct Note {
+    words: ArrayVec<u8, 69>,
+}
+
+impl Model for Note {
+    ghost use Rattle.std.specs.Prelude.{◌≡◌, ◌≤◌, List, ℕ, length, true};
+    ghost use Rattle.zvt_kept.specs.Notes.{is_note};
+
+    ghost Value = { List ℕ };
+
+    ghost view = { λ note. note.words.items };
+
+    ghost invariant = { λ note. (is_note note.words.items ≡ true) × (length note.words.items ≤ 69) };
+}
+
+impl Note {
+    ghost use Rattle.std.specs.Prelude.{[]};
+    ghost use Rattle.zvt_kept.specs.Notes.{note_of};
+
+    /// A note that says nothing.
+    pub fn none() -> Note
+        ensures { result ≡ [] }
+    {
+        Note {
+            words: ArrayVec::new(),
+        }
+    }
+
+    /// The note with this time and this reference. It is `None` where the time is not of the form `2026-11-28T09:14:03Z`, or
+    /// the reference is not 1 to 40 printable ASCII characters without a space.
+    pub fn new(at: Option<&[u8]>, reference: Option<&[u8]>) -> Option<Note>
+        ensures { result ≡ note_of (option_map (λ text. text.now) at.entry) (option_map (λ text. text.now) reference.entry) }
+    {
+        if !are_right(at, reference) {
+            return None;
+        }
+        let mut words = ArrayVec::new();
+        add(&mut words, b" at ", at);
+        add(&mut words, b" ref ", reference);
+        Some(Note { words })
+    }
+
+    /// Returns the words that follow the order's own in its record.
+    pub fn words(&self) -> &[u8]
+        ensures words { result.now ≡ self.now }
+        ensures note { is_note self.now ≡ true }
+        ensures few { length self.now ≤ 69 }
+    {
+        self.words.as_slice()
+    }
+}
+
+/// Whether each of these that is given is a time and a reference.
+fn are_right(at: Option<&[u8]>, reference: Option<&[u8]>) -> bool
+    ensures { result ≡ (fits_if_some is_moment (option_map (λ text. text.now) at.entry) && fits_if_some is_reference (option_map (λ text. text.now) reference.entry)) }
+{
+    let right_time = match at {
+        Some(at) => is_moment(at),
+        None => true,
+    };
+    let right_reference = match reference {
+        Some(reference) => is_reference(reference),
+        None => true,
+    };
+    right_time && right_reference
+}
+
+/// Adds a word behind its key, if there is one.
+fn add(words: &mut ArrayVec<u8, 69>, key: &[u8], word: Option<&[u8]>)
+    requires { length words.old.items + length (keyed key.now (option_map (λ text. text.now) word)) ≤ 69 }
+    ensures { words.new.items ≡ words.old.items ++ keyed key.now (option_map (λ text. text.now) word.entry) }
+{
+    if let Some(word) = word {
+        let _ = words.try_extend_from_slice(key);
+        let _ = words.try_extend_from_slice(word);
+    }
+}
+
+/// Whether these words are a note.
+pub(crate) fn is_note(words: &[u8]) -> bool
+    ensures { result ≡ is_note words.now }
+{
+    match trailing(b" at ", words) {
+        Some(rest) => is_moment_first(rest),
+        None => is_reference_part(words),
+    }
+}
+
+/// Whether a time comes first, and then nothing or a reference.
+fn is_moment_first(rest: &[u8]) -> bool
+    ensures { result ≡ is_moment (take 20 rest.now) && is_reference_part (drop 20 rest.now) }
+{
+    if rest.len() < MOMENT_LEN {
+        return false;
+    }
+    let (moment, words) = rest.split_at(MOMENT_LEN);
+    is_moment(moment) && is_reference_part(words)
+}
+
+/// Whether these words are nothing, or a reference.
+fn is_reference_part(words: &[u8]) -> bool
+    ensures { result ≡ is_reference_part words.now }
+{
+    if words.is_empty() {
+        return true;
+    }
+    match trailing(b" ref ", words) {
+        Some(reference) => is_reference(reference),
+        None => false,
+    }
+}
+
+/// Whether this is a time to the second.
+fn is_moment(text: &[u8]) -> bool
+    ensures { result ≡ is_moment text.now }
+{
+    fits(b"0000-00-00T00:00:00Z", text)
+}
+
+/// Whether a text has this form.
+fn fits(form: &[u8], text: &[u8]) -> bool
+    ensures { result ≡ fits form.now text.now }
+{
+    let mut places = form;
+    let mut rest = text;
+    'places: while let [place, more_places @ ..] = places {
+        let [byte, more @ ..] = rest else {
+            return false;
+        };
+        if !fits_place(*place, *byte) {
+            return false;
+        }
+        places = more_places;
+        rest = more;
+    }
+    rest.is_empty()
+}
+
+/// Whether a byte may be at this place: any digit in the place of a 0, else that byte.
+fn fits_place(place: u8, byte: u8) -> bool
+    ensures { result ≡ fits_place place byte }
+{
+    if place == b'0' {
+        byte.is_ascii_digit()
+    } else {
+        byte == place
+    }
+}
+
+/// Whether this is 1 to 40 printable ASCII characters, none of them a space.
+pub fn is_reference(text: &[u8]) -> bool
+    ensures { result ≡ is_reference text.now }
+{
+    if text.is_empty() || text.len() > MAX_REFERENCE_LEN {
+        return false;
+    }
+    all_graphic(text)
+}
+
+/// Whether each of these is a printable ASCII character and no space.
+fn all_graphic(text: &[u8]) -> bool
+    ensures { result ≡ list_all is_ascii_graphic text.now }
+{
+    text.iter().all(|byte| byte.is_ascii_graphic())
+}
