@@ -14,7 +14,6 @@ import contextlib
 import itertools
 import json
 import os
-import pathlib
 import random
 import re
 import socket
@@ -26,10 +25,9 @@ import warnings
 
 import journal_dialogues
 import journal_model
+from common import Checks, EXAMPLES, TOP, program
 
-HERE = pathlib.Path(__file__).resolve().parent
-EXAMPLES = HERE.parent / "examples"
-PROGRAM = os.path.abspath(sys.argv[1]) if len(sys.argv) > 1 else str(HERE.parent / "crates/zvt/out/zvt")
+PROGRAM = program(sys.argv[1:])
 SEED, RUNS, VECTORS, SECONDS = 20261126, 150, 40, 60
 # The sections of docs/JSON.md whose objects are seen here.
 SECTIONS = ("Steps", "Books of a till", "Terminals", "Vectors")
@@ -40,18 +38,7 @@ ANSWERS = [[bytes.fromhex(answer) for answer in answers] for answers in (
     ["80 00 00 06 0F 00", "80 00 00 06 D0 00 01"], ["80 00 00 06 0F 00", "80 00 00 04 0F 02 27 6F 06 0F 00", "80 00 00 06 1E 01 B5"],
     ["84 83 00"], ["80 00 00 06 1E 01 6F"], ["80 00 00 06 0F 02 D0"],
 )]
-failed, seen = [], []
-
-
-def fault(name, *what):
-    failed.append(name)
-    if len(failed) <= 20:
-        print(f"NOT AS EXPECTED: {name}:", *what)
-
-
-def check(name, found, wanted):
-    if found != wanted:
-        fault(name, f"{found} instead of {wanted}")
+check, seen = Checks(), []
 
 
 def text_of(value):
@@ -270,16 +257,16 @@ def hold_terminals():
 
 def documented():
     """Each object of these sections of docs/JSON.md is among those that were seen."""
-    text = (HERE.parent / "docs/JSON.md").read_text()
+    text = (TOP / "docs/JSON.md").read_text()
     for section in SECTIONS:
         part = re.search(rf"^## {section}\n(.*?)(?=^## |\Z)", text, re.M | re.S)
         shown = re.findall(r"`(\{.*?\})`", part[1]) if part else []
         if not shown:
-            fault("docs/JSON.md", f"no object under '{section}'")
+            check.differs("docs/JSON.md", f"no object under '{section}'")
         kinds = {re.sub(r"\d+", "0", line) for line in seen}
         for line in shown:
             if re.sub(r"\d+", "0", line) not in kinds:
-                fault("docs/JSON.md", f"no command wrote {line}")
+                check.differs("docs/JSON.md", f"no command wrote {line}")
 
 
 def fits_schema():
@@ -290,11 +277,11 @@ def fits_schema():
             import jsonschema
         except ImportError:
             return "no schema held, since python3 has no jsonschema"
-    checker = jsonschema.Draft202012Validator(json.loads((HERE.parent / "docs/zvt.schema.json").read_text()))
+    checker = jsonschema.Draft202012Validator(json.loads((TOP / "docs/zvt.schema.json").read_text()))
     some = sorted(set(seen))
     for line in some:
         if not checker.is_valid(json.loads(line)):
-            fault("docs/zvt.schema.json", f"it refuses {line}")
+            check.differs("docs/zvt.schema.json", f"it refuses {line}")
     return f"{len(some)} held against the schema"
 
 
@@ -312,8 +299,8 @@ def main():
     documented()
     said = fits_schema()
     outcomes = {json.loads(line).get("outcome") for line in seen} - {None}
-    print(f"{'NOT AS EXPECTED' if failed else 'ok'}: {len(seen)} lines of vectors, books and runs, {len(outcomes)} outcomes, {said}: {len(failed)} wrong")
-    return 1 if failed else 0
+    print(f"{check.verdict}: {len(seen)} lines of vectors, books and runs, {len(outcomes)} outcomes, {said}: {check.wrong} wrong")
+    return check.status
 
 
 if __name__ == "__main__":

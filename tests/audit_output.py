@@ -12,7 +12,6 @@ books in docs/JSON.md are held too. The status is 1 where anything differs.
 import concurrent.futures
 import json
 import os
-import pathlib
 import random
 import re
 import subprocess
@@ -22,12 +21,12 @@ import audit_model
 import journal_dialogues
 import json_model
 import random_traces
+from common import EXAMPLES, TOP, program
 from journal_model import ABORT, ACK, AUTHORISATION, CANCEL, COMPLETION, END_OF_DAY, REGISTRATION, REVERSAL, STATUS, digits, message
 
-HERE = pathlib.Path(__file__).resolve().parent
 TEXT_ALONE = "--text" in sys.argv[1:2]
 WORDS = sys.argv[2 if TEXT_ALONE else 1:]
-PROGRAM = os.path.abspath(WORDS[0]) if WORDS else str(HERE.parent / "crates/zvt/out/zvt")
+PROGRAM = program(WORDS)
 SEED, DIALOGUES, HOSTILE = 20261126, 1500, 300
 CAUSES = {"NoStatus", "Conflict", "AmountDiffers", "NoTrace", "TraceUsed", "AbortAfterApproval", "Line", "Malformed", "Unfinished", "WrongCurrency"}
 
@@ -145,7 +144,7 @@ class Trial:
 
 def documented(trial):
     """Each object of a book in docs/JSON.md is that of the line beside it."""
-    books = re.search(r"^## Books\n(.*?)^## ", (HERE.parent / "docs/JSON.md").read_text(), re.M | re.S)[1]
+    books = re.search(r"^## Books\n(.*?)^## ", (TOP / "docs/JSON.md").read_text(), re.M | re.S)[1]
     shown = re.findall(r"^\| `(\w+ [^`]*)` \| `(\{.*\})` \|$", books, re.M)
     if len(shown) != 3:
         trial.differs(f"docs/JSON.md has {len(shown)} lines of books")
@@ -157,7 +156,7 @@ def documented(trial):
 
 def traces(chance):
     """Traces, and whether each is read loosely."""
-    for path in sorted(HERE.parent.glob("examples/**/*.trace")):
+    for path in sorted(EXAMPLES.glob("**/*.trace")):
         yield path.read_bytes(), ()
         yield path.read_bytes(), ("--loose",)
     for dialogue in journal_dialogues.ALL:

@@ -14,7 +14,8 @@ import sys
 import tempfile
 import time
 
-HERE = os.path.dirname(os.path.abspath(__file__))
+from common import TOP
+
 PORT, TILL_PORT = 20007, 50_000
 TILL, TERMINAL = b"\x0a\x00\x00\x01", b"\x0a\x00\x00\x02"
 # A payment: `>` is the till.
@@ -89,7 +90,7 @@ def convert(folder, connections, port=PORT):
     path, traces = f"{folder}/line.pcap", f"{folder}/traces"
     shutil.rmtree(traces, ignore_errors=True)
     capture(path, connections)
-    done = subprocess.run([f"{HERE}/../examples/from-capture", path, str(port), traces], capture_output=True, text=True)
+    done = subprocess.run([f"{TOP}/examples/from-capture", path, str(port), traces], capture_output=True, text=True)
     return done, traces
 
 
@@ -120,7 +121,7 @@ def main():
         done, _ = convert(folder, [Connection(0).opens().pays()], PORT + 1)
         if done.returncode != 1 or "no connection to port" not in done.stderr:
             sys.exit(f"captures: another port ended with {done.returncode}: {done.stderr}")
-        done = subprocess.run([f"{HERE}/../examples/from-capture", "line.pcap", "a", folder], capture_output=True, text=True)
+        done = subprocess.run([f"{TOP}/examples/from-capture", "line.pcap", "a", folder], capture_output=True, text=True)
         if done.returncode != 2:
             sys.exit(f"captures: a wrong port ended with {done.returncode}")
     print(f"ok: traces of captures, 200 connections in {took:.1f} s")

@@ -15,8 +15,9 @@ import re
 import subprocess
 import sys
 
-HERE = os.path.dirname(os.path.abspath(__file__))
-PROGRAM = os.path.abspath(sys.argv[1]) if len(sys.argv) > 1 else os.path.join(HERE, "..", "crates", "zvt", "out", "zvt")
+from common import EXAMPLES, program
+
+PROGRAM = program(sys.argv[1:])
 # What a byte is replaced by, besides its neighbours: lengths of each form, tags of each, a BMP, a digit's half, and none.
 OTHERS = [0x00, 0x03, 0x06, 0x0A, 0x1F, 0x25, 0x7F, 0x80, 0x81, 0x82, 0xF0, 0xFA, 0xFF]
 # A status, a payment, seven objects in one another, which are one too many, six of them, and an object of 126 bytes.
@@ -39,7 +40,7 @@ def run(words, given):
 
 def lines():
     """The bytes of each vector, and what is answered to them."""
-    with open(os.path.join(HERE, "..", "examples", "vectors.txt"), encoding="ascii") as file:
+    with open(EXAMPLES / "vectors.txt", encoding="ascii") as file:
         for line in file:
             if line.strip() and not line.startswith("#"):
                 spelled, answer = line.split("=")

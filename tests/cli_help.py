@@ -10,8 +10,9 @@ import os
 import subprocess
 import sys
 
-HERE = os.path.dirname(os.path.abspath(__file__))
-PROGRAM = os.path.abspath(sys.argv[1]) if len(sys.argv) > 1 else os.path.join(HERE, "..", "crates", "zvt", "out", "zvt")
+from common import Checks, TOP, program
+
+PROGRAM = program(sys.argv[1:])
 COMMANDS = ["show", "join", "normalise", "audit", "receipts", "vectors", "book", "loop", "till", "terminal", "tap", "play", "check-till", "check-terminal"]
 USAGE = f"Usage: zvt [{'|'.join(COMMANDS)}]"
 TILL, TERMINAL = ["till", "--port", "1"], ["terminal", "--port", "1"]
@@ -71,7 +72,7 @@ total 1000000000000
 """
 UNSENT = "zvt: reverse:10001 was not sent (UnknownEntry): the book has no such entry\n"
 HELP = ["register", "pay:N", "decline:N:XX", "reverse:N", "pay:N:ref=R", "close", "> HEX", "Exit status:", *(f"\n  {it} " for it in COMMANDS)]
-failed = []
+checks = Checks()
 
 
 def run(*words):
@@ -81,8 +82,7 @@ def run(*words):
 
 def check(words, is_right, found):
     if not is_right:
-        print(f"NOT AS EXPECTED: {words}: {found}")
-        failed.append(words)
+        checks.differs(words, found)
 
 
 def is_refused(words, said):
@@ -113,13 +113,14 @@ def main():
     found = run("loop", *steps)
     check(steps, found == (0, STEPS, UNSENT), found)
     found = run("--version")
-    check("--version", found == (0, "zvt 0.2.0\n", ""), found)
+    version = (TOP / "VERSION").read_text("ascii")
+    check("--version", found == (0, f"zvt {version}", ""), found)
     has_words(["--help"], HELP)
     for command in COMMANDS:
         has_words([command, "--help"], [f"Usage: zvt {command}", f"Example:\n  zvt {command} "])
-    if not failed:
+    if not checks.failed:
         print("ok: command lines, the words of steps and settings, and help")
-    return 1 if failed else 0
+    return checks.status
 
 
 if __name__ == "__main__":

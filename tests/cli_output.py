@@ -15,8 +15,9 @@ import subprocess
 import sys
 import tempfile
 
-HERE = os.path.dirname(os.path.abspath(__file__))
-PROGRAM = os.path.abspath(sys.argv[1]) if len(sys.argv) > 1 else os.path.join(HERE, "..", "crates", "zvt", "out", "zvt")
+from common import Checks, EXAMPLES, TOP, program
+
+PROGRAM = program(sys.argv[1:])
 FORM = "expected '>' or '<' and hexadecimal digits, '!' alone, or a comment that begins with '#'"
 DIGITS = "expected two hexadecimal digits for each byte after '>' or '<', with or without spaces"
 CAPTURE = "the input is a capture, not a trace: see 'From a capture to a trace' in docs/FORMAT.md"
@@ -82,7 +83,7 @@ NO_VECTORS = [
     b"8g = more",
     b"80:00 = more",
 ]
-failed = []
+check = Checks()
 
 
 def run(words, given):
@@ -98,15 +99,9 @@ def run(words, given):
     return done.returncode, done.stdout, done.stderr
 
 
-def check(name, found, wanted):
-    if found != wanted:
-        print(f"NOT AS EXPECTED: {name}: {found} instead of {wanted}")
-        failed.append(name)
-
-
 def cases():
     """The cases of commands.txt."""
-    with open(os.path.join(HERE, "data", "commands.txt"), encoding="ascii") as file:
+    with open(TOP / "tests/data/commands.txt", encoding="ascii") as file:
         text = file.read()
     for case in re.split(r"^== ", text, flags=re.M)[1:]:
         name, words, rest = case.split("\n", 2)
@@ -118,7 +113,7 @@ def cases():
 
 def fields():
     """Each BMP of the table, its name, its shape, and whether it is of digits."""
-    with open(os.path.join(HERE, "..", "docs", "FORMAT.md"), encoding="utf-8") as file:
+    with open(TOP / "docs/FORMAT.md", encoding="utf-8") as file:
         text = file.read().split("| Shape | BMPs |")[1].split("\n\n")[0]
     for shape, names in re.findall(r"^\| ([^|]+) \| ([^|]+) \|$", text, re.M):
         for bmp, name, digits in re.findall(r"\b([0-9A-F]{2}) ([a-z][a-z0-9-]*(?:-[0-9A-F]{2})?)( \(digits\))?", names):
@@ -141,9 +136,9 @@ def status_of(bmp, content):
 
 def log_is_read():
     """The command of docs/FORMAT.md makes the trace of a log: of a till's line with times and other lines between, and two ends of lines."""
-    page = open(os.path.join(HERE, "..", "docs", "FORMAT.md"), encoding="utf-8").read()
+    page = (TOP / "docs/FORMAT.md").read_text("utf-8")
     command = re.search(r"^    (sed -nE .*) till\.log > till\.trace$", page, re.M)
-    trace = open(os.path.join(HERE, "..", "examples", "payment.trace"), encoding="ascii").read()
+    trace = (EXAMPLES / "payment.trace").read_text("ascii")
     rows = [line for line in trace.splitlines() if line[:1] in ("<", ">")]
     words = {">": "TX:", "<": "RX"}
     log = "".join(f"10:15:0{at % 10}.123 {words[row[0]]}{row[1:]}{chr(13) * (at % 2)}\nTX buffer empty\n" for at, row in enumerate(rows))
@@ -181,13 +176,13 @@ def main():
         found = run(["vectors"], given)
         check(f"the vector {line}", (*found[:2], b"line 3 " in found[2]), (3, b"line 2: got more\n", True))
     for side in ("terminal", "till"):
-        path = os.path.join(HERE, "..", "examples", "messages", side)
+        path = os.path.join(TOP, "examples", "messages", side)
         with open(path + ".txt", "rb") as file:
             check(f"every message of a {side}", run(["show", path + ".trace"], b"")[1], file.read())
     log_is_read()
     table_is_read()
-    print("ok: the cases of commands.txt, traces and vectors that can't be read, and the table of fields" if not failed else f"{len(failed)} not as expected")
-    return 1 if failed else 0
+    print("ok: the cases of commands.txt, traces and vectors that can't be read, and the table of fields" if not check.failed else f"{check.wrong} not as expected")
+    return check.status
 
 
 if __name__ == "__main__":

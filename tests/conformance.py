@@ -20,17 +20,12 @@ import tempfile
 import time
 import xml.etree.ElementTree as xml
 
-HERE = pathlib.Path(__file__).resolve().parent
-KIT = HERE.parent / "conformance"
-PROGRAM = os.path.abspath(sys.argv[1]) if len(sys.argv) > 1 else str(HERE.parent / "crates/zvt/out/zvt")
+from common import Checks, Listener, TOP, program
+
+KIT = TOP / "conformance"
+PROGRAM = program(sys.argv[1:])
 SECONDS = 90
-failed = []
-
-
-def check(name, found, wanted):
-    if found != wanted:
-        failed.append(name)
-        print(f"NOT AS EXPECTED: {name}: {found!r:.900} instead of {wanted!r:.900}")
+check = Checks()
 
 
 def run(*words, **more):
@@ -38,19 +33,11 @@ def run(*words, **more):
     return done.returncode, done.stdout, done.stderr
 
 
-class Listener:
-    """A command that listens: its port, and how it ended."""
-
-    def __init__(self, *words):
-        self.process = subprocess.Popen([PROGRAM, *map(str, words)], stdout=subprocess.PIPE, stderr=subprocess.PIPE, text=True)
-        line = self.process.stderr.readline()
-        found = re.search(r":(\d+)$", line)
-        self.port = found[1] if found else "0"
-        check(f"{' '.join(map(str, words))[:60]} listens", bool(found), True)
-
-    def ended(self):
-        written, told = self.process.communicate(timeout=SECONDS)
-        return self.process.returncode, written, told
+def listener(*words):
+    """A command of the program that listens."""
+    started = Listener([PROGRAM, *words], SECONDS)
+    check(f"{' '.join(map(str, words))[:60]} listens", started.port != 0, True)
+    return started
 
 
 def head(file):
@@ -110,7 +97,7 @@ def terminals(folder):
     check("there are 20 situations for terminals", len(files) >= 20, True)
     for file in files:
         words = re.findall(r"--\w+ \S+", head(file).get("Needs", ""))
-        terminal = Listener("terminal", "--port", 0, *" ".join(words).split())
+        terminal = listener("terminal", "--port", 0, *" ".join(words).split())
         report = folder / "terminal.xml"
         status, written, told = run("check-terminal", "--port", terminal.port, "--junit", report, file)
         check(f"{file.stem}: check-terminal", (status, told), (0, ""))
@@ -126,7 +113,7 @@ def terminals_in_use():
     others = [it for it in situations("terminal") if it not in declines]
     check("some situations want a decline", len(declines) >= 1, True)
     for words, files, last in ([], others, "pay:1 -> paid trace 000050 receipt 0050"), (["--decline", "6C"], declines, "pay:1 -> aborted 6C"):
-        terminal = Listener("terminal", "--port", 0, "--connections", 0, *words)
+        terminal = listener("terminal", "--port", 0, "--connections", 0, *words)
         status, written, told = run("till", "--port", terminal.port, "register", *50 * ["pay:1"])
         check("fifty payments", (status, told, written.count("pay:1 -> "), written.splitlines()[50][:len(last)]), (0, "", 50, last))
         status, written, told = run("check-terminal", "--port", terminal.port, *files)
@@ -149,7 +136,7 @@ def differences(folder):
     """What is not passed is told, and the other situations are played."""
     files = [KIT / "till" / f"{it}.trace" for it in ("approval", "decline", "approval-with-receipt")]
     report = folder / "differs.xml"
-    kit = Listener("check-till", "--listen", 0, "--junit", report, *files)
+    kit = listener("check-till", "--listen", 0, "--junit", report, *files)
     found = []
     for steps in ("register pay:1000", "register close", "register pay:1000"):
         run("till", "--port", kit.port, *steps.split())
@@ -195,7 +182,7 @@ def broken_lines(folder):
     """A till that resets the line is not passed, and the next situation is played."""
     trace, report = folder / "resets.trace", folder / "resets.xml"
     trace.write_text("> 06 00\n#~ 300\n" + 3 * "< 80 00 00\n#~ 100\n")
-    kit = Listener("check-till", "--listen", 0, "--junit", report, trace, KIT / "till" / "approval.trace")
+    kit = listener("check-till", "--listen", 0, "--junit", report, trace, KIT / "till" / "approval.trace")
     with socket.create_connection(("127.0.0.1", int(kit.port)), SECONDS) as line:
         line.setsockopt(socket.SOL_SOCKET, socket.SO_LINGER, struct.pack("ii", 1, 0))
         line.sendall(bytes.fromhex("06000600 0000BE0978".replace(" ", "")))
@@ -242,9 +229,9 @@ def main():
         broken_lines(folder)
         run_py_fails(folder)
         wrong_words(folder)
-    if not failed:
+    if not check.failed:
         print(f"ok: {len(situations('till'))} situations for tills, {len(situations('terminal'))} for terminals")
-    return 1 if failed else 0
+    return check.status
 
 
 if __name__ == "__main__":

@@ -7,22 +7,22 @@ byte, with what it must answer.
 PROGRAM is the one that `rt ci` built, unless another is named. The dialogues stand in dialogues.txt, whose first lines say
 how to read them. One more fills the ledger. The status is 1 where anything is not as expected. It takes some seconds.
 """
-import os
 import re
 import socket
 import subprocess
 import sys
 import threading
 
-HERE = os.path.dirname(os.path.abspath(__file__))
-PROGRAM = os.path.abspath(sys.argv[1]) if len(sys.argv) > 1 else os.path.join(HERE, "..", "crates", "zvt", "out", "zvt")
+from common import Checks, TOP, program
+
+PROGRAM = program(sys.argv[1:])
 SECONDS = 20
 REGISTRATION, REGISTERED = "06 00 06 00 00 00 BE 09 78", "80 00 00 06 0F 08 29 12 34 56 78 49 09 78"
 AUTHORISATION, ACK = "06 01 07 04 00 00 00 00 10 00", "80 00 00"
 APPROVED_LINE = "06 D1 0E 00" + b"APPROVED 1000".hex()
 # How many rows a ledger has at most.
 MAX_LEDGER_ROWS = 9_999
-failed = []
+check = Checks()
 
 
 class Terminal:
@@ -109,7 +109,7 @@ def full_ledger():
 
 
 def main():
-    with open(os.path.join(HERE, "data", "dialogues.txt"), encoding="ascii") as file:
+    with open(TOP / "tests/data/dialogues.txt", encoding="ascii") as file:
         texts = re.split(r"^== ", file.read(), flags=re.M)[1:]
     named = [(text.splitlines()[0], dialogue(text.partition("\n")[2])) for text in texts]
     named.append(("a full ledger takes no row", full_ledger()))
@@ -117,10 +117,9 @@ def main():
         try:
             play(words, trace, ends)
         except (OSError, ValueError) as error:
-            print(f"NOT AS EXPECTED: {name}: {error}")
-            failed.append(name)
-    print(f"{'ok' if not failed else 'NOT AS EXPECTED'}: dialogues with a terminal: {len(named) - len(failed)} of {len(named)}")
-    return bool(failed)
+            check.differs(name, error)
+    print(f"{check.verdict}: dialogues with a terminal: {len(named) - check.wrong} of {len(named)}")
+    return check.status
 
 
 sys.exit(main())

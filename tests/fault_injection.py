@@ -24,9 +24,10 @@ import subprocess
 import sys
 import tempfile
 
-HERE = pathlib.Path(__file__).resolve().parent
-ZVT = sys.argv[1] if len(sys.argv) > 1 else str(HERE.parent / "crates/zvt/out/zvt")
-CALLS = str(HERE.parent / "crates/harness/out/harness")
+from common import Checks, EXAMPLES, TOP, program
+
+ZVT = program(sys.argv[1:])
+CALLS = str(TOP / "crates/harness/out/harness")
 SECONDS = 30
 MOST = 5000
 STEPS = ["register", "pay:1000", "pay:20", "pay:3", "close"]
@@ -39,7 +40,7 @@ total 1023
 """
 
 # Stands between the program and the C library.
-LIBRARY = (HERE / "refusing.c").read_text()
+LIBRARY = (TOP / "tests" / "refusing.c").read_text()
 
 
 def run_with(name, source, programs, trial):
@@ -63,10 +64,11 @@ def main():
     return run_with("fault_injection", LIBRARY, (ZVT, CALLS), Trial)
 
 
-class Trial:
+class Trial(Checks):
     def __init__(self, work):
+        super().__init__()
         self.work = work
-        self.wrong = 0
+        self.hosts = 0
         self.traces = self.make_traces()
 
     def run(self):
@@ -82,13 +84,13 @@ class Trial:
         self.fails_shown()
         self.refuses_each_call()
         print("all as expected" if self.wrong == 0 else f"{self.wrong} not as expected")
-        return 1 if self.wrong else 0
+        return self.status
 
     # ---- what is run
 
     def make_traces(self):
         """A trace that is small, and one whose text goes beyond a block."""
-        examples = [(HERE.parent / f"examples/{name}.trace").read_bytes() for name in ("payment", "messages/terminal", "messages/till", "messages/refused")]
+        examples = [(EXAMPLES / f"{name}.trace").read_bytes() for name in ("payment", "messages/terminal", "messages/till", "messages/refused")]
         small = b"!\n".join(examples) + b"< 04 0F 02 D0 00\n< 80 00 00\n> 06 01 0A 04\n!\n< 06 D1 FF FE 00\n> 06 00 06 00\n"
         payments = []
         for number in range(1, 1001):
@@ -106,7 +108,7 @@ class Trial:
         for trace, given in self.traces.items():
             for command in ("show", "join", "audit", "receipts"):
                 listed[f"{command} of the {trace} trace"] = ([command], given)
-        vectors = b"".join((HERE.parent / "examples/vectors.txt").read_bytes().splitlines(True)[:100])
+        vectors = b"".join((EXAMPLES / "vectors.txt").read_bytes().splitlines(True)[:100])
         listed["vectors"] = (["vectors"], vectors + b"80 00 00 = more\n")
         listed["show of a file"] = (["show", str(self.work / "small.trace")], b"")
         for words in ("show --json", "show --follow", "join --follow", "receipts --json --loose", "audit --json --check", "audit --follow"):
@@ -134,10 +136,6 @@ class Trial:
         return process.returncode, text, errors, mark.exists()
 
     # ---- what is seen
-
-    def differs(self, name, *what):
-        self.wrong += 1
-        print(f"NOT AS EXPECTED: {name}:", *what)
 
     def each(self, name, setting, look):
         """Runs `look` with the setting at 1, 2, .. until nothing was refused; it answers whether something was."""
@@ -252,6 +250,11 @@ class Trial:
 
     # ---- both ends
 
+    def new_host(self):
+        """A loopback address that no other run uses, so that nothing left of another run can reach this one."""
+        self.hosts += 1
+        return f"127.1.{self.hosts >> 8}.{self.hosts & 255}"
+
     def fails_each_of(self, end):
         def look_for(status):
             def look(at, **setting):
@@ -266,17 +269,17 @@ class Trial:
 
     def both_ends(self, name, tag, settings, status):
         """A till's run against a terminal, of which one may have something refused, and ends so then; whether it had."""
-        of_terminal, of_till = f"{tag}.terminal", f"{tag}.till"
+        of_terminal, of_till, host = f"{tag}.terminal", f"{tag}.till", self.new_host()
         terminal, terminal_mark = self.start(
-            ["terminal", "--port", "0", "--trace", "{}"], of_terminal, **settings.get("terminal", {})
+            ["terminal", "--host", host, "--port", "0", "--trace", "{}"], of_terminal, **settings.get("terminal", {})
         )
         says = terminal.stderr.readline()
-        listens = re.fullmatch(rb"zvt: a terminal listens at 127.0.0.1:(\d+)\n", says)
+        listens = re.fullmatch(rb"zvt: a terminal listens at %s:(\d+)\n" % host.encode(), says)
         till = None
         if listens:
-            words = ["till", "--port", listens[1].decode(), "--trace", "{}", *STEPS]
+            words = ["till", "--host", host, "--port", listens[1].decode(), "--trace", "{}", *STEPS]
             till = self.end_of(words, b"", of_till, **settings.get("till", {}))
-            release(int(listens[1]))
+            release(host, listens[1])
         _, more = terminal.communicate(timeout=SECONDS)
         says += more
         if till is None:
@@ -308,10 +311,12 @@ class Trial:
 
     def shows(self, name, tag, setting, status):
         """A till's run that shows what comes from a terminal which has all it needs; whether something was refused."""
-        terminal, _ = self.start(["terminal", "--port", "0", "--trace", "{}"], f"{tag}.terminal")
+        host = self.new_host()
+        terminal, _ = self.start(["terminal", "--host", host, "--port", "0", "--trace", "{}"], f"{tag}.terminal")
         port = re.search(rb":(\d+)\n", terminal.stderr.readline())[1].decode()
-        ended, text, errors, refused = self.end_of(["till", "--port", port, "--show", "--trace", "{}", *STEPS], b"", f"{tag}.till", **setting)
-        release(int(port))
+        words = ["till", "--host", host, "--port", port, "--show", "--trace", "{}", *STEPS]
+        ended, text, errors, refused = self.end_of(words, b"", f"{tag}.till", **setting)
+        release(host, port)
         terminal.communicate(timeout=SECONDS)
         if (ended, text) != (0, PAID) and not (refused and ended == status and is_prefix(text, PAID)):
             self.differs(name, ended, text, errors, refused)
@@ -326,32 +331,33 @@ class Trial:
         recorded = self.work / "recorded.trace"
         joined = subprocess.run([ZVT, "join", self.work / "between.till.trace"], stdout=subprocess.PIPE, check=True).stdout
         recorded.write_bytes(joined)
-        for name, words in (("a tap", ["tap", "--listen", "0", "--to", "127.0.0.1:{port}", "--trace", "{}"]),
-                            ("a side that is played", ["play", "--till", str(recorded), "--port", "{port}"])):
+        tapped = ["tap", "--listen", "{host}:0", "--to", "{host}:{port}", "--trace", "{}"]
+        played = ["play", "--till", str(recorded), "--host", "{host}", "--port", "{port}"]
+        for name, words in (("a tap", tapped), ("a side that is played", played)):
             for kind, setting, status in (("request refused", "REFUSED_REQUEST", 5), ("read failing", "FAILED_READ", 4), ("write failing", "FAILED_WRITE", 4)):
                 def look(at, words=words, name=name, kind=kind, status=status, **setting):
                     return self.between(f"{name}, {kind} {at}", f"between.{at}", words, setting, status)
 
                 self.each(f"{name}, each {kind}", setting, look)
-        self.between("a tap, a byte at a time", "between.one", ["tap", "--listen", "0", "--to", "127.0.0.1:{port}", "--trace", "{}"], {"WRITES_OF_ONE": 1}, 0)
+        self.between("a tap, a byte at a time", "between.one", tapped, {"WRITES_OF_ONE": 1}, 0)
 
     def between(self, name, tag, words, setting, status):
         """A run of the program at a terminal that has all it needs. Where it is a tap, a till like that runs through it. Answers
         whether something was refused."""
-        of_terminal, of_till = f"{tag}.terminal", f"{tag}.till"
-        terminal, _ = self.start(["terminal", "--port", "0", "--trace", "{}"], of_terminal)
+        of_terminal, of_till, host = f"{tag}.terminal", f"{tag}.till", self.new_host()
+        terminal, _ = self.start(["terminal", "--host", host, "--port", "0", "--trace", "{}"], of_terminal)
         port = re.search(rb":(\d+)\n", terminal.stderr.readline())[1].decode()
-        run, mark = self.start([word.replace("{port}", port) for word in words], tag, **setting)
+        run, mark = self.start([word.replace("{port}", port).replace("{host}", host) for word in words], tag, **setting)
         said, till = b"", (0, PAID, b"", False)
         if words[0] == "tap":
             said = run.stderr.readline()
-            listens = re.fullmatch(rb"zvt: a tap listens at 127.0.0.1:(\d+)\n", said)
+            listens = re.fullmatch(rb"zvt: a tap listens at %s:(\d+)\n" % host.encode(), said)
             till = (4, b"", b"", False)
             if listens:
-                till = self.end_of(["till", "--port", listens[1].decode(), "--trace", "{}", *STEPS], b"", of_till)
-                release(int(listens[1]))
+                till = self.end_of(["till", "--host", host, "--port", listens[1].decode(), "--trace", "{}", *STEPS], b"", of_till)
+                release(host, listens[1])
         text, more = run.communicate(timeout=SECONDS)
-        release(int(port))
+        release(host, port)
         terminal.communicate(timeout=SECONDS)
         refused, as_ever = mark.exists(), (run.returncode, till[:2]) == (0, (0, PAID))
         if not refused and not as_ever:
@@ -415,10 +421,10 @@ def limit_files(most):
     resource.setrlimit(resource.RLIMIT_FSIZE, (most, most))
 
 
-def release(port):
+def release(host, port):
     """Connects and goes, so that a terminal which no till has reached ends."""
     try:
-        socket.create_connection(("127.0.0.1", port), timeout=1).close()
+        socket.create_connection((host, int(port)), timeout=1).close()
     except OSError:
         pass
 

@@ -25,10 +25,9 @@ import audit_model
 import audit_output
 import journal_dialogues
 import journal_model
+from common import Checks, EXAMPLES, TOP, program
 
-HERE = pathlib.Path(__file__).resolve().parent
-TOP = HERE.parent
-PROGRAM = os.path.abspath(sys.argv[1]) if len(sys.argv) > 1 else str(TOP / "crates/zvt/out/zvt")
+PROGRAM = program(sys.argv[1:])
 DEBIAN_PYTHON = "/usr/bin/python3"
 DAYS, SHOPS, TILLS, BATCH = ("2026-11-24", "2026-11-25"), 10, 10, 5
 SECONDS = 120
@@ -36,13 +35,7 @@ BOOKS, DOUBTFUL_PAYMENTS, DOUBTFUL_REVERSALS, ROUND = 500, 10, 10, 5000
 UNREADABLE = "traces/2026-11-25/shop-03/till-07.trace"
 # The program, with a note of each run and a pause, so that a worker can be killed in the middle.
 SLOW = "#!/bin/sh\necho run >> '{calls}'\nsleep 0.2\nexec '{program}' \"$@\"\n"
-failed, said = [], []
-
-
-def check(name, found, wanted):
-    if found != wanted:
-        failed.append(name)
-        print(f"NOT AS EXPECTED: {name}: {found!r:.1000} instead of {wanted!r:.1000}")
+check, said = Checks(), []
 
 
 def commands():
@@ -204,7 +197,7 @@ class Fleet:
         check("a task ran again", runs_in(calls) > batches, True)
         check("the sums by shop", written.splitlines(), self.sums())
         check("the status, and what is not audited", (run.returncode, re.findall(r"fleet: '([^']*)' is not audited", errors)), (1, [UNREADABLE]))
-        done = subprocess.run([DEBIAN_PYTHON, TOP / "examples/fleet.py", self.folder / "bin"], capture_output=True, text=True, timeout=SECONDS)
+        done = subprocess.run([DEBIAN_PYTHON, EXAMPLES / "fleet.py", self.folder / "bin"], capture_output=True, text=True, timeout=SECONDS)
         check("a folder without traces", (done.returncode, done.stdout, "there is no FILE.trace" in done.stderr), (4, "", True))
         said.append(f"dask: a worker of two killed after {before} of {batches} tasks, {runs_in(calls)} runs in all")
 
@@ -267,8 +260,8 @@ def main():
         fleet.one_machine()
         fleet.database()
         fleet.many_machines()
-    print(f"{'NOT AS EXPECTED' if failed else 'ok'}: {len(fleet.audits) + 1} traces by {', '.join(said)}: {len(failed)} wrong")
-    return 1 if failed else 0
+    print(f"{check.verdict}: {len(fleet.audits) + 1} traces by {', '.join(said)}: {check.wrong} wrong")
+    return check.status
 
 
 if __name__ == "__main__":

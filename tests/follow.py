@@ -23,24 +23,17 @@ import time
 import journal_dialogues
 import json_model
 import random_traces
+from common import Checks, EXAMPLES, program
 
-HERE = pathlib.Path(__file__).resolve().parent
 GIGABYTE = "--gigabyte" in sys.argv[1:2]
 WORDS = sys.argv[2 if GIGABYTE else 1:]
-PROGRAM = os.path.abspath(WORDS[0]) if WORDS else str(HERE.parent / "crates/zvt/out/zvt")
+PROGRAM = program(WORDS)
 COMMANDS = [["show"], ["show", "--loose"], ["show", "--json"], ["join"], ["receipts"], ["receipts", "--json", "--loose"]]
 LINES, GROWN, PARTS = 1000, 50, 0.1
 SIZE, MOST_HELD = (1 << 30 if GIGABYTE else 1 << 26), 16 << 10  # bytes, and kilobytes
 SECONDS, AT_ONCE = 20, 0.003
-PAYMENT = (HERE.parent / "examples/payment.trace").read_bytes()
-failed = []
-
-
-def check(name, found, wanted):
-    if found != wanted:
-        failed.append(name)
-        print(f"NOT AS EXPECTED: {name}: {found!r:.500} instead of {wanted!r:.500}")
-    return found == wanted
+PAYMENT = (EXAMPLES / "payment.trace").read_bytes()
+check = Checks()
 
 
 def whole(words, trace):
@@ -234,9 +227,9 @@ def main():
         with tempfile.TemporaryDirectory() as folder:
             grows(folder)
     held = max(holds_little(words) for words in (["show"], ["join"]))
-    print(f"{'NOT AS EXPECTED' if failed else 'ok'}: {len(COMMANDS)} commands followed {LINES} lines each, and {SIZE >> 20} MB with "
-          f"{held} KB held: {len(failed)} wrong")
-    return 1 if failed else 0
+    print(f"{check.verdict}: {len(COMMANDS)} commands followed {LINES} lines each, and {SIZE >> 20} MB with "
+          f"{held} KB held: {check.wrong} wrong")
+    return check.status
 
 
 if __name__ == "__main__":

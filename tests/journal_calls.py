@@ -20,9 +20,9 @@ import sys
 import tempfile
 
 import journal_model
+from common import Checks, program
 
-HERE = pathlib.Path(__file__).resolve().parent
-ZVT = sys.argv[1] if len(sys.argv) > 1 else str(HERE.parent / "crates/zvt/out/zvt")
+ZVT = program(sys.argv[1:])
 TILL = sys.argv[2:]
 SECONDS = 60
 CALLS = "openat,close,dup,fcntl,connect,write,pwrite64,ftruncate,fsync,fdatasync,sendto,sendmsg"
@@ -151,14 +151,10 @@ def holds(book, step, what):
     return kind != "reverse" or (what == "reversed") == book.entries[int(number) - 1].reversed
 
 
-class Trial:
+class Trial(Checks):
     def __init__(self, work):
-        self.work, self.wrong, self.files, self.calls, self.syncs, self.port = work, 0, 0, 0, 0, None
-
-    def differs(self, *what):
-        self.wrong += 1
-        if self.wrong <= 10:
-            print("NOT AS EXPECTED:", *what)
+        super().__init__()
+        self.work, self.files, self.calls, self.syncs, self.port = work, 0, 0, 0, None
 
     def traces(self, words):
         """A run of the program under strace."""
@@ -212,9 +208,9 @@ class Trial:
         self.till(path, ["register"])
         if not TILL:
             self.loop(self.work / "loop", STEPS)
-        print(f"{'NOT AS EXPECTED' if self.wrong else 'ok'}: {self.calls} calls, {self.syncs} syncs of data, "
+        print(f"{self.verdict}: {self.calls} calls, {self.syncs} syncs of data, "
               f"{self.files} files that a loss of power may leave; {self.wrong} wrong")
-        return 1 if self.wrong else 0
+        return self.status
 
 
 def main():

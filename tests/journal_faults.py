@@ -22,9 +22,9 @@ import tempfile
 
 import journal_dialogues
 import journal_model
+from common import Checks, EXAMPLES, Listener, program
 
-HERE = pathlib.Path(__file__).resolve().parent
-ZVT = os.path.abspath(sys.argv[1]) if len(sys.argv) > 1 else str(HERE.parent / "crates/zvt/out/zvt")
+ZVT = program(sys.argv[1:])
 SECONDS = 60
 NOBODY = 65534
 BAD, FAILED = 3, 4  # the input is bad; a file or a device failed
@@ -64,14 +64,11 @@ def state_of(path):
     return found.st_mode, path.read_bytes() if stat.S_ISREG(found.st_mode) else None
 
 
-class Trial:
+class Trial(Checks):
     def __init__(self, work):
+        super().__init__()
         self.work, self.listener = work, Listener()
-        self.wrong, self.cases, self.skipped = 0, 0, []
-
-    def differs(self, name, *what):
-        self.wrong += 1
-        print(f"NOT AS EXPECTED: {name}:", *what)
+        self.cases, self.skipped = 0, []
 
     def runs(self, words, **given):
         words = [ZVT, *words]
@@ -120,7 +117,7 @@ class Trial:
         again = b"# reverse 7\n> 063006000000870001\n"
         wanted = [
             ("a text", "no journal", b"my notes\n"),
-            ("a trace", "no journal", (HERE.parent / "examples/payment.trace").read_bytes()),
+            ("a trace", "no journal", (EXAMPLES / "payment.trace").read_bytes()),
             ("a word", "no journal", b"ab"),
             ("two empty lines and a text", "no journal", b"\n\n" + b"x" * 300),
             ("another version", "", b"# zvt journal 2, currency 978\n\n"),
@@ -352,9 +349,9 @@ class Trial:
         self.read_only()
         self.full_disk()
         self.read_only_mount()
-        print(f"{'NOT AS EXPECTED' if self.wrong else 'ok'}: books that a till can't have: {self.cases} runs, "
+        print(f"{self.verdict}: books that a till can't have: {self.cases} runs, "
               f"{len(self.skipped)} skipped, {self.wrong} wrong")
-        return 1 if self.wrong else 0
+        return self.status
 
 
 def main():

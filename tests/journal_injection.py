@@ -17,6 +17,7 @@ import sys
 import fault_injection
 import journal_dialogues
 import journal_model
+from common import Checks
 from fault_injection import SECONDS, ZVT, is_prefix, release
 
 STEPS = ["register", "pay:1000", "reverse:1", "pay:20", "close"]
@@ -69,7 +70,8 @@ class Trial(fault_injection.Trial):
     """The runs with a book. Each has a book of its own, by its tag."""
 
     def __init__(self, work):
-        self.work, self.wrong = work, 0
+        Checks.__init__(self)
+        self.work, self.hosts = work, 0
 
     def run(self):
         self.each_of("a loop with a new book", ["loop", "--book", NEW, *STEPS])
@@ -77,7 +79,7 @@ class Trial(fault_injection.Trial):
         self.each_of("the book", ["book", OLD])
         self.each_of_till()
         print("all as expected" if self.wrong == 0 else f"{self.wrong} not as expected")
-        return 1 if self.wrong else 0
+        return self.status
 
     def each(self, name, setting, look):
         """As for the other runs; each run wants memory."""
@@ -163,10 +165,11 @@ class Trial(fault_injection.Trial):
         """A till's run with a book against a whole terminal; whether something was refused."""
         (kind,) = setting
         name, tag = f"a till with a book, {kind} {at}", f"till.{kind}.{at}"
-        terminal, _ = fault_injection.Trial.start(self, ["terminal", "--port", "0", "--trace", "{}"], f"{tag}.terminal")
+        host = self.new_host()
+        terminal, _ = fault_injection.Trial.start(self, ["terminal", "--host", host, "--port", "0", "--trace", "{}"], f"{tag}.terminal")
         port = terminal.stderr.readline().decode().strip().rsplit(":", 1)[1]
-        status, text, errors, refused = self.end_of(["till", "--port", port, "--book", NEW, *STEPS], b"", tag, **setting)
-        release(int(port))
+        status, text, errors, refused = self.end_of(["till", "--host", host, "--port", port, "--book", NEW, *STEPS], b"", tag, **setting)
+        release(host, port)
         terminal.communicate(timeout=SECONDS)
         if status != 0 and not (refused and ends_by(kind, status, errors)):
             self.differs(name, "it ends with", status, text, errors)

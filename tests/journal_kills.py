@@ -22,11 +22,11 @@ import sys
 import tempfile
 
 import journal_model
+from common import Checks, program
 from journal_model import RESULT, AMOUNT, TRACE, ORIGINAL, number_of, only
 
-HERE = pathlib.Path(__file__).resolve().parent
 KILLS = int(sys.argv[1]) if len(sys.argv) > 1 else 200
-ZVT = sys.argv[2] if len(sys.argv) > 2 else str(HERE.parent / "crates/zvt/out/zvt")
+ZVT = program(sys.argv[2:])
 SECONDS = 60
 KILLED = 137
 A_BOOK = 100  # kills, after which a new book is begun
@@ -151,17 +151,13 @@ class Terminal:
         self.process.communicate()
 
 
-class Trial:
+class Trial(Checks):
     def __init__(self, work, tracer):
+        super().__init__()
         self.work, self.tracer = work, tracer
-        self.wrong, self.kills, self.whole, self.amount = 0, 0, 0, 0
+        self.kills, self.whole, self.amount = 0, 0, 0
         self.where, self.marks = collections.Counter(), collections.Counter()
         self.sweeps, self.rounds = collections.Counter(), collections.Counter()  # the place of each, and how often it was over
-
-    def differs(self, *what):
-        self.wrong += 1
-        if self.wrong <= 20:
-            print("NOT AS EXPECTED:", *what)
 
     def pay(self):
         """A payment of an amount that no other has."""
@@ -310,9 +306,9 @@ class Trial:
         while self.kills < KILLS * 4 // 5 and self.wrong == 0:
             self.till_and_terminal(KILLS * 4 // 5)
         self.loops(KILLS)
-        print(f"{'NOT AS EXPECTED' if self.wrong else 'ok'}: {self.kills} kills and {self.whole} whole runs: "
+        print(f"{self.verdict}: {self.kills} kills and {self.whole} whole runs: "
               f"{dict(self.where)}; entries at the end {dict(self.marks)}; {self.wrong} wrong")
-        return 1 if self.wrong else 0
+        return self.status
 
 
 def main():

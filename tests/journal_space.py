@@ -21,10 +21,10 @@ import tempfile
 
 import journal_dialogues
 import journal_model
+from common import Checks, program
 from journal_model import ACK, COMPLETION, message, status
 
-HERE = pathlib.Path(__file__).resolve().parent
-ZVT = os.path.abspath(sys.argv[1]) if len(sys.argv) > 1 else str(HERE.parent / "crates/zvt/out/zvt")
+ZVT = program(sys.argv[1:])
 SECONDS = 20
 PAGE = 4096
 RESERVE = 16  # pages that a till holds back
@@ -106,14 +106,11 @@ def fill(folder, keep=0):
         os.truncate(folder / "filler", max(0, size - keep * PAGE))
 
 
-class Trial:
+class Trial(Checks):
     def __init__(self, folder):
+        super().__init__()
         self.folder, self.path = folder, folder / "book"
-        self.runs, self.wrong, self.refused = 0, 0, 0
-
-    def differs(self, *what):
-        self.wrong += 1
-        print("NOT AS EXPECTED:", *what)
+        self.runs, self.refused = 0, 0
 
     def pays(self, name, file, fills):
         """A till with a book of these bytes registers and pays. The disk is filled before, and once the payment was ordered. It
@@ -177,8 +174,8 @@ class Trial:
     def run(self):
         self.at_each_byte()
         self.before_it()
-        print(f"{'NOT AS EXPECTED' if self.wrong else 'ok'}: payments on a disk that fills up: {self.runs} runs, {self.refused} refused before they were sent, {self.wrong} wrong")
-        return 1 if self.wrong else 0
+        print(f"{self.verdict}: payments on a disk that fills up: {self.runs} runs, {self.refused} refused before they were sent, {self.wrong} wrong")
+        return self.status
 
 
 def main():

@@ -21,9 +21,9 @@ import tempfile
 
 import journal_dialogues
 import journal_model
+from common import Checks, program
 
-HERE = pathlib.Path(__file__).resolve().parent
-ZVT = sys.argv[1] if len(sys.argv) > 1 else str(HERE.parent / "crates/zvt/out/zvt")
+ZVT = program(sys.argv[1:])
 EVERY = int(sys.argv[2]) if len(sys.argv) > 2 else 1
 SECONDS = 60
 GATES = b"\n\0"  # what a torn write of a gate leaves at the end of a file
@@ -81,14 +81,10 @@ def run(words, **given):
     return subprocess.run([ZVT, *words], stdout=subprocess.PIPE, stderr=subprocess.PIPE, close_fds=False, timeout=SECONDS, **given)
 
 
-class Trial:
+class Trial(Checks):
     def __init__(self, work):
-        self.work, self.wrong, self.read, self.opened, self.audited = work, 0, 0, 0, 0
-
-    def differs(self, *what):
-        self.wrong += 1
-        if self.wrong <= 20:
-            print("NOT AS EXPECTED:", *what)
+        super().__init__()
+        self.work, self.read, self.opened, self.audited = work, 0, 0, 0
 
     def reads(self, number, dialogue, file, book):
         """The model and `zvt book` read the same of a file."""

@@ -13,7 +13,6 @@ are there. Each event of docs/JSON.md is one of the model's. The status is 1 whe
 import itertools
 import json
 import os
-import pathlib
 import random
 import re
 import shutil
@@ -24,11 +23,11 @@ import warnings
 import journal_dialogues
 import json_model
 import random_traces
+from common import Checks, EXAMPLES, TOP, program
 
-HERE = pathlib.Path(__file__).resolve().parent
 TEXT_ALONE = "--text" in sys.argv[1:2]
 WORDS = sys.argv[2 if TEXT_ALONE else 1:]
-PROGRAM = os.path.abspath(WORDS[0]) if WORDS else str(HERE.parent / "crates/zvt/out/zvt")
+PROGRAM = program(WORDS)
 SEED, VALID, HOSTILE, OF_SCHEMA = 20261126, 3000, 3000, 1000
 MOST = 4_000_000  # bytes of a trace that many others are put into
 # Events that docs/JSON.md writes, line 3 and on of a trace each.
@@ -60,13 +59,7 @@ NO_LINES = [
     {"unclear": {"amount": 1, "cause": "Lost"}}, {"unclear": {"amount": 1, "cause": "Line", "line": 0}}, {"total": -1}, {"bad": -1, "messages": 1, "total": 1},
     {"bad": 0, "currency": "978", "messages": 1, "total": 1}, {"bad": 0, "currency": None, "messages": 1, "total": 1},
 ]
-failed, counts, validated = [], {"traces": 0, "lines": 0}, []
-
-
-def fault(name, *what):
-    failed.append(name)
-    if len(failed) <= 20:
-        print(f"NOT AS EXPECTED: {name}:", *what)
+check, counts, validated = Checks(), {"traces": 0, "lines": 0}, []
 
 
 def run(words, given):
@@ -92,7 +85,7 @@ def compare(name, words, trace, wanted):
     if found != wanted:
         rows = itertools.zip_longest(found[1].split(b"\n"), wanted[1].split(b"\n"))
         at = next((pair for pair in rows if pair[0] != pair[1]), "no line")
-        fault(f"{name}: {' '.join(words)}", f"status {found[0]} instead of {wanted[0]}; the line and what it should be: {at}")
+        check.differs(f"{name}: {' '.join(words)}", f"status {found[0]} instead of {wanted[0]}; the line and what it should be: {at}")
     return noted.decode()
 
 
@@ -118,11 +111,11 @@ def hold_to_others(name, trace, loose, events, noted):
     """The lines, bytes and sizes of JSON are those that standard error says, and that the messages have which are joined."""
     wanted, found = sorted(map(note_of, filter(is_bad, events))), notes_in(noted)
     if found != wanted:
-        fault(name, "standard error", set(wanted) ^ set(found))
+        check.differs(name, "standard error", set(wanted) ^ set(found))
     joined = run(["normalise" if loose else "join"], trace)[1].decode().splitlines()
     sizes = [(line[0], len(line) // 2 - 1) for line in joined if line[:1] in "<>"]
     if sizes != [(json_model.MARKS[event["from"]], event["size"]) for event in events if "size" in event]:
-        fault(name, "the sizes of messages")
+        check.differs(name, "the sizes of messages")
 
 
 def hold_resync(name, trace, loose):
@@ -131,7 +124,7 @@ def hold_resync(name, trace, loose):
     text = "".join(row + "\n" for event in events for row in json_model.text_of(event))
     noted = compare(name, ["show", "--resync", *loose], trace, [status, text.encode("ascii")])
     if notes_in(noted) != sorted(map(note_of, filter(is_bad, events))):
-        fault(name, "standard error with --resync")
+        check.differs(name, "standard error with --resync")
     if not TEXT_ALONE:
         lines = [json_model.json_of(event) for event in events]
         compare(name, ["show", "--json", "--resync", *loose], trace, [status, "".join(line + "\n" for line in lines).encode("ascii")])
@@ -171,7 +164,7 @@ def batches(traces):
 
 def vectors():
     """Each vector on a line, by both sides in turn."""
-    for number, line in enumerate((HERE.parent / "examples/vectors.txt").read_text("ascii").splitlines()):
+    for number, line in enumerate((EXAMPLES / "vectors.txt").read_text("ascii").splitlines()):
         if line and not line.startswith("#"):
             yield f"{'<>'[number % 2]} {line.split('=')[0]}\n!\n".encode()
 
@@ -190,7 +183,7 @@ def large(chance):
 
 def whole_traces():
     """Traces that are given to the program one by one."""
-    for path in sorted(HERE.parent.glob("examples/**/*.trace")):
+    for path in sorted(EXAMPLES.glob("**/*.trace")):
         yield path.name, path.read_bytes()
     for dialogue in journal_dialogues.ALL:
         journal = journal_dialogues.written(dialogue).file()
@@ -201,7 +194,7 @@ def whole_traces():
 
 def objects_of_document(events=False):
     """The objects that docs/JSON.md writes, or those of its events alone; one that ends with dots is left unfinished there."""
-    text = (HERE.parent / "docs/JSON.md").read_text()
+    text = (TOP / "docs/JSON.md").read_text()
     return re.findall(r'(?:`|^    )(\{".*?\})(?:`|$)', text.split("\n## Books\n")[0] if events else text, re.M)
 
 
@@ -210,7 +203,7 @@ def documented():
     written = [event for trace in DOCUMENTED for resync in (False, True) for event in told(trace, False, resync)[0]]
     shown = objects_of_document(events=True)
     if len(shown) != 7:
-        fault("docs/JSON.md", f"it has {len(shown)} events")
+        check.differs("docs/JSON.md", f"it has {len(shown)} events")
     for text in shown:
         if text.endswith(",..}"):
             part = json.loads(text.replace(",..}", "}"))
@@ -218,14 +211,14 @@ def documented():
         else:
             holds = text in map(json_model.json_of, written)
         if not holds:
-            fault("docs/JSON.md", f"the model does not write {text}")
+            check.differs("docs/JSON.md", f"the model does not write {text}")
 
 
 def reads_back():
     """Python's json reads each line, and writes it as it was."""
     for line in validated:
         if json_model.json_of(json.loads(line)) != line or not line.isascii():
-            fault("json", line)
+            check.differs("json", line)
 
 
 def fits_schema():
@@ -236,7 +229,7 @@ def fits_schema():
             import jsonschema
         except ImportError:
             return "no schema held, since python3 has no jsonschema"
-    schema = json.loads((HERE.parent / "docs/zvt.schema.json").read_text())
+    schema = json.loads((TOP / "docs/zvt.schema.json").read_text())
     jsonschema.Draft202012Validator.check_schema(schema)
     checker = jsonschema.Draft202012Validator(schema)
     some = validated[::max(1, len(validated) // OF_SCHEMA)]
@@ -244,13 +237,13 @@ def fits_schema():
         value = json.loads(line)
         for one in (value, {"file": "a.trace", **value}):
             if not checker.is_valid(one):
-                fault("docs/zvt.schema.json", f"it refuses {line[:300]}")
+                check.differs("docs/zvt.schema.json", f"it refuses {line[:300]}")
     for text in objects_of_document():
         if not text.endswith(",..}") and not checker.is_valid(json.loads(text)):
-            fault("docs/zvt.schema.json", f"it refuses {text}")
+            check.differs("docs/zvt.schema.json", f"it refuses {text}")
     for value in NO_LINES:
         if checker.is_valid(value):
-            fault("docs/zvt.schema.json", f"it takes {value}")
+            check.differs("docs/zvt.schema.json", f"it takes {value}")
     return f"{len(some)} held against the schema"
 
 
@@ -260,7 +253,7 @@ def same_by_jq():
     text = "".join(line + "\n" for line in validated)
     done = subprocess.run(["jq", "-cS", "."], input=text, capture_output=True, text=True, timeout=100)
     if done.stdout != text:
-        fault("jq", done.stderr or "it writes another text")
+        check.differs("jq", done.stderr or "it writes another text")
     return "jq writes each as it is"
 
 
@@ -282,9 +275,9 @@ def main():
             hold(f"{name}, batch {number}", trace)
     reads_back()
     said = f"{fits_schema()}, {same_by_jq()}"
-    print(f"{'NOT AS EXPECTED' if failed else 'ok'}: {counts['traces']} traces, {counts['lines']} lines of them, {said}"
-          f"{', the text alone' if TEXT_ALONE else ''}: {len(failed)} wrong")
-    return 1 if failed else 0
+    print(f"{check.verdict}: {counts['traces']} traces, {counts['lines']} lines of them, {said}"
+          f"{', the text alone' if TEXT_ALONE else ''}: {check.wrong} wrong")
+    return check.status
 
 
 if __name__ == "__main__":

@@ -21,9 +21,9 @@ import sys
 import tempfile
 import time
 
-HERE = pathlib.Path(__file__).resolve().parent
-EXAMPLES = HERE.parent / "examples"
-PROGRAM = os.path.abspath(sys.argv[1]) if len(sys.argv) > 1 else str(HERE.parent / "crates/zvt/out/zvt")
+from common import Checks, EXAMPLES, program
+
+PROGRAM = program(sys.argv[1:])
 ODD_NAME = 'a "till" \\ \u00e4 \U0001F600.trace'
 INPUT = (EXAMPLES / "messages/terminal.trace").read_bytes()
 COMMANDS = [
@@ -32,19 +32,13 @@ COMMANDS = [
     ["book"], ["book", "--json"],
 ]
 RANDOM_LISTS = 6
-failed, runs = [], []
+check, runs = Checks(), []
 
 
 def run(words, folder):
     runs.append(words)
     done = subprocess.run([PROGRAM, *words], cwd=folder, input=INPUT, capture_output=True, timeout=60)
     return done.returncode, done.stdout, done.stderr.decode()
-
-
-def check(name, found, wanted):
-    if found != wanted:
-        failed.append(name)
-        print(f"NOT AS EXPECTED: {name}: {found} instead of {wanted}")
 
 
 def named(name, line, as_json):
@@ -186,8 +180,8 @@ def main():
         knows_currencies(pathlib.Path(folder))
         progresses(folder)
     refuses()
-    print(f"{'NOT AS EXPECTED' if failed else 'ok'}: {len(COMMANDS)} commands, {len(runs)} runs, {len(failed)} wrong")
-    return 1 if failed else 0
+    print(f"{check.verdict}: {len(COMMANDS)} commands, {len(runs)} runs, {check.wrong} wrong")
+    return check.status
 
 
 if __name__ == "__main__":

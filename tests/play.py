@@ -10,18 +10,17 @@ the other side is changed, and the difference is told at its line. Lost lines, w
 follow. The status is 1 where anything is not as expected.
 """
 import concurrent.futures
-import os
 import pathlib
 import random
-import re
 import socket
 import subprocess
 import sys
 import tempfile
 import time
 
-HERE = pathlib.Path(__file__).resolve().parent
-PROGRAM = os.path.abspath(sys.argv[1]) if len(sys.argv) > 1 else str(HERE.parent / "crates/zvt/out/zvt")
+from common import Checks, EXAMPLES, Listener, program
+
+PROGRAM = program(sys.argv[1:])
 DIALOGUES = int(sys.argv[2]) if len(sys.argv) > 2 else 30
 SECONDS = 20
 REGISTRATION, REGISTERED = "06 00 06 00 00 00 BE 09 78", "80 00 00 06 0F 08 29 12 34 56 78 49 09 78"
@@ -29,26 +28,7 @@ AUTHORISATION = "06 01 07 04 00 00 00 00 10 00"
 STATUS, REVERSAL = "04 0F 09 27 00 0B {} 87 {}", "06 30 06 00 00 00 87 {}"
 A_MARK = "expected a mark, e.g. '#~ silent', '#~ 1500', '#~ listen 2000', '#~ bind 87 n1', '#~ same 37 n1' or '#~ use 87 n1'"
 NO_FIELD = "no own line that ends with this field comes next: give one, of 258 bytes at most, e.g. '> 06 30 06 00 00 00 87 00 01'"
-failed, plays = [], 0
-
-
-def check(name, found, wanted):
-    if found != wanted:
-        failed.append(name)
-        print(f"NOT AS EXPECTED: {name}: {found!r:.600} instead of {wanted!r:.600}")
-
-
-class Listener:
-    """A command that listens: its port, and how it ended."""
-
-    def __init__(self, *words):
-        self.process = subprocess.Popen([PROGRAM, *words], stdout=subprocess.PIPE, stderr=subprocess.PIPE, text=True)
-        self.port = re.search(r":(\d+)$", self.process.stderr.readline())
-        self.port = int(self.port[1]) if self.port else 0
-
-    def ended(self):
-        said, errors = self.process.communicate(timeout=SECONDS)
-        return self.process.returncode, said, errors
+check, plays = Checks(), 0
 
 
 def run(*words):
@@ -63,7 +43,7 @@ def till(port, steps, *words):
 def play_terminal(trace, *words):
     global plays
     plays += 1
-    return Listener("play", "--terminal", str(trace), "--listen", "0", *words)
+    return Listener([PROGRAM, "play", "--terminal", str(trace), "--listen", "0", *words], SECONDS)
 
 
 def play_till(trace, port):
@@ -93,7 +73,7 @@ def random_steps(chance):
 def record(folder, number, steps, words):
     """The traces of both ends, and what the till and the terminal came to."""
     traces = [folder / f"{number}.till", folder / f"{number}.terminal"]
-    terminal = Listener("terminal", "--port", "0", "--trace", str(traces[1]), *words)
+    terminal = Listener([PROGRAM, "terminal", "--port", "0", "--trace", str(traces[1]), *words], SECONDS)
     paid = till(terminal.port, steps, "--trace", str(traces[0]))
     return traces, paid, terminal.ended()[0]
 
@@ -103,7 +83,7 @@ def plays_both(name, trace, steps, words, paid, served):
     terminal = play_terminal(trace)
     check(f"{name}: the till", till(terminal.port, steps)[:2], paid[:2])
     check(f"{name}: as a terminal", terminal.ended()[:2], (0, ""))
-    other = Listener("terminal", "--port", "0", *words)
+    other = Listener([PROGRAM, "terminal", "--port", "0", *words], SECONDS)
     check(f"{name}: as a till", play_till(trace, other.port), (0, "", ""))
     check(f"{name}: the terminal", other.ended()[0], served)
 
@@ -138,7 +118,7 @@ def differs(name, chance, trace, steps, words, folder):
     status, said, errors = terminal.ended()
     check(f"{name}: another till", (status, said.split("\n")[0], errors), (1, f"line {line} awaits", ""))
     copy, line = changed(chance, trace, "<", folder)
-    other = Listener("terminal", "--port", "0", *words)
+    other = Listener([PROGRAM, "terminal", "--port", "0", *words], SECONDS)
     status, said, errors = play_till(copy, other.port)
     other.ended()
     check(f"{name}: another terminal", (status, said.split("\n")[0], errors), (1, f"line {line} awaits", ""))
@@ -177,7 +157,7 @@ OF_TILLS = {"messages/authorisation": 1, "messages/till": 1, "messages/refused":
 def examples():
     """Each example is played as either side, and messages that no program here sends as the side that they are of. A trace whose
     other side sends what is no message is refused before anything is opened, at that line."""
-    known = HERE.parent / "examples"
+    known = EXAMPLES
     found = sorted(str(it.relative_to(known).with_suffix("")) for it in known.glob("**/*.trace"))
     check("the examples", sorted([*DIALOGUES_SHOWN, *OF_TERMINALS, *OF_TILLS]), found)
     for name, (words, wanted, total) in {**DIALOGUES_SHOWN, **OF_TERMINALS}.items():
@@ -185,7 +165,7 @@ def examples():
         _, said, _ = till(kit.port, words)
         check(f"{name}, as the terminal", (kit.ended(), said.splitlines()), ((0, "", ""), [*wanted, f"total {total}"]))
     for name, connections in {**dict.fromkeys(DIALOGUES_SHOWN, 1), **OF_TILLS}.items():
-        terminal = Listener("terminal", "--port", "0", "--connections", str(connections))
+        terminal = Listener([PROGRAM, "terminal", "--port", "0", "--connections", str(connections)], SECONDS)
         check(f"{name}, as the till", play_till(known / f"{name}.trace", terminal.port), (0, "", ""))
         terminal.ended()
     for name, side, line in (("padded", "till", 6), ("refused", "terminal", 5)):
@@ -283,7 +263,7 @@ def lost_lines(folder):
             send(line, "80 00 00")
             check(f"line {number} is broken", line.recv(1), b"")
     check("lost lines as a terminal", terminal.ended()[:2], (0, ""))
-    other = Listener("terminal", "--port", "0", "--connections", "2")
+    other = Listener([PROGRAM, "terminal", "--port", "0", "--connections", "2"], SECONDS)
     check("lost lines as a till", play_till(trace, other.port), (0, "", ""))
     check("a terminal that lost lines", other.ended()[0], 0)
 
@@ -386,5 +366,5 @@ with tempfile.TemporaryDirectory() as name:
     lost_lines(folder)
     numbers(folder)
     wrong(folder)
-print(f"{len(failed)} not as expected" if failed else f"ok: {plays} plays, {2 * DIALOGUES} traces on either side")
-sys.exit(1 if failed else 0)
+print(f"{check.wrong} not as expected" if check.failed else f"ok: {plays} plays, {2 * DIALOGUES} traces on either side")
+sys.exit(check.status)

@@ -24,25 +24,16 @@ import tempfile
 import threading
 import time
 
-HERE = pathlib.Path(__file__).resolve().parent
-EXAMPLES = HERE.parent / "examples"
+from common import Checks, EXAMPLES, program
+
 MANY = "--many" in sys.argv[1:2]
 WORDS = sys.argv[2 if MANY else 1:]
-PROGRAM = os.path.abspath(WORDS[0]) if WORDS else str(HERE.parent / "crates/zvt/out/zvt")
+PROGRAM = program(WORDS)
 LINES, IN_A_ROW = (10_000, 1_000) if MANY else (300, 50)
 SECONDS = 20
 HELD, UNREAD = 1 << 14, 64 << 20  # bytes that a side's socket holds while it reads nothing, and more than all sockets hold
 STEPS = ["register", "pay:1000", "reverse:1", "pay:250", "close"]
-failed, checks = [], 0
-
-
-def check(name, found, wanted):
-    global checks
-    checks += 1
-    if found != wanted:
-        failed.append(name)
-        print(f"NOT AS EXPECTED: {name}: {found!r:.400} instead of {wanted!r:.400}")
-    return found == wanted
+check = Checks()
 
 
 def run(words, trace=b""):
@@ -513,8 +504,8 @@ def main():
     for part in (programs, at_once, half_closed, resets, parts, missing, traces, no_output, no_reports, refused_connections, in_a_row, cut_lines):
         part()
     both.join()
-    print(f"tap: {checks} checks, {LINES} lines cut anywhere, {IN_A_ROW} in a row" + (f"; NOT AS EXPECTED: {len(failed)}" if failed else ""))
-    return 1 if failed else 0
+    print(f"tap: {check.count} checks, {LINES} lines cut anywhere, {IN_A_ROW} in a row" + (f"; NOT AS EXPECTED: {check.wrong}" if check.failed else ""))
+    return check.status
 
 
 if __name__ == "__main__":

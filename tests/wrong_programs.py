@@ -7,14 +7,13 @@ PROGRAM, which plays the situations, is the one that `rt ci` built, unless anoth
 without a fault pass each of these situations. The status is 1 where a program is not found by it.
 """
 import concurrent.futures
-import os
-import pathlib
 import re
 import subprocess
 import sys
 
-TOP = pathlib.Path(__file__).resolve().parent.parent
-PROGRAM = os.path.abspath(sys.argv[1]) if len(sys.argv) > 1 else str(TOP / "crates/zvt/out/zvt")
+from common import TOP, program
+
+PROGRAM = program(sys.argv[1:])
 WRONG = TOP / "tests/wrong"
 
 
