@@ -5,7 +5,7 @@ use Rattle.zvt_till.specs.declared.happenings.Happening.{Happening}
 use Rattle.zvt_till.specs.declared.happenings.Happening.TheVariants.{Connected, Sent as SentOut, Lost}
 use Rattle.zvt_till.specs.declared.orders.Order.{Order}
 use Rattle.zvt_till.specs.declared.orders.OrderRefusal.{OrderRefusal}
-use Rattle.zvt_till.specs.Events.{hears, run_settings}
+use Rattle.zvt_till.specs.Events.{hears}
 use Rattle.zvt_till.specs.Refusals.{refusal, sent_as}
 use Rattle.zvt_till.specs.Sending.{Settings}
 use Rattle.zvt_till.specs.Till.{TillState, accept, facts_of, meet, new_till, state_after, step}
@@ -15,14 +15,14 @@ use Rattle.zvt_term.specs.declared.world.Move.{Move}
 use Rattle.zvt_term.specs.declared.world.Move.TheVariants.{Connect, Order as Ordered, ToTerminal, ToTill, TillLost, TerminalLost}
 use Rattle.zvt_term.specs.Orderly.{IsAccounted}
 use Rattle.zvt_term.specs.Returned.{KeepsReversals}
-use Rattle.zvt_term.specs.World.{Ends, Matches, move, orders, reaches_terminal, reaches_till}
+use Rattle.zvt_term.specs.World.{Ends, Matches, move, orders, reaches_terminal, reaches_till, world_with}
 use Rattle.zvt_term.specs.declared.turns.Verdict.{Verdict}
 use Rattle.zvt_term.proofs.Accounting.{orderly_worlds_account}
 use Rattle.zvt_term.proofs.Returned.{orderly_worlds_keep_reversals}
 use Rattle.zvt_term.proofs.WorldMeans.{worlds_match}
 use Rattle.zvt_journal.specs.Text.{recovered}
 use Rattle.zvt_kept.specs.KeptTill.{unless_up}
-use Rattle.zvt_kept.specs.Crashes.{CrashesAccount, CrashesAreLosses, CrashesKeepReversals, CrashesMatch, FilesAreWorlds, KeptEnds, KeptMove, crashed, crashes, crashes_in, ends_of, kept_move, kept_world, log_after, message_logged, moved, moves, new_kept, order_logged, without_crash, without_crashes}
+use Rattle.zvt_kept.specs.Crashes.{CrashesAccount, CrashesAreLosses, CrashesKeepReversals, CrashesMatch, FilesAreWorlds, KeptEnds, KeptMove, crashed, crashes, crashes_in, kept_move, kept_world, log_after, message_logged, moved, moves, new_kept, order_logged, without_crash, without_crashes}
 use Rattle.zvt_kept.proofs.Logged.{lost_twice}
 use Rattle.zvt_kept.proofs.Recovered.{logs_are_one}
 use Rattle.zvt_kept.proofs.Relived.{heard_up}
@@ -135,7 +135,7 @@ module _ (settings : Settings) where
   all_are k (m ∷ all) is =
       all_are (kept_move settings k m) all (kept_is k m is) ∙ ap (λ w. fold move w (without_crashes all)) (one_is k m is) ∙ sym (folded k.ends (without_crash m) (without_crashes all))
 
-  pub same_ends : (all : List KeptMove) → (kept_world settings all).ends ≡ fold move (ends_of settings) (without_crashes all)
+  pub same_ends : (all : List KeptMove) → (kept_world settings all).ends ≡ world_with settings (without_crashes all)
   same_ends all = all_are (new_kept settings) all refl
 
 pub crashes_are_losses : CrashesAreLosses
@@ -152,10 +152,12 @@ files_are_worlds settings all file till stands recovers =
     recovers.stands.1 ∙ ap (λ (l : List Happening). state_after settings (l ++ Lost ∷ [])) same ∙ sym (ap (λ (k : KeptEnds). k.ends.till) (crash_after settings (new_kept settings) all))
 
 pub crashes_match : CrashesMatch
-crashes_match all fit = subst (λ e. Matches e.till e.terminal.ledger) (sym (same_ends run_settings all)) (worlds_match (without_crashes all) fit)
+crashes_match settings all few fit = subst (λ e. Matches e.till e.terminal.ledger) (sym (same_ends settings all)) (worlds_match settings (without_crashes all) few fit)
 
 pub crashes_account : CrashesAccount
-crashes_account all fit orderly = subst (λ e. IsAccounted e.till e.terminal.ledger) (sym (same_ends run_settings all)) (orderly_worlds_account (without_crashes all) fit orderly)
+crashes_account settings all few fit orderly =
+    subst (λ e. IsAccounted e.till e.terminal.ledger) (sym (same_ends settings all)) (orderly_worlds_account settings (without_crashes all) few fit orderly)
 
 pub crashes_keep_reversals : CrashesKeepReversals
-crashes_keep_reversals all fit orderly = subst (λ e. KeepsReversals e.till e.terminal.ledger) (sym (same_ends run_settings all)) (orderly_worlds_keep_reversals (without_crashes all) fit orderly)
+crashes_keep_reversals settings all few fit orderly =
+    subst (λ e. KeepsReversals e.till e.terminal.ledger) (sym (same_ends settings all)) (orderly_worlds_keep_reversals settings (without_crashes all) few fit orderly)

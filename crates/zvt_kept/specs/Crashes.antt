@@ -5,16 +5,16 @@ use Rattle.zvt_till.specs.declared.happenings.Happening.{Happening}
 use Rattle.zvt_till.specs.declared.happenings.Happening.TheVariants.{Connected, Sent as SentOut, Lost}
 use Rattle.zvt_till.specs.declared.orders.Order.{Order}
 use Rattle.zvt_till.specs.declared.orders.OrderRefusal.{OrderRefusal}
-use Rattle.zvt_till.specs.Events.{hears, run_settings}
+use Rattle.zvt_till.specs.Events.{hears}
 use Rattle.zvt_till.specs.Refusals.{refusal, sent_as}
 use Rattle.zvt_till.specs.Sending.{Settings}
-use Rattle.zvt_till.specs.Till.{facts_of, new_till, state_after}
+use Rattle.zvt_till.specs.Till.{facts_of, state_after}
 use Rattle.zvt_till.specs.View.{TillValue}
 use Rattle.zvt_term.specs.declared.world.Move.{Move}
 use Rattle.zvt_term.specs.declared.world.Move.TheVariants.{Connect, Order as Ordered, ToTerminal, ToTill, TillLost, TerminalLost}
-use Rattle.zvt_term.specs.Orderly.{IsAccounted, are_orderly}
+use Rattle.zvt_term.specs.Orderly.{IsAccounted, are_orderly_with}
 use Rattle.zvt_term.specs.Returned.{KeepsReversals}
-use Rattle.zvt_term.specs.World.{Ends, FitMoves, Matches, move, new_ends}
+use Rattle.zvt_term.specs.World.{Ends, FitMoves, HasCurrency, Matches, ends_with, move, world_with}
 use Rattle.zvt_journal.specs.Text.{recovered}
 use Rattle.zvt_kept.specs.Logs.{StandsFor}
 use Rattle.zvt_kept.specs.Recovery.{Recovers}
@@ -31,13 +31,9 @@ pub record KeptEnds : Type 0 where
   pub ends : Ends
   pub log : List Happening
 
--- both ends of a line with a new till of these settings
-abbrev pub ends_of : Settings → Ends
-ends_of settings = record new_ends { till = new_till settings }
-
 -- a new journal is that of a till that has no line yet
 abbrev pub new_kept : Settings → KeptEnds
-new_kept settings = record { ends = ends_of settings; log = Connected ∷ [] }
+new_kept settings = record { ends = ends_with settings; log = Connected ∷ [] }
 
 abbrev pub order_logged : Settings → List Happening → Order → Option OrderRefusal → List Happening
 order_logged settings log order None = log ++ SentOut (sent_as settings.currency order) ∷ []
@@ -83,7 +79,7 @@ without_crashes (m ∷ more) = without_crash m ++ without_crashes more
 
 -- After a crash and recovery both ends are as after a lost line, whatever the till's settings.
 abbrev pub CrashesAreLosses : Type 0
-CrashesAreLosses = (settings : Settings) (all : List KeptMove) → (kept_world settings all).ends ≡ fold move (ends_of settings) (without_crashes all)
+CrashesAreLosses = (settings : Settings) (all : List KeptMove) → (kept_world settings all).ends ≡ world_with settings (without_crashes all)
 
 -- A file that stands for the log of both ends recovers to the till that they have after a crash.
 abbrev pub FilesAreWorlds : Type 0
@@ -92,20 +88,22 @@ FilesAreWorlds =
     → StandsFor settings.currency (recovered file) (kept_world settings all).log → Recovers settings (recovered file) (Ok till)
     → till.state ≡ (kept_world settings (all ++ crashes ∷ [])).ends.till
 
--- With crashes too, each entry of the till's book is an approval of the terminal's ledger of its own.
+-- With crashes too, whatever the till's settings, each entry of its book is an approval of the terminal's ledger of its own.
 abbrev pub CrashesMatch : Type 0
 CrashesMatch =
-    (all : List KeptMove) → FitMoves (without_crashes all)
-    → Matches (kept_world run_settings all).ends.till (kept_world run_settings all).ends.terminal.ledger
+    (settings : Settings) (all : List KeptMove) → HasCurrency settings → FitMoves (without_crashes all)
+    → Matches (kept_world settings all).ends.till (kept_world settings all).ends.terminal.ledger
 
 -- With crashes too, over lines that keep order, each approval of an amount is booked, unclear or still awaited.
 abbrev pub CrashesAccount : Type 0
 CrashesAccount =
-    (all : List KeptMove) → FitMoves (without_crashes all) → IsTrue (are_orderly (without_crashes all))
-    → IsAccounted (kept_world run_settings all).ends.till (kept_world run_settings all).ends.terminal.ledger
+    (settings : Settings) (all : List KeptMove) → HasCurrency settings → FitMoves (without_crashes all)
+    → IsTrue (are_orderly_with settings (without_crashes all))
+    → IsAccounted (kept_world settings all).ends.till (kept_world settings all).ends.terminal.ledger
 
 -- With crashes too, over lines that keep order, the till knows of each payment that the terminal took back.
 abbrev pub CrashesKeepReversals : Type 0
 CrashesKeepReversals =
-    (all : List KeptMove) → FitMoves (without_crashes all) → IsTrue (are_orderly (without_crashes all))
-    → KeepsReversals (kept_world run_settings all).ends.till (kept_world run_settings all).ends.terminal.ledger
+    (settings : Settings) (all : List KeptMove) → HasCurrency settings → FitMoves (without_crashes all)
+    → IsTrue (are_orderly_with settings (without_crashes all))
+    → KeepsReversals (kept_world settings all).ends.till (kept_world settings all).ends.terminal.ledger

@@ -66,8 +66,8 @@ pub fn tills_are_recovered<D: Device>()
 /// With any settings of the till, a crash and the recovery from its journal have the same effect on both ends as a
 /// lost connection. Recovery restores exactly the till that a lost connection would leave.
 ///
-/// So what holds of both ends holds with crashes, at the default settings: each entry of the till's book is an approval of the
-/// terminal's ledger of its own. Over lines that keep order no approval, and no payment that was taken back, is dropped.
+/// So what holds of both ends holds with crashes: each entry of the till's book is an approval of its own in the terminal's
+/// ledger. Over lines that keep order no approval, and no payment that was taken back, is dropped.
 pub fn crashes_are_losses()
     ensures same { CrashesAreLosses }
     ensures files { FilesAreWorlds }

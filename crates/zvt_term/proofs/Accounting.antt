@@ -11,7 +11,8 @@ use Rattle.zvt_till.specs.declared.orders.Order.{Order}
 use Rattle.zvt_till.specs.declared.orders.OrderRefusal.{OrderRefusal}
 use Rattle.zvt_till.specs.declared.orders.OrderRefusal.TheVariants.{Offline}
 use Rattle.zvt_till.specs.Refusals.{Facts as OrderFacts, session_refusal, asked_refusal, line_refusal, refusal, or_else}
-use Rattle.zvt_till.specs.Sending.{message_of}
+use Rattle.zvt_till.specs.Events.{run_settings}
+use Rattle.zvt_till.specs.Sending.{Settings, message_of}
 use Rattle.zvt_till.specs.Till.{TillState, accept, step, facts_of}
 use Rattle.zvt_term.specs.declared.messages.Asked.{Asked}
 use Rattle.zvt_term.specs.declared.ledger.Row.{Row}
@@ -22,9 +23,9 @@ use Rattle.zvt_term.specs.declared.world.Move.{Move}
 use Rattle.zvt_term.specs.declared.world.Move.TheVariants.{Connect, Order as Ordered, ToTerminal, ToTill, TillLost, TerminalLost}
 use Rattle.zvt_till.specs.Hearing.{heard_as}
 use Rattle.zvt_term.specs.Asking.{asked_as}
-use Rattle.zvt_term.specs.Orderly.{Line, no_line, is_orderly, line_after, are_orderly_from, are_orderly, IsAccounted, OrderlyWorldsAccount}
+use Rattle.zvt_term.specs.Orderly.{Line, no_line, is_orderly, line_after, are_orderly_from, are_orderly, are_orderly_with, IsAccounted, OrderlyWorldsAccount}
 use Rattle.zvt_term.specs.Terminal.{TerminalState, turn_of, reports_of}
-use Rattle.zvt_term.specs.World.{Ends, new_ends, move as ends_move, world, FitMove, FitMoves}
+use Rattle.zvt_term.specs.World.{Ends, ends_with, move as ends_move, world, world_with, FitMove, FitMoves, HasCurrency}
 use Rattle.zvt_term.proofs.Facts.{Facts, heard_of, asked_out, answer_to, orders, reaches_terminal, reaches_till, move}
 use Rattle.zvt_term.proofs.Accounts.{orders_in, is_order, is_word, words, Accounts, Covered, Dialogue}
 use Rattle.zvt_term.proofs.Talking.{Talks, Down, till-hears, line_up-heard, till-loses, dialogue-prefix, till-accepts, line_up-accepted}
@@ -282,35 +283,37 @@ MovesKeep P =
     (w : Facts) (l : Line) (x : Move) → is_orderly (length w.from_till) (length w.from_terminal) l x ≡ true → P w l
     → P (move w x) (line_after (length w.from_till) (length w.from_terminal) l x)
 
--- a move of messages is the move of what they mean
-means-keeps : (P : Facts → Line → Type 0) → MovesKeep P → (w : Ends) (l : Line) (x : Move) → FitMove x → Fit w → is_orderly (length w.from_till) (length w.from_terminal) l x ≡ true → P (meaning w) l
-    → P (meaning (ends_move w x)) (line_after (length w.from_till) (length w.from_terminal) l x)
-means-keeps P kept w l x f k e i =
-    let m : length (map asked_as w.from_till) ≡ length w.from_till = length-map w.from_till asked_as in
-    let n : length (map heard_as w.from_terminal) ≡ length w.from_terminal = length-map w.from_terminal heard_as in
-    let orderly : is_orderly (length (map asked_as w.from_till)) (length (map heard_as w.from_terminal)) l x ≡ true =
-    subst (λ (a : ℕ). is_orderly a (length (map heard_as w.from_terminal)) l x ≡ true) (sym m) (subst (λ (b : ℕ). is_orderly (length w.from_till) b l x ≡ true) (sym n) e) in
-    let held = kept (meaning w) l x orderly i in
-    subst (λ (y : Facts). P y (line_after (length w.from_till) (length w.from_terminal) l x)) (sym (move-means w x f k))
-    (subst (λ (a : ℕ). P (move (meaning w) x) (line_after a (length w.from_terminal) l x)) m
-    (subst (λ (b : ℕ). P (move (meaning w) x) (line_after (length (map asked_as w.from_till)) b l x)) n held))
+-- given: the settings of the till
+module _ (given : Settings) (few : HasCurrency given) where
+  -- a move of messages is the move of what they mean
+  means-keeps : (P : Facts → Line → Type 0) → MovesKeep P → (w : Ends) (l : Line) (x : Move) → FitMove x → (Fit given few) w → is_orderly (length w.from_till) (length w.from_terminal) l x ≡ true → P (meaning w) l
+      → P (meaning (ends_move w x)) (line_after (length w.from_till) (length w.from_terminal) l x)
+  means-keeps P kept w l x f k e i =
+      let m : length (map asked_as w.from_till) ≡ length w.from_till = length-map w.from_till asked_as in
+      let n : length (map heard_as w.from_terminal) ≡ length w.from_terminal = length-map w.from_terminal heard_as in
+      let orderly : is_orderly (length (map asked_as w.from_till)) (length (map heard_as w.from_terminal)) l x ≡ true =
+      subst (λ (a : ℕ). is_orderly a (length (map heard_as w.from_terminal)) l x ≡ true) (sym m) (subst (λ (b : ℕ). is_orderly (length w.from_till) b l x ≡ true) (sym n) e) in
+      let held = kept (meaning w) l x orderly i in
+      subst (λ (y : Facts). P y (line_after (length w.from_till) (length w.from_terminal) l x)) (sym ((move-means given few) w x f k))
+      (subst (λ (a : ℕ). P (move (meaning w) x) (line_after a (length w.from_terminal) l x)) m
+      (subst (λ (b : ℕ). P (move (meaning w) x) (line_after (length (map asked_as w.from_till)) b l x)) n held))
 
-moves-keep : (P : Facts → Line → Type 0) → MovesKeep P → (w : Ends) (l : Line) (moves : List Move) → FitMoves moves → Fit w → are_orderly_from w l moves ≡ true → P (meaning w) l
-    → (end : Line) × P (meaning (fold ends_move w moves)) end
-moves-keep P kept w l [] f k e i = (l, i)
-moves-keep P kept w l (x ∷ moves) f k e i =
-    let next = line_after (length w.from_till) (length w.from_terminal) l x in
-    let now = is_orderly (length w.from_till) (length w.from_terminal) l x in
-    let later = are_orderly_from (ends_move w x) next moves in
-    moves-keep P kept (ends_move w x) next moves f.1 (move-fit w x f.0 k) (and-right now later e) (means-keeps P kept w l x f.0 k (and-left now later e) i)
+  moves-keep : (P : Facts → Line → Type 0) → MovesKeep P → (w : Ends) (l : Line) (moves : List Move) → FitMoves moves → (Fit given few) w → are_orderly_from w l moves ≡ true → P (meaning w) l
+      → (end : Line) × P (meaning (fold ends_move w moves)) end
+  moves-keep P kept w l [] f k e i = (l, i)
+  moves-keep P kept w l (x ∷ moves) f k e i =
+      let next = line_after (length w.from_till) (length w.from_terminal) l x in
+      let now = is_orderly (length w.from_till) (length w.from_terminal) l x in
+      let later = are_orderly_from (ends_move w x) next moves in
+      moves-keep P kept (ends_move w x) next moves f.1 ((move-fit given few) w x f.0 k) (and-right now later e) (means-keeps P kept w l x f.0 k (and-left now later e) i)
 
--- what holds of two new ends and is stored by each orderly move holds of each orderly world
-pub orderly-worlds : (P : Facts → Line → Type 0) → MovesKeep P → P (meaning new_ends) no_line → (moves : List Move) → FitMoves moves → IsTrue (are_orderly moves)
-    → (end : Line) × P (meaning (world moves)) end
-orderly-worlds P kept first moves f e = moves-keep P kept new_ends no_line moves f new-fit e first
+  -- what holds of two new ends and is stored by each orderly move holds of each orderly world
+  pub orderly-worlds : (P : Facts → Line → Type 0) → MovesKeep P → P (meaning (ends_with given)) no_line → (moves : List Move) → FitMoves moves → IsTrue (are_orderly_with given moves)
+      → (end : Line) × P (meaning (world_with given moves)) end
+  orderly-worlds P kept first moves f e = moves-keep P kept (ends_with given) no_line moves f (new-fit given few) e first
 
-pub start : LineHolds (meaning new_ends) no_line
-start =
+pub start : (given : Settings) → LineHolds (meaning (ends_with given)) no_line
+start given =
     record {
       till_sent = omega arith;
       terminal_sent = omega arith;
@@ -319,9 +322,9 @@ start =
     }
 
 pub orderly_worlds_account : OrderlyWorldsAccount
-orderly_worlds_account moves f e =
-    let held = orderly-worlds LineHolds move-holds start moves f e in
-    let w = meaning (world moves) in
+orderly_worlds_account settings moves few f e =
+    let held = orderly-worlds settings few LineHolds move-holds (start settings) moves f e in
+    let w = meaning (world_with settings moves) in
     λ b. let n = standing-accounts held.0.till_lost w.terminal.ledger (asked_on w held.0) w.till (rest_on w held.0) held.1.standing b in omega (arith, n)
 
 -- after the last move
@@ -329,4 +332,4 @@ pub accounted : (moves : List Move) (i : ℕ) (w : Ends) → length moves ≤ i 
 accounted moves i w le is f e =
     let all : take i moves ≡ moves = take_all i moves le in
     let orderly : IsTrue (are_orderly (take i moves)) = subst (λ (xs : List Move). IsTrue (are_orderly xs)) (sym all) e in
-    subst (λ (v : Ends). IsAccounted v.till v.terminal.ledger) (sym is) (orderly_worlds_account (take i moves) f orderly)
+    subst (λ (v : Ends). IsAccounted v.till v.terminal.ledger) (sym is) (orderly_worlds_account run_settings (take i moves) (omega arith) f orderly)

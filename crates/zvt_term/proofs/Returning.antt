@@ -34,7 +34,7 @@ use Rattle.zvt_term.specs.declared.ledger.Row.{Row}
 use Rattle.zvt_term.specs.Returned.{is_doubted, is_told, Reverses}
 use Rattle.zvt_term.specs.World.{IsTakenBack, AllMatch}
 use Rattle.zvt_term.proofs.Facts.{asked_out}
-use Rattle.zvt_term.proofs.Matching.{euro, slice_get-prefix, match-at}
+use Rattle.zvt_term.proofs.Matching.{slice_get-prefix, match-at}
 use Rattle.zvt_term.proofs.Accounts.{orders_in, words, IsClaimed, Stage, Asking, TakenUp, Dialogue}
 
 -- one entry
@@ -343,38 +343,40 @@ prefix-returns l asked s xs ys k =
 
 -- the till orders
 
--- the receipt number of an entry spells its trace number
-reversal-asks : (l : List Row) (k : Settings) (es : List Entry) (i : ℕ) → AllMatch euro l es
-    → AllAsk es (Some (fresh (ReverseOrder i))) (orders_in (asked_out (message_of k es (ReverseOrder i))))
-reversal-asks l k es i m = by_entry (slice_get es i) refl
-  where
-    by_entry : (o : Option Entry) → slice_get es i ≡ o → AllAsk es (Some (fresh (ReverseOrder i))) (orders_in (asked_out (option_map (λ r. outgoing (Reverse k.password r)) (receipt_at o))))
-    by_entry None e = tt
-    by_entry (Some row) e =
-        subst (λ x. AllAsk es (Some (fresh (ReverseOrder i))) (orders_in (asked_out (option_map (λ r. outgoing (Reverse k.password r)) x)))) (sym (match-at l es i row m e).receipt)
-        ((row.trace, refl, (i, (row, e, refl, inr refl))), tt)
+-- home: the currency of the till
+module _ (home : ℕ) where
+  -- the receipt number of an entry spells its trace number
+  reversal-asks : (l : List Row) (k : Settings) (es : List Entry) (i : ℕ) → AllMatch home l es
+      → AllAsk es (Some (fresh (ReverseOrder i))) (orders_in (asked_out (message_of k es (ReverseOrder i))))
+  reversal-asks l k es i m = by_entry (slice_get es i) refl
+    where
+      by_entry : (o : Option Entry) → slice_get es i ≡ o → AllAsk es (Some (fresh (ReverseOrder i))) (orders_in (asked_out (option_map (λ r. outgoing (Reverse k.password r)) (receipt_at o))))
+      by_entry None e = tt
+      by_entry (Some row) e =
+          subst (λ x. AllAsk es (Some (fresh (ReverseOrder i))) (orders_in (asked_out (option_map (λ r. outgoing (Reverse k.password r)) x)))) (sym ((match-at home) l es i row m e).receipt)
+          ((row.trace, refl, (i, (row, e, refl, inr refl))), tt)
 
-started : (l : List Row) (asked : List Asked) (k : Settings) (up g : Bool) (es : List Entry) (u : List (ℕ × Cause)) (last : Option Outcome) (o : Order) (more : List Asked) (rest : List Heard)
-    → asked ≡ [] → AllAsk es (Some (fresh o)) more → AllKnown l asked es None rest → Returns l (asked ++ more) (state k up g (Some (fresh o)) es u last) rest
-started l asked k up g es u last o more rest e a t =
-    record {
-      asks = subst (λ x. AllAsk es (Some (fresh o)) (x ++ more)) (sym e) a;
-      taken = λ n w. known-same es (λ place. Awaits place asked None rest) (λ place. Awaits place (asked ++ more) (Some (fresh o)) rest) (λ place p. absurd p) n (t n w);
-    }
+  started : (l : List Row) (asked : List Asked) (k : Settings) (up g : Bool) (es : List Entry) (u : List (ℕ × Cause)) (last : Option Outcome) (o : Order) (more : List Asked) (rest : List Heard)
+      → asked ≡ [] → AllAsk es (Some (fresh o)) more → AllKnown l asked es None rest → Returns l (asked ++ more) (state k up g (Some (fresh o)) es u last) rest
+  started l asked k up g es u last o more rest e a t =
+      record {
+        asks = subst (λ x. AllAsk es (Some (fresh o)) (x ++ more)) (sym e) a;
+        taken = λ n w. known-same es (λ place. Awaits place asked None rest) (λ place. Awaits place (asked ++ more) (Some (fresh o)) rest) (λ place p. absurd p) n (t n w);
+      }
 
-accepts-by : (l : List Row) (asked : List Asked) (k : Settings) (up g : Bool) (run : Option Running) (es : List Entry) (u : List (ℕ × Cause)) (last : Option Outcome) (o : Order) (rest : List Heard)
-    → session_refusal (facts_of (state k up g run es u last)) o ≡ None → AllMatch euro l es → Dialogue l asked es u run rest → AllAsk es run asked → AllKnown l asked es run rest
-    → Returns l (asked ++ orders_in (asked_out (message_of k es o))) (accept (state k up g run es u last) o) rest
-accepts-by l asked k up g None es u last RegisterOrder rest e m (none, p) a t = started l asked k up false es u last RegisterOrder (orders_in (asked_out (message_of k es RegisterOrder))) rest none (tt, tt) t
-accepts-by l asked k up g None es u last (PayOrder x) rest e m (none, p) a t = started l asked k up g es u last (PayOrder x) (orders_in (asked_out (message_of k es (PayOrder x)))) rest none (tt, tt) t
-accepts-by l asked k up g None es u last (ReverseOrder i) rest e m (none, p) a t =
-    started l asked k up g es u last (ReverseOrder i) (orders_in (asked_out (message_of k es (ReverseOrder i)))) rest none (reversal-asks l k es i m) t
-accepts-by l asked k up g None es u last CloseDayOrder rest e m (none, p) a t = started l asked k up g es u last CloseDayOrder (orders_in (asked_out (message_of k es CloseDayOrder))) rest none (tt, tt) t
-accepts-by l asked k up g run es u last CancelOrder rest e m d a t =
-    subst (λ x. Returns l x (state k up g run es u last) rest) (sym (append-nil asked)) (record { asks = a; taken = t })
-accepts-by l asked k up true (Some r) es u last o rest e m d a t = absurd cc
-accepts-by l asked k up false (Some r) es u last o rest e m d a t = absurd cc
+  accepts-by : (l : List Row) (asked : List Asked) (k : Settings) (up g : Bool) (run : Option Running) (es : List Entry) (u : List (ℕ × Cause)) (last : Option Outcome) (o : Order) (rest : List Heard)
+      → session_refusal (facts_of (state k up g run es u last)) o ≡ None → AllMatch home l es → Dialogue l asked es u run rest → AllAsk es run asked → AllKnown l asked es run rest
+      → Returns l (asked ++ orders_in (asked_out (message_of k es o))) (accept (state k up g run es u last) o) rest
+  accepts-by l asked k up g None es u last RegisterOrder rest e m (none, p) a t = started l asked k up false es u last RegisterOrder (orders_in (asked_out (message_of k es RegisterOrder))) rest none (tt, tt) t
+  accepts-by l asked k up g None es u last (PayOrder x) rest e m (none, p) a t = started l asked k up g es u last (PayOrder x) (orders_in (asked_out (message_of k es (PayOrder x)))) rest none (tt, tt) t
+  accepts-by l asked k up g None es u last (ReverseOrder i) rest e m (none, p) a t =
+      started l asked k up g es u last (ReverseOrder i) (orders_in (asked_out (message_of k es (ReverseOrder i)))) rest none (reversal-asks l k es i m) t
+  accepts-by l asked k up g None es u last CloseDayOrder rest e m (none, p) a t = started l asked k up g es u last CloseDayOrder (orders_in (asked_out (message_of k es CloseDayOrder))) rest none (tt, tt) t
+  accepts-by l asked k up g run es u last CancelOrder rest e m d a t =
+      subst (λ x. Returns l x (state k up g run es u last) rest) (sym (append-nil asked)) (record { asks = a; taken = t })
+  accepts-by l asked k up true (Some r) es u last o rest e m d a t = absurd cc
+  accepts-by l asked k up false (Some r) es u last o rest e m d a t = absurd cc
 
-pub till-accepts-returns : (l : List Row) (asked : List Asked) (s : TillState) (o : Order) (rest : List Heard) → session_refusal (facts_of s) o ≡ None → AllMatch euro l s.book
-    → Dialogue l asked s.book s.unclear s.running rest → Returns l asked s rest → Returns l (asked ++ orders_in (asked_out (message_of s.settings s.book o))) (accept s o) rest
-till-accepts-returns l asked s o rest e m d k = accepts-by l asked s.settings s.line_up s.registered s.running s.book s.unclear s.last_outcome o rest e m d k.asks k.taken
+  pub till-accepts-returns : (l : List Row) (asked : List Asked) (s : TillState) (o : Order) (rest : List Heard) → session_refusal (facts_of s) o ≡ None → AllMatch home l s.book
+      → Dialogue l asked s.book s.unclear s.running rest → Returns l asked s rest → Returns l (asked ++ orders_in (asked_out (message_of s.settings s.book o))) (accept s o) rest
+  till-accepts-returns l asked s o rest e m d k = accepts-by l asked s.settings s.line_up s.registered s.running s.book s.unclear s.last_outcome o rest e m d k.asks k.taken

@@ -28,7 +28,7 @@ use Rattle.zvt_term.specs.World.{IsTakenBack, AllMatch}
 use Rattle.zvt_term.proofs.DigitLemmas.{number_of-digits}
 use Rattle.zvt_term.proofs.TurnLemmas.{AllShort, taken_back}
 use Rattle.zvt_term.proofs.Facts.{reversal_status}
-use Rattle.zvt_term.proofs.Matching.{euro, match-at}
+use Rattle.zvt_term.proofs.Matching.{match-at}
 use Rattle.zvt_term.proofs.Accounts.{orders_in, words, Asking, TakenUp, Dialogue}
 use Rattle.zvt_term.proofs.Talking.{nothing-first}
 use Rattle.zvt_term.proofs.Answering.{script_of, speech, ledger_after, IsDeclining, claimed-note, answer-says}
@@ -153,87 +153,89 @@ found-true test (first ∷ rows) row e = by_test (test first) refl (found-true t
     by_test true is later q = let same : first ≡ row = cc in subst (λ (r : Row). test r ≡ true) same is
     by_test false is later q = later q
 
--- the approval found by the digits of a number of the book has that number
-named-number : (l : List Row) (book : List Entry) (Else : ℕ → Type 0) (n : ℕ) (row : Row) → AllShort l → AllMatch euro l book → Known book Else n → approval_by (digits 2 n) l ≡ Some row → row.number ≡ n
-named-number l book Else n row short m (place, (entry, e, t, told)) found =
-    let approved = (match-at l book place entry m e).approved in
-    let few : n ≤ 9999 = subst (λ (x : ℕ). x ≤ 9999) t (short-at l approved.0 (record { number = entry.trace; amount = entry.amount; currency = Some euro; reverses = None }) short approved.1) in
-    let spelled : spells (digits 2 n) row.number ≡ true = and-right (is_approval row) (spells (digits 2 n) row.number) (found-true (is_approval_named (digits 2 n)) l row found) in
-    let same : number_of (digits 2 n) ≡ row.number = eqb-true (number_of (digits 2 n)) row.number (and-right (list_all is_digit_pair (digits 2 n)) (number_of (digits 2 n) == row.number) spelled) in
-    sym same ∙ number_of-digits 2 n (omega arith)
+-- home: the currency of the till
+module _ (home : ℕ) where
+  -- the approval found by the digits of a number of the book has that number
+  named-number : (l : List Row) (book : List Entry) (Else : ℕ → Type 0) (n : ℕ) (row : Row) → AllShort l → AllMatch home l book → Known book Else n → approval_by (digits 2 n) l ≡ Some row → row.number ≡ n
+  named-number l book Else n row short m (place, (entry, e, t, told)) found =
+      let approved = ((match-at home) l book place entry m e).approved in
+      let few : n ≤ 9999 = subst (λ (x : ℕ). x ≤ 9999) t (short-at l approved.0 (record { number = entry.trace; amount = entry.amount; currency = Some home; reverses = None }) short approved.1) in
+      let spelled : spells (digits 2 n) row.number ≡ true = and-right (is_approval row) (spells (digits 2 n) row.number) (found-true (is_approval_named (digits 2 n)) l row found) in
+      let same : number_of (digits 2 n) ≡ row.number = eqb-true (number_of (digits 2 n)) row.number (and-right (list_all is_digit_pair (digits 2 n)) (number_of (digits 2 n) == row.number) spelled) in
+      sym same ∙ number_of-digits 2 n (omega arith)
 
--- the terminal hears the next message
+  -- the terminal hears the next message
 
-asked-alone : (b : Bool) (l : List Row) (m : Asked) (q : List Asked) (s : TillState) (rest : List Heard) (place : ℕ) → Standing b l (m ∷ q) s rest → Reverses place s.running → (q ≡ []) × (rest ≡ [])
-asked-alone true l m q s rest place k p = absurd (subst (λ run. Reverses place run) k.resting p)
-asked-alone false l m q s rest place (up, k) p = by_running s.running k.dialogue
-  where
-    by_running : (run : Option Running) → Dialogue l (m ∷ q) s.book s.unclear run rest → (q ≡ []) × (rest ≡ [])
-    by_running None (e, f) = absurd cc
-    by_running (Some r) (Asking m0 e f g) = (cc, g)
-    by_running (Some r) (TakenUp e f g) = absurd cc
+  asked-alone : (b : Bool) (l : List Row) (m : Asked) (q : List Asked) (s : TillState) (rest : List Heard) (place : ℕ) → Standing b l (m ∷ q) s rest → Reverses place s.running → (q ≡ []) × (rest ≡ [])
+  asked-alone true l m q s rest place k p = absurd (subst (λ run. Reverses place run) k.resting p)
+  asked-alone false l m q s rest place (up, k) p = by_running s.running k.dialogue
+    where
+      by_running : (run : Option Running) → Dialogue l (m ∷ q) s.book s.unclear run rest → (q ≡ []) × (rest ≡ [])
+      by_running None (e, f) = absurd cc
+      by_running (Some r) (Asking m0 e f g) = (cc, g)
+      by_running (Some r) (TakenUp e f g) = absurd cc
 
--- nothing is taken up while an order is on its way
-awaits-on : (s : TerminalState) (m : Asked) (v : Verdict) (q : List Asked) (said : List Heard) (place : ℕ) (run : Option Running)
-    → Awaits place (orders_in (m ∷ q)) run (said ++ words (script_of s.phase)) → Awaits place (orders_in q) run (said ++ speech (turn_of s m v))
-awaits-on s m v q said place None p = p
-awaits-on s AbortOrder v q said place (Some r) p = p
-awaits-on s Answer v q said place (Some r) (o, e, w) = (o, e, subst (λ x. WillTell r.statuses (said ++ x)) (sym (answer-says s v)) w)
-awaits-on s m v q said place (Some r) (o, e, w) = absurd cc
+  -- nothing is taken up while an order is on its way
+  awaits-on : (s : TerminalState) (m : Asked) (v : Verdict) (q : List Asked) (said : List Heard) (place : ℕ) (run : Option Running)
+      → Awaits place (orders_in (m ∷ q)) run (said ++ words (script_of s.phase)) → Awaits place (orders_in q) run (said ++ speech (turn_of s m v))
+  awaits-on s m v q said place None p = p
+  awaits-on s AbortOrder v q said place (Some r) p = p
+  awaits-on s Answer v q said place (Some r) (o, e, w) = (o, e, subst (λ x. WillTell r.statuses (said ++ x)) (sym (answer-says s v)) w)
+  awaits-on s m v q said place (Some r) (o, e, w) = absurd cc
 
-asks-on : (m : Asked) (q : List Asked) (book : List Entry) (run : Option Running) → AllAsk book run (orders_in (m ∷ q)) → AllAsk book run (orders_in q)
-asks-on AbortOrder q book run k = k
-asks-on Answer q book run k = k
-asks-on m q book run k = k.1
+  asks-on : (m : Asked) (q : List Asked) (book : List Entry) (run : Option Running) → AllAsk book run (orders_in (m ∷ q)) → AllAsk book run (orders_in q)
+  asks-on AbortOrder q book run k = k
+  asks-on Answer q book run k = k
+  asks-on m q book run k = k.1
 
-told-of : (turn : Turn) (said : List Heard) (q : List Asked) (place : ℕ) (run : Option Running) → q ≡ [] → said ≡ [] → ((r : Running) → WillTell r.statuses (speech turn)) → Reverses place run
-    → Awaits place q run (said ++ speech turn)
-told-of turn said q place None e f k p = p
-told-of turn said q place (Some r) e f k p = (p, e, subst (λ x. WillTell r.statuses (x ++ speech turn)) (sym f) (k r))
+  told-of : (turn : Turn) (said : List Heard) (q : List Asked) (place : ℕ) (run : Option Running) → q ≡ [] → said ≡ [] → ((r : Running) → WillTell r.statuses (speech turn)) → Reverses place run
+      → Awaits place q run (said ++ speech turn)
+  told-of turn said q place None e f k p = p
+  told-of turn said q place (Some r) e f k p = (p, e, subst (λ x. WillTell r.statuses (x ++ speech turn)) (sym f) (k r))
 
--- a reversal that the terminal makes is of the entry that was asked for
-reverted-known : (b : Bool) (s : TerminalState) (receipt : Option (List ℕ)) (v : Verdict) (q : List Asked) (till : TillState) (said : List Heard) (row : Row) (n : ℕ) → AllShort s.ledger → AllMatch euro s.ledger till.book
-    → Standing b s.ledger (Reversal receipt ∷ orders_in q) till (said ++ words (script_of s.phase)) → AsksFor till.book till.running (Reversal receipt)
-    → (turn_of s (Reversal receipt) v).row ≡ Some row → row.reverses ≡ Some n
-    → Known till.book (λ place. Awaits place (orders_in q) till.running (said ++ speech (turn_of s (Reversal receipt) v))) n
-reverted-known b s receipt v q till said row n short m k (number, named, known) is rev =
-    let turn = turn_of s (Reversal receipt) v in
-    let t = reversal-reverts s receipt v row n is rev in
-    let spelled : t.named ≡ digits 2 number = cc in
-    let found = subst (λ x. approval_by x s.ledger ≡ Some t.row) spelled t.found in
-    let same : number ≡ n = sym (named-number s.ledger till.book (λ place. Reverses place till.running) number t.row short m known found) ∙ t.number in
-    known-same till.book (λ place. Reverses place till.running) (λ place. Awaits place (orders_in q) till.running (said ++ speech turn))
-    (λ place p. let w = asked-alone b s.ledger (Reversal receipt) (orders_in q) till (said ++ words (script_of s.phase)) place k p in
-    told-of turn said (orders_in q) place till.running w.0 (nothing-first said (words (script_of s.phase)) w.1) t.tells p)
-    n (subst (λ x. Known till.book (λ place. Reverses place till.running) x) same known)
+  -- a reversal that the terminal makes is of the entry that was asked for
+  reverted-known : (b : Bool) (s : TerminalState) (receipt : Option (List ℕ)) (v : Verdict) (q : List Asked) (till : TillState) (said : List Heard) (row : Row) (n : ℕ) → AllShort s.ledger → AllMatch home s.ledger till.book
+      → Standing b s.ledger (Reversal receipt ∷ orders_in q) till (said ++ words (script_of s.phase)) → AsksFor till.book till.running (Reversal receipt)
+      → (turn_of s (Reversal receipt) v).row ≡ Some row → row.reverses ≡ Some n
+      → Known till.book (λ place. Awaits place (orders_in q) till.running (said ++ speech (turn_of s (Reversal receipt) v))) n
+  reverted-known b s receipt v q till said row n short m k (number, named, known) is rev =
+      let turn = turn_of s (Reversal receipt) v in
+      let t = reversal-reverts s receipt v row n is rev in
+      let spelled : t.named ≡ digits 2 number = cc in
+      let found = subst (λ x. approval_by x s.ledger ≡ Some t.row) spelled t.found in
+      let same : number ≡ n = sym (named-number s.ledger till.book (λ place. Reverses place till.running) number t.row short m known found) ∙ t.number in
+      known-same till.book (λ place. Reverses place till.running) (λ place. Awaits place (orders_in q) till.running (said ++ speech turn))
+      (λ place p. let w = asked-alone b s.ledger (Reversal receipt) (orders_in q) till (said ++ words (script_of s.phase)) place k p in
+      told-of turn said (orders_in q) place till.running w.0 (nothing-first said (words (script_of s.phase)) w.1) t.tells p)
+      n (subst (λ x. Known till.book (λ place. Reverses place till.running) x) same known)
 
--- a row that a turn adds
-added-known : (b : Bool) (s : TerminalState) (m : Asked) (v : Verdict) (q : List Asked) (till : TillState) (said : List Heard) (row : Row) (n : ℕ) → AllShort s.ledger → AllMatch euro s.ledger till.book
-    → Standing b s.ledger (orders_in (m ∷ q)) till (said ++ words (script_of s.phase)) → AllAsk till.book till.running (orders_in (m ∷ q)) → (turn_of s m v).row ≡ Some row → row.reverses ≡ Some n
-    → Known till.book (λ place. Awaits place (orders_in q) till.running (said ++ speech (turn_of s m v))) n
-added-known b s (Reversal receipt) v q till said row n short m k a is rev = reverted-known b s receipt v q till said row n short m k a.0 is rev
-added-known b s (Registration currency) v q till said row n short m k a is rev =
-    absurd (either-none (is_idle s.phase) (registers s currency) (refuses s 131) (λ x j f g. cc) (λ x j f g. cc) row n is rev)
-added-known b s (Authorisation o named) v q till said row n short m k a is rev =
-    absurd (either-none (is_ready s) (authorises s o named v) (refuses s 131) (authorises-none s o named v) (λ x j f g. cc) row n is rev)
-added-known b s EndOfDay v q till said row n short m k a is rev = absurd (either-none (is_ready s) (closes s) (refuses s 131) (λ x j f g. cc) (λ x j f g. cc) row n is rev)
-added-known b s AbortOrder v q till said row n short m k a is rev = absurd cc
-added-known b s Answer v q till said row n short m k a is rev = absurd (goes_on-none s s.phase row n is rev)
-added-known b s Unknown v q till said row n short m k a is rev = absurd cc
+  -- a row that a turn adds
+  added-known : (b : Bool) (s : TerminalState) (m : Asked) (v : Verdict) (q : List Asked) (till : TillState) (said : List Heard) (row : Row) (n : ℕ) → AllShort s.ledger → AllMatch home s.ledger till.book
+      → Standing b s.ledger (orders_in (m ∷ q)) till (said ++ words (script_of s.phase)) → AllAsk till.book till.running (orders_in (m ∷ q)) → (turn_of s m v).row ≡ Some row → row.reverses ≡ Some n
+      → Known till.book (λ place. Awaits place (orders_in q) till.running (said ++ speech (turn_of s m v))) n
+  added-known b s (Reversal receipt) v q till said row n short m k a is rev = reverted-known b s receipt v q till said row n short m k a.0 is rev
+  added-known b s (Registration currency) v q till said row n short m k a is rev =
+      absurd (either-none (is_idle s.phase) (registers s currency) (refuses s 131) (λ x j f g. cc) (λ x j f g. cc) row n is rev)
+  added-known b s (Authorisation o named) v q till said row n short m k a is rev =
+      absurd (either-none (is_ready s) (authorises s o named v) (refuses s 131) (authorises-none s o named v) (λ x j f g. cc) row n is rev)
+  added-known b s EndOfDay v q till said row n short m k a is rev = absurd (either-none (is_ready s) (closes s) (refuses s 131) (λ x j f g. cc) (λ x j f g. cc) row n is rev)
+  added-known b s AbortOrder v q till said row n short m k a is rev = absurd cc
+  added-known b s Answer v q till said row n short m k a is rev = absurd (goes_on-none s s.phase row n is rev)
+  added-known b s Unknown v q till said row n short m k a is rev = absurd cc
 
-pub terminal-hears-returns : (b : Bool) (s : TerminalState) (m : Asked) (v : Verdict) (q : List Asked) (till : TillState) (said : List Heard) → AllShort s.ledger → AllMatch euro s.ledger till.book
-    → Standing b s.ledger (orders_in (m ∷ q)) till (said ++ words (script_of s.phase)) → Returns s.ledger (orders_in (m ∷ q)) till (said ++ words (script_of s.phase))
-    → Returns (ledger_after s (turn_of s m v)) (orders_in q) till (said ++ speech (turn_of s m v))
-terminal-hears-returns b s m v q till said short matching k r =
-    record {
-      asks = asks-on m q till.book till.running r.asks;
-      taken = λ n w. by_row n (taken-before s.ledger (turn_of s m v).row n w);
-    }
-  where
-    by_row : (n : ℕ) → IsTakenBack s.ledger n ⊎ ((row : Row) × ((turn_of s m v).row ≡ Some row) × (row.reverses ≡ Some n))
-        → Known till.book (λ place. Awaits place (orders_in q) till.running (said ++ speech (turn_of s m v))) n
-    by_row n (inl before) =
-        known-same till.book (λ place. Awaits place (orders_in (m ∷ q)) till.running (said ++ words (script_of s.phase)))
-        (λ place. Awaits place (orders_in q) till.running (said ++ speech (turn_of s m v)))
-        (λ place p. awaits-on s m v q said place till.running p) n (r.taken n before)
-    by_row n (inr (row, is, rev)) = added-known b s m v q till said row n short matching k r.asks is rev
+  pub terminal-hears-returns : (b : Bool) (s : TerminalState) (m : Asked) (v : Verdict) (q : List Asked) (till : TillState) (said : List Heard) → AllShort s.ledger → AllMatch home s.ledger till.book
+      → Standing b s.ledger (orders_in (m ∷ q)) till (said ++ words (script_of s.phase)) → Returns s.ledger (orders_in (m ∷ q)) till (said ++ words (script_of s.phase))
+      → Returns (ledger_after s (turn_of s m v)) (orders_in q) till (said ++ speech (turn_of s m v))
+  terminal-hears-returns b s m v q till said short matching k r =
+      record {
+        asks = asks-on m q till.book till.running r.asks;
+        taken = λ n w. by_row n (taken-before s.ledger (turn_of s m v).row n w);
+      }
+    where
+      by_row : (n : ℕ) → IsTakenBack s.ledger n ⊎ ((row : Row) × ((turn_of s m v).row ≡ Some row) × (row.reverses ≡ Some n))
+          → Known till.book (λ place. Awaits place (orders_in q) till.running (said ++ speech (turn_of s m v))) n
+      by_row n (inl before) =
+          known-same till.book (λ place. Awaits place (orders_in (m ∷ q)) till.running (said ++ words (script_of s.phase)))
+          (λ place. Awaits place (orders_in q) till.running (said ++ speech (turn_of s m v)))
+          (λ place p. awaits-on s m v q said place till.running p) n (r.taken n before)
+      by_row n (inr (row, is, rev)) = added-known b s m v q till said row n short matching k r.asks is rev

@@ -27,7 +27,7 @@ use Rattle.zvt_term.specs.Inside.{IsSound}
 use Rattle.zvt_term.specs.Reports.{message_of_report}
 use Rattle.zvt_term.specs.Terminal.{turn_of, state_after as terminal_after, reports_to}
 use Rattle.zvt_till.specs.Events.{run_settings}
-use Rattle.zvt_term.specs.World.{Ends, new_ends, sent_out, orders, reaches_terminal, reaches_till, move, world, FitOrder, FitMove, FitMoves, AllMatch, Matches, WorldsMatch}
+use Rattle.zvt_term.specs.World.{Ends, ends_with, new_ends, sent_out, orders, reaches_terminal, reaches_till, move, world, world_with, FitOrder, FitMove, FitMoves, HasCurrency, AllMatch, Matches, WorldsMatch}
 use Rattle.zvt_term.proofs.Facts as facts
 use Rattle.zvt_term.proofs.Facts.{Facts, heard_of, asked_out}
 use Rattle.zvt_term.proofs.FactsMatch.{Holds, moves-hold}
@@ -37,176 +37,181 @@ use Rattle.zvt_term.proofs.TurnLemmas.{turn-sound, sound-after, short-of}
 abbrev pub meaning : Ends → Facts
 meaning w = record { till = w.till; terminal = w.terminal; from_till = map asked_as w.from_till; from_terminal = map heard_as w.from_terminal }
 
--- the amounts and currencies are such that there are
-pub record Fit (w : Ends) : Type 0 where
-  pub sound : IsSound w.terminal
-  pub rows : FitRows w.terminal.ledger
-  pub kept : FitCurrency w.terminal.currency
-  pub settings : w.till.settings ≡ run_settings
-  pub asked : AllAsked (map asked_as w.from_till)
+-- given: the settings of the till
+module _ (given : Settings) (few : HasCurrency given) where
+  -- the amounts and currencies are such that there are
+  pub record Fit (w : Ends) : Type 0 where
+    pub sound : IsSound w.terminal
+    pub rows : FitRows w.terminal.ledger
+    pub kept : FitCurrency w.terminal.currency
+    pub settings : w.till.settings ≡ given
+    pub asked : AllAsked (map asked_as w.from_till)
 
--- one message more of the till
-sent-means : (ms more : List Message) → (asked : List _) → map asked_as more ≡ asked → map asked_as (ms ++ more) ≡ map asked_as ms ++ asked
-sent-means ms more asked e = map-append asked_as ms more ∙ ap (λ x. map asked_as ms ++ x) e
+  -- one message more of the till
+  sent-means : (ms more : List Message) → (asked : List _) → map asked_as more ≡ asked → map asked_as (ms ++ more) ≡ map asked_as ms ++ asked
+  sent-means ms more asked e = map-append asked_as ms more ∙ ap (λ x. map asked_as ms ++ x) e
 
-few-currencies : (s : Settings) → s ≡ run_settings → s.currency ≤ 9999
-few-currencies s e = subst (λ (k : Settings). k.currency ≤ 9999) (sym e) (omega arith)
+  few-currencies : (s : Settings) → s ≡ given → s.currency ≤ 9999
+  few-currencies s e = subst HasCurrency (sym e) few
 
-orders-mean : (w : Ends) (o : Order) (why : Option OrderRefusal) → FitOrder o → Fit w → meaning (orders w o why) ≡ facts.orders (meaning w) o why
-orders-mean w o None f k =
-    let out = message_of w.till.settings w.till.book o in
-    ap (λ x. record { till = accept w.till o; terminal = w.terminal; from_till = x; from_terminal = map heard_as w.from_terminal })
-    (sent-means w.from_till (sent_out out) (asked_out out) (asked-out out (order-fit w.till.settings w.till.book o (few-currencies w.till.settings k.settings) f)))
-orders-mean w o (Some why) f k = refl
+  orders-mean : (w : Ends) (o : Order) (why : Option OrderRefusal) → FitOrder o → Fit w → meaning (orders w o why) ≡ facts.orders (meaning w) o why
+  orders-mean w o None f k =
+      let out = message_of w.till.settings w.till.book o in
+      ap (λ x. record { till = accept w.till o; terminal = w.terminal; from_till = x; from_terminal = map heard_as w.from_terminal })
+      (sent-means w.from_till (sent_out out) (asked_out out) (asked-out out (order-fit w.till.settings w.till.book o (few-currencies w.till.settings k.settings) f)))
+  orders-mean w o (Some why) f k = refl
 
-orders-fit : (w : Ends) (o : Order) (why : Option OrderRefusal) → FitOrder o → Fit w → Fit (orders w o why)
-orders-fit w o None f k =
-    let out = message_of w.till.settings w.till.book o in
-    let fit = order-fit w.till.settings w.till.book o (few-currencies w.till.settings k.settings) f in
-    record {
-      sound = k.sound;
-      rows = k.rows;
-      kept = k.kept;
-      settings = settings-accepted w.till (Some o) ∙ k.settings;
-      asked = subst AllAsked (sym (sent-means w.from_till (sent_out out) (asked_out out) (asked-out out fit))) (asked-more (map asked_as w.from_till) (asked_out out) k.asked (out-fit out fit));
-    }
-orders-fit w o (Some why) f k = k
+  orders-fit : (w : Ends) (o : Order) (why : Option OrderRefusal) → FitOrder o → Fit w → Fit (orders w o why)
+  orders-fit w o None f k =
+      let out = message_of w.till.settings w.till.book o in
+      let fit = order-fit w.till.settings w.till.book o (few-currencies w.till.settings k.settings) f in
+      record {
+        sound = k.sound;
+        rows = k.rows;
+        kept = k.kept;
+        settings = settings-accepted w.till (Some o) ∙ k.settings;
+        asked = subst AllAsked (sym (sent-means w.from_till (sent_out out) (asked_out out) (asked-out out fit))) (asked-more (map asked_as w.from_till) (asked_out out) k.asked (out-fit out fit));
+      }
+  orders-fit w o (Some why) f k = k
 
-reaches_terminal-mean : (w : Ends) (v : Verdict) (m : Option Message) → Fit w → ((x : Message) → m ≡ Some x → FitAsked (asked_as x))
-    → meaning (reaches_terminal w v m) ≡ facts.reaches_terminal (meaning w) v (option_map asked_as m)
-reaches_terminal-mean w v None k f = refl
-reaches_terminal-mean w v (Some m) k f =
-    let asked = asked_as m in
-    let reports = reports_to w.terminal asked v in
-    let said : map heard_as (w.from_terminal ++ map message_of_report reports) ≡ map heard_as w.from_terminal ++ map heard_of reports =
-    map-append heard_as w.from_terminal (map message_of_report reports)
-    ∙ ap (λ x. map heard_as w.from_terminal ++ x) (heard-reports reports ((turn-sound w.terminal asked v).writable (short-of w.terminal k.sound)) (turn-fit w.terminal asked v k.kept k.rows (f m refl)).1) in
-    ap (λ x. record { till = w.till; terminal = terminal_after w.terminal asked v; from_till = map asked_as w.from_till; from_terminal = x }) said
+  reaches_terminal-mean : (w : Ends) (v : Verdict) (m : Option Message) → Fit w → ((x : Message) → m ≡ Some x → FitAsked (asked_as x))
+      → meaning (reaches_terminal w v m) ≡ facts.reaches_terminal (meaning w) v (option_map asked_as m)
+  reaches_terminal-mean w v None k f = refl
+  reaches_terminal-mean w v (Some m) k f =
+      let asked = asked_as m in
+      let reports = reports_to w.terminal asked v in
+      let said : map heard_as (w.from_terminal ++ map message_of_report reports) ≡ map heard_as w.from_terminal ++ map heard_of reports =
+      map-append heard_as w.from_terminal (map message_of_report reports)
+      ∙ ap (λ x. map heard_as w.from_terminal ++ x) (heard-reports reports ((turn-sound w.terminal asked v).writable (short-of w.terminal k.sound)) (turn-fit w.terminal asked v k.kept k.rows (f m refl)).1) in
+      ap (λ x. record { till = w.till; terminal = terminal_after w.terminal asked v; from_till = map asked_as w.from_till; from_terminal = x }) said
 
-reaches_terminal-fit : (w : Ends) (v : Verdict) (m : Option Message) → Fit w → ((x : Message) → m ≡ Some x → FitAsked (asked_as x)) → Fit (reaches_terminal w v m)
-reaches_terminal-fit w v None k f = k
-reaches_terminal-fit w v (Some m) k f =
-    let asked = asked_as m in
-    record {
-      sound = sound-after w.terminal asked v k.sound;
-      rows = rows-more w.terminal.ledger (option_to_list (turn_of w.terminal asked v).row) k.rows (turn-fit w.terminal asked v k.kept k.rows (f m refl)).0;
-      kept = (turn-fit w.terminal asked v k.kept k.rows (f m refl)).2;
-      settings = k.settings;
-      asked = k.asked;
-    }
+  reaches_terminal-fit : (w : Ends) (v : Verdict) (m : Option Message) → Fit w → ((x : Message) → m ≡ Some x → FitAsked (asked_as x)) → Fit (reaches_terminal w v m)
+  reaches_terminal-fit w v None k f = k
+  reaches_terminal-fit w v (Some m) k f =
+      let asked = asked_as m in
+      record {
+        sound = sound-after w.terminal asked v k.sound;
+        rows = rows-more w.terminal.ledger (option_to_list (turn_of w.terminal asked v).row) k.rows (turn-fit w.terminal asked v k.kept k.rows (f m refl)).0;
+        kept = (turn-fit w.terminal asked v k.kept k.rows (f m refl)).2;
+        settings = k.settings;
+        asked = k.asked;
+      }
 
-answers-mean : (up : Bool) (m : Heard) → map asked_as (cond up (sent_out (reply_to m)) []) ≡ facts.answer_to up m
-answers-mean true m = asked-out (reply_to m) (reply-fit m)
-answers-mean false m = refl
+  answers-mean : (up : Bool) (m : Heard) → map asked_as (cond up (sent_out (reply_to m)) []) ≡ facts.answer_to up m
+  answers-mean true m = asked-out (reply_to m) (reply-fit m)
+  answers-mean false m = refl
 
-answers-fit : (up : Bool) (m : Heard) → AllAsked (facts.answer_to up m)
-answers-fit true m = out-fit (reply_to m) (reply-fit m)
-answers-fit false m = tt
+  answers-fit : (up : Bool) (m : Heard) → AllAsked (facts.answer_to up m)
+  answers-fit true m = out-fit (reply_to m) (reply-fit m)
+  answers-fit false m = tt
 
-reaches_till-mean : (w : Ends) (m : Option Message) → meaning (reaches_till w m) ≡ facts.reaches_till (meaning w) (option_map heard_as m)
-reaches_till-mean w None = refl
-reaches_till-mean w (Some m) =
-    ap (λ x. record { till = step w.till (HeardIn (heard_as m)); terminal = w.terminal; from_till = x; from_terminal = map heard_as w.from_terminal })
-    (sent-means w.from_till (cond w.till.line_up (sent_out (reply_to (heard_as m))) []) (facts.answer_to w.till.line_up (heard_as m)) (answers-mean w.till.line_up (heard_as m)))
+  reaches_till-mean : (w : Ends) (m : Option Message) → meaning (reaches_till w m) ≡ facts.reaches_till (meaning w) (option_map heard_as m)
+  reaches_till-mean w None = refl
+  reaches_till-mean w (Some m) =
+      ap (λ x. record { till = step w.till (HeardIn (heard_as m)); terminal = w.terminal; from_till = x; from_terminal = map heard_as w.from_terminal })
+      (sent-means w.from_till (cond w.till.line_up (sent_out (reply_to (heard_as m))) []) (facts.answer_to w.till.line_up (heard_as m)) (answers-mean w.till.line_up (heard_as m)))
 
-reaches_till-fit : (w : Ends) (m : Option Message) → Fit w → Fit (reaches_till w m)
-reaches_till-fit w None k = k
-reaches_till-fit w (Some m) k =
-    let more = facts.answer_to w.till.line_up (heard_as m) in
-    record {
-      sound = k.sound;
-      rows = k.rows;
-      kept = k.kept;
-      settings = settings-step w.till (HeardIn (heard_as m)) ∙ k.settings;
-      asked =
-          subst AllAsked (sym (sent-means w.from_till (cond w.till.line_up (sent_out (reply_to (heard_as m))) []) more (answers-mean w.till.line_up (heard_as m))))
-          (asked-more (map asked_as w.from_till) more k.asked (answers-fit w.till.line_up (heard_as m)));
-    }
+  reaches_till-fit : (w : Ends) (m : Option Message) → Fit w → Fit (reaches_till w m)
+  reaches_till-fit w None k = k
+  reaches_till-fit w (Some m) k =
+      let more = facts.answer_to w.till.line_up (heard_as m) in
+      record {
+        sound = k.sound;
+        rows = k.rows;
+        kept = k.kept;
+        settings = settings-step w.till (HeardIn (heard_as m)) ∙ k.settings;
+        asked =
+            subst AllAsked (sym (sent-means w.from_till (cond w.till.line_up (sent_out (reply_to (heard_as m))) []) more (answers-mean w.till.line_up (heard_as m))))
+            (asked-more (map asked_as w.from_till) more k.asked (answers-fit w.till.line_up (heard_as m)));
+      }
 
--- a message of the till that was sent asks for what there is
-delivered-fit : (w : Ends) (k : ℕ) → Fit w → (x : Message) → slice_get w.from_till k ≡ Some x → FitAsked (asked_as x)
-delivered-fit w k f x e = asked-at (map asked_as w.from_till) k (asked_as x) f.asked (slice_get-map asked_as w.from_till k ∙ ap (option_map asked_as) e)
+  -- a message of the till that was sent asks for what there is
+  delivered-fit : (w : Ends) (k : ℕ) → Fit w → (x : Message) → slice_get w.from_till k ≡ Some x → FitAsked (asked_as x)
+  delivered-fit w k f x e = asked-at (map asked_as w.from_till) k (asked_as x) f.asked (slice_get-map asked_as w.from_till k ∙ ap (option_map asked_as) e)
 
-pub move-means : (w : Ends) (x : Move) → FitMove x → Fit w → meaning (move w x) ≡ facts.move (meaning w) x
-move-means w Connect f k = refl
-move-means w (Ordered o) f k = orders-mean w o (refusal (facts_of w.till) o) f k
-move-means w (ToTerminal i v) f k =
-    reaches_terminal-mean w v (slice_get w.from_till i) k (delivered-fit w i k) ∙ ap (λ m. facts.reaches_terminal (meaning w) v m) (sym (slice_get-map asked_as w.from_till i))
-move-means w (ToTill i) f k = reaches_till-mean w (slice_get w.from_terminal i) ∙ ap (λ m. facts.reaches_till (meaning w) m) (sym (slice_get-map heard_as w.from_terminal i))
-move-means w TillLost f k = refl
-move-means w TerminalLost f k = refl
+  pub move-means : (w : Ends) (x : Move) → FitMove x → Fit w → meaning (move w x) ≡ facts.move (meaning w) x
+  move-means w Connect f k = refl
+  move-means w (Ordered o) f k = orders-mean w o (refusal (facts_of w.till) o) f k
+  move-means w (ToTerminal i v) f k =
+      reaches_terminal-mean w v (slice_get w.from_till i) k (delivered-fit w i k) ∙ ap (λ m. facts.reaches_terminal (meaning w) v m) (sym (slice_get-map asked_as w.from_till i))
+  move-means w (ToTill i) f k = reaches_till-mean w (slice_get w.from_terminal i) ∙ ap (λ m. facts.reaches_till (meaning w) m) (sym (slice_get-map heard_as w.from_terminal i))
+  move-means w TillLost f k = refl
+  move-means w TerminalLost f k = refl
 
-pub move-fit : (w : Ends) (x : Move) → FitMove x → Fit w → Fit (move w x)
-move-fit w Connect f k = record { sound = k.sound; rows = k.rows; kept = k.kept; settings = k.settings; asked = k.asked }
-move-fit w (Ordered o) f k = orders-fit w o (refusal (facts_of w.till) o) f k
-move-fit w (ToTerminal i v) f k = reaches_terminal-fit w v (slice_get w.from_till i) k (delivered-fit w i k)
-move-fit w (ToTill i) f k = reaches_till-fit w (slice_get w.from_terminal i) k
-move-fit w TillLost f k = record { sound = k.sound; rows = k.rows; kept = k.kept; settings = settings-step w.till Lost ∙ k.settings; asked = k.asked }
-move-fit w TerminalLost f k = record { sound = k.sound; rows = k.rows; kept = tt; settings = k.settings; asked = k.asked }
+  pub move-fit : (w : Ends) (x : Move) → FitMove x → Fit w → Fit (move w x)
+  move-fit w Connect f k = record { sound = k.sound; rows = k.rows; kept = k.kept; settings = k.settings; asked = k.asked }
+  move-fit w (Ordered o) f k = orders-fit w o (refusal (facts_of w.till) o) f k
+  move-fit w (ToTerminal i v) f k = reaches_terminal-fit w v (slice_get w.from_till i) k (delivered-fit w i k)
+  move-fit w (ToTill i) f k = reaches_till-fit w (slice_get w.from_terminal i) k
+  move-fit w TillLost f k = record { sound = k.sound; rows = k.rows; kept = k.kept; settings = settings-step w.till Lost ∙ k.settings; asked = k.asked }
+  move-fit w TerminalLost f k = record { sound = k.sound; rows = k.rows; kept = tt; settings = k.settings; asked = k.asked }
 
-moves-mean : (w : Ends) (moves : List Move) → FitMoves moves → Fit w → meaning (fold move w moves) ≡ fold facts.move (meaning w) moves
-moves-mean w [] f k = refl
-moves-mean w (x ∷ moves) f k = moves-mean (move w x) moves f.1 (move-fit w x f.0 k) ∙ ap (λ v. fold facts.move v moves) (move-means w x f.0 k)
+  moves-mean : (w : Ends) (moves : List Move) → FitMoves moves → Fit w → meaning (fold move w moves) ≡ fold facts.move (meaning w) moves
+  moves-mean w [] f k = refl
+  moves-mean w (x ∷ moves) f k = moves-mean (move w x) moves f.1 (move-fit w x f.0 k) ∙ ap (λ v. fold facts.move v moves) (move-means w x f.0 k)
 
-pub new-fit : Fit new_ends
-new-fit = record { sound = (omega arith, omega arith, tt); rows = tt; kept = tt; settings = refl; asked = tt }
+  pub new-fit : Fit (ends_with given)
+  new-fit = record { sound = (omega arith, omega arith, tt); rows = tt; kept = tt; settings = refl; asked = tt }
 
-pub world-means : (moves : List Move) → FitMoves moves → meaning (world moves) ≡ fold facts.move (meaning new_ends) moves
-world-means moves f = moves-mean new_ends moves f new-fit
+  pub world-means : (moves : List Move) → FitMoves moves → meaning (world_with given moves) ≡ fold facts.move (meaning (ends_with given)) moves
+  world-means moves f = moves-mean (ends_with given) moves f new-fit
 
--- the till's state is that of some log, so that its trace numbers are distinct
+  -- the till's state is that of some log, so that its trace numbers are distinct
 
-abbrev Logged : TillState → Type 0
-Logged s = (log : List Happening) × (s ≡ state_after run_settings log)
+  abbrev Logged : TillState → Type 0
+  Logged s = (log : List Happening) × (s ≡ state_after given log)
 
-logged-step : (s : TillState) (h : Happening) → Logged s → Logged (step s h)
-logged-step s h w = (w.0 ++ h ∷ [], ap (λ x. step x h) w.1 ∙ sym (fold-append step (new_till run_settings) w.0 (h ∷ [])))
+  logged-step : (s : TillState) (h : Happening) → Logged s → Logged (step s h)
+  logged-step s h w = (w.0 ++ h ∷ [], ap (λ x. step x h) w.1 ∙ sym (fold-append step (new_till given) w.0 (h ∷ [])))
 
-accept-step : (s : TillState) (o : Order) → step s (SentOut (sent_as run_settings.currency o)) ≡ accept s o
-accept-step s Register = refl
-accept-step s (Pay a) = refl
-accept-step s (Reverse e) = refl
-accept-step s CloseDay = refl
-accept-step s Cancel = refl
+  accept-step : (s : TillState) (o : Order) → step s (SentOut (sent_as given.currency o)) ≡ accept s o
+  accept-step s Register = refl
+  accept-step s (Pay a) = refl
+  accept-step s (Reverse e) = refl
+  accept-step s CloseDay = refl
+  accept-step s Cancel = refl
 
-logged-order : (w : Ends) (o : Order) (why : Option OrderRefusal) → Logged w.till → Logged (orders w o why).till
-logged-order w o None k = subst Logged (accept-step w.till o) (logged-step w.till (SentOut (sent_as run_settings.currency o)) k)
-logged-order w o (Some why) k = k
+  logged-order : (w : Ends) (o : Order) (why : Option OrderRefusal) → Logged w.till → Logged (orders w o why).till
+  logged-order w o None k = subst Logged (accept-step w.till o) (logged-step w.till (SentOut (sent_as given.currency o)) k)
+  logged-order w o (Some why) k = k
 
-logged-terminal : (w : Ends) (v : Verdict) (m : Option Message) → Logged w.till → Logged (reaches_terminal w v m).till
-logged-terminal w v None k = k
-logged-terminal w v (Some m) k = k
+  logged-terminal : (w : Ends) (v : Verdict) (m : Option Message) → Logged w.till → Logged (reaches_terminal w v m).till
+  logged-terminal w v None k = k
+  logged-terminal w v (Some m) k = k
 
-logged-till : (w : Ends) (m : Option Message) → Logged w.till → Logged (reaches_till w m).till
-logged-till w None k = k
-logged-till w (Some m) k = logged-step w.till (HeardIn (heard_as m)) k
+  logged-till : (w : Ends) (m : Option Message) → Logged w.till → Logged (reaches_till w m).till
+  logged-till w None k = k
+  logged-till w (Some m) k = logged-step w.till (HeardIn (heard_as m)) k
 
-logged-move : (w : Ends) (x : Move) → Logged w.till → Logged (move w x).till
-logged-move w Connect k = logged-step w.till Connected k
-logged-move w (Ordered o) k = logged-order w o (refusal (facts_of w.till) o) k
-logged-move w (ToTerminal i v) k = logged-terminal w v (slice_get w.from_till i) k
-logged-move w (ToTill i) k = logged-till w (slice_get w.from_terminal i) k
-logged-move w TillLost k = logged-step w.till Lost k
-logged-move w TerminalLost k = k
+  logged-move : (w : Ends) (x : Move) → Logged w.till → Logged (move w x).till
+  logged-move w Connect k = logged-step w.till Connected k
+  logged-move w (Ordered o) k = logged-order w o (refusal (facts_of w.till) o) k
+  logged-move w (ToTerminal i v) k = logged-terminal w v (slice_get w.from_till i) k
+  logged-move w (ToTill i) k = logged-till w (slice_get w.from_terminal i) k
+  logged-move w TillLost k = logged-step w.till Lost k
+  logged-move w TerminalLost k = k
 
-logged-moves : (w : Ends) (moves : List Move) → Logged w.till → Logged (fold move w moves).till
-logged-moves w [] k = k
-logged-moves w (x ∷ moves) k = logged-moves (move w x) moves (logged-move w x k)
+  logged-moves : (w : Ends) (moves : List Move) → Logged w.till → Logged (fold move w moves).till
+  logged-moves w [] k = k
+  logged-moves w (x ∷ moves) k = logged-moves (move w x) moves (logged-move w x k)
 
-pub first-holds : Holds (meaning new_ends)
-first-holds = record { heard = tt; sound = (omega arith, omega arith, tt); till = record { running = tt; book = tt }; settings = refl; named = tt; kept = λ e. absurd cc }
+  pub first-holds : (Holds given) (meaning (ends_with given))
+  first-holds = record { heard = tt; sound = (omega arith, omega arith, tt); till = record { running = tt; book = tt }; settings = refl; named = tt; kept = λ e. absurd cc }
+
+  matching : (moves : List Move) → FitMoves moves → Matches (world_with given moves).till (world_with given moves).terminal.ledger
+  matching moves f =
+      let held = (moves-hold given) (meaning (ends_with given)) moves first-holds in
+      let w : Facts = fold facts.move (meaning (ends_with given)) moves in
+      let log : Logged (world_with given moves).till = logged-moves (ends_with given) moves ([], refl) in
+      record {
+        distinct = subst (λ (s : TillState). IsDistinct nat_eq (map trace_of s.book)) (sym log.1) (traces_stay_distinct given log.0);
+        entries =
+            subst (λ (x : Facts). AllMatch x.till.settings.currency x.terminal.ledger x.till.book) (sym (world-means moves f))
+            (subst (λ (k : Settings). AllMatch k.currency w.terminal.ledger w.till.book) (sym held.settings) held.till.book);
+      }
 
 pub worlds_match : WorldsMatch
-worlds_match moves f =
-    let held = moves-hold (meaning new_ends) moves first-holds in
-    let w : Facts = fold facts.move (meaning new_ends) moves in
-    let log : Logged (world moves).till = logged-moves new_ends moves ([], refl) in
-    record {
-      distinct = subst (λ (s : TillState). IsDistinct nat_eq (map trace_of s.book)) (sym log.1) (traces_stay_distinct run_settings log.0);
-      entries =
-          subst (λ (x : Facts). AllMatch x.till.settings.currency x.terminal.ledger x.till.book) (sym (world-means moves f))
-          (subst (λ (k : Settings). AllMatch k.currency w.terminal.ledger w.till.book) (sym held.settings) held.till.book);
-    }
+worlds_match settings moves few f = matching settings few moves f
 
 -- one move more
 
@@ -227,4 +232,4 @@ fit-more moves i x lt is h k =
 
 -- after the last move
 pub matched : (moves : List Move) (i : ℕ) (w : Ends) → length moves ≤ i → w ≡ world (take i moves) → FitMoves (take i moves) → Matches w.till w.terminal.ledger
-matched moves i w le is h = subst (λ (v : Ends). Matches v.till v.terminal.ledger) (sym is) (worlds_match (take i moves) h)
+matched moves i w le is h = subst (λ (v : Ends). Matches v.till v.terminal.ledger) (sym is) (worlds_match run_settings (take i moves) (omega arith) h)

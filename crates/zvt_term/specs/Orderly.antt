@@ -5,11 +5,13 @@ use Rattle.zvt_till.specs.declared.orders.Order.{Order}
 use Rattle.zvt_till.specs.declared.orders.Order.TheVariants.{Register, Pay, Reverse, CloseDay, Cancel}
 use Rattle.zvt_till.specs.declared.outcomes.Cause.{Cause}
 use Rattle.zvt_till.specs.declared.statuses.Running.{Running}
+use Rattle.zvt_till.specs.Events.{run_settings}
+use Rattle.zvt_till.specs.Sending.{Settings}
 use Rattle.zvt_till.specs.Till.{TillState}
 use Rattle.zvt_term.specs.declared.ledger.Row.{Row}
 use Rattle.zvt_term.specs.declared.world.Move.{Move}
 use Rattle.zvt_term.specs.declared.world.Move.TheVariants.{Connect, Order as Ordered, ToTerminal, ToTill, TillLost, TerminalLost}
-use Rattle.zvt_term.specs.World.{Ends, new_ends, move, world, FitMoves}
+use Rattle.zvt_term.specs.World.{Ends, ends_with, move, world_with, FitMoves, HasCurrency}
 
 -- a line: how many messages were delivered each way, and which ends lost it since the last Connect
 pub record Line : Type 0 where
@@ -45,8 +47,12 @@ are_orderly_from w l [] = true
 are_orderly_from w l (x ∷ moves) =
     is_orderly (length w.from_till) (length w.from_terminal) l x && are_orderly_from (move w x) (line_after (length w.from_till) (length w.from_terminal) l x) moves
 
+abbrev pub are_orderly_with : Settings → List Move → Bool
+are_orderly_with settings moves = are_orderly_from (ends_with settings) no_line moves
+
+-- the till has the default settings
 abbrev pub are_orderly : List Move → Bool
-are_orderly moves = are_orderly_from new_ends no_line moves
+are_orderly moves = are_orderly_with run_settings moves
 
 -- a row that approves this amount; a row that takes an approval back is none
 abbrev pub approves_amount : ℕ → Row → Bool
@@ -78,4 +84,6 @@ IsAccounted s ledger =
     (amount : ℕ) → approvals amount ledger ≤ entries_of_amount amount s.book + unclear_of_amount amount s.unclear + running_of_amount amount s.running
 
 abbrev pub OrderlyWorldsAccount : Type 0
-OrderlyWorldsAccount = (moves : List Move) → FitMoves moves → IsTrue (are_orderly moves) → IsAccounted (world moves).till (world moves).terminal.ledger
+OrderlyWorldsAccount =
+    (settings : Settings) (moves : List Move) → HasCurrency settings → FitMoves moves → IsTrue (are_orderly_with settings moves)
+    → IsAccounted (world_with settings moves).till (world_with settings moves).terminal.ledger

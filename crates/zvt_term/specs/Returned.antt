@@ -5,11 +5,12 @@ use Rattle.zvt_till.specs.declared.entries.Doubt.TheVariants.{No, Unclear, Taken
 use Rattle.zvt_till.specs.declared.entries.Entry.{Entry}
 use Rattle.zvt_till.specs.declared.orders.Order.TheVariants.{Reverse}
 use Rattle.zvt_till.specs.declared.statuses.Running.{Running}
+use Rattle.zvt_till.specs.Sending.{Settings}
 use Rattle.zvt_till.specs.Till.{TillState}
 use Rattle.zvt_term.specs.declared.ledger.Row.{Row}
 use Rattle.zvt_term.specs.declared.world.Move.{Move}
-use Rattle.zvt_term.specs.World.{world, FitMoves, IsTakenBack}
-use Rattle.zvt_term.specs.Orderly.{are_orderly}
+use Rattle.zvt_term.specs.World.{world_with, FitMoves, HasCurrency, IsTakenBack}
+use Rattle.zvt_term.specs.Orderly.{are_orderly_with}
 
 -- the last reversal is unclear, or the terminal told that it took the payment back before
 abbrev pub is_doubted : Doubt → Bool
@@ -33,4 +34,6 @@ KeepsReversals s ledger =
     → (place : ℕ) × (entry : Entry) × (slice_get s.book place ≡ Some entry) × (entry.trace ≡ number) × (IsTrue (is_told entry) ⊎ Reverses place s.running)
 
 abbrev pub OrderlyWorldsKeepReversals : Type 0
-OrderlyWorldsKeepReversals = (moves : List Move) → FitMoves moves → IsTrue (are_orderly moves) → KeepsReversals (world moves).till (world moves).terminal.ledger
+OrderlyWorldsKeepReversals =
+    (settings : Settings) (moves : List Move) → HasCurrency settings → FitMoves moves → IsTrue (are_orderly_with settings moves)
+    → KeepsReversals (world_with settings moves).till (world_with settings moves).terminal.ledger

@@ -13,7 +13,7 @@ use Rattle.zvt_till.specs.Events.{run_settings}
 use Rattle.zvt_till.specs.Hearing.{heard_as}
 use Rattle.zvt_till.specs.Laws.{trace_of}
 use Rattle.zvt_till.specs.Refusals.{refusal}
-use Rattle.zvt_till.specs.Sending.{message_of, reply_to}
+use Rattle.zvt_till.specs.Sending.{Settings, message_of, reply_to}
 use Rattle.zvt_till.specs.Till.{TillState, new_till, accept, step, facts_of}
 use Rattle.zvt_term.specs.declared.ledger.Row.{Row}
 use Rattle.zvt_term.specs.declared.turns.Verdict.{Verdict}
@@ -29,9 +29,13 @@ pub record Ends : Type 0 where
   pub from_till : List Message
   pub from_terminal : List Message
 
--- the till is that of a run over events
+-- a new till with these settings, and a new terminal
+abbrev pub ends_with : Settings → Ends
+ends_with settings = record { till = new_till settings; terminal = new_terminal 12345678; from_till = []; from_terminal = [] }
+
+-- the till has the default settings
 abbrev pub new_ends : Ends
-new_ends = record { till = new_till run_settings; terminal = new_terminal 12345678; from_till = []; from_terminal = [] }
+new_ends = ends_with run_settings
 
 -- what the till sends, if anything
 abbrev pub sent_out : Option Outgoing → List Message
@@ -68,8 +72,15 @@ move w (ToTill k) = reaches_till w (slice_get w.from_terminal k)
 move w TillLost = record w { till = step w.till Lost }
 move w TerminalLost = record w { terminal = lost_terminal w.terminal }
 
+abbrev pub world_with : Settings → List Move → Ends
+world_with settings moves = fold move (ends_with settings) moves
+
 abbrev pub world : List Move → Ends
-world moves = fold move new_ends moves
+world moves = world_with run_settings moves
+
+-- the currency has four digits at most
+abbrev pub HasCurrency : Settings → Type 0
+HasCurrency settings = settings.currency ≤ 9999
 
 -- a payment asks for an amount that there is
 abbrev pub IsAmount : ℕ → Type 0
@@ -118,4 +129,6 @@ pub record Matches (till : TillState) (ledger : List Row) : Type 0 where
   pub entries : AllMatch till.settings.currency ledger till.book
 
 abbrev pub WorldsMatch : Type 0
-WorldsMatch = (moves : List Move) → FitMoves moves → Matches (world moves).till (world moves).terminal.ledger
+WorldsMatch =
+    (settings : Settings) (moves : List Move) → HasCurrency settings → FitMoves moves
+    → Matches (world_with settings moves).till (world_with settings moves).terminal.ledger

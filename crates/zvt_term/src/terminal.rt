@@ -20,7 +20,7 @@ pub const MAX_LEDGER_ROWS: usize = 9_999;
 /// The code of an order that the terminal does not take now.
 const NOT_POSSIBLE: u8 = 0x83;
 
-/// The code of a payment in another currency than that of the registration.
+/// Result code: the payment is in another currency than the registration.
 const WRONG_CURRENCY: u8 = 0x6F;
 
 /// The code of an approval that was taken back before.
