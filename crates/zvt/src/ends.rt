@@ -13,7 +13,7 @@ use zvt_tcp::{
     BookRun, LoopRun, TerminalRun, TillRun, run_loop, run_loop_kept, run_terminal, run_till,
     run_till_kept,
 };
-use zvt_tool::command::{LoopOptions, connections_by, form_by, lengths_by};
+use zvt_tool::command::{connections_by, form_by, lengths_by};
 use zvt_tool::statuses::WORDS;
 use zvt_tool::{
     Ends, FileDevice, KeptTill, Planned, StepOptions, TerminalOptions, TillOptions, TillSettings,
@@ -24,27 +24,33 @@ use zvt_tool::{
 const NO_STEPS: &str = "no steps are given, so the till registers and closes the day";
 
 /// Runs both ends of a line in this process and returns the exit status.
-pub fn both_ends(rt: &HostRuntime, options: &LoopOptions<'_>) -> io::Result<u8> {
-    let plan = match planned(rt, Ends::Both, options.steps)? {
+pub fn both_ends(
+    rt: &HostRuntime,
+    trace: Option<&str>,
+    book: Option<&str>,
+    options: StepOptions,
+    steps: &[&str],
+) -> io::Result<u8> {
+    let plan = match planned(rt, Ends::Both, steps)? {
         Ok(plan) => plan,
         Err(status) => return Ok(status),
     };
-    if report_one_file(rt, options.book, options.trace)? {
+    if report_one_file(rt, book, trace)? {
         return Ok(WORDS);
     }
     let settings = TillSettings::default();
-    let kept = match opened(rt, options.book, &settings)? {
+    let kept = match opened(rt, book, &settings)? {
         Ok(kept) => kept,
         Err(status) => return Ok(status),
     };
-    let file = match trace_file::opened(rt, options.trace)? {
+    let file = match trace_file::opened(rt, trace)? {
         Ok(file) => file,
         Err(status) => return Ok(status),
     };
     let run = LoopRun {
         trace: file.as_ref(),
         plan: plan.as_slice(),
-        options: options.options,
+        options,
     };
     let mut writer = Over::new(Output::new(io::writer(rt)));
     let mut report = Over::new(rt.stderr());
@@ -52,12 +58,12 @@ pub fn both_ends(rt: &HostRuntime, options: &LoopOptions<'_>) -> io::Result<u8> 
         None => run_loop(rt, rt.alloc(), &run, &mut writer, &mut report),
         Some(mut kept) => {
             let answer = run_loop_kept(rt, rt.alloc(), &run, &mut kept, &mut writer, &mut report);
-            book::report_failure(rt, kept.device())?;
+            crate::book::report_failure(rt, kept.device())?;
             answer
         }
     };
     let status = finish_run(rt, writer.inner.broken_pipe, answer)?;
-    trace_file::mend_after(rt, options.trace, run.trace, status)
+    trace_file::mend_after(rt, trace, run.trace, status)
 }
 
 /// Runs a till and returns the exit status.

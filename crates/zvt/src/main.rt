@@ -25,9 +25,9 @@ use crate::reports::report;
 use std::io::ErrorKind;
 use std::process::ExitCode;
 use std::{env, io};
-use zvt_tool::command::{Command, command_of};
+use zvt_tool::command::{command_on_traces, form_by};
 use zvt_tool::statuses::{DEVICE, DONE, MEMORY, WORDS};
-use zvt_tool::{Choice, ChoiceFault, TraceFault, choice, with_show};
+use zvt_tool::{Choice, ChoiceFault, StepOptions, TraceFault, choice, with_show};
 
 fn main(rt: HostRuntime) -> ExitCode {
     match run(&rt) {
@@ -93,16 +93,40 @@ fn without_memory(rt: &HostRuntime) -> io::Result<u8> {
 fn execute(rt: &HostRuntime, chosen: &Choice<'_>) -> io::Result<u8>
     requires { (reading : Option (Text × List Row)) × IsChoiceOf reading chosen.now }
 {
-    match command_of(chosen) {
-        Command::OnTraces(work, files) => inputs::work_on(rt, &work, files),
-        Command::Book(files, form) => book::show(rt, files, form),
-        Command::Records(files) => book::records(rt, files),
-        Command::Loop(options) => ends::both_ends(rt, &options),
-        Command::Till(options) => ends::till(rt, options),
-        Command::Terminal(options) => ends::terminal(rt, options),
-        Command::Tap(options) => tap::tap(rt, options),
-        Command::Play(options) => play::play(rt, options),
-        Command::CheckTill(options) => check::till(rt, options),
-        Command::CheckTerminal(options) => check::terminal(rt, options),
+    if let Some((command, files)) = command_on_traces(chosen) {
+        return inputs::work_on(rt, &command, files);
+    }
+    match chosen {
+        Choice::Book {
+            files,
+            records: true,
+            ..
+        } => book::records(rt, files.as_slice()),
+        Choice::Book { files, json, .. } => book::show(rt, files.as_slice(), form_by(*json)),
+        Choice::Loop {
+            trace,
+            book,
+            check,
+            json,
+            steps,
+        } => {
+            let options = StepOptions {
+                form: form_by(*json),
+                check: *check,
+            };
+            ends::both_ends(rt, *trace, *book, options, steps.as_slice())
+        }
+        Choice::Till(options) => ends::till(rt, options),
+        Choice::Terminal(options) => ends::terminal(rt, options),
+        Choice::Tap(options) => tap::tap(rt, options),
+        Choice::Play(options) => play::play(rt, options),
+        Choice::CheckTill(options) => check::till(rt, options),
+        Choice::CheckTerminal(options) => check::terminal(rt, options),
+        Choice::Show(_)
+        | Choice::Join(_)
+        | Choice::Normalise(_)
+        | Choice::Audit(_)
+        | Choice::Receipts(_)
+        | Choice::Vectors(_) => unreachable!(),
     }
 }

@@ -1,5 +1,5 @@
--- The commands of the program, by what it does for them.
-use Rattle.std.specs.Prelude.{◌≤◌, ◌==◌, if◌then◌else◌, ℕ, Bool, true, false, Option, Some, None}
+-- The commands on traces, and what options mean.
+use Rattle.std.specs.Prelude.{◌==◌, if◌then◌else◌, ℕ, Bool, true, false, Option, Some, None}
 use Rattle.zvt_cli.specs.declared.choice.Choice.{Choice}
 use Rattle.zvt_cli.specs.declared.choice.Choice.TheVariants as choice
 use Rattle.zvt_cli.specs.declared.choice.TraceOptions.{TraceOptions}
@@ -12,8 +12,6 @@ use Rattle.zvt_json.specs.declared.form.Form.TheVariants.{Text}
 use Rattle.zvt_json.specs.declared.form.Form.TheVariants as form
 use Rattle.zvt_trace.specs.declared.listener.Scope.{Scope}
 use Rattle.zvt_trace.specs.declared.listener.Scope.TheVariants.{OneMessage, OneSide}
-use Rattle.zvt_tool.specs.declared.command.Command.{Command}
-use Rattle.zvt_tool.specs.declared.command.Command.TheVariants.{OnTraces, Book, Records, CheckTerminal, CheckTill, Loop, Play, Tap, Till, Terminal}
 use Rattle.zvt_tool.specs.declared.command.TraceCommand.{TraceCommand}
 use Rattle.zvt_tool.specs.declared.command.TraceWork.{TraceWork}
 use Rattle.zvt_tool.specs.declared.command.TraceWork.TheVariants.{Render, Audit, Vectors}
@@ -51,17 +49,17 @@ abbrev pub text_scope : (resync : Bool) → Scope
 text_scope false = OneSide
 text_scope true = OneMessage
 
-abbrev pub working : TraceWork → Lengths → TraceOptions → Option TraceCommand
-working work lengths options = Some (record { work = work; lengths = lengths; check = options.check; follow = options.follow; resync = options.resync })
+abbrev pub working : TraceWork → Lengths → TraceOptions → TraceCommand
+working work lengths options = record { work = work; lengths = lengths; check = options.check; follow = options.follow; resync = options.resync }
 
 -- what is written of traces, and by which lengths, if the choice is a command on them; `normalise` joins what it reads loosely
 abbrev pub chosen_on_trace : Choice → Option TraceCommand
-chosen_on_trace (choice.Show options) = working (Render (style_by Show Json options.json)) (lengths_by options.loose) options
-chosen_on_trace (choice.Join options) = working (Render Join) Shortest options
-chosen_on_trace (choice.Normalise options) = working (Render Join) Padded options
-chosen_on_trace (choice.Audit options) = working (Audit (form_by options.json)) (lengths_by options.loose) options
-chosen_on_trace (choice.Receipts options) = working (Render (style_by Receipts JsonReceipts options.json)) (lengths_by options.loose) options
-chosen_on_trace (choice.Vectors options) = working (Vectors (form_by options.json)) Shortest options
+chosen_on_trace (choice.Show options) = Some (working (Render (style_by Show Json options.json)) (lengths_by options.loose) options)
+chosen_on_trace (choice.Join options) = Some (working (Render Join) Shortest options)
+chosen_on_trace (choice.Normalise options) = Some (working (Render Join) Padded options)
+chosen_on_trace (choice.Audit options) = Some (working (Audit (form_by options.json)) (lengths_by options.loose) options)
+chosen_on_trace (choice.Receipts options) = Some (working (Render (style_by Receipts JsonReceipts options.json)) (lengths_by options.loose) options)
+chosen_on_trace (choice.Vectors options) = Some (working (Vectors (form_by options.json)) Shortest options)
 chosen_on_trace (choice.Book files objects records) = None
 chosen_on_trace (choice.Loop trace book check objects steps) = None
 chosen_on_trace (choice.Till options) = None
@@ -70,28 +68,3 @@ chosen_on_trace (choice.Tap options) = None
 chosen_on_trace (choice.Play options) = None
 chosen_on_trace (choice.CheckTill options) = None
 chosen_on_trace (choice.CheckTerminal options) = None
-
-abbrev pub on_trace : Command → Option TraceCommand
-on_trace (OnTraces command files) = Some command
-on_trace (Book files written) = None
-on_trace (Records files) = None
-on_trace (Loop options) = None
-on_trace (Till options) = None
-on_trace (Terminal options) = None
-on_trace (Tap options) = None
-on_trace (Play options) = None
-on_trace (CheckTill options) = None
-on_trace (CheckTerminal options) = None
-
--- a terminal's number has eight digits at most
-abbrev pub HasTerminalNumber : Command → Type 0
-HasTerminalNumber (OnTraces command files) = Unit {0}
-HasTerminalNumber (Book files written) = Unit {0}
-HasTerminalNumber (Records files) = Unit {0}
-HasTerminalNumber (Loop options) = Unit {0}
-HasTerminalNumber (Till options) = Unit {0}
-HasTerminalNumber (Terminal options) = options.now.tid ≤ 99999999
-HasTerminalNumber (Tap options) = Unit {0}
-HasTerminalNumber (Play options) = Unit {0}
-HasTerminalNumber (CheckTill options) = Unit {0}
-HasTerminalNumber (CheckTerminal options) = Unit {0}
