@@ -53,7 +53,7 @@ listening() { # ARGUMENT..
 for command in show join normalise audit receipts; do
     refuses "$command of a directory" 4 "zvt: '$work': cannot open the trace: " "$command" "$work"
     refuses "$command of no file" 4 "zvt: '$work/none.trace': cannot open the trace: " "$command" "$work/none.trace"
-    refuses "$command of a file that can't be read" 4 "zvt: '/proc/self/mem': the trace can't be read to its end" "$command" /proc/self/mem
+    refuses "$command of a file that can't be read" 4 "zvt: '/proc/self/mem': cannot read the rest of the trace" "$command" /proc/self/mem
 done
 echo '> 8' > "$work/half.trace"
 refuses "a line that is none" 3 "zvt: '$work/half.trace': line 1 of the trace: " audit "$work/half.trace"
@@ -61,7 +61,7 @@ refuses "two files that are followed" 2 "zvt: '--follow' takes one FILE" show --
 refuses "the second of two files that are not there" 4 "zvt: 'two': cannot open the trace: " show one two
 refuses "a word that is no text" 2 "zvt: an argument is not valid UTF-8" show "$(printf '\377')"
 "$zvt" show < "$work" > "$work/out" 2> "$work/err"
-check "standard input that is a directory" "$?" 4 "" "zvt: the trace can't be read to its end"
+check "standard input that is a directory" "$?" 4 "" "zvt: cannot read the rest of the trace"
 "$zvt" audit "$here/examples/payment.trace" > "$work/named" 2> "$work/err"
 "$zvt" audit - < "$here/examples/payment.trace" > "$work/out" 2>> "$work/err"
 check "a file, and standard input by its sign" "$?" 0 "$(cat "$work/named")" ""
@@ -274,13 +274,13 @@ refuses "a trace in a book" 3 "zvt: '$work/day.book': this is a till's book, whi
 refuses "a book of another currency" 3 "zvt: '$work/day.book': the first line is not that of a book in the till's currency" till --port "$port" --currency 0840 --book "$work/day.book"
 refuses "a wrong step beside a book" 2 "'pay:0'" loop --book "$work/day.book" pay:0
 cmp -s "$work/day.book" "$work/copy.book" || { echo "NOT AS EXPECTED: a book that was to stay"; echo "a book" >> "$work/failed"; }
-refuses "a trace as a book" 3 "zvt: '$work/new.trace': this is no journal of a till: name the file of its '--book', or run 'zvt audit' on a trace" book "$work/new.trace"
+refuses "a trace as a book" 3 "zvt: '$work/new.trace': not a till's book: name the file of its '--book', or run 'zvt audit' on a trace" book "$work/new.trace"
 refuses "an amount in euros" 2 "where N is an amount in cents, as 'pay:1000' for 10.00" till --port 1 pay:10.00
 refuses "no steps" 4 "zvt: no steps are given, so the till registers and closes the day" till --port "$port"
 for command in "loop --book" "till --port 1 --book" book; do
-    refuses "$command of a folder" 4 "zvt: '$work': this is a folder" $command "$work"
-    refuses "$command of no regular file" 4 "zvt: '/dev/null': this is no regular file" $command /dev/null
-    refuses "$command of a trace" 3 "zvt: '$work/new.trace': this is no journal" $command "$work/new.trace"
+    refuses "$command of a folder" 4 "zvt: '$work': this is a directory" $command "$work"
+    refuses "$command of no regular file" 4 "zvt: '/dev/null': not a regular file" $command /dev/null
+    refuses "$command of a trace" 3 "zvt: '$work/new.trace': not a till's book" $command "$work/new.trace"
     refuses "$command in no folder" 4 "zvt: '$work/none/day.book': cannot open, read or write this file" $command "$work/none/day.book"
     printf '# zvt journal 1, currency 978\n!\n# pay 1\n\n' > "$work/odd.book"
     refuses "$command of records that are no till's" 3 "zvt: '$work/odd.book': " $command "$work/odd.book"
@@ -295,7 +295,7 @@ with open(sys.argv[2]) as file:
     fcntl.flock(file, fcntl.LOCK_EX)
     sys.exit(subprocess.run([sys.argv[1], "loop", "--book", sys.argv[2]]).returncode)
 ' "$zvt" "$work/day.book" > "$work/out" 2> "$work/err"
-check "a book that another till has open" "$?" 4 "" "zvt: '$work/day.book': another till has this book open"
+check "a book that another till has open" "$?" 4 "" "zvt: '$work/day.book': another till is using this book"
 refuses "a book before there is a connection" 4 "zvt: '$work/day.book': 1 booked, 0 unclear, total 500" till --port 1 --book "$work/day.book"
 cmp -s "$work/day.book" "$work/copy.book" || { echo "NOT AS EXPECTED: a book without a connection"; echo "a book" >> "$work/failed"; }
 
@@ -318,7 +318,7 @@ sys.stderr.buffer.write(ran.stderr)
 sys.exit(ran.returncode)
 ' "$zvt" loop --book "$work/full.book" --trace "$work/full.trace" register pay:5 > "$work/out" 2> "$work/err"
 check "a book that is full" "$?" 4 "register -> unclear Line
-total 0" "zvt: cannot write the book, so the run stopped and nothing more was sent"
+total 0" "zvt: cannot write the book; the run was stopped and nothing more was sent"
 [ "$(cat "$work/full.trace")" = "!" ] || { echo "NOT AS EXPECTED: an order that was sent without its record"; echo "an order" >> "$work/failed"; }
 reads "what a full book has" 0 "total 0" "" book "$work/full.book"
 
@@ -339,12 +339,12 @@ total 500" "zvt: '$work/marked.book': 2 booked, 0 unclear, total 500"
 
 # Connections that can't be had.
 refuses "a host that is none" 4 "zvt: no connection: the host name has no address" till --port 1 --host no.such.host.invalid
-refuses "an address that is elsewhere" 4 "zvt: no connection: the address to listen at does not belong to this machine" terminal --port 0 --host 192.0.2.1
+refuses "an address that is elsewhere" 4 "zvt: no connection: cannot listen on an address of another machine" terminal --port 0 --host 192.0.2.1
 listening
 refuses "a port that is in use" 4 "zvt: no connection: the port is in use" terminal --port "$port"
 kill "$terminal"
 wait "$terminal" 2> /dev/null
-refuses "a port that nothing listens on" 4 "zvt: no connection: nothing listens at that host and port" till --port "$port"
+refuses "a port that nothing listens on" 4 "zvt: no connection: connection refused" till --port "$port"
 
 # A reader that goes away: no message.
 { yes '> 80 00 00' | head -n 200000 | "$zvt" show 2> "$work/err"; echo "$?" > "$work/status"; } | head -n 1 > "$work/out"

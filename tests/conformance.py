@@ -209,7 +209,7 @@ def wrong_words(folder):
         ("port 0", ["check-terminal", "--port", 0, approval], (2, "zvt: invalid port '0': give the port that the terminal listens at\n")),
         ("no file", ["check-till", "--listen", 0, approval, folder / "none"], (4, f"zvt: '{folder}/none': cannot open the trace: ")),
         ("no message", ["check-till", "--listen", 0, approval, bad], (3, f"zvt: '{bad}': line 1 of the trace: no message begins with these bytes")),
-        ("nobody listens", ["check-terminal", "--port", 1, approval], (4, "zvt: no connection: nothing listens at that host and port")),
+        ("nobody listens", ["check-terminal", "--port", 1, approval], (4, "zvt: no connection: connection refused")),
     ]:
         status, written, told = run(*words)
         check(name, (status, told[:len(wanted[1])]), wanted)

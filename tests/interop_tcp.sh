@@ -121,10 +121,10 @@ doubt="zvt: the payment of 1234 is unclear (Line: the connection was lost). The 
 # A terminal that says nothing more has lost its connection once the till has waited, and that is told apart.
 breaks "a silent terminal" "$taken" Line 30
 check "that it was silent" 0 "$(cat "$work/till.$port")" 0 "$doubt
-zvt: connection failed: the terminal sent nothing for 2 s: check it, or let the till wait longer by --timeout"
+zvt: connection failed: the terminal sent nothing for 2 s. Check the terminal, or increase --timeout"
 breaks "a terminal that resets the connection" "$taken" Line reset
 check "that the connection broke" 0 "$(cat "$work/till.$port")" 0 "$doubt
-zvt: connection failed: a read failed, as where the other end resets the connection"
+zvt: connection failed: reading failed; the other end may have reset the connection"
 
 # Both ends as they should be.
 port=$(free_port)

@@ -116,15 +116,15 @@ class Trial(Checks):
         after = b"# mine\n" * (MOST_AFTER // 7 + 1)
         again = b"# reverse 7\n> 063006000000870001\n"
         wanted = [
-            ("a text", "no journal", b"my notes\n"),
-            ("a trace", "no journal", (EXAMPLES / "payment.trace").read_bytes()),
-            ("a word", "no journal", b"ab"),
-            ("two empty lines and a text", "no journal", b"\n\n" + b"x" * 300),
+            ("a text", "not a till's book", b"my notes\n"),
+            ("a trace", "not a till's book", (EXAMPLES / "payment.trace").read_bytes()),
+            ("a word", "not a till's book", b"ab"),
+            ("two empty lines and a text", "not a till's book", b"\n\n" + b"x" * 300),
             ("another version", "", b"# zvt journal 2, currency 978\n\n"),
             ("too much after the gate", "after the first empty line", journal().file() + b"0" + after),
-            ("one byte", "no journal", b"x"),
-            ("a note behind an empty line", "no journal", b"\nmilk, bread and cheese"),
-            ("an opening of another program", "no journal", b"\n zvt journal 1, password"),
+            ("one byte", "not a till's book", b"x"),
+            ("a note behind an empty line", "not a till's book", b"\nmilk, bread and cheese"),
+            ("an opening of another program", "not a till's book", b"\n zvt journal 1, password"),
             ("an order of an entry that is none", "", journal().file()[:-1] + again + b"\n"),
             ("a line that is none", "", journal().file()[:-1] + b"pay 1\n\n"),
             ("a message that is none", "", journal().file()[:-1] + b"< 06D0\n\n"),

@@ -331,7 +331,7 @@ def wrong(folder):
     for text, wanted in (
         ("This is no trace\n", "line 1 of the trace: expected '>' or '<'"),
         ("# one\n< 0\n", "line 2 of the trace: expected two hexadecimal digits"),
-        ("> 0600\n\n< 80 00 00 06 0F 02 FF 00\n", "line 3 of the trace: no message begins with these bytes, up to the one at 6 (UnknownField)"),
+        ("> 0600\n\n< 80 00 00 06 0F 02 FF 00\n", "line 3 of the trace: invalid at byte 6 (UnknownField)"),
         ("#~ soon\n", f"line 1 of the trace: {A_MARK}"),
         ("#~ 12345678\n", f"line 1 of the trace: {A_MARK}"),
         ("<\n#~ bind 04 n1\n", f"line 2 of the trace: {A_MARK}"),
@@ -354,7 +354,7 @@ def wrong(folder):
         status, said, errors = run("play", "--till", str(path), "--port", "1")
         check(f"the file {path.name}", (status, said, errors.startswith("zvt: ")), (4, "", True))
     status, said, errors = run("play", "--till", str(written(folder, "> 0600\n")), "--port", "1")
-    check("no other side", (status, said, "nothing listens at that host and port" in errors), (4, "", True))
+    check("no other side", (status, said, "connection refused" in errors), (4, "", True))
 
 
 with tempfile.TemporaryDirectory() as name:

@@ -388,7 +388,7 @@ def missing():
             left = b""
         check("no terminal: the till is closed", left, b"")
         till.close()
-    ended("no terminal", tap, 4, rf"(zvt: no connection to the terminal at '127\.0\.0\.1:{port}': nothing listens [^\n]*\n){{2}}")
+    ended("no terminal", tap, 4, rf"(zvt: no connection to the terminal at '127\.0\.0\.1:{port}': connection refused: [^\n]*\n){{2}}")
     for words in (["--listen", "0", "--to", "nowhere"], ["--listen", "0", "--to", "127.0.0.1:0"], ["--listen", "here", "--to", "127.0.0.1:1"],
                   ["--listen", "0", "--to", "127.0.0.1:1", "--connections", "65536"], ["--listen", "0"]):
         check(f"wrong words {words}", run(["tap", *words])[0], 2)

@@ -61,7 +61,7 @@ fn times_of(word: Option<String>) -> u32 {
     }
 }
 
-/// Takes so many payments with a book in this file, and answers the exit status.
+/// Takes this number of payments with a book in the file, and returns the exit status.
 fn time_kept(rt: &HostRuntime, times: Option<String>, path: Option<String>) -> io::Result<u8> {
     let Some(path) = path else {
         eprintln!(rt; "harness: time-kept needs a number and a file")?;

@@ -146,7 +146,7 @@ fn a_wrong_line_is_named(rt: HostRuntime) -> Result<(), Fail> {
         assert_equal(
             &rt,
             &said.as_str(),
-            &"line 3 of the journal is no line of a till's record",
+            &"line 3 of the book is not part of a valid record",
         );
     }
     Ok(())

@@ -33,7 +33,7 @@ const UNKNOWN: &[u8] = &[0x05, 0x01, 0x02, 0xAB, 0xCD];
 /// No message begins so.
 const MALFORMED: &[u8] = &[0x06, 0x01, 0x02, 0xD0];
 
-/// Approvals of 1234 under the trace numbers 1 and 2, of which one names no receipt, and one of 1235.
+/// Two approvals of 1234, with trace numbers 1 and 2, one of them without a receipt number, and an approval of 1235.
 const APPROVED: &[u8] = &[
     0x04, 0x0F, 0x10, 0x27, 0x00, 0x04, 0x00, 0x00, 0x00, 0x00, 0x12, 0x34, 0x0B, 0x00, 0x00, 0x01,
     0x87, 0x00, 0x0A,
@@ -151,7 +151,7 @@ fn next_order(chance: &mut Chance, made: u32) -> Result<Order, Fail> {
     })
 }
 
-/// The messages that a terminal answers to an order: to the first those of a registration.
+/// The messages that a terminal sends for each order. The first order is a registration.
 fn next_answers(chance: &mut Chance, made: u32) -> [&'static [u8]; 4] {
     if made == 0 {
         answers(0)

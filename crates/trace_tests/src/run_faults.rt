@@ -27,7 +27,7 @@ fn runs_say_why_they_ended(rt: HostRuntime) -> Result<(), Fail> {
         ),
         (
             &EndFault::Silent { seconds: 60 },
-            "connection failed: the terminal sent nothing for 60 s: check it, or let the till wait longer by --timeout",
+            "connection failed: the terminal sent nothing for 60 s. Check the terminal, or increase --timeout",
         ),
         (
             &EndFault::Write,
@@ -50,7 +50,7 @@ fn each_want_of_a_connection_is_said(rt: HostRuntime) -> Result<(), Fail> {
         ),
         (
             NetFault::Refused,
-            "no connection: nothing listens at that host and port: check that the terminal runs, and which port it uses",
+            "no connection: connection refused: check that the terminal is running, and its port",
         ),
         (
             NetFault::Unreachable,
@@ -58,7 +58,7 @@ fn each_want_of_a_connection_is_said(rt: HostRuntime) -> Result<(), Fail> {
         ),
         (
             NetFault::Silent,
-            "no connection: the host does not answer: check its name or address",
+            "no connection: the host did not respond: check its name or address",
         ),
         (
             NetFault::InUse,
@@ -66,7 +66,7 @@ fn each_want_of_a_connection_is_said(rt: HostRuntime) -> Result<(), Fail> {
         ),
         (
             NetFault::Elsewhere,
-            "no connection: the address to listen at does not belong to this machine: give another host",
+            "no connection: cannot listen on an address of another machine: use one of this machine's addresses",
         ),
         (
             NetFault::NotAllowed,
@@ -92,7 +92,7 @@ fn broken_lines_say_how_they_broke(rt: HostRuntime) -> Result<(), Fail> {
     let rows = [
         (
             LineFault::Read,
-            "connection failed: a read failed, as where the other end resets the connection",
+            "connection failed: reading failed; the other end may have reset the connection",
         ),
         (LineFault::Write, "connection failed: a write failed"),
         (
@@ -101,7 +101,7 @@ fn broken_lines_say_how_they_broke(rt: HostRuntime) -> Result<(), Fail> {
         ),
         (
             LineFault::Turns,
-            "connection failed: no response completed within the read limit",
+            "connection failed: gave up: the exchange was not finished within the read limit",
         ),
         (
             malformed,
@@ -110,7 +110,7 @@ fn broken_lines_say_how_they_broke(rt: HostRuntime) -> Result<(), Fail> {
         (LineFault::Memory, "connection failed: out of memory"),
         (
             LineFault::Stopped,
-            "connection failed: the other end sent an invalid message before",
+            "connection failed: the other end already sent an invalid message on this connection",
         ),
     ];
     for (fault, wanted) in rows {

@@ -23,7 +23,7 @@ const OTHER_BOOK: &str =
 
 /// What is reported of a file that is no book, where a book is to be read.
 const NO_BOOK: &str =
-    "this is no journal of a till: name the file of its '--book', or run 'zvt audit' on a trace";
+    "not a till's book: name the file of its '--book', or run 'zvt audit' on a trace";
 
 /// What is reported of a book whose file is no longer the one that was opened.
 const DISPLACED: &str =

@@ -34,7 +34,7 @@ struct Verdicts {
     broken: usize,
 }
 
-/// For so many milliseconds a situation listens on after its last line, where it does not say for how many.
+/// Milliseconds for which a situation listens after its last line, unless it names another number.
 const LISTENED: u32 = 500;
 
 /// Plays the terminal of each situation against a till and returns the exit status.
@@ -119,7 +119,7 @@ fn read_situation<'a>(
     }))
 }
 
-/// The name of a situation: that of its file, without folder and ending.
+/// The name of a situation: its file name without folder and extension.
 fn name_of(path: &str) -> &str {
     let file = match path.rsplit_once('/') {
         Some((_, file)) => file,

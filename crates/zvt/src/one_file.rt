@@ -26,7 +26,7 @@ pub fn report_one_file(
     Ok(is_one)
 }
 
-/// Whether both names are those of one file, or would be once it is made.
+/// Whether both names refer to one file, or would once it exists.
 fn is_one_file(rt: &HostRuntime, one: &str, other: &str) -> bool {
     match (fs::metadata(rt, one), fs::metadata(rt, other)) {
         (Ok(one), Ok(other)) => is_one(&one, &other),

@@ -182,7 +182,7 @@ fn listening(steps: &[ScriptStep]) -> Option<u32> {
     }
 }
 
-/// Listens at the door for a connection that the trace does not have. One without a byte is none.
+/// Listens for a connection that the trace does not have. A connection that sends no byte does not count.
 fn listen_for_another(
     rt: &HostRuntime,
     place: &mut Place<'_>,
@@ -301,7 +301,7 @@ fn ends_with_own_line(played: &[ScriptStep]) -> bool {
     }
 }
 
-/// Whether the other side owes an acknowledgement: the last of these steps sent what is none itself.
+/// Whether the other side owes an acknowledgement: the last of these steps sent a message that is not one itself.
 fn is_acknowledged(played: &[ScriptStep]) -> bool {
     match played.last() {
         Some(

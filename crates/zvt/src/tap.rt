@@ -262,7 +262,7 @@ fn report_end(rt: &HostRuntime, fault: TapFault, error: Option<ErrorKind>) -> u8
         TapFault::Wait => {
             report_if_read(
                 rt,
-                "the system can't say which side has sent something, so the line ended",
+                "waiting for data failed, so the connection was closed",
             );
             DEVICE
         }

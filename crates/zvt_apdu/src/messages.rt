@@ -1,5 +1,6 @@
 //! The messages, and why one has no spelling.
 
+use thiserror::Error;
 use zvt_bcd::Currency;
 use zvt_field::Fields;
 
@@ -64,10 +65,12 @@ pub enum Message {
 }
 
 /// Why a message has no spelling.
-#[derive(Clone, Copy, Debug, PartialEq, Eq)]
+#[derive(Clone, Copy, Debug, Drop, PartialEq, Eq, Error)]
 pub enum BadValue {
     /// The data has more than 65,535 bytes.
+    #[error("the message has more than 65,535 bytes of data")]
     TooLarge,
-    /// The control bytes are those of a message with a name of its own.
+    /// The control bytes belong to a message with a variant of its own.
+    #[error("these control bytes belong to a named message: use its variant")]
     NamedControl,
 }

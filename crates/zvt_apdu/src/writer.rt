@@ -14,11 +14,13 @@ use crate::control_bytes;
 use crate::frame::form_of;
 use crate::messages::Message;
 use std::alloc::{AllocError, Global};
+use thiserror::Error;
 use zvt_bcd::{Currency, put};
 use zvt_field::{Fields, write_into};
 
 /// The slice is shorter than the spelling, which has `need` bytes.
-#[derive(Clone, Copy, Debug, PartialEq, Eq)]
+#[derive(Clone, Copy, Debug, Drop, PartialEq, Eq, Error)]
+#[error("the buffer is too small: the message needs {need} bytes")]
 pub struct NoRoom {
     pub need: usize,
 }

@@ -8,8 +8,7 @@ use zvt_bcd::Amount;
 use zvt_text::Text;
 use zvt_till::{Booked, Books, Cause};
 
-/// A line for each payment that was completed, then one for each of which it is not known whether it happened, and the
-/// sum of the former.
+/// One line per completed payment, then one per unclear payment, then the sum of the completed ones.
 pub(crate) fn write(text: &mut Text, books: &Books) -> Result<(), AllocError>
     ensures { OnOk result (text.new ≡ text.old ++ books_text (books_value books.now)) }
 {
@@ -36,7 +35,7 @@ fn booked_row(text: &mut Text, row: &Booked) -> Result<(), AllocError>
     text.push(b'\n')
 }
 
-/// The line of a payment of which it is not known whether it happened.
+/// The line of an unclear payment.
 fn unclear_row(text: &mut Text, row: &(Amount, Cause)) -> Result<(), AllocError>
     ensures { OnOk result (text.new ≡ text.old ++ unclear_line row.now) }
 {

@@ -16,8 +16,7 @@ use zvt_text::{Says, Text};
 use zvt_till::{Booked, Books, Cause};
 use zvt_trace::Tally;
 
-/// An object for each payment that was completed, then for each of which it is not known whether it happened, and at last
-/// for the whole trace.
+/// One object per completed payment, then one per unclear payment, and a last one for the whole trace.
 pub(crate) fn write(
     text: &mut Text,
     tally: Tally,
@@ -72,14 +71,14 @@ fn receipt(text: &mut Text, receipt: Option<[u8; 2]>) -> Result<(), AllocError>
     text.push(b'"')
 }
 
-/// Bytes in hexadecimal, of which JSON escapes no digit.
+/// Bytes in hexadecimal. JSON escapes none of these digits.
 fn digits(text: &mut Text, bytes: &[u8]) -> Result<(), AllocError>
     ensures { Adds result text.old text.new (escape (encode_upper bytes.now)) }
 {
     zvt_text::hexadecimal(text, bytes)
 }
 
-/// The line of a payment of which it is not known whether it happened.
+/// The line of an unclear payment.
 fn unclear_row(text: &mut Text, row: &(Amount, Cause), line: Option<u64>) -> Result<(), AllocError>
     ensures { OnOk result (text.new ≡ text.old ++ unclear_text row.now line) }
 {

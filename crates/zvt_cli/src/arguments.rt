@@ -216,7 +216,7 @@ fn play<'a>(inner: &ArgMatches<'a>) -> Option<Choice<'a>>
     }))
 }
 
-/// The choice of a command that plays situations, where the name is that of one.
+/// The choice of the command with this name, if it is one that plays situations.
 fn check<'a>(
     alloc: Global,
     name: &str,

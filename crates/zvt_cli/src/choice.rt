@@ -21,7 +21,7 @@ pub enum Choice<'a> {
     Vectors(TraceOptions<'a>),
     /// The books of tills.
     Book {
-        /// Their files, of which there is one or more.
+        /// Their files, at least one.
         files: Vec<&'a str>,
         /// Whether the output is JSON.
         json: bool,

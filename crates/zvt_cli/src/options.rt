@@ -11,7 +11,7 @@ use std::alloc::Global;
 pub enum CommandOption<'a> {
     /// Any number of words of this name, and what help calls one.
     Several(&'a str, &'a str, &'a str),
-    /// The files of books, of which one has to be there.
+    /// The files of books. At least one is required.
     BookFiles(&'a str),
     /// An option of this name that has no value.
     Flag(&'a str, &'a str),

@@ -1,5 +1,5 @@
 -- Fields that are together.
-use Rattle.std.specs.Prelude.{◌≡◌, ℕ, ◌<◌, ◌^◌, List, [], ◌∷◌, ◌++◌, length}
+use Rattle.std.specs.Prelude.{◌≡◌, ℕ, ◌<◌, ◌^◌, List, [], ◌∷◌, ◌++◌, codes, length}
 use Rattle.zvt_grammar.specs.Reading.{shortest}
 use Rattle.zvt_field.specs.Grammar.{Field, FieldList}
 use Rattle.zvt_field.specs.Bodies.{HaveSpelling}
@@ -17,3 +17,7 @@ pub record HaveSize (fields : List Field) (size : ℕ) : Type 0 where
 abbrev pub Refuses : List Field → Field → PushRefusal → Type 0
 Refuses fields field (TooLarge back) = (back ≡ field) × (HaveSpelling (fields ++ field ∷ []) → ⊥)
 Refuses fields field (Memory back) = (back ≡ field) × HaveSpelling (fields ++ field ∷ [])
+
+abbrev pub push_refusal_text : PushRefusal → List ℕ
+push_refusal_text (TooLarge back) = codes "the fields would have more than 65,535 bytes"
+push_refusal_text (Memory back) = codes "out of memory"

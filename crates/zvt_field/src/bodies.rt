@@ -8,6 +8,7 @@ use crate::Shape;
 use crate::sizes::{LARGEST, tree_size};
 use crate::table::shape;
 use std::marker::Model;
+use thiserror::Error;
 use zvt_bcd::is_digits;
 use zvt_tlv::Forest;
 
@@ -19,13 +20,16 @@ pub enum FieldBody {
 }
 
 /// Why a field has no spelling.
-#[derive(Clone, Copy, Debug, PartialEq, Eq)]
+#[derive(Clone, Copy, Debug, Drop, PartialEq, Eq, Error)]
 pub enum BadField {
     /// The table has no such BMP.
+    #[error("no field has this BMP")]
     Unknown,
     /// The body is of another kind or size than the BMP asks for.
+    #[error("the content is of another kind or size than its BMP requires")]
     Size,
     /// A half of a byte is no decimal digit where digits are demanded.
+    #[error("the content has a half byte that is not a decimal digit")]
     NotDigit,
 }
 

@@ -7,6 +7,7 @@ ghost use Rattle.zvt_field.specs.Lists.{HaveSize, Refuses};
 use crate::Field;
 use crate::sizes::{LARGEST, field_size};
 use std::alloc::Global;
+use std::fmt;
 use std::marker::Model;
 
 /// Fields that have a spelling together, and its size.
@@ -39,6 +40,20 @@ pub enum PushRefusal {
     TooLarge(Field),
     /// No memory was left.
     Memory(Field),
+}
+
+impl fmt::Display for PushRefusal {
+    ghost use Rattle.std.specs.Prelude.{Some};
+    ghost use Rattle.zvt_field.specs.Lists.{push_refusal_text};
+
+    ghost output = { λ refusal. Some (push_refusal_text refusal) };
+
+    fn fmt<W: fmt::Write>(&self, f: &mut fmt::Formatter<W>) -> fmt::Result {
+        f.write_str(match self {
+            PushRefusal::TooLarge(_) => "the fields would have more than 65,535 bytes",
+            PushRefusal::Memory(_) => "out of memory",
+        })
+    }
 }
 
 impl Fields {

@@ -13,19 +13,19 @@ use thiserror::Error;
 #[derive(Debug, Drop, Error)]
 pub enum JournalFileError {
     /// Another process has the file open as its journal.
-    #[error("another till has this book open: end that till first, or name another file")]
+    #[error("another till is using this book: stop it first, or name another file")]
     InUse,
     /// Another file had this name, or the file other bytes, once it was locked.
     #[error("this file was moved, replaced or changed while it was opened: open it again")]
     Displaced,
     /// There is a folder of this name.
-    #[error("this is a folder: name a file in it")]
+    #[error("this is a directory: name a file")]
     Folder,
     /// There is something of this name that is no regular file.
-    #[error("this is no regular file: name a regular file, or one that is not there yet")]
+    #[error("not a regular file: name a regular file, or one that does not exist yet")]
     NotAFile,
     /// The file is no journal: its first line doesn't begin with the name of the format.
-    #[error("this is no journal, and it was left as it is: name a journal, or a file that is not there yet")]
+    #[error("not a till's book (left unchanged): name a book, or a file that does not exist yet")]
     NotAJournal,
     /// Complete records follow the first empty line, which is this line. No crash leaves such a file: an editor
     /// inserted the empty line, or the disk lost the bytes in its place.
@@ -33,10 +33,10 @@ pub enum JournalFileError {
         remove that line to have them back, or all that comes after it to give them up")]
     RecordsBehind { line: usize, records: usize },
     /// More bytes come after the whole lines up to the first empty one than a crash leaves.
-    #[error("{bytes} bytes come after the first empty line, more than a crash leaves: remove that line if an editor put it there")]
+    #[error("{bytes} bytes follow the first empty line, more than a crash can leave behind: if an editor inserted that line, delete it")]
     TooMuchAfter { bytes: usize },
     /// The bytes that are to be cut could not be kept in the file beside it, so they were not cut.
-    #[error("cannot keep the bytes that are to be cut in the file of this name and '.cut': {0}")]
+    #[error("cannot save the incomplete record to the file of the same name plus '.cut', so it was not removed: {0}")]
     CutNotKept(io::Error),
     /// The name of the file can't be made durable, since its folder can't be opened or synced. No file was made.
     #[error("cannot make the name of this file durable, for which its folder has to be readable and on a disk that syncs folders: {0}")]

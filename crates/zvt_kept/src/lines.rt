@@ -20,7 +20,7 @@ use zvt_trace::next_line;
 #[derive(Clone, Copy, Debug, PartialEq, Eq, Error)]
 pub enum RecordError {
     /// This line, counted from 1, is no line of a journal.
-    #[error("line {number} of the journal is no line of a till's record")]
+    #[error("line {number} of the book is not part of a valid record")]
     Line { number: usize },
     /// This line, counted from 1, is a check that doesn't belong to the record before it.
     #[error("line {number} of the journal is not the check of its record: the file was changed or damaged")]

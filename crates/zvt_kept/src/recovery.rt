@@ -25,14 +25,14 @@ pub enum RecoveryError {
     #[error("this book is of another currency: give the book's currency, or name another file")]
     Opening,
     /// This line, counted from 1, is no line of a journal.
-    #[error("line {number} of the book is no line of a till's record")]
+    #[error("line {number} of the book is not part of a valid record")]
     Line { number: usize },
     /// This line, counted from 1, is a check that doesn't belong to the record before it.
     #[error("line {number} of the book is not the check of its record: the file was changed or damaged")]
     Check { number: usize },
     /// This record, counted from 1, is the first that cannot follow the records before it: the till refuses its order,
     /// or its bytes are not one message.
-    #[error("record {number} of the book is none that a till makes after those before it")]
+    #[error("record {number} of the book contradicts the records before it")]
     Record { number: usize },
     /// Memory was refused.
     #[error("out of memory")]

@@ -103,7 +103,7 @@ abbrev pub cause_text : Direction → Difference → Option (Bor Message) → Li
 cause_text from (Other at) came = codes "but another message came\n" ++ came_text from came
 cause_text from (Closed have) came = codes "but the other side closed the connection after " ++ decimal have ++ codes " bytes of a message\n"
 cause_text from (Malformed place why) came = codes "but no message begins with what came: refused at " ++ decimal place ++ codes ": " ++ why_name why ++ 10 ∷ []
-cause_text from Read came = codes "but nothing came: the other side was silent for too long, or the connection failed\n"
+cause_text from Read came = codes "but nothing came: the other side timed out, or the connection failed\n"
 cause_text from (Surplus count) came = []
 cause_text from Write came = []
 

@@ -21,7 +21,7 @@ pub enum ScriptLineError {
     /// It is no line of a trace.
     #[error("{0}")]
     Trace(TraceLineError),
-    /// It begins as a mark and is none.
+    /// It begins like a mark, but is not a valid one.
     #[error("expected a mark, e.g. '#~ silent', '#~ 1500', '#~ listen 2000', '#~ bind 87 n1', '#~ same 37 n1' or '#~ use 87 n1'")]
     Mark,
     /// It is a mark with a name that cannot be used here.
@@ -29,7 +29,7 @@ pub enum ScriptLineError {
     Name(NameFault),
     /// It is a line of the other side, and no message begins with its bytes up to and with the one at `at`, which is
     /// counted from 0.
-    #[error("no message begins with these bytes, up to the one at {at} ({why}): give bytes that the other side can send, or the sign alone for any message")]
+    #[error("invalid at byte {at} ({why}): no message starts like this. Give a valid message or prefix, or leave the line empty after '<' or '>' to accept any message")]
     NoMessage { at: usize, why: Why },
 }
 

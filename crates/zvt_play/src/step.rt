@@ -11,11 +11,11 @@ pub enum Action {
     Await(Vec<u8>),
     /// Breaks the connection.
     Break,
-    /// Waits so many milliseconds.
+    /// Waits this number of milliseconds.
     Wait(u32),
     /// Answers nothing more on this connection.
     Silence,
-    /// Ends the connection once nothing came for so many milliseconds.
+    /// Ends the connection once nothing came for this number of milliseconds.
     Listen(u32),
     /// Gives a name to the number in this field of the message that came last. No name may have that number.
     Bind { field: NumberField, name: u8 },

@@ -232,7 +232,7 @@ fn add_cause(
         }
         Difference::Read => {
             text.word(
-                b"but nothing came: the other side was silent for too long, or the connection failed\n",
+                b"but nothing came: the other side timed out, or the connection failed\n",
             )
         }
         Difference::Surplus { .. } | Difference::Write => Ok(()),

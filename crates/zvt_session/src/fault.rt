@@ -15,16 +15,16 @@ pub enum NetFault {
     #[error("the host name has no address: check its spelling")]
     UnknownHost,
     /// The host is there.
-    #[error("nothing listens at that host and port: check that the terminal runs, and which port it uses")]
+    #[error("connection refused: check that the terminal is running, and its port")]
     Refused,
     #[error("the host is unreachable: check the network and the address")]
     Unreachable,
     /// It was silent for as long as a till waits.
-    #[error("the host does not answer: check its name or address")]
+    #[error("the host did not respond: check its name or address")]
     Silent,
     #[error("the port is in use: stop the program that listens there, or give another port, or 0 for a free one")]
     InUse,
-    #[error("the address to listen at does not belong to this machine: give another host")]
+    #[error("cannot listen on an address of another machine: use one of this machine's addresses")]
     Elsewhere,
     #[error("permission denied for that port: give a port from 1024 on")]
     NotAllowed,
@@ -40,7 +40,7 @@ pub enum EndFault {
     #[error("connection failed: {0}")]
     Line(LineFault),
     /// The terminal sent nothing for as long as the till waits. The rest is as at `Line`.
-    #[error("connection failed: the terminal sent nothing for {seconds} s: check it, or let the till wait longer by --timeout")]
+    #[error("connection failed: the terminal sent nothing for {seconds} s. Check the terminal, or increase --timeout")]
     Silent { seconds: u16 },
     /// The trace could not be written to its end. The connection was given up there: after the last step, or in the order
     /// that ran, which ended as after a failed connection. All of the text was written.
@@ -48,7 +48,7 @@ pub enum EndFault {
     Trace,
     /// The journal of the till's book could not be written. Nothing was sent from then on. The order that ran ended as after
     /// a failed connection. The book's file has what happened before.
-    #[error("cannot write the book, so the run stopped and nothing more was sent: check the free space and the disk, then run 'zvt book' on the file")]
+    #[error("cannot write the book; the run was stopped and nothing more was sent. Check the disk and its free space, then inspect the file with 'zvt book'")]
     Book,
     /// All steps were made and the total was written, but a step did not succeed, and the run checks that. The line of the
     /// step says what became of it.

@@ -56,7 +56,7 @@ pub(crate) trait StepLine<K: Keeper> {
     ghost makes: { Self → K → Step → Result Outcome RunFault → Self → K → Type 0 };
 
     /// Gives the till the order of the step, and goes on with the line until no order runs. It answers the order's outcome.
-    /// `RunFault::Line` was reported to the till, whose last outcome is that of the order. The line is then given up.
+    /// On `RunFault::Line`, the till knows of the fault, and its last outcome is the result of the order. Give up the line then.
     /// A journal has the note beside the order.
     fn make(
         &mut self,

@@ -16,15 +16,18 @@ use crate::encoder::{save, save_in};
 use crate::input::{read_entry, read_number, read_outcome, read_unclear};
 use crate::layouts::{Layout, entry_size, layout_of};
 use std::alloc::Global;
+use thiserror::Error;
 use zvt_bcd::{Amount, Currency};
 use zvt_till::{Cause, Entry, Happening, Outcome, RestoreError, Till};
 
 /// Why no till was made of bytes.
-#[derive(Clone, Copy, Debug, PartialEq, Eq)]
+#[derive(Clone, Copy, Debug, Drop, PartialEq, Eq, Error)]
 pub enum LoadError {
     /// They are not what a till is saved in: cut, altered, of another version, or of a book that no till has.
+    #[error("these bytes are not a saved till: they are cut off, altered or of an unknown version")]
     Damaged,
     /// Memory was refused.
+    #[error("out of memory")]
     Memory,
 }
 

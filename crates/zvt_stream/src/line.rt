@@ -141,7 +141,7 @@ impl Until {
 #[derive(Clone, Copy, Debug, Drop, PartialEq, Eq, Error)]
 pub enum LineFault {
     /// A read failed, or took longer than the device waits.
-    #[error("a read failed, as where the other end resets the connection")]
+    #[error("reading failed; the other end may have reset the connection")]
     Read,
     /// A write failed. A prefix of the bytes may have been written.
     #[error("a write failed")]
@@ -150,7 +150,7 @@ pub enum LineFault {
     #[error("the other end closed the connection after {have} bytes of a message")]
     Ended { have: usize },
     /// All turns were made, and the line had not come to where it was to go.
-    #[error("no response completed within the read limit")]
+    #[error("gave up: the exchange was not finished within the read limit")]
     Turns,
     /// No message begins with the bytes up to and with the one at `place`, which is counted from 0 at the first byte of
     /// the message.
@@ -160,6 +160,6 @@ pub enum LineFault {
     #[error("out of memory")]
     Memory,
     /// The stream had refused bytes before.
-    #[error("the other end sent an invalid message before")]
+    #[error("the other end already sent an invalid message on this connection")]
     Stopped,
 }

@@ -165,14 +165,14 @@ fn addresses<R: Net>(rt: &R, host: &str, port: u16) -> Result<HostAddrs, NetFaul
     }
 }
 
-/// How long a till waits that waits for so many seconds.
+/// Seconds as a `Duration`.
 fn silence(seconds: u16) -> Duration
     ensures { as_nanos result ≡ seconds * 1_000_000_000 }
 {
     Duration::from_secs(u64::from(seconds))
 }
 
-/// Small messages go out at once, and no read or write waits for longer than so many seconds.
+/// Sends small messages at once, and limits each read and write to this number of seconds.
 fn limit(end: &TcpStream, seconds: u16) -> io::Result<()> {
     end.set_nodelay(true)?;
     end.set_read_timeout(Some(silence(seconds)))?;

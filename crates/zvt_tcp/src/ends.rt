@@ -37,7 +37,7 @@ pub(crate) type TillLine<'a> = Endpoint<
 /// An end over a connection, whose reads and writes go to a trace.
 pub(crate) type TcpEnd<'a> = Endpoint<TcpDevice<'a>, TcpDevice<'a>>;
 
-/// Both ends of this connection at their start, of which the till's is given, with a new terminal.
+/// Both ends of a new connection: this one for the till, and a new terminal.
 pub(crate) fn both_ends_of<'a>(
     alloc: Global,
     till: TcpEnd<'a>,

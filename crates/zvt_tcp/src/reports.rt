@@ -71,7 +71,7 @@ pub(crate) fn report_till<W: Sink>(
     Ok(())
 }
 
-/// The rows after so many first ones.
+/// The rows after this number of first ones.
 fn after(rows: &[Row], count: usize) -> &[Row]
     ensures { result.now ≡ drop count rows.now }
 {

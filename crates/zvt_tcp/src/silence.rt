@@ -15,7 +15,7 @@ pub(crate) struct Socket<'a> {
 }
 
 impl<'a> Socket<'a> {
-    /// This connection, of which nothing was read.
+    /// This connection, before its first read.
     pub(crate) fn new(stream: &'a TcpStream) -> Socket<'a>
         ensures { result.waited ≡ false }
     {
@@ -63,7 +63,7 @@ pub(crate) fn waited(end: &TillLine<'_>, seconds: u16) -> Option<u16> {
     }
 }
 
-/// What a run answers whose last read has waited for so many seconds, or did not.
+/// The result of a run, given the seconds for which its last read waited, if it timed out.
 pub(crate) fn by_silence(waited: Option<u16>, answer: Result<(), EndFault>) -> Result<(), EndFault>
     ensures { result ≡ by_silence waited answer }
 {

@@ -10,7 +10,7 @@ use crate::objects::object_lines;
 use crate::values::value;
 use zvt_field::{FieldView, FieldsView, name};
 
-/// A line for each field; those of a container's objects follow its own.
+/// A line for each field. The lines of a container's objects follow its own line.
 pub(crate) fn field_lines(
     buffer: &mut [u8],
     at: usize,

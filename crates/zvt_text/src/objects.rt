@@ -8,7 +8,7 @@ use crate::bytes::bytes_or_dash;
 use crate::cursor::{Full, fixed, hexadecimal, push, repeat};
 use zvt_tlv::ForestView;
 
-/// A line for each object that is at a depth; those of the objects in a constructed one follow its own.
+/// A line for each object at this depth. The lines of the objects inside a constructed one follow its own line.
 pub(crate) fn object_lines(
     buffer: &mut [u8],
     at: usize,

@@ -8,6 +8,7 @@ ghost use Rattle.zvt_tlv.specs.Trees.{objects_of};
 use crate::checks::first_fault;
 use crate::tags::Tag;
 use std::marker::Model;
+use thiserror::Error;
 
 /// An object: its tag and its content.
 #[derive(Drop)]
@@ -50,13 +51,16 @@ impl Model for Forest {
 }
 
 /// Why objects have no spelling.
-#[derive(Clone, Copy, Debug, PartialEq, Eq)]
+#[derive(Clone, Copy, Debug, Drop, PartialEq, Eq, Error)]
 pub enum BadForest {
     /// A tag and its body disagree: one says objects, the other holds bytes, or the other way round.
+    #[error("a tag and its content disagree: a constructed tag holds objects, any other holds bytes")]
     Kind,
     /// More than six objects are in one another, or six do and the innermost is constructed.
+    #[error("the objects are nested too deep: six levels can be encoded")]
     TooDeep,
     /// The spelling would have more than 65,535 bytes.
+    #[error("the objects need more than 65,535 bytes")]
     TooLarge,
 }
 

@@ -18,7 +18,7 @@ pub enum ToolFault {
     /// The trace is longer than 16,777,216 bytes.
     #[error("the trace is too long")]
     TooLong,
-    #[error("the trace can't be read to its end")]
+    #[error("cannot read the rest of the trace")]
     Read,
     #[error("the output can't be written")]
     Write,

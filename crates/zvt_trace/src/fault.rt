@@ -62,7 +62,7 @@ pub enum TraceFault {
     #[error("the trace has more than 16777216 bytes: split it after a line '!', or read it with --follow")]
     TooLong,
     /// Nothing was written.
-    #[error("the trace can't be read to its end: check the file, or the program that writes the trace")]
+    #[error("cannot read the rest of the trace: check the file, or the program that writes it")]
     Read,
     /// Some first part of the text was written.
     #[error("the output can't be written: check where standard output goes, and whether the device is full")]
