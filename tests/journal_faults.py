@@ -121,7 +121,7 @@ class Trial(Checks):
             ("a word", "not a till's book", b"ab"),
             ("two empty lines and a text", "not a till's book", b"\n\n" + b"x" * 300),
             ("another version", "", b"# zvt journal 2, currency 978\n\n"),
-            ("too much after the gate", "after the first empty line", journal().file() + b"0" + after),
+            ("too much after the gate", "follow the first empty line", journal().file() + b"0" + after),
             ("one byte", "not a till's book", b"x"),
             ("a note behind an empty line", "not a till's book", b"\nmilk, bread and cheese"),
             ("an opening of another program", "not a till's book", b"\n zvt journal 1, password"),
