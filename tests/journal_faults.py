@@ -103,7 +103,7 @@ class Trial(Checks):
     def kinds(self):
         (self.work / "folder").mkdir()
         os.mkfifo(self.work / "fifo")
-        self.refuses("a folder", FAILED, "folder", self.work / "folder")
+        self.refuses("a folder", FAILED, "this is a directory", self.work / "folder")
         self.refuses("a device", FAILED, "regular file", "/dev/null")
         self.refuses("a FIFO", FAILED, "regular file", self.work / "fifo")
         self.refuses("a file in no folder", FAILED, "", self.work / "none" / "book")
