@@ -67,11 +67,13 @@ impl Held {
         ensures err { OnErr result (self.new ≡ self.old) }
         ensures full { OnErr result (self.old.room < min (length self.old.bytes + more) 65540) }
     {
-        let least = self.size + more.min(MAX_APDU_LEN - self.size);
-        if least <= self.room.len() {
+        if more <= self.room.len() - self.size {
             return Ok(());
         }
-        grow(&mut self.room, least)
+        grow(
+            &mut self.room,
+            self.size + more.min(MAX_APDU_LEN - self.size),
+        )
     }
 
     /// Appends a byte. If the allocation fails, nothing changes.
@@ -94,9 +96,7 @@ impl Held {
         let Some(least) = self.size.checked_add(bytes.len()) else {
             return Err(AllocError);
         };
-        if least > self.room.len() {
-            grow(&mut self.room, least)?;
-        }
+        grow(&mut self.room, least)?;
         self.put(bytes);
         Ok(())
     }
@@ -166,13 +166,15 @@ impl Held {
     }
 }
 
-/// Raises the capacity to at least `least` bytes, and at least doubles it.
+/// Raises the capacity to at least `least` bytes. Where it is less, it is at least doubled.
 #[cold]
 fn grow(room: &mut Vec<u8>, least: usize) -> Result<(), AllocError>
-    requires { length room.old.items < least }
     ensures ok { OnOk result ((least ≤ length room.new.items) × (take (length room.old.items) room.new.items ≡ room.old.items)) }
-    ensures err { OnErr result (room.new.items ≡ room.old.items) }
+    ensures err { OnErr result ((room.new.items ≡ room.old.items) × (length room.old.items < least)) }
 {
+    if least <= room.len() {
+        return Ok(());
+    }
     room.resize(
         least.max(FIRST_CAPACITY).max(room.len().saturating_mul(2)),
         0,

@@ -98,7 +98,7 @@ impl Judge {
     }
 
     /// A judge at the start of a message, of the lengths that are asked for.
-    fn of(lengths: Lengths) -> Judge
+    pub(crate) fn of(lengths: Lengths) -> Judge
         ensures new { result ≡ start (reading_of lengths) }
         ensures stands { StandsFor result [] }
     {

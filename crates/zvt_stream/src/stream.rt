@@ -106,35 +106,26 @@ impl Stream {
     pub fn new(alloc: Global) -> Stream
         ensures { result ≡ at_start }
     {
-        Stream {
-            held: Held::new(alloc),
-            judge: Judge::new(),
-            steps: Steps::new(),
-            stopped: false,
-            has_message: false,
-        }
+        Stream::of(alloc, Lengths::Shortest)
     }
 
     /// Creates a stream for a new connection that also accepts padded lengths.
     pub fn loose(alloc: Global) -> Stream
         ensures { result ≡ start_in padded }
     {
-        Stream {
-            held: Held::new(alloc),
-            judge: Judge::loose(),
-            steps: Steps::new(),
-            stopped: false,
-            has_message: false,
-        }
+        Stream::of(alloc, Lengths::Padded)
     }
 
     /// A stream at the start of a line, which takes such lengths.
     pub fn of(alloc: Global, lengths: Lengths) -> Stream
         ensures { result ≡ start_in (reading_of lengths) }
     {
-        match lengths {
-            Lengths::Shortest => Stream::new(alloc),
-            Lengths::Padded => Stream::loose(alloc),
+        Stream {
+            held: Held::new(alloc),
+            judge: Judge::of(lengths),
+            steps: Steps::new(),
+            stopped: false,
+            has_message: false,
         }
     }
 
@@ -146,13 +137,9 @@ impl Stream {
         ensures count { IfOk result (λ stream. stream.judged ≡ 0) }
         ensures reading { IfOk result (λ stream. stream.reading ≡ shortest) }
     {
-        Ok(Stream {
-            held: Held::reserved(alloc)?,
-            judge: Judge::new(),
-            steps: Steps::new(),
-            stopped: false,
-            has_message: false,
-        })
+        let mut stream = Stream::new(alloc);
+        stream.held = Held::reserved(alloc)?;
+        Ok(stream)
     }
 
     /// Returns the message found by the last feed, if that was a `feed_view`. The next feed ends the loan.

@@ -28,39 +28,33 @@ pub(crate) struct WalkOptions {
     pub(crate) lengths: Lengths,
 }
 
-/// The line of a piece, who sent it, and how it is read.
-#[derive(Clone, Copy)]
-pub(crate) struct PieceAt {
-    pub(crate) line: u64,
-    pub(crate) from: Direction,
-    pub(crate) options: WalkOptions,
-}
-
 /// Emits the whole message that the stream holds.
 #[inline(always)]
 pub(crate) fn emit_message<D, L: Listener<D>>(
     listener: &mut L,
     device: &mut D,
-    at: &PieceAt,
+    options: &WalkOptions,
+    line: u64,
+    from: Direction,
     stream: &Stream,
 ) -> Result<(), ListenerError>
     requires lent { (message : Message) × (stream.now.lent ≡ Some message) }
-    requires reading { stream.now.reading ≡ reading_of at.now.options.lengths }
+    requires reading { stream.now.reading ≡ reading_of options.now.lengths }
     ensures { (message : Message) → stream.now.lent ≡ Some message → MatchResult result
-        (λ _. L.hears (listener.old, device.old) (on at.now.line (trace_event.message at.now.from message)) (listener.new, device.new))
-        (λ failure. L.fails (listener.old, device.old) (on at.now.line (trace_event.message at.now.from message)) failure (listener.new, device.new)) }
+        (λ _. L.hears (listener.old, device.old) (on line (trace_event.message from message)) (listener.new, device.new))
+        (λ failure. L.fails (listener.old, device.old) (on line (trace_event.message from message)) failure (listener.new, device.new)) }
 {
     let Some(bytes) = stream.lent_bytes() else {
         return Ok(());
     };
     let apdu = view(bytes);
     let trace_event = TraceEvent::Message {
-        from: at.from,
+        from,
         apdu,
         bytes,
-        lengths: at.options.lengths,
+        lengths: options.lengths,
     };
-    listener.hear(device, at.line, &trace_event)
+    listener.hear(device, line, &trace_event)
 }
 
 /// Emits that the message of a side is refused at this byte. `bytes` is the part of it that arrived last.
@@ -69,7 +63,8 @@ pub(crate) fn emit_message<D, L: Listener<D>>(
 pub(crate) fn emit_refusal<D, L: Listener<D>>(
     listener: &mut L,
     device: &mut D,
-    at: &PieceAt,
+    line: u64,
+    from: Direction,
     reader: &SideReader,
     bytes: &[u8],
     place: usize,
@@ -77,10 +72,9 @@ pub(crate) fn emit_refusal<D, L: Listener<D>>(
 ) -> Result<(), ListenerError>
     requires some { 0 < length bytes.now }
     ensures { (held : List ℕ) → IsOpening reader.now.opening held → suc place ≡ length (held ++ bytes.now) → MatchResult result
-        (λ _. L.hears (listener.old, device.old) (on at.now.line (trace_event.refused at.now.from (head_of (held ++ bytes.now)) (slice_index (held ++ bytes.now) place) place why)) (listener.new, device.new))
-        (λ failure. L.fails (listener.old, device.old) (on at.now.line (trace_event.refused at.now.from (head_of (held ++ bytes.now)) (slice_index (held ++ bytes.now) place) place why)) failure (listener.new, device.new)) }
+        (λ _. L.hears (listener.old, device.old) (on line (trace_event.refused from (head_of (held ++ bytes.now)) (slice_index (held ++ bytes.now) place) place why)) (listener.new, device.new))
+        (λ failure. L.fails (listener.old, device.old) (on line (trace_event.refused from (head_of (held ++ bytes.now)) (slice_index (held ++ bytes.now) place) place why)) failure (listener.new, device.new)) }
 {
-    let from = at.from;
     let head = reader.opening.head().before(bytes);
     let refusal = Refusal {
         head,
@@ -88,7 +82,7 @@ pub(crate) fn emit_refusal<D, L: Listener<D>>(
         place,
         why,
     };
-    listener.hear(device, at.line, &TraceEvent::Refused { from, refusal })
+    listener.hear(device, line, &TraceEvent::Refused { from, refusal })
 }
 
 /// Emits that a piece is not read.
@@ -97,14 +91,14 @@ pub(crate) fn emit_refusal<D, L: Listener<D>>(
 pub(crate) fn emit_unread<D, L: Listener<D>>(
     listener: &mut L,
     device: &mut D,
-    at: &PieceAt,
+    line: u64,
+    from: Direction,
 ) -> Result<(), ListenerError>
     ensures { MatchResult result
-        (λ _. L.hears (listener.old, device.old) (on at.now.line (trace_event.unread at.now.from)) (listener.new, device.new))
-        (λ failure. L.fails (listener.old, device.old) (on at.now.line (trace_event.unread at.now.from)) failure (listener.new, device.new)) }
+        (λ _. L.hears (listener.old, device.old) (on line (trace_event.unread from)) (listener.new, device.new))
+        (λ failure. L.fails (listener.old, device.old) (on line (trace_event.unread from)) failure (listener.new, device.new)) }
 {
-    let from = at.from;
-    listener.hear(device, at.line, &TraceEvent::Unread { from })
+    listener.hear(device, line, &TraceEvent::Unread { from })
 }
 
 /// If no byte of a refused message is left, emits that reading resumes. Returns whether it does.
@@ -113,12 +107,14 @@ pub(crate) fn emit_unread<D, L: Listener<D>>(
 pub(crate) fn emit_resumed<D, L: Listener<D>>(
     listener: &mut L,
     device: &mut D,
-    at: &PieceAt,
+    options: &WalkOptions,
+    line: u64,
+    from: Direction,
     reader: &mut SideReader,
 ) -> Result<bool, ListenerError>
-    requires reading { reader.old.stream.reading ≡ reading_of at.now.options.lengths }
-    ensures reading { OnOk result (ReadsBy (reading_of at.now.options.lengths) reader.new) }
-    ensures rest { (size left : ℕ) → SkipsTo reader.old size left → EmitsRest (reading_of at.now.options.lengths) L.hears L.fails at.now.line at.now.from size left reader.new (listener.old, device.old) (listener.new, device.new) result }
+    requires reading { reader.old.stream.reading ≡ reading_of options.now.lengths }
+    ensures reading { OnOk result (ReadsBy (reading_of options.now.lengths) reader.new) }
+    ensures rest { (size left : ℕ) → SkipsTo reader.old size left → EmitsRest (reading_of options.now.lengths) L.hears L.fails line from size left reader.new (listener.old, device.old) (listener.new, device.new) result }
     ensures none { is_everything reader.old.skipped ≡ true → StaysSilent L.hears reader.old reader.new (listener.old, device.old) (listener.new, device.new) result }
 {
     match reader.skipped {
@@ -126,9 +122,8 @@ pub(crate) fn emit_resumed<D, L: Listener<D>>(
             if left > 0 {
                 return Ok(false);
             }
-            let from = at.from;
-            listener.hear(device, at.line, &TraceEvent::Resumed { from, size })?;
-            *reader = SideReader::new(at.options.alloc, at.options.lengths);
+            listener.hear(device, line, &TraceEvent::Resumed { from, size })?;
+            *reader = SideReader::new(options.alloc, options.lengths);
             Ok(true)
         }
         Skipped::Nothing | Skipped::Everything => Ok(false),

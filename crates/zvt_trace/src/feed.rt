@@ -6,13 +6,14 @@ ghost use Rattle.zvt_trace.specs.Trace.{Side};
 ghost use Rattle.zvt_trace.specs.Listening.{EmitsBytes, EmitsFirst, EmitsPiece, EmitsThere, IsBoth, one_message, one_refusal, uncounted};
 ghost use Rattle.zvt_trace.specs.Written.{Follows, ReadsBy};
 
+use crate::direction::Direction;
 use crate::emit::{
-    PieceAt, emit_message, emit_refusal, emit_resumed, emit_truncation, emit_unread,
+    WalkOptions, emit_message, emit_refusal, emit_resumed, emit_truncation, emit_unread,
 };
 use crate::fault::Tally;
 use crate::line::CHUNK;
 use crate::listener::{Listener, ListenerError, Scope};
-use crate::side::SideReader;
+use crate::side::{Opening, SideReader};
 use crate::spelled;
 use zvt_stream::{FedView, FeedError};
 
@@ -106,21 +107,23 @@ pub(crate) struct Hearing {
 fn feed_next<'b, D, L: Listener<D>>(
     listener: &mut L,
     device: &mut D,
-    at: &PieceAt,
+    options: &WalkOptions,
+    line: u64,
+    from: Direction,
     reader: &mut SideReader,
     bytes: &'b [u8],
 ) -> Result<Next<'b>, ListenerError>
-    requires reading { ReadsBy (reading_of at.now.options.lengths) reader.old }
-    ensures reading { OnOk result (ReadsBy (reading_of at.now.options.lengths) reader.new) }
-    ensures emits { (side : Side) → Follows (reading_of at.now.options.lengths) reader.old side → EmitsFirst (reading_of at.now.options.lengths) L.hears L.fails at.now.options.scope at.now.line at.now.from side bytes.now reader.new (listener.old, device.old) (listener.new, device.new) result }
+    requires reading { ReadsBy (reading_of options.now.lengths) reader.old }
+    ensures reading { OnOk result (ReadsBy (reading_of options.now.lengths) reader.new) }
+    ensures emits { (side : Side) → Follows (reading_of options.now.lengths) reader.old side → EmitsFirst (reading_of options.now.lengths) L.hears L.fails options.now.scope line from side bytes.now reader.new (listener.old, device.old) (listener.new, device.new) result }
     ensures few { IfOk result (λ next. next.heard.tally.messages + next.heard.tally.bad + length next.rest.now ≤ length bytes.now) }
     ensures less { IfOk result (λ next. 0 < length next.rest.now → length next.rest.now < length bytes.now) }
 {
     let held = reader.stream.held();
     match reader.stream.feed_view(bytes) {
         Ok(FedView::Message { taken }) => {
-            reader.opening.clear();
-            emit_message(listener, device, at, &reader.stream)?;
+            reader.opening = Opening::nothing();
+            emit_message(listener, device, options, line, from, &reader.stream)?;
             let heard = Heard::message();
             let rest = bytes.split_at(taken).1;
             Ok(Next { heard, rest })
@@ -132,15 +135,15 @@ fn feed_next<'b, D, L: Listener<D>>(
         }
         Ok(FedView::Refused { place, why }) => {
             let (refused, rest) = bytes.split_at(place - held + 1);
-            emit_refusal(listener, device, at, reader, refused, place, why)?;
-            reader.refuse(at.options.scope, refused, place);
-            emit_resumed(listener, device, at, reader)?;
+            emit_refusal(listener, device, line, from, reader, refused, place, why)?;
+            reader.refuse(options.scope, refused, place);
+            emit_resumed(listener, device, options, line, from, reader)?;
             let heard = Heard::refusal();
             Ok(Next { heard, rest })
         }
         Err(FeedError::Stopped) => {
             let rest = reader.skip(bytes);
-            let resumed = emit_resumed(listener, device, at, reader)?;
+            let resumed = emit_resumed(listener, device, options, line, from, reader)?;
             let heard = Heard::uncounted(resumed);
             Ok(Next { heard, rest })
         }
@@ -153,19 +156,21 @@ fn feed_next<'b, D, L: Listener<D>>(
 fn feed_bytes<D, L: Listener<D>>(
     listener: &mut L,
     device: &mut D,
-    at: &PieceAt,
+    options: &WalkOptions,
+    line: u64,
+    from: Direction,
     reader: &mut SideReader,
     bytes: &[u8],
 ) -> Result<Heard, ListenerError>
-    requires reading { ReadsBy (reading_of at.now.options.lengths) reader.old }
-    ensures reading { OnOk result (ReadsBy (reading_of at.now.options.lengths) reader.new) }
-    ensures emits { (side : Side) → Follows (reading_of at.now.options.lengths) reader.old side → EmitsBytes (reading_of at.now.options.lengths) L.hears L.fails at.now.options.scope at.now.line at.now.from side bytes.now reader.new (listener.old, device.old) (listener.new, device.new) result }
+    requires reading { ReadsBy (reading_of options.now.lengths) reader.old }
+    ensures reading { OnOk result (ReadsBy (reading_of options.now.lengths) reader.new) }
+    ensures emits { (side : Side) → Follows (reading_of options.now.lengths) reader.old side → EmitsBytes (reading_of options.now.lengths) L.hears L.fails options.now.scope line from side bytes.now reader.new (listener.old, device.old) (listener.new, device.new) result }
     ensures few { IfOk result (λ heard. heard.tally.messages + heard.tally.bad ≤ length bytes.now) }
 {
     let mut heard = Heard::uncounted(false);
     let mut rest = bytes;
     'bytes: while !rest.is_empty() {
-        let next = feed_next(listener, device, at, reader, rest)?;
+        let next = feed_next(listener, device, options, line, from, reader, rest)?;
         heard = heard.then(next.heard);
         rest = next.rest;
     }
@@ -176,17 +181,19 @@ fn feed_bytes<D, L: Listener<D>>(
 fn feed_long_piece<D, L: Listener<D>>(
     listener: &mut L,
     device: &mut D,
-    at: &PieceAt,
+    options: &WalkOptions,
+    line: u64,
+    from: Direction,
     reader: &mut SideReader,
     piece: Piece<'_>,
 ) -> Result<Heard, ListenerError>
-    requires reading { ReadsBy (reading_of at.now.options.lengths) reader.old }
+    requires reading { ReadsBy (reading_of options.now.lengths) reader.old }
     requires spelled { SpellsBytes piece.undecoded.now }
-    ensures reading { OnOk result (ReadsBy (reading_of at.now.options.lengths) reader.new) }
-    ensures emits { (side : Side) → Follows (reading_of at.now.options.lengths) reader.old side → EmitsBytes (reading_of at.now.options.lengths) L.hears L.fails at.now.options.scope at.now.line at.now.from side (bytes_in piece.entry) reader.new (listener.old, device.old) (listener.new, device.new) result }
+    ensures reading { OnOk result (ReadsBy (reading_of options.now.lengths) reader.new) }
+    ensures emits { (side : Side) → Follows (reading_of options.now.lengths) reader.old side → EmitsBytes (reading_of options.now.lengths) L.hears L.fails options.now.scope line from side (bytes_in piece.entry) reader.new (listener.old, device.old) (listener.new, device.new) result }
     ensures few { IfOk result (λ heard. heard.tally.messages + heard.tally.bad ≤ length (bytes_in piece.entry)) }
 {
-    let mut heard = feed_bytes(listener, device, at, reader, piece.bytes)?;
+    let mut heard = feed_bytes(listener, device, options, line, from, reader, piece.bytes)?;
     let mut buffer = [0; CHUNK];
     let mut rest = piece.undecoded;
     'chunks: while !rest.is_empty() {
@@ -194,7 +201,7 @@ fn feed_long_piece<D, L: Listener<D>>(
             return Ok(heard);
         };
         let chunk = &buffer[..count];
-        let later = feed_bytes(listener, device, at, reader, chunk)?;
+        let later = feed_bytes(listener, device, options, line, from, reader, chunk)?;
         heard = heard.then(later);
         rest = after;
     }
@@ -206,20 +213,22 @@ fn feed_long_piece<D, L: Listener<D>>(
 fn feed_content<D, L: Listener<D>>(
     listener: &mut L,
     device: &mut D,
-    at: &PieceAt,
+    options: &WalkOptions,
+    line: u64,
+    from: Direction,
     reader: &mut SideReader,
     piece: Piece<'_>,
 ) -> Result<Heard, ListenerError>
-    requires reading { ReadsBy (reading_of at.now.options.lengths) reader.old }
+    requires reading { ReadsBy (reading_of options.now.lengths) reader.old }
     requires spelled { SpellsBytes piece.undecoded.now }
-    ensures reading { OnOk result (ReadsBy (reading_of at.now.options.lengths) reader.new) }
-    ensures emits { (side : Side) → Follows (reading_of at.now.options.lengths) reader.old side → EmitsBytes (reading_of at.now.options.lengths) L.hears L.fails at.now.options.scope at.now.line at.now.from side (bytes_in piece.entry) reader.new (listener.old, device.old) (listener.new, device.new) result }
+    ensures reading { OnOk result (ReadsBy (reading_of options.now.lengths) reader.new) }
+    ensures emits { (side : Side) → Follows (reading_of options.now.lengths) reader.old side → EmitsBytes (reading_of options.now.lengths) L.hears L.fails options.now.scope line from side (bytes_in piece.entry) reader.new (listener.old, device.old) (listener.new, device.new) result }
     ensures few { IfOk result (λ heard. heard.tally.messages + heard.tally.bad ≤ length (bytes_in piece.entry)) }
 {
     if piece.undecoded.is_empty() {
-        feed_bytes(listener, device, at, reader, piece.bytes)
+        feed_bytes(listener, device, options, line, from, reader, piece.bytes)
     } else {
-        feed_long_piece(listener, device, at, reader, piece)
+        feed_long_piece(listener, device, options, line, from, reader, piece)
     }
 }
 
@@ -228,18 +237,20 @@ fn feed_content<D, L: Listener<D>>(
 fn feed_piece<D, L: Listener<D>>(
     listener: &mut L,
     device: &mut D,
-    at: &PieceAt,
+    options: &WalkOptions,
+    line: u64,
+    from: Direction,
     reader: &mut SideReader,
     piece: Piece<'_>,
 ) -> Result<Hearing, ListenerError>
-    requires reading { ReadsBy (reading_of at.now.options.lengths) reader.old }
+    requires reading { ReadsBy (reading_of options.now.lengths) reader.old }
     requires spelled { SpellsBytes piece.undecoded.now }
-    ensures reading { OnOk result (ReadsBy (reading_of at.now.options.lengths) reader.new) }
-    ensures emits { (side : Side) → Follows (reading_of at.now.options.lengths) reader.old side → EmitsPiece (reading_of at.now.options.lengths) L.hears L.fails at.now.options.scope at.now.line at.now.from side (bytes_in piece.entry) reader.new (listener.old, device.old) (listener.new, device.new) result }
+    ensures reading { OnOk result (ReadsBy (reading_of options.now.lengths) reader.new) }
+    ensures emits { (side : Side) → Follows (reading_of options.now.lengths) reader.old side → EmitsPiece (reading_of options.now.lengths) L.hears L.fails options.now.scope line from side (bytes_in piece.entry) reader.new (listener.old, device.old) (listener.new, device.new) result }
     ensures few { IfOk result (λ hearing. hearing.tally.messages + hearing.tally.bad ≤ length (bytes_in piece.entry)) }
 {
     let reads = reader.reads();
-    let heard = feed_content(listener, device, at, reader, piece)?;
+    let heard = feed_content(listener, device, options, line, from, reader, piece)?;
     let hearing = Hearing {
         tally: heard.tally,
         stopped: reader.has_stopped(),
@@ -247,7 +258,7 @@ fn feed_piece<D, L: Listener<D>>(
     if reads || heard.any {
         return Ok(hearing);
     }
-    emit_unread(listener, device, at)?;
+    emit_unread(listener, device, line, from)?;
     Ok(hearing)
 }
 
@@ -256,22 +267,24 @@ fn feed_piece<D, L: Listener<D>>(
 pub(crate) fn feed_side<D, L: Listener<D>>(
     listener: &mut L,
     device: &mut D,
-    at: &PieceAt,
+    options: &WalkOptions,
+    line: u64,
+    from: Direction,
     reader: &mut SideReader,
     other: &SideReader,
     piece: Piece<'_>,
 ) -> Result<Hearing, ListenerError>
-    requires reading { ReadsBy (reading_of at.now.options.lengths) reader.old }
+    requires reading { ReadsBy (reading_of options.now.lengths) reader.old }
     requires spelled { SpellsBytes piece.undecoded.now }
-    ensures reading { OnOk result (ReadsBy (reading_of at.now.options.lengths) reader.new) }
-    ensures emits { (side beside : Side) → Follows (reading_of at.now.options.lengths) reader.old side → Follows (reading_of at.now.options.lengths) other.now beside → EmitsThere (reading_of at.now.options.lengths) L.hears L.fails at.now.options.scope at.now.line at.now.from side beside (bytes_in piece.entry) reader.new other.now (listener.old, device.old) (listener.new, device.new) result }
+    ensures reading { OnOk result (ReadsBy (reading_of options.now.lengths) reader.new) }
+    ensures emits { (side beside : Side) → Follows (reading_of options.now.lengths) reader.old side → Follows (reading_of options.now.lengths) other.now beside → EmitsThere (reading_of options.now.lengths) L.hears L.fails options.now.scope line from side beside (bytes_in piece.entry) reader.new other.now (listener.old, device.old) (listener.new, device.new) result }
     ensures few { IfOk result (λ hearing. hearing.tally.messages ≤ length (bytes_in piece.entry)) }
     ensures bad { IfOk result (λ hearing. hearing.tally.bad ≤ length (bytes_in piece.entry) + 1) }
 {
-    let hearing = feed_piece(listener, device, at, reader, piece)?;
+    let hearing = feed_piece(listener, device, options, line, from, reader, piece)?;
     let Tally { messages, bad } = hearing.tally;
-    if at.options.scope == Scope::WholeLine && hearing.stopped {
-        let cut_off = emit_truncation(listener, device, at.line, at.from.other(), &other.stream)?;
+    if options.scope == Scope::WholeLine && hearing.stopped {
+        let cut_off = emit_truncation(listener, device, line, from.other(), &other.stream)?;
         return Ok(Hearing {
             tally: Tally {
                 messages,

@@ -91,8 +91,7 @@ fn direction(sign: u8) -> Option<Direction>
 }
 
 /// Reads a line, which has lost its line feed. Of a piece, as many bytes are read as the buffer takes.
-// Few lines come here.
-#[inline(never)]
+#[inline(always)]
 fn read_line<'a, 't>(
     buffer: &'a mut [u8],
     line: &'t [u8],

@@ -20,20 +20,13 @@ pub(crate) struct Opening {
 
 impl Opening {
     /// No message has begun.
-    fn nothing() -> Opening
+    #[inline(always)]
+    pub(crate) fn nothing() -> Opening
         ensures { IsOpening result [] }
     {
         Opening {
             first: ArrayVec::new(),
         }
-    }
-
-    /// A message has ended.
-    #[inline(always)]
-    pub(crate) fn clear(&mut self)
-        ensures { IsOpening self.new [] }
-    {
-        self.first.clear();
     }
 
     /// These bytes of the message come next.

@@ -12,7 +12,7 @@ ghost use Rattle.zvt_trace.specs.Listening.{AnswersFrom, AnswersWalk, EmitsEnd, 
 ghost use Rattle.zvt_trace.specs.Written.{limit};
 
 use crate::direction::Direction;
-use crate::emit::{PieceAt, WalkOptions, emit_truncation, emit_unread};
+use crate::emit::{WalkOptions, emit_truncation, emit_unread};
 use crate::event::TraceEvent;
 use crate::fault::{Tally, TraceFault, TraceLineError};
 use crate::feed::{Piece, feed_side};
@@ -202,12 +202,8 @@ impl BothSides {
                 bytes,
                 undecoded,
             } => {
-                let at = PieceAt {
-                    line: number,
-                    from: *from,
-                    options,
-                };
-                self.feed_piece(listener, device, &at, Piece { bytes, undecoded })
+                let piece = Piece { bytes, undecoded };
+                self.feed_piece(listener, device, &options, number, *from, piece)
             }
             TraceLine::Lost => {
                 let bad = self.emit_end(listener, device, number)?;
@@ -224,24 +220,30 @@ impl BothSides {
         &mut self,
         listener: &mut L,
         device: &mut D,
-        at: &PieceAt,
+        options: &WalkOptions,
+        line: u64,
+        from: Direction,
         piece: Piece<'_>,
     ) -> Result<Tally, ListenerError>
-        requires reading { TakeBy (reading_of at.now.options.lengths) self.old }
+        requires reading { TakeBy (reading_of options.now.lengths) self.old }
         requires spelled { SpellsBytes piece.undecoded.now }
-        ensures reading { OnOk result (TakeBy (reading_of at.now.options.lengths) self.new) }
-        ensures emits { (sides : Sides) → FollowBoth (reading_of at.now.options.lengths) self.old sides → EmitsLine (reading_of at.now.options.lengths) L.hears L.fails at.now.options.scope at.now.line (meaning.piece at.now.from (bytes_in piece.entry)) sides self.new (listener.old, device.old) (listener.new, device.new) result }
+        ensures reading { OnOk result (TakeBy (reading_of options.now.lengths) self.new) }
+        ensures emits { (sides : Sides) → FollowBoth (reading_of options.now.lengths) self.old sides → EmitsLine (reading_of options.now.lengths) L.hears L.fails options.now.scope line (meaning.piece from (bytes_in piece.entry)) sides self.new (listener.old, device.old) (listener.new, device.new) result }
         ensures few { IfOk result (λ tally. tally.messages ≤ length (bytes_in piece.entry)) }
         ensures bad { IfOk result (λ tally. tally.bad ≤ length (bytes_in piece.entry) + 2) }
     {
         if self.rejected {
-            emit_unread(listener, device, at)?;
+            emit_unread(listener, device, line, from)?;
             return Ok(Tally::none());
         }
         let BothSides { till, terminal, .. } = self;
-        let hearing = match at.from {
-            Direction::FromTill => feed_side(listener, device, at, till, terminal, piece)?,
-            Direction::FromTerminal => feed_side(listener, device, at, terminal, till, piece)?,
+        let hearing = match from {
+            Direction::FromTill => feed_side(
+                listener, device, options, line, from, till, terminal, piece,
+            )?,
+            Direction::FromTerminal => feed_side(
+                listener, device, options, line, from, terminal, till, piece,
+            )?,
         };
         self.rejected = hearing.stopped;
         Ok(hearing.tally)

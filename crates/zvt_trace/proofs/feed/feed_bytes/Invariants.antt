@@ -7,9 +7,9 @@ use Rattle.zvt_trace.proofs.feed.feed_bytes.Given as goal
 
 abbrev pub invariant-bytes : goal.invariant-bytes
 invariant-bytes g l = record {
-  so_far : (side : Side) → Follows (reading_of l.at.options.lengths) l.fn.reader side
-      → HearsFirst (reading_of l.at.options.lengths) g.L.Listener.hears l.at.options.scope l.at.line l.at.from side l.bytes l.rest l.reader l.heard (l.fn.listener, l.fn.device) (l.listener, l.device);
-  reading : ReadsBy (reading_of l.at.options.lengths) l.reader;
+  so_far : (side : Side) → Follows (reading_of l.options.lengths) l.fn.reader side
+      → HearsFirst (reading_of l.options.lengths) g.L.Listener.hears l.options.scope l.line l.from side l.bytes l.rest l.reader l.heard (l.fn.listener, l.fn.device) (l.listener, l.device);
+  reading : ReadsBy (reading_of l.options.lengths) l.reader;
   few : l.heard.tally.messages + l.heard.tally.bad + length l.rest ≤ length l.bytes;
 }
 

@@ -8,10 +8,10 @@ use Rattle.zvt_trace.proofs.feed.feed_long_piece.Given as goal
 
 abbrev pub invariant-chunks : goal.invariant-chunks
 invariant-chunks g l = record {
-  so_far : (side : Side) → Follows (reading_of l.at.options.lengths) l.fn.reader side
-      → HearsFirst (reading_of l.at.options.lengths) g.L.Listener.hears l.at.options.scope l.at.line l.at.from side (bytes_in l.piece) (bytes_of l.rest) l.reader l.heard (l.fn.listener, l.fn.device) (l.listener, l.device);
+  so_far : (side : Side) → Follows (reading_of l.options.lengths) l.fn.reader side
+      → HearsFirst (reading_of l.options.lengths) g.L.Listener.hears l.options.scope l.line l.from side (bytes_in l.piece) (bytes_of l.rest) l.reader l.heard (l.fn.listener, l.fn.device) (l.listener, l.device);
   spelled : SpellsBytes l.rest;
-  reading : ReadsBy (reading_of l.at.options.lengths) l.reader;
+  reading : ReadsBy (reading_of l.options.lengths) l.reader;
   few : l.heard.tally.messages + l.heard.tally.bad + length (bytes_of l.rest) ≤ length (bytes_in l.piece);
 }
 

@@ -33,7 +33,7 @@ returns-in_ok-emit_message-in-Ok-Message-clause-emits g c = λ side follows.
       first = take taken bytes;
       cut = sym (take-append-drop taken bytes) ∙ ap (λ b. take taken bytes ++ b) (sym c.split_at.ensures.back);
       heard = hears_message g.L.Listener.hears _ _ _ (take taken bytes) c.args.reader.now _ found.0 _ _ (going _ _ _ c.in-Ok-Message.is c.feed_view.ensures.stopped) (spells_by _ _ found.0 _ c.requires.reading.0 feeds.2)
-          feeds.3 c.clear.ensures refl (c.in_ok-emit_message-in-Ok-Message.ensures found.0 found.2) side follows;
+          feeds.3 c.nothing-reader.ensures refl (c.in_ok-emit_message-in-Ok-Message.ensures found.0 found.2) side follows;
     })
 
 pub returns-in-Ok-More-clause-emits : goal.returns-in-Ok-More-clause-emits
@@ -79,7 +79,7 @@ returns-in_err-emit_resumed-in-Ok-Refused-clause-emits g c = λ side follows.
     rw (p.1, p.2) (fails_part g.L.Listener.hears g.L.Listener.fails _ _ _ _ side bytes part rest _ _ (split_is _ bytes part rest c.split_at-in-Ok-Refused.ensures.front c.split_at-in-Ok-Refused.ensures.back)
     (fails_resumed g.L.Listener.hears g.L.Listener.fails _ _ _ _ part c.args.reader.now c.emit_resumed.new.reader c.in-Ok-Refused.place c.in-Ok-Refused.why _ _ _ (going _ _ _ c.in-Ok-Refused.is c.feed_view.ensures.stopped) fatal.0 fatal.1
     c.in_ok-emit_refusal-in-Ok-Refused.ensures
-    (λ held opens all. ends_refusal (reading_of c.args.at.now.options.lengths) g.L.Listener.hears g.L.Listener.fails _ _ _ _ c.refuse.new.self c.emit_resumed.new.reader _ _ _ (subst HasRefused (sym c.refuse.ensures.stream) feeds.2) (c.refuse.ensures.skipped held opens all) c.in_err-emit_resumed-in-Ok-Refused.ensures.rest c.in_err-emit_resumed-in-Ok-Refused.ensures.none) side follows))
+    (λ held opens all. ends_refusal (reading_of c.args.options.now.lengths) g.L.Listener.hears g.L.Listener.fails _ _ _ _ c.refuse.new.self c.emit_resumed.new.reader _ _ _ (subst HasRefused (sym c.refuse.ensures.stream) feeds.2) (c.refuse.ensures.skipped held opens all) c.in_err-emit_resumed-in-Ok-Refused.ensures.rest c.in_err-emit_resumed-in-Ok-Refused.ensures.none) side follows))
 
 pub returns-in_ok-emit_resumed-in-Ok-Refused-clause-emits :
     goal.returns-in_ok-emit_resumed-in-Ok-Refused-clause-emits
@@ -96,7 +96,7 @@ returns-in_ok-emit_resumed-in-Ok-Refused-clause-emits g c = λ side follows.
       cut = split_is _ bytes part rest c.split_at-in-Ok-Refused.ensures.front c.split_at-in-Ok-Refused.ensures.back;
       heard = hears_refused g.L.Listener.hears g.L.Listener.fails _ _ _ part c.args.reader.now c.emit_resumed.new.reader c.in-Ok-Refused.place c.in-Ok-Refused.why _ _ _ c.in_ok-emit_resumed-in-Ok-Refused.field-0 (going _ _ _ c.in-Ok-Refused.is c.feed_view.ensures.stopped) fatal.0 fatal.1
           c.in_ok-emit_refusal-in-Ok-Refused.ensures
-          (λ held opens all. ends_refusal (reading_of c.args.at.now.options.lengths) g.L.Listener.hears g.L.Listener.fails _ _ _ _ c.refuse.new.self c.emit_resumed.new.reader _ _ _ (subst HasRefused (sym c.refuse.ensures.stream) feeds.2) (c.refuse.ensures.skipped held opens all) c.in_ok-emit_resumed-in-Ok-Refused.ensures.rest c.in_ok-emit_resumed-in-Ok-Refused.ensures.none) side follows;
+          (λ held opens all. ends_refusal (reading_of c.args.options.now.lengths) g.L.Listener.hears g.L.Listener.fails _ _ _ _ c.refuse.new.self c.emit_resumed.new.reader _ _ _ (subst HasRefused (sym c.refuse.ensures.stream) feeds.2) (c.refuse.ensures.skipped held opens all) c.in_ok-emit_resumed-in-Ok-Refused.ensures.rest c.in_ok-emit_resumed-in-Ok-Refused.ensures.none) side follows;
     })
 
 pub returns-in_err-resumed-in-Err-Stopped-clause-emits : goal.returns-in_err-resumed-in-Err-Stopped-clause-emits

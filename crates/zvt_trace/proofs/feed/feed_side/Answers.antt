@@ -19,10 +19,10 @@ returns-in_err-hearing-clause-emits g c = λ side beside follows other.
 pub returns-in_err-cut_off-clause-emits : goal.returns-in_err-cut_off-clause-emits
 returns-in_err-cut_off-clause-emits g c = λ side beside follows other.
     let p = err_from_is_err_and c.from_residual-in_err-cut_off.result c.from_residual-in_err-cut_off.ensures.1 in
-    let whole : c.args.at.now.options.scope ≡ WholeLine = search rules in
+    let whole : c.args.options.now.scope ≡ WholeLine = search rules in
     rw (p.1, p.2) (cut_off_fails g.L.Listener.hears g.L.Listener.fails _ _ _ _ _ side beside _ _ c.in_ok-hearing.hearing _ _ _ whole c.other.ensures (c.in_ok-hearing.ensures.emits side follows) c.if-hearing.true (c.in_err-cut_off.ensures.emits _ beside other.0))
 
 pub returns-then-hearing-clause-emits : goal.returns-then-hearing-clause-emits
 returns-then-hearing-clause-emits g c = λ side beside follows other.
-    let whole : c.args.at.now.options.scope ≡ WholeLine = search rules in
+    let whole : c.args.options.now.scope ≡ WholeLine = search rules in
     gives_up g.L.Listener.hears _ _ _ _ side beside _ _ c.args.other.now c.in_ok-hearing.hearing _ _ _ _ _ whole c.other.ensures (c.in_ok-hearing.ensures.emits side follows) c.if-hearing.true (c.in_ok-cut_off.ensures.emits _ beside other.0) refl refl refl

@@ -25,7 +25,7 @@ returns-in_err-hearing-in-FromTerminal-clause-emits g c = λ sides follow.
     (c.in_err-hearing-in-FromTerminal.ensures.emits sides.terminal sides.till (until _ _ _ _ c.if-self.false follow.terminal) (until _ _ _ _ c.if-self.false follow.till)))
 
 pub returns-clause-emits : goal.returns-clause-emits
-returns-clause-emits g c = λ sides follow. elim c.match-at.branch [
+returns-clause-emits g c = λ sides follow. elim c.match-from.branch [
   | in-FromTill+in_ok-hearing-in-FromTill w ↦ rw (w.self-is, w.listener-is, w.device-is, w.hearing-is)
       (till_heard g.L.Listener.hears _ _ _ _ sides c.args.self.now _ w.in_ok-hearing-in-FromTill.hearing _ _ w.in-FromTill.is
       (w.in_ok-hearing-in-FromTill.ensures.emits sides.till sides.terminal (until _ _ _ _ c.if-self.false follow.till) (until _ _ _ _ c.if-self.false follow.terminal)) refl refl)
@@ -35,7 +35,7 @@ returns-clause-emits g c = λ sides follow. elim c.match-at.branch [
 ]
 
 pub returns-clause-reading : goal.returns-clause-reading
-returns-clause-reading g c = elim c.match-at.branch [
+returns-clause-reading g c = elim c.match-from.branch [
   | in-FromTill+in_ok-hearing-in-FromTill w ↦ rw w.self-is (w.in_ok-hearing-in-FromTill.ensures.reading, c.requires.reading.1)
   | in-FromTerminal+in_ok-hearing-in-FromTerminal w ↦ rw w.self-is (c.requires.reading.0, w.in_ok-hearing-in-FromTerminal.ensures.reading)
 ]
