@@ -128,6 +128,7 @@ class Trial:
             ("one byte", "no journal", b"x"),
             ("a note behind an empty line", "no journal", b"\nmilk, bread and cheese"),
             ("an opening of another program", "no journal", b"\n zvt journal 1, password"),
+            ("a first line without its end", "no journal", b"# zvt journal 1, currency 978"),
             ("an order of an entry that is none", "", journal().file()[:-1] + again + b"\n"),
             ("a line that is none", "", journal().file()[:-1] + b"pay 1\n\n"),
             ("a message that is none", "", journal().file()[:-1] + b"< 06D0\n\n"),
