@@ -107,6 +107,7 @@ grew_by_meeting s h = by_running s.running refl
     by_ends : (r : Running) → s.running ≡ Some r → (b : Bool) → Grew s (cond b (finish s r.order (outcome_by s.book r.order r.statuses h)) (record s { running = Some (listened (demand_of (Some s.settings.currency) s.book r.order) r h) }))
     by_ends r is true = grew_by_end s r (outcome_by s.book r.order r.statuses h) is
     by_ends r is false = record { in_book = inl refl; in_doubt = inl refl; runs = λ p. subst PayRuns (sym is) p }
+
     by_running : (running : Option Running) → s.running ≡ running → Grew s (elim running [ None ↦ s | Some r ↦ meet_running s r h ])
     by_running None none = grew_not s
     by_running (Some r) is = by_ends r is (ends r.positive h)
@@ -224,6 +225,7 @@ noted_rows settings kept one rows old new notes note grows before after paid are
           as_many = are.as_many ∙ sym same;
           each = λ index n is. of_more settings kept one rows index n (are.each index n is);
         })
+
     one_more : (rows new ≡ rows old + 1) × PayRuns old.running → AreNoted settings (kept ++ one ∷ []) rows new (grown notes (rows new) note)
     one_more more =
         subst (AreNoted settings (kept ++ one ∷ []) rows new) (sym (is_grown notes (rows new) note (omega (arith, more.0, are.as_many)))) (record {

@@ -8,9 +8,12 @@ use Rattle.zvt_kept.proofs.recovery.recover.Goals as goal
 
 pub returns-then-not-branch-2 : goal.returns-then-not-branch-2
 returns-then-not-branch-2 c =
-    record { notes = tt; till = foreign (settings_of c.args.settings.now) c.args.text.now c.deref-entry-items.result.now c.loop-at.at c.entry-item.result c.loop-at.till.state c.relive.new.till.state c.loop-at-test.true c.entry-item.is
-    (c.in-Ok.ensures ∙ ap (λ es. Some (map kept_of es)) (sym c.deref-entry-items.ensures.value))
-    (subst (λ can. Relives can (kept_of c.entry-item.result) c.loop-at.till.state c.relive.new.till.state) c.if-not-branch-2.true c.in_ok-relive.ensures) c.loop-at.invariant.lived }
+    record {
+      notes = tt;
+      till = foreign (settings_of c.args.settings.now) c.args.text.now c.deref-entry-items.result.now c.loop-at.at c.entry-item.result c.loop-at.till.state c.relive.new.till.state c.loop-at-test.true c.entry-item.is
+          (c.in-Ok.ensures ∙ ap (λ es. Some (map kept_of es)) (sym c.deref-entry-items.ensures.value))
+          (subst (λ can. Relives can (kept_of c.entry-item.result) c.loop-at.till.state c.relive.new.till.state) c.if-not-branch-2.true c.in_ok-relive.ensures) c.loop-at.invariant.lived;
+    }
 
 pub loop-at-preserved : goal.loop-at-preserved
 loop-at-preserved c =
